@@ -1,0 +1,20 @@
+-- Tests over a list.
+-- Assumes nothing.
+use mathlib.Core.Bool.{Bool, true, false, _&&_, _||_}
+use mathlib.Core.List.{List, [], _∷_}
+
+module _ {A : Type 0} where
+  -- Some element passes the test.
+  unfoldable pub any : (A → Bool) → List A → Bool
+  any f [] = false
+  any f (x ∷ xs) = f x || any f xs
+
+  -- All elements pass the test.
+  unfoldable pub all : (A → Bool) → List A → Bool
+  all f [] = true
+  all f (x ∷ xs) = f x && all f xs
+
+  -- Some element stands twice.
+  unfoldable pub repeats : (A → A → Bool) → List A → Bool
+  repeats same [] = false
+  repeats same (x ∷ xs) = any (same x) xs || repeats same xs

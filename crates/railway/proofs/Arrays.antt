@@ -1,0 +1,23 @@
+-- What holding a railway tells of its arrays: their lengths.
+-- Assumes nothing.
+use mathlib.Core.Path.{_≡_, sym, _∙_}
+use mathlib.Core.List.{List}
+use lib.ListN.{length, length-map}
+use mir.Val.{Val}
+use denote.Laws.{Is}
+use Rattle.railway.specs.declared.Railway.{Railway}
+use Rattle.railway.specs.Bounds.{mostPoints, mostTrains, sectionEnds, allEnds}
+use Rattle.railway.proofs.Railway as T
+
+module _ (r : Railway) (vs : List Val) (p : Is T.the-row r vs) where
+  pub legs-length : length (r .legs) ≡ mostPoints
+  legs-length = sym (length-map (r .legs) _) ∙ p .1 .1 .1 .1 .1 .0 .1 .0 .1
+
+  pub links-length : length (r .links) ≡ allEnds
+  links-length = sym (length-map (r .links) _) ∙ p .1 .1 .1 .1 .1 .1 .0 .1 .0 .1
+
+  pub signals-length : length (r .signals) ≡ sectionEnds
+  signals-length = sym (length-map (r .signals) _) ∙ p .1 .1 .1 .1 .1 .1 .1 .0 .1 .0 .1
+
+  pub runs-length : length (r .runs) ≡ mostTrains
+  runs-length = sym (length-map (r .runs) _) ∙ p .1 .1 .1 .1 .1 .1 .1 .1 .0 .1 .0 .1

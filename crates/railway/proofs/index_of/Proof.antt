@@ -1,0 +1,64 @@
+-- `railway::index_of` meets its contract: in each arm the index is computed as `endIndex` says, by the laws of ends.
+-- Assumes nothing.
+use native.Mathlib.Omega.{arith}
+use borrow.Author.Needs.{needs}
+use Rattle.railway.proofs.Ends.{side-small, leg-small, section-index, section-past, port-index, port-past}
+use Rattle.railway.proofs.index_of.Statement.{statement}
+use Rattle.railway.proofs.index_of.Tie as tie
+
+enum-known-e : tie.Need-enum-known-e
+enum-known-e c = search needs
+
+mul-result : tie.Need-mul-result
+mul-result c = search needs
+
+side-index-requires : tie.Need-side-index-requires
+side-index-requires c κs = search needs
+
+add-result : tie.Need-add-result
+add-result c = let n = c .before .before .before .e .given .0 in omega (arith, side-small (n .1 .0), c .side-index .ensures)
+
+enum-known-e-2 : tie.Need-enum-known-e-2
+enum-known-e-2 c = search needs
+
+mul-result-2 : tie.Need-mul-result-2
+mul-result-2 c = search needs
+
+add-result-2 : tie.Need-add-result-2
+add-result-2 c = search needs
+
+leg-index-requires : tie.Need-leg-index-requires
+leg-index-requires c κs = search needs
+
+add-result-3 : tie.Need-add-result-3
+add-result-3 c = let n = c .before .before .before .e2 .given .0 in omega (arith, leg-small (n .1 .0), c .leg-index .ensures)
+
+returns : tie.Need-returns
+returns c = let g = c .before .before .before .e .given in section-index _ (g .0 .0) (g .0 .1 .0) _ (g .1) (c .before .if1 .taken) (c .side-index .ensures)
+
+returns-2 : tie.Need-returns-2
+returns-2 c = let g = c .before .before .e .given in section-past _ (g .0 .0) (g .0 .1 .0) (g .1) (c .if1 .left)
+
+returns-3 : tie.Need-returns-3
+returns-3 c = let g = c .before .before .before .e2 .given in port-index _ (g .0 .0) (g .0 .1 .0) _ (g .1) (c .before .if2 .taken) (c .leg-index .ensures)
+
+returns-4 : tie.Need-returns-4
+returns-4 c = let g = c .before .before .e2 .given in port-past _ (g .0 .0) (g .0 .1 .0) (g .1) (c .if2 .left)
+
+pub index-of-spec : {M : Type 1} → statement M
+index-of-spec =
+    tie.close
+    (tie.spec
+    enum-known-e
+    mul-result
+    side-index-requires
+    add-result
+    enum-known-e-2
+    mul-result-2
+    add-result-2
+    leg-index-requires
+    add-result-3
+    returns
+    returns-2
+    returns-3
+    returns-4)

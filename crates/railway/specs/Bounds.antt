@@ -1,0 +1,19 @@
+-- The bounds of a railway record (document 01, "The railway", first item), each once. All else is worked out from them.
+-- `Railway::empty` promises that the associated constants of the type are these numbers. Assumes nothing.
+use Prim.Native.Nat.{ℕ, _+_, _*_}
+
+abbrev pub mostSections : ℕ
+mostSections = 48
+
+abbrev pub mostPoints : ℕ
+mostPoints = 16
+
+abbrev pub mostTrains : ℕ
+mostTrains = 4
+
+-- A section has two ends, a point three.
+abbrev pub sectionEnds : ℕ
+sectionEnds = 2 * mostSections
+
+abbrev pub allEnds : ℕ
+allEnds = sectionEnds + 3 * mostPoints

@@ -1,0 +1,7 @@
+pub mod Bounds
+pub mod Ends
+pub mod Refusals
+pub mod Record
+pub mod Rows
+pub mod Same
+pub mod Answers

@@ -1,0 +1,130 @@
+-- The railway record: the empty one, what it answers when it is asked, and its updates (document 01, "The railway").
+-- What is asked of something that is not there has an answer too: no join, no signal, legs up, a train up from section 1 to 1.
+-- An update of what no railway can have changes nothing. Assumes nothing.
+use mathlib.Core.Bool.{Bool, true, false, cond, _&&_}
+use mathlib.Core.List.{List}
+use Prim.Native.Nat.{ℕ}
+use lib.Dec.{ltb}
+use lib.ListN.{getD, set, replicate}
+use Rattle.railway.specs.declared.Side.{Side}
+use Rattle.railway.specs.declared.Side.the-variants.{Up, Down}
+use Rattle.railway.specs.declared.SectionNo.{SectionNo}
+use Rattle.railway.specs.declared.PointNo.{PointNo}
+use Rattle.railway.specs.declared.End.{End}
+use Rattle.railway.specs.declared.End.the-variants.{Section, Port}
+use Rattle.railway.specs.declared.Joined.{Joined}
+use Rattle.railway.specs.declared.Joined.the-variants.{Nothing, With}
+use Rattle.railway.specs.declared.Link.{Link}
+use Rattle.railway.specs.declared.Legs.{Legs}
+use Rattle.railway.specs.declared.Train.{Train}
+use Rattle.railway.specs.declared.Railway.{Railway}
+use Rattle.railway.specs.Bounds.{mostSections, mostPoints, mostTrains, sectionEnds, allEnds}
+use Rattle.railway.specs.Ends.{portSide, endIndex}
+
+abbrev pub noLegs : Legs
+noLegs = record { side = Up }
+
+abbrev pub noLink : Link
+noLink = record { to = Nothing }
+
+abbrev pub noTrain : Train
+noTrain = record { heading = Up; start = record { 0 = 0 }; destination = record { 0 = 0 } }
+
+-- The constructor's record. It has no section and no train, so row 3 applies to it.
+abbrev pub emptyRailway : Railway
+emptyRailway =
+    record {
+      sections = 0;
+      points = 0;
+      trains = 0;
+      legs = replicate mostPoints noLegs;
+      links = replicate allEnds noLink;
+      signals = replicate sectionEnds false;
+      runs = replicate mostTrains noTrain;
+    }
+
+-- ASKED BY INDEX. The join of the end with this index, and whether a signal stands there.
+abbrev pub linkAt : Railway → ℕ → Joined
+linkAt r i = getD (r .links) i noLink .to
+
+abbrev pub flagAt : Railway → ℕ → Bool
+flagAt r i = getD (r .signals) i false
+
+-- ASKED BY NAME. What an end is joined to (a join ties two ends; a section end in no join is the end of the track).
+unfoldable pub joined : Railway → End → Joined
+joined r e = cond (ltb (endIndex e) allEnds) (linkAt r (endIndex e)) Nothing
+
+-- A signal stands at this section end.
+unfoldable pub hasSignal : Railway → End → Bool
+hasSignal r e = cond (ltb (endIndex e) sectionEnds) (flagAt r (endIndex e)) false
+
+-- The side of a point's legs.
+unfoldable pub legsOf : Railway → ℕ → Side
+legsOf r n = cond (ltb n (r .points)) (getD (r .legs) n noLegs .side) Up
+
+-- A train's heading, start and destination.
+unfoldable pub runOf : Railway → ℕ → Train
+runOf r t = cond (ltb t (r .trains)) (getD (r .runs) t noTrain) noTrain
+
+-- The side of an end: a section's own, a port's by the legs of its point.
+abbrev pub sideOf : Railway → End → Side
+sideOf r (Section n s) = s
+sideOf r (Port n l) = portSide (legsOf r (n .0)) l
+
+-- UPDATES. A join added, both ways.
+abbrev pub setLink : End → End → List Link → List Link
+setLink a b ls = set ls (endIndex a) (record { to = With b })
+
+unfoldable pub withJoin : Railway → End → End → Railway
+withJoin r a b =
+    cond (ltb (endIndex a) allEnds && ltb (endIndex b) allEnds)
+    (record {
+      sections = r .sections;
+      points = r .points;
+      trains = r .trains;
+      legs = r .legs;
+      links = setLink b a (setLink a b (r .links));
+      signals = r .signals;
+      runs = r .runs;
+    }) r
+
+-- A signal added at a section end.
+unfoldable pub withSignal : Railway → End → Railway
+withSignal r e =
+    cond (ltb (endIndex e) sectionEnds)
+    (record {
+      sections = r .sections;
+      points = r .points;
+      trains = r .trains;
+      legs = r .legs;
+      links = r .links;
+      signals = set (r .signals) (endIndex e) true;
+      runs = r .runs;
+    }) r
+
+-- The side of a point's legs, and a train, by its number.
+unfoldable pub withLegs : Railway → ℕ → Side → Railway
+withLegs r n side =
+    cond (ltb n mostPoints)
+    (record {
+      sections = r .sections;
+      points = r .points;
+      trains = r .trains;
+      legs = set (r .legs) n (record { side = side });
+      links = r .links;
+      signals = r .signals;
+      runs = r .runs;
+    }) r
+
+unfoldable pub withTrain : Railway → ℕ → Train → Railway
+withTrain r t run =
+    cond (ltb t mostTrains)
+    (record {
+      sections = r .sections;
+      points = r .points;
+      trains = r .trains;
+      legs = r .legs;
+      links = r .links;
+      signals = r .signals;
+      runs = set (r .runs) t run;
+    }) r

@@ -1,0 +1,148 @@
+-- Rows 3 to 8 of the table of numbers, for a record handed in: one definition a row, and the first that applies.
+-- A record can be crooked where no text can be; each row says what it makes of that (docs/DECISIONS.md gives the reasons). Assumes nothing.
+use mathlib.Core.Bool.{Bool, true, false, not, _&&_, _||_}
+use mathlib.Core.List.{List, [], _∷_}
+use mathlib.Core.Option.{Option, none, some}
+use Prim.Native.Nat.{ℕ}
+use lib.Dec.{ltb, eqb}
+use Rattle.laws.specs.Below.{anyBelow}
+use Rattle.railway.specs.declared.Side.{Side}
+use Rattle.railway.specs.declared.Leg.the-variants.{Stem, Plus, Minus}
+use Rattle.railway.specs.declared.SectionNo.{SectionNo}
+use Rattle.railway.specs.declared.PointNo.{PointNo}
+use Rattle.railway.specs.declared.End.{End}
+use Rattle.railway.specs.declared.End.the-variants.{Section, Port}
+use Rattle.railway.specs.declared.Joined.{Joined}
+use Rattle.railway.specs.declared.Joined.the-variants.{Nothing, With}
+use Rattle.railway.specs.declared.Train.{Train}
+use Rattle.railway.specs.declared.Railway.{Railway}
+use Rattle.railway.specs.declared.Refusal.{Refusal}
+use Rattle.railway.specs.declared.Refusal.the-variants.{Count, Unknown, Join, Loose, Double, Place}
+use Rattle.railway.specs.Bounds.{mostSections, mostPoints, mostTrains, sectionEnds, allEnds}
+use Rattle.railway.specs.Ends.{sameSide, endIndex, endAt}
+use Rattle.railway.specs.Refusals.{Row, row, first}
+use Rattle.railway.specs.Record.{linkAt, flagAt, joined, runOf, sideOf}
+
+-- 3, count: the number of sections, points or trains lies outside its bounds.
+abbrev pub outside : ℕ → ℕ → ℕ → Bool
+outside s p k = ltb s 1 || ltb mostSections s || ltb mostPoints p || ltb k 1 || ltb mostTrains k
+
+abbrev pub countRow : Railway → Bool
+countRow r = outside (r .sections) (r .points) (r .trains)
+
+-- The section or point of an end is there.
+abbrev pub known : Railway → End → Bool
+known r (Section n s) = ltb (n .0) (r .sections)
+known r (Port n l) = ltb (n .0) (r .points)
+
+-- 4, unknown: a join, a signal or a train names a section or a point that is not there.
+-- A link at an end beyond the counts, and a link to one, is a join that names it; a flag beyond the sections is a signal that does.
+-- Legs of points and runs of trains beyond the counts name nothing, and are not looked at.
+abbrev pub unknownLink : Railway → End → Joined → Bool
+unknownLink r e Nothing = false
+unknownLink r e (With f) = not (known r e && known r f)
+
+abbrev pub unknownLinkAt : Railway → ℕ → Bool
+unknownLinkAt r i = unknownLink r (endAt i) (linkAt r i)
+
+abbrev pub unknownSignalAt : Railway → ℕ → Bool
+unknownSignalAt r i = flagAt r i && not (known r (endAt i))
+
+abbrev pub unknownTrainAt : Railway → ℕ → Bool
+unknownTrainAt r t = not (ltb (runOf r t .start .0) (r .sections) && ltb (runOf r t .destination .0) (r .sections))
+
+unfoldable pub unknownRow : Railway → Bool
+unknownRow r =
+    anyBelow (unknownLinkAt r) allEnds
+    || anyBelow (unknownSignalAt r) sectionEnds
+    || anyBelow (unknownTrainAt r) (r .trains)
+
+-- 5, join: of the two ends both are ports, both belong to one section, or both are of one side; or an end is in two joins.
+-- What the first three ask of an end: the section that it belongs to (none: it is a port) and its side. Records and case texts are judged by these.
+pub record Tied : Type 0 where
+  pub section : Option ℕ
+  pub side : Side
+
+abbrev pub bothPorts : Option ℕ → Option ℕ → Bool
+bothPorts none none = true
+bothPorts none (some n) = false
+bothPorts (some m) b = false
+
+abbrev pub oneSection : Option ℕ → Option ℕ → Bool
+oneSection (some m) (some n) = eqb m n
+oneSection (some m) none = false
+oneSection none b = false
+
+abbrev pub wrongPair : Tied → Tied → Bool
+wrongPair a b = bothPorts (a .section) (b .section) || oneSection (a .section) (b .section) || sameSide (a .side) (b .side)
+
+abbrev pub sectionOf : End → Option ℕ
+sectionOf (Section n s) = some (n .0)
+sectionOf (Port n l) = none
+
+abbrev pub tied : Railway → End → Tied
+tied r e = record { section = sectionOf e; side = sideOf r e }
+
+abbrev pub wrongLink : Railway → End → Joined → Bool
+wrongLink r e Nothing = false
+wrongLink r e (With f) = wrongPair (tied r e) (tied r f)
+
+abbrev pub wrongLinkAt : Railway → ℕ → Bool
+wrongLinkAt r i = wrongLink r (endAt i) (linkAt r i)
+
+-- An end in two joins: in a record that is a link that its other end does not return, for that end is then in another join, or in half of one.
+abbrev pub leadsTo : Joined → End → Bool
+leadsTo Nothing e = false
+leadsTo (With f) e = eqb (endIndex f) (endIndex e)
+
+abbrev pub unreturned : Railway → End → Joined → Bool
+unreturned r e Nothing = false
+unreturned r e (With f) = not (leadsTo (joined r f) e)
+
+abbrev pub unreturnedAt : Railway → ℕ → Bool
+unreturnedAt r i = unreturned r (endAt i) (linkAt r i)
+
+unfoldable pub joinRow : Railway → Bool
+joinRow r = anyBelow (wrongLinkAt r) allEnds || anyBelow (unreturnedAt r) allEnds
+
+-- 6, loose: a point's port is in no join.
+abbrev pub unjoined : Joined → Bool
+unjoined Nothing = true
+unjoined (With e) = false
+
+abbrev pub looseAt : Railway → ℕ → Bool
+looseAt r n =
+    unjoined (joined r (Port (record { 0 = n }) Stem))
+    || unjoined (joined r (Port (record { 0 = n }) Plus))
+    || unjoined (joined r (Port (record { 0 = n }) Minus))
+
+unfoldable pub looseRow : Railway → Bool
+looseRow r = anyBelow (looseAt r) (r .points)
+
+-- 7, double: a signal is named twice. A record has one flag an end, so none is.
+abbrev pub doubleRow : Railway → Bool
+doubleRow r = false
+
+-- 8, place: two trains share a start, or two share a destination.
+abbrev pub sharesWith : Railway → ℕ → ℕ → Bool
+sharesWith r t u = eqb (runOf r u .start .0) (runOf r t .start .0) || eqb (runOf r u .destination .0) (runOf r t .destination .0)
+
+abbrev pub sharesAt : Railway → ℕ → Bool
+sharesAt r t = anyBelow (sharesWith r t) t
+
+unfoldable pub placeRow : Railway → Bool
+placeRow r = anyBelow (sharesAt r) (r .trains)
+
+-- The rows in the table's order, and the first that applies; none: the record is accepted.
+abbrev pub recordRows : Railway → List Row
+recordRows r =
+    row Count (countRow r)
+    ∷ row Unknown (unknownRow r)
+    ∷ row Join (joinRow r)
+    ∷ row Loose (looseRow r)
+    ∷ row Double (doubleRow r)
+    ∷ row Place (placeRow r)
+    ∷ []
+
+unfoldable pub recordRefusal : Railway → Option Refusal
+recordRefusal r = first (recordRows r)

@@ -1,0 +1,16 @@
+-- When two records are the same railway (document 01, end of "The case file"): counts, legs, joins, signals and trains agree.
+-- Joins and signals are compared at every end a railway can have, for row 4 looks at all of them; legs and trains within the counts. Assumes nothing.
+use mathlib.Core.Path.{_≡_}
+use Prim.Native.Nat.{ℕ, _<_}
+use Rattle.railway.specs.declared.Railway.{Railway}
+use Rattle.railway.specs.Bounds.{sectionEnds, allEnds}
+use Rattle.railway.specs.Record.{linkAt, flagAt, legsOf, runOf}
+
+pub record SameRailway (r q : Railway) : Type 0 where
+  pub sections : r .sections ≡ q .sections
+  pub points : r .points ≡ q .points
+  pub trains : r .trains ≡ q .trains
+  pub legs : (n : ℕ) → n < r .points → legsOf r n ≡ legsOf q n
+  pub joins : (i : ℕ) → i < allEnds → linkAt r i ≡ linkAt q i
+  pub signals : (i : ℕ) → i < sectionEnds → flagAt r i ≡ flagAt q i
+  pub runs : (t : ℕ) → t < r .trains → runOf r t ≡ runOf q t
