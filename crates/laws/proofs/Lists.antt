@@ -8,7 +8,7 @@ use native.Mathlib.Omega.{arith}
 use lib.Dec.{eqb}
 use lib.ListN.{length, getD}
 use borrow.Author.Tests.{eqb-false, ne-eqb}
-use Rattle.laws.specs.Lists.{any, all, repeats}
+use Rattle.laws.specs.Lists.{any, all, repeats, Every}
 use Rattle.laws.proofs.Bools.{clash, not-false, or-false, or-none, and-true, and-both}
 
 module _ {A : Type 0} where
@@ -58,6 +58,13 @@ module _ {A : Type 0} where
   unfolding all
   all-weaken f g h [] p = refl
   all-weaken f g h (x ∷ l) p = let t = and-true (f x) (all f l) p in and-both (g x) (all g l) (h x (t .0)) (all-weaken f g h l (t .1))
+
+  pub every-none : (P : A → Type 0) → Every P []
+  every-none P x m = elim m [ ]
+
+  pub every-more : (P : A → Type 0) (y : A) (l : List A) → P y → Every P l → Every P (y ∷ l)
+  every-more P y l p h x (List·Memᴰ·head e) = rw e p
+  every-more P y l p h x (List·Memᴰ·tail m) = h x m
 
   pub repeats-head : (same : A → A → Bool) (x : A) (l : List A) → repeats same (x ∷ l) ≡ false → ((y : A) → List·Memᴰ y l → same x y ≡ false) × (repeats same l ≡ false)
   unfolding repeats
