@@ -2,6 +2,7 @@
 -- Assumes nothing.
 use Prim.Native.Nat.{ℕ, zero, suc, _<_}
 use mathlib.Core.Path.{_≡_, refl, sym, _∙_, ap}
+use mathlib.Core.Logic.{_⊎_, inl, inr}
 use mathlib.Core.Bool.{Bool, true, false, not, _&&_, _||_}
 use mathlib.Core.List.{List, [], _∷_, _++_, map, List·Memᴰ, List·Memᴰ·head, List·Memᴰ·tail}
 use native.Mathlib.Omega.{arith}
@@ -78,6 +79,20 @@ module _ {A : Type 0} where
   getD-member [] j d h = absurd (omega arith)
   getD-member (x ∷ l) zero d h = List·Memᴰ·head refl
   getD-member (x ∷ l) (suc j) d h = List·Memᴰ·tail (getD-member l j d (omega arith))
+
+  -- two ways to part a list at an element: it is one element, or each stands before the other
+  pub parted : (s t : List A) (x y : A) (u v : List A) → s ++ (x ∷ u) ≡ t ++ (y ∷ v) → (x ≡ y) ⊎ (List·Memᴰ x t ⊎ List·Memᴰ y s)
+  parted [] [] x y u v e = inl cc
+  parted [] (b ∷ t) x y u v e = let z : x ≡ b = cc in inr (inl (List·Memᴰ·head z))
+  parted (a ∷ s) [] x y u v e = let z : y ≡ a = cc in inr (inr (List·Memᴰ·head z))
+  parted (a ∷ s) (b ∷ t) x y u v e = elim (parted s t x y u v cc) [
+    | inl p ↦ inl p
+    | inr p ↦ elim p [ inl m ↦ inr (inl (List·Memᴰ·tail m)) | inr m ↦ inr (inr (List·Memᴰ·tail m)) ]
+  ]
+
+  pub map-append : {B : Type 0} (f : A → B) (s t : List A) → map f (s ++ t) ≡ map f s ++ map f t
+  map-append f [] t = refl
+  map-append f (x ∷ s) t = ap (λ (l : List _). f x ∷ l) (map-append f s t)
 
 module _ {A : Type 0} where
   pub record Mapped {B : Type 0} (f : A → B) (l : List A) (y : B) : Type 0 where
