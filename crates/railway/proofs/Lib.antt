@@ -1,3 +1,5 @@
 pub mod Ends
 pub mod Arrays
 pub mod Lookups
+pub mod Updates
+pub mod Testing
