@@ -1,29 +1,82 @@
--- The lookups of a record as code makes them: a table read where the index is within it, and what stands for nothing elsewhere.
+-- The lookups of a record as code makes them: a table read where the place is within it, and what stands for nothing elsewhere.
 -- Assumes nothing.
 use Prim.Native.Nat.{ℕ, _<_, _≤_}
-use mathlib.Core.Path.{_≡_}
-use mathlib.Core.Bool.{false}
+use mathlib.Core.Path.{_≡_, refl, sym, _∙_, ap}
+use mathlib.Core.Bool.{Bool, true, false, cond}
+use lib.Dec.{ltb}
+use lib.ListN.{length, getD, List·getD-eq-default}
 use borrow.Author.Tests.{lt-ltb, le-ltb}
+use Rattle.railway.specs.declared.Side.{Side}
+use Rattle.railway.specs.declared.Side.the-variants.{Up}
 use Rattle.railway.specs.declared.End.{End}
+use Rattle.railway.specs.declared.Legs.{Legs}
+use Rattle.railway.specs.declared.Link.{Link}
+use Rattle.railway.specs.declared.Train.{Train}
 use Rattle.railway.specs.declared.Joined.the-variants.{Nothing}
 use Rattle.railway.specs.declared.Railway.{Railway}
 use Rattle.railway.specs.Bounds.{sectionEnds, allEnds}
 use Rattle.railway.specs.Ends.{endIndex}
-use Rattle.railway.specs.Record.{linkAt, flagAt, joined, hasSignal}
+use Rattle.railway.specs.Record.{noLegs, noLink, noTrain, linkAt, flagAt, joined, hasSignal, legsOf, runOf}
+
+-- within a count, beyond it, and where what would be read is what stands for nothing
+module _ {A : Type 0} (n k : ℕ) (x d : A) where
+  pub within : n < k → x ≡ cond (ltb n k) x d
+  within h = rw (lt-ltb n k h)
+
+  pub beyond : k ≤ n → d ≡ cond (ltb n k) x d
+  beyond h = rw (le-ltb n k h)
+
+  pub either-way : x ≡ d → d ≡ cond (ltb n k) x d
+  either-way h = cases (ltb n k)
+    where
+      cases : (b : Bool) → d ≡ cond b x d
+      cases true = sym h
+      cases false = refl
 
 module _ (r : Railway) (e : End) (i : ℕ) (is : i ≡ endIndex e) where
   pub joined-there : i < allEnds → linkAt r i ≡ joined r e
   unfolding joined
-  joined-there h = rw (← is, lt-ltb i allEnds h)
+  joined-there h = rw (← is) (within i allEnds (linkAt r i) Nothing h)
 
   pub joined-nothing : allEnds ≤ i → Nothing ≡ joined r e
   unfolding joined
-  joined-nothing h = rw (← is, le-ltb i allEnds h)
+  joined-nothing h = rw (← is) (beyond i allEnds (linkAt r i) Nothing h)
 
   pub signal-there : i < sectionEnds → flagAt r i ≡ hasSignal r e
   unfolding hasSignal
-  signal-there h = rw (← is, lt-ltb i sectionEnds h)
+  signal-there h = rw (← is) (within i sectionEnds (flagAt r i) false h)
 
   pub signal-none : sectionEnds ≤ i → false ≡ hasSignal r e
   unfolding hasSignal
-  signal-none h = rw (← is, le-ltb i sectionEnds h)
+  signal-none h = rw (← is) (beyond i sectionEnds (flagAt r i) false h)
+
+module _ (r : Railway) (n : ℕ) where
+  pub legs-there : n < r .points → getD (r .legs) n noLegs .side ≡ legsOf r n
+  unfolding legsOf
+  legs-there h = within n (r .points) (getD (r .legs) n noLegs .side) Up h
+
+  pub legs-none : r .points ≤ n → Up ≡ legsOf r n
+  unfolding legsOf
+  legs-none h = beyond n (r .points) (getD (r .legs) n noLegs .side) Up h
+
+  pub legs-past : length (r .legs) ≤ n → Up ≡ legsOf r n
+  unfolding legsOf
+  legs-past h = either-way n (r .points) (getD (r .legs) n noLegs .side) Up (ap (λ (l : Legs). l .side) (List·getD-eq-default (r .legs) noLegs h))
+
+  pub run-there : n < r .trains → getD (r .runs) n noTrain ≡ runOf r n
+  unfolding runOf
+  run-there h = within n (r .trains) (getD (r .runs) n noTrain) noTrain h
+
+  pub run-none : r .trains ≤ n → noTrain ≡ runOf r n
+  unfolding runOf
+  run-none h = beyond n (r .trains) (getD (r .runs) n noTrain) noTrain h
+
+  pub run-past : length (r .runs) ≤ n → noTrain ≡ runOf r n
+  unfolding runOf
+  run-past h = either-way n (r .trains) (getD (r .runs) n noTrain) noTrain (List·getD-eq-default (r .runs) noTrain h)
+
+  pub link-past : length (r .links) ≤ n → Nothing ≡ linkAt r n
+  link-past h = sym (ap (λ (l : Link). l .to) (List·getD-eq-default (r .links) noLink h))
+
+  pub flag-past : length (r .signals) ≤ n → false ≡ flagAt r n
+  flag-past h = sym (List·getD-eq-default (r .signals) false h)

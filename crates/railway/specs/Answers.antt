@@ -9,9 +9,9 @@ use Rattle.railway.specs.declared.Railway.{Railway}
 use Rattle.railway.specs.declared.test.Tested.{Tested}
 use Rattle.railway.specs.declared.test.Tested.the-variants.{Accepted, Refused}
 use Rattle.railway.specs.declared.test.Flaw.{Flaw}
-use Rattle.railway.specs.declared.test.Flaw.the-variants.{UnknownLink, UnknownSignal, UnknownTrain, WrongLink, Unreturned, LoosePort, SharedPlace}
+use Rattle.railway.specs.declared.test.Flaw.the-variants.{UnknownLink, UnknownSignal, UnknownTrain, WrongLink, Unreturned, LoosePort, SharesWith}
 use Rattle.railway.specs.Refusals.{numberOf}
-use Rattle.railway.specs.Rows.{recordRefusal, unknownLinkAt, unknownSignalAt, unknownTrainAt, wrongLinkAt, unreturnedAt, looseAt, sharesAt}
+use Rattle.railway.specs.Rows.{recordRefusal, unknownLinkAt, unknownSignalAt, unknownTrainAt, wrongLinkAt, unreturnedAt, looseAt, sharesWith}
 
 -- The refusal that a test answers, if it does, and its number in the table.
 abbrev pub refusalGiven : Tested → Option Refusal
@@ -34,4 +34,4 @@ flawAt r UnknownTrain t = unknownTrainAt r t
 flawAt r WrongLink i = wrongLinkAt r i
 flawAt r Unreturned i = unreturnedAt r i
 flawAt r LoosePort n = looseAt r n
-flawAt r SharedPlace t = sharesAt r t
+flawAt r (SharesWith t) u = sharesWith r t u

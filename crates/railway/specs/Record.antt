@@ -72,21 +72,23 @@ sideOf r (Section n s) = s
 sideOf r (Port n l) = portSide (legsOf r (n .0)) l
 
 -- UPDATES. A join added, both ways.
-abbrev pub setLink : End → End → List Link → List Link
-setLink a b ls = set ls (endIndex a) (record { to = With b })
-
-unfoldable pub withJoin : Railway → End → End → Railway
-withJoin r a b =
-    cond (ltb (endIndex a) allEnds && ltb (endIndex b) allEnds)
-    (record {
+abbrev pub withLinks : Railway → List Link → Railway
+withLinks r links =
+    record {
       sections = r .sections;
       points = r .points;
       trains = r .trains;
       legs = r .legs;
-      links = setLink b a (setLink a b (r .links));
+      links = links;
       signals = r .signals;
       runs = r .runs;
-    }) r
+    }
+
+abbrev pub setLink : End → End → List Link → List Link
+setLink a b links = set links (endIndex a) (record { to = With b })
+
+unfoldable pub withJoin : Railway → End → End → Railway
+withJoin r a b = cond (ltb (endIndex a) allEnds && ltb (endIndex b) allEnds) (withLinks r (setLink b a (setLink a b (r .links)))) r
 
 -- A signal added at a section end.
 unfoldable pub withSignal : Railway → End → Railway

@@ -2,9 +2,11 @@
 // and every update is total: what no railway can have is joined to nothing, has no signal, and changes nothing.
 // The test of a record, rows 3 to 8 of the table of numbers, is in `test`.
 ghost use mathlib.Core.Path.{_≡_};
+ghost use lib.ListN.{set};
+ghost use Rattle.railway.specs.declared.Joined.the-variants.{With};
 ghost use Rattle.railway.specs.Bounds.{mostSections, mostPoints, mostTrains, sectionEnds, allEnds};
-ghost use Rattle.railway.specs.Ends.{sideIndex, legIndex, endIndex, endAt, opposite, portSide};
-ghost use Rattle.railway.specs.Record.{noTrain, emptyRailway, joined, hasSignal, legsOf, runOf, sideOf, withJoin, withSignal, withLegs, withTrain};
+ghost use Rattle.railway.specs.Ends.{sideIndex, legIndex, endIndex, sideAt, legAt, endAt, portSide};
+ghost use Rattle.railway.specs.Record.{noTrain, emptyRailway, joined, hasSignal, legsOf, runOf, sideOf, withLinks, withJoin, withSignal, withLegs, withTrain};
 ghost use Rattle.railway.specs.Refusals.{number};
 
 pub mod test;
@@ -143,6 +145,151 @@ impl Railway {
             false
         }
     }
+
+    // The side of a point's legs; up for a point that is not there.
+    pub fn legs_of(self, n: PointNo) -> Side
+        ensures { λ s. ⌜ s ≡ legsOf self (n .0) ⌝ }
+    {
+        let i = n.0;
+        let at = i as usize;
+        if self.points <= i {
+            return Side::Up;
+        }
+        if i < Railway::POINTS {
+            let l = self.legs[at];
+            l.side
+        } else {
+            Side::Up
+        }
+    }
+
+    // A train, counted from 0; up from section 1 to 1 for one that is not there.
+    pub fn run_of(self, t: u8) -> Train
+        ensures { λ x. ⌜ x ≡ runOf self t ⌝ }
+    {
+        let at = t as usize;
+        if self.trains <= t {
+            return no_train();
+        }
+        if t < Railway::TRAINS {
+            self.runs[at]
+        } else {
+            no_train()
+        }
+    }
+
+    // The side that an end lies on.
+    pub fn side_of(self, e: End) -> Side
+        ensures { λ s. ⌜ s ≡ sideOf self e ⌝ }
+    {
+        match e {
+            End::Section(_, s) => s,
+            End::Port(n, l) => port_side(self.legs_of(n), l),
+        }
+    }
+
+    // The record with a join added, found from both its ends; unchanged where an end is none that a railway can have.
+    pub fn with_join(self, a: End, b: End) -> Railway
+        ensures { λ r. ⌜ r ≡ withJoin self a b ⌝ }
+    {
+        let i = index_of(a);
+        let j = index_of(b);
+        if i < Railway::ENDS {
+            if j < Railway::ENDS {
+                return self.with_link(i, b).with_link(j, a);
+            }
+        }
+        self
+    }
+
+    // The record with one direction of a join set.
+    fn with_link(self, i: u8, to: End) -> Railway
+        ensures { λ r. ⌜ r ≡ withLinks self (set (self .links) i (record { to = With to })) ⌝ }
+    {
+        let at = i as usize;
+        let link = Link {
+            to: Joined::With(to),
+        };
+        let mut next = self;
+        if i < Railway::ENDS {
+            next.links[at] = link;
+        }
+        next
+    }
+
+    // The record with a signal added at a section end; unchanged where the end is none that a railway can have, or a port.
+    pub fn with_signal(self, e: End) -> Railway
+        ensures { λ r. ⌜ r ≡ withSignal self e ⌝ }
+    {
+        let i = index_of(e);
+        let at = i as usize;
+        let mut next = self;
+        if i < Railway::SECTION_ENDS {
+            next.signals[at] = true;
+        }
+        next
+    }
+
+    // The record with the side of a point's legs set; unchanged for a point that no railway can have.
+    pub fn with_legs(self, n: PointNo, side: Side) -> Railway
+        ensures { λ r. ⌜ r ≡ withLegs self (n .0) side ⌝ }
+    {
+        let i = n.0;
+        let at = i as usize;
+        let legs = Legs { side: side };
+        let mut next = self;
+        if i < Railway::POINTS {
+            next.legs[at] = legs;
+        }
+        next
+    }
+
+    // The record with a train set, counted from 0; unchanged for a train that no railway can have.
+    pub fn with_train(self, t: u8, run: Train) -> Railway
+        ensures { λ r. ⌜ r ≡ withTrain self t run ⌝ }
+    {
+        let at = t as usize;
+        let mut next = self;
+        if t < Railway::TRAINS {
+            next.runs[at] = run;
+        }
+        next
+    }
+}
+
+impl Refusal {
+    // The document's number.
+    pub fn number(self) -> u8
+        ensures { λ n. ⌜ n ≡ number self ⌝ }
+    {
+        match self {
+            Refusal::Length => 1,
+            Refusal::Form => 2,
+            Refusal::Count => 3,
+            Refusal::Unknown => 4,
+            Refusal::Join => 5,
+            Refusal::Loose => 6,
+            Refusal::Double => 7,
+            Refusal::Place => 8,
+            Refusal::Space => 9,
+            Refusal::PlanForm => 10,
+            Refusal::PlanFault => 11,
+        }
+    }
+}
+
+// The side that a port lies on, given the side of its point's legs.
+pub fn port_side(legs: Side, l: Leg) -> Side
+    ensures { λ s. ⌜ s ≡ portSide legs l ⌝ }
+{
+    match l {
+        Leg::Stem => match legs {
+            Side::Up => Side::Down,
+            Side::Down => Side::Up,
+        },
+        Leg::Plus => legs,
+        Leg::Minus => legs,
+    }
 }
 
 // What stands for a train that is not there.
@@ -196,5 +343,35 @@ fn leg_index(l: Leg) -> u8
         Leg::Stem => 0,
         Leg::Plus => 1,
         Leg::Minus => 2,
+    }
+}
+
+// The end of an index. (A number past the last index gives a port that no railway can have.)
+pub fn end_at(i: u8) -> End
+    ensures { λ e. ⌜ e ≡ endAt i ⌝ }
+{
+    if i < Railway::SECTION_ENDS {
+        End::Section(SectionNo(i / 2), side_at(i % 2))
+    } else {
+        let p = i - Railway::SECTION_ENDS;
+        End::Port(PointNo(p / 3), leg_at(p % 3))
+    }
+}
+
+fn side_at(i: u8) -> Side
+    ensures { λ s. ⌜ s ≡ sideAt i ⌝ }
+{
+    if i == 0 { Side::Down } else { Side::Up }
+}
+
+fn leg_at(i: u8) -> Leg
+    ensures { λ l. ⌜ l ≡ legAt i ⌝ }
+{
+    if i == 0 {
+        Leg::Stem
+    } else if i == 1 {
+        Leg::Plus
+    } else {
+        Leg::Minus
     }
 }

@@ -1,0 +1,26 @@
+-- `railway::Railway::with_signal` meets its contract: the flag set where the end is a section's that a railway can have, else nothing.
+-- Assumes nothing.
+use borrow.Author.Needs.{needs}
+use mathlib.Core.Path.{refl}
+use Rattle.railway.proofs.Updates.{signal-added, signal-out}
+use Rattle.railway.proofs.Railway.with_signal.Statement.{statement}
+use Rattle.railway.proofs.Railway.with_signal.Tie as tie
+
+index-of-requires : tie.Need-index-of-requires
+index-of-requires c κs = search needs
+
+cast-at : tie.Need-cast-at
+cast-at c = search needs
+
+element-write-next : tie.Need-element-write-next
+element-write-next c = search needs
+
+returns : tie.Need-returns
+returns c = let a = c .before .before .args in signal-added (a .self) (a .e) _ (c .before .index-of .ensures) _ (c .if1 .taken) refl
+
+returns-2 : tie.Need-returns-2
+returns-2 c = let a = c .before .before .args in signal-out (a .self) (a .e) _ (c .before .index-of .ensures) (c .if1 .left)
+
+pub with-signal-spec : {M : Type 1} → statement M
+with-signal-spec =
+    tie.close (tie.spec index-of-requires cast-at element-write-next returns returns-2)
