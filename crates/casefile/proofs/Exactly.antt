@@ -19,7 +19,8 @@ use Rattle.railway.specs.declared.Railway.{Railway}
 use Rattle.railway.specs.declared.Refusal.{Refusal}
 use Rattle.railway.specs.declared.Refusal.the-variants.{Length, Form, Count, Unknown, Join, Loose, Double, Place}
 use Rattle.railway.specs.Refusals.{Row, row, refuseIf, first}
-use Rattle.railway.proofs.Refusals.{Off, Chosen, first-none, none-first, first-some}
+use Rattle.railway.proofs.Refusals as R
+use Rattle.railway.proofs.Refusals.{first-is, first-none, none-first}
 use Rattle.casefile.specs.declared.CaseRead.{CaseRead}
 use Rattle.casefile.specs.declared.CaseAnswer.{CaseAnswer}
 use Rattle.casefile.specs.declared.CaseAnswer.the-variants.{Accepted, Refused}
@@ -30,6 +31,22 @@ use Rattle.casefile.specs.Given.{accepted, refused, Says, Applies, caseT
 use Rattle.casefile.specs.Reading.{read, formRows, caseRows, judged, caseAnswer}
 use Rattle.casefile.specs.Claims.{RefusedExactly, AcceptedExactly, AlwaysAnswered}
 use Rattle.casefile.proofs.Whole.{read-sound, read-complete, describes-one, form-decided}
+
+-- a row that does not apply; and the row that is given, with those before it and those behind
+abbrev pub Off : Row → Type 0
+Off x = x .applies ≡ false
+
+record Chosen (rows : List Row) (f : Refusal) : Type 0 where
+  before : List Row
+  after : List Row
+  order : rows ≡ before ++ (row f true ∷ after)
+  not-before : Every Off before
+
+chosen : (rows : List Row) (f : Refusal) → R.FirstOf rows f → Chosen rows f
+chosen (x ∷ xs) f (R.FirstOf.at-once h) = record { before = []; after = xs; order = rw (← h); not-before = every-none Off }
+chosen (x ∷ xs) f (R.FirstOf.after h w) =
+    let t = chosen xs f w in
+    record { before = x ∷ t .before; after = t .after; order = ap (λ (l : List Row). x ∷ l) (t .order); not-before = every-more Off x (t .before) h (t .not-before) }
 
 -- a computed row applies exactly where the table's does
 pub record Agrees (text : List ℕ) (x : Row) : Type 0 where
@@ -114,7 +131,7 @@ module _ (text : List ℕ) where
     accepting : (d : Description) → caseAnswer text ≡ accepted (railwayOf d) → read text ≡ some d → Every Off (caseRows text (some d)) → Answered
 
   by-first : (o : Option Description) (g : Option Refusal) → read text ≡ o → first (caseRows text o) ≡ g → caseAnswer text ≡ judged o g → Answered
-  by-first o (some f) e h a = refusing f a (chosen-first o f e (first-some (caseRows text o) f h))
+  by-first o (some f) e h a = refusing f a (chosen-first o f e (chosen (caseRows text o) f (first-is (caseRows text o) f h)))
   by-first none none e h a = clash refl (first-none (caseRows text none) h (row Form true) (List·Memᴰ·tail (List·Memᴰ·head refl)))
   by-first (some d) none e h a = accepting d a e (first-none (caseRows text (some d)) h)
 

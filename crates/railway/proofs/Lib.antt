@@ -2,5 +2,7 @@ pub mod Ends
 pub mod Arrays
 pub mod Lookups
 pub mod Updates
-pub mod Testing
 pub mod Refusals
+pub mod Accepted
+pub mod Same
+pub mod Testing

@@ -1,50 +1,95 @@
--- Laws of the rule by which one of several rows is given: nothing is given exactly where no row applies, and what is given is a row that applies
--- with none before it. Along the list, each row either is given or leaves the choice to those behind it.
+-- Which row of several is given: the first that applies, and none exactly where no row applies. And a number is one refusal's alone.
 -- Assumes nothing.
-use mathlib.Core.Path.{_≡_, refl, ap}
-use mathlib.Core.Bool.{Bool, true, false}
+use mathlib.Core.Path.{_≡_, refl, sym, _∙_}
+use mathlib.Core.Logic.{_↔_}
+use mathlib.Core.Bool.{Bool, true, false, cond}
+use lib.Dec.{eqb}
 use mathlib.Core.List.{List, [], _∷_, _++_, List·Memᴰ, List·Memᴰ·head, List·Memᴰ·tail}
 use mathlib.Core.Option.{Option, none, some}
-use Rattle.laws.specs.Lists.{Every}
-use Rattle.laws.proofs.Bools.{some-none}
-use Rattle.laws.proofs.Lists.{every-none, every-more}
+use Prim.Native.Nat.{ℕ}
+use native.Mathlib.Omega.{arith}
+use Rattle.laws.proofs.Bools.{clash, some-none}
 use Rattle.railway.specs.declared.Refusal.{Refusal}
-use Rattle.railway.specs.Refusals.{Row, row, refuseIf, first}
+use Rattle.railway.specs.declared.Refusal.the-variants.{Length, Form, Count, Unknown, Join, Loose, Double, Place, Space, PlanForm, PlanFault}
+use Rattle.railway.specs.Refusals.{number, Row, row, refuseIf, first, numberOf}
 
-abbrev pub Off : Row → Type 0
-Off x = x .applies ≡ false
+-- the row of f applies, and none before it in the list
+pub data FirstOf : List Row → Refusal → Type 0 where
+  at-once : {x : Row} {xs : List Row} → x .applies ≡ true → FirstOf (x ∷ xs) (x .refusal)
+  after : {x : Row} {xs : List Row} {f : Refusal} → x .applies ≡ false → FirstOf xs f → FirstOf (x ∷ xs) f
 
--- what is given: a row, those before it, and those behind
-pub record Chosen (rows : List Row) (f : Refusal) : Type 0 where
-  pub before : List Row
-  pub after : List Row
-  pub order : rows ≡ before ++ (row f true ∷ after)
-  pub not-before : Every Off before
+first-step : (b : Bool) (x : Row) (xs : List Row) (f : Refusal) → x .applies ≡ b → refuseIf b (x .refusal) (first xs) ≡ some f
+    → (first xs ≡ some f → FirstOf xs f) → FirstOf (x ∷ xs) f
+first-step true x xs f h e ih = let z : x .refusal ≡ f = cc in rw (← z) (at-once h)
+first-step false x xs f h e ih = after h (ih e)
 
-none-step : (x : Row) (xs : List Row) (b : Bool) → x .applies ≡ b → (first xs ≡ none → Every Off xs) → refuseIf b (x .refusal) (first xs) ≡ none → Every Off (x ∷ xs)
-none-step x xs true h ih e = some-none refl e
-none-step x xs false h ih e = every-more Off x xs h (ih e)
-
-pub first-none : (rows : List Row) → first rows ≡ none → Every Off rows
+pub first-is : (xs : List Row) (f : Refusal) → first xs ≡ some f → FirstOf xs f
 unfolding first
-first-none [] e = every-none Off
-first-none (x ∷ xs) e = none-step x xs (x .applies) refl (λ h. first-none xs h) e
+first-is [] f e = some-none e refl
+first-is (x ∷ xs) f e = first-step (x .applies) x xs f refl e (first-is xs f)
 
-pub none-first : (rows : List Row) → Every Off rows → first rows ≡ none
+pub is-first : (xs : List Row) (f : Refusal) → FirstOf xs f → first xs ≡ some f
+unfolding first
+is-first (x ∷ xs) f (at-once h) = rw h
+is-first (x ∷ xs) f (after h w) = rw h (is-first xs f w)
+
+-- given exactly if
+pub given-exactly : (xs : List Row) (f : Refusal) → (first xs ≡ some f) ↔ FirstOf xs f
+given-exactly xs f = (first-is xs f, is-first xs f)
+
+-- nothing is given exactly where no row applies
+none-step : (b : Bool) (y : Row) (xs : List Row) (x : Row) → y .applies ≡ b → refuseIf b (y .refusal) (first xs) ≡ none
+    → List·Memᴰ x (y ∷ xs) → (first xs ≡ none → List·Memᴰ x xs → x .applies ≡ false) → x .applies ≡ false
+none-step true y xs x h e m ih = some-none refl e
+none-step false y xs x h e (List·Memᴰ·head p) ih = rw p h
+none-step false y xs x h e (List·Memᴰ·tail m) ih = ih e m
+
+pub first-none : (xs : List Row) → first xs ≡ none → (x : Row) → List·Memᴰ x xs → x .applies ≡ false
+unfolding first
+first-none (y ∷ xs) e x m = none-step (y .applies) y xs x refl e m (λ e m. first-none xs e x m)
+
+pub none-first : (xs : List Row) → ((x : Row) → List·Memᴰ x xs → x .applies ≡ false) → first xs ≡ none
 unfolding first
 none-first [] h = refl
 none-first (x ∷ xs) h = rw (h x (List·Memᴰ·head refl)) (none-first xs (λ y m. h y (List·Memᴰ·tail m)))
 
-some-step : (x : Row) (xs : List Row) (f : Refusal) (b : Bool) → x .applies ≡ b → (first xs ≡ some f → Chosen xs f) → refuseIf b (x .refusal) (first xs) ≡ some f → Chosen (x ∷ xs) f
-some-step x xs f true h ih e =
-    let g : x .refusal ≡ f = cc in
-    let z : x ≡ row f true = rw (← g, ← h) in
-    record { before = []; after = xs; order = ap (λ (y : Row). y ∷ xs) z; not-before = every-none Off }
-some-step x xs f false h ih e =
-    let t = ih e in
-    record { before = x ∷ t .before; after = t .after; order = ap (λ (l : List Row). x ∷ l) (t .order); not-before = every-more Off x (t .before) h (t .not-before) }
-
-pub first-some : (rows : List Row) (f : Refusal) → first rows ≡ some f → Chosen rows f
+-- one row at the head of a list
+pub first-same : (f : Refusal) (a b : Bool) (xs ys : List Row) → a ≡ b → first xs ≡ first ys → first (row f a ∷ xs) ≡ first (row f b ∷ ys)
 unfolding first
-first-some [] f e = some-none e refl
-first-some (x ∷ xs) f e = some-step x xs f (x .applies) refl (λ h. first-some xs f h) e
+first-same f a b xs ys p q = rw (p, q)
+
+pub refuse-none : (b : Bool) (f : Refusal) (later : Option Refusal) → refuseIf b f later ≡ none → (b ≡ false) × (later ≡ none)
+refuse-none true f later e = some-none refl e
+refuse-none false f later e = (refl, e)
+
+-- numbers tell refusals apart
+byNumber : ℕ → Refusal
+byNumber n =
+    cond (eqb n 1) Length
+    (cond (eqb n 2) Form
+    (cond (eqb n 3) Count
+    (cond (eqb n 4) Unknown
+    (cond (eqb n 5) Join
+    (cond (eqb n 6) Loose
+    (cond (eqb n 7) Double
+    (cond (eqb n 8) Place
+    (cond (eqb n 9) Space
+    (cond (eqb n 10) PlanForm
+    PlanFault)))))))))
+
+number-back : (f : Refusal) → byNumber (number f) ≡ f
+unfolding byNumber
+number-back Length = refl
+number-back Form = refl
+number-back Count = refl
+number-back Unknown = refl
+number-back Join = refl
+number-back Loose = refl
+number-back Double = refl
+number-back Place = refl
+number-back Space = refl
+number-back PlanForm = refl
+number-back PlanFault = refl
+
+pub number-one : (f g : Refusal) → number f ≡ number g → f ≡ g
+number-one f g e = sym (number-back f) ∙ (let z : byNumber (number f) ≡ byNumber (number g) = rw e in z) ∙ number-back g

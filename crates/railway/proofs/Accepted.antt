@@ -1,0 +1,244 @@
+-- What it is for a record to be accepted, fact by fact, both ways; and what follows: an accepted record's lookups stay within its counts and are returned.
+-- Assumes nothing.
+use Prim.Native.Nat.{ℕ, zero, suc, _+_, _-_, _*_, _<_, _≤_}
+use mathlib.Core.Path.{_≡_, refl, sym, _∙_, ap}
+use mathlib.Core.Logic.{inl, inr}
+use mathlib.Core.Bool.{Bool, true, false, cond, not, _&&_, _||_}
+use mathlib.Core.Option.{Option, none, some}
+use native.Mathlib.Omega.{arith}
+use lib.Dec.{ltb, eqb}
+use borrow.Author.Tests.{ltb-true, ltb-false, lt-ltb, le-ltb, eqb-true, eqb-false, ne-eqb}
+use Rattle.laws.specs.Below.{anyBelow}
+use Rattle.laws.proofs.Bools.{clash, or-false, or-none, and-both, not-and, not-is, bool?, lt?, some-none}
+use Rattle.laws.proofs.Below.{any-false, none-any}
+use Rattle.railway.specs.declared.Leg.{Leg}
+use Rattle.railway.specs.declared.Leg.the-variants.{Stem, Plus, Minus}
+use Rattle.railway.specs.declared.End.{End}
+use Rattle.railway.specs.declared.End.the-variants.{Section, Port}
+use Rattle.railway.specs.declared.Joined.{Joined}
+use Rattle.railway.specs.declared.Joined.the-variants.{Nothing, With}
+use Rattle.railway.specs.declared.Refusal.{Refusal}
+use Rattle.railway.specs.declared.Refusal.the-variants.{Count, Unknown, Join, Loose, Double, Place}
+use Rattle.railway.specs.declared.Railway.{Railway}
+use Rattle.railway.specs.Bounds.{mostSections, mostPoints, mostTrains, sectionEnds, allEnds}
+use Rattle.railway.specs.Ends.{endIndex, endAt, sameSide}
+use Rattle.railway.specs.Refusals.{first}
+use Rattle.railway.specs.Record.{linkAt, flagAt, joined, hasSignal, runOf, sideOf}
+use Rattle.railway.specs.Rows.{outside, known, unknownLink, unknownLinkAt, unknownSignalAt, unknownTrainAt, sectionOf, bothPorts, oneSection, tied, wrongPair, wrongLink, wrongLinkAt, leadsTo, unreturned, unreturnedAt, unjoined, looseAt, sharesWith, sharesAt, countRow, unknownRow, joinRow, looseRow, doubleRow, placeRow, recordRows, recordRefusal}
+use Rattle.railway.proofs.Ends.{Numbered, end-index, index-below, index-one, index-end, numbered-of, end-numbered, section-below, port-behind}
+use Rattle.railway.proofs.Refusals.{refuse-none}
+
+-- counts within their bounds
+pub record Bounded (s p k : ℕ) : Type 0 where
+  pub some-section : 1 ≤ s
+  pub few-sections : s ≤ mostSections
+  pub few-points : p ≤ mostPoints
+  pub some-train : 1 ≤ k
+  pub few-trains : k ≤ mostTrains
+
+pub bounded : (s p k : ℕ) → outside s p k ≡ false → Bounded s p k
+bounded s p k e =
+    let a = or-false (ltb s 1 || ltb mostSections s || ltb mostPoints p || ltb k 1) (ltb mostTrains k) e in
+    let b = or-false (ltb s 1 || ltb mostSections s || ltb mostPoints p) (ltb k 1) (a .0) in
+    let c = or-false (ltb s 1 || ltb mostSections s) (ltb mostPoints p) (b .0) in
+    let d = or-false (ltb s 1) (ltb mostSections s) (c .0) in
+    record {
+      some-section = ltb-false s 1 (d .0);
+      few-sections = ltb-false mostSections s (d .1);
+      few-points = ltb-false mostPoints p (c .1);
+      some-train = ltb-false k 1 (b .1);
+      few-trains = ltb-false mostTrains k (a .1);
+    }
+
+pub within-bounds : (s p k : ℕ) → Bounded s p k → outside s p k ≡ false
+within-bounds s p k b =
+    simp (le-ltb s 1 (b .some-section), le-ltb mostSections s (b .few-sections), le-ltb mostPoints p (b .few-points), le-ltb k 1 (b .some-train), le-ltb mostTrains k (b .few-trains))
+
+-- a join as it should be
+pub record Right (r : Railway) (e f : End) : Type 0 where
+  pub not-ports : bothPorts (sectionOf e) (sectionOf f) ≡ false
+  pub not-one : oneSection (sectionOf e) (sectionOf f) ≡ false
+  pub sides : sameSide (sideOf r e) (sideOf r f) ≡ false
+  pub back : leadsTo (joined r f) e ≡ true
+
+pub record Accepted (r : Railway) : Type 0 where
+  pub bounds : Bounded (r .sections) (r .points) (r .trains)
+  pub link-known : (i : ℕ) (f : End) → i < allEnds → linkAt r i ≡ With f → (known r (endAt i) ≡ true) × (known r f ≡ true)
+  pub signal-known : (i : ℕ) → i < sectionEnds → flagAt r i ≡ true → known r (endAt i) ≡ true
+  pub train-known : (t : ℕ) → t < r .trains → (runOf r t .start .0 < r .sections) × (runOf r t .destination .0 < r .sections)
+  pub link-right : (i : ℕ) (f : End) → i < allEnds → linkAt r i ≡ With f → Right r (endAt i) f
+  pub port-joined : (n : ℕ) (l : Leg) → n < r .points → joined r (Port (record { 0 = n }) l) ≡ Nothing → ⊥
+  pub starts : (t u : ℕ) → u < t → t < r .trains → runOf r u .start .0 ≡ runOf r t .start .0 → ⊥
+  pub destinations : (t u : ℕ) → u < t → t < r .trains → runOf r u .destination .0 ≡ runOf r t .destination .0 → ⊥
+
+right-of : (r : Railway) (e f : End) → wrongPair (tied r e) (tied r f) ≡ false → not (leadsTo (joined r f) e) ≡ false → Right r e f
+right-of r e f h g =
+    let b = or-false (bothPorts (sectionOf e) (sectionOf f) || oneSection (sectionOf e) (sectionOf f)) (sameSide (sideOf r e) (sideOf r f)) h in
+    let c = or-false (bothPorts (sectionOf e) (sectionOf f)) (oneSection (sectionOf e) (sectionOf f)) (b .0) in
+    record { not-ports = c .0; not-one = c .1; sides = b .1; back = not-is (leadsTo (joined r f) e) g }
+
+loose-none : (r : Railway) (n : ℕ) → looseAt r n ≡ false → (l : Leg) → unjoined (joined r (Port (record { 0 = n }) l)) ≡ false
+loose-none r n e l =
+    let s = unjoined (joined r (Port (record { 0 = n }) Stem)) in
+    let p = unjoined (joined r (Port (record { 0 = n }) Plus)) in
+    let m = unjoined (joined r (Port (record { 0 = n }) Minus)) in
+    let a = or-false (s || p) m e in
+    let b = or-false s p (a .0) in
+    cases l (b .0) (b .1) (a .1)
+  where
+    cases : (l : Leg) → unjoined (joined r (Port (record { 0 = n }) Stem)) ≡ false → unjoined (joined r (Port (record { 0 = n }) Plus)) ≡ false
+        → unjoined (joined r (Port (record { 0 = n }) Minus)) ≡ false → unjoined (joined r (Port (record { 0 = n }) l)) ≡ false
+    cases Stem a b c = a
+    cases Plus a b c = b
+    cases Minus a b c = c
+
+module _ (r : Railway) where
+  pub accepted-facts : recordRefusal r ≡ none → Accepted r
+  unfolding recordRefusal first unknownRow joinRow looseRow placeRow
+  accepted-facts e =
+      let r3 = refuse-none (countRow r) Count _ e in
+      let r4 = refuse-none (unknownRow r) Unknown _ (r3 .1) in
+      let r5 = refuse-none (joinRow r) Join _ (r4 .1) in
+      let r6 = refuse-none (looseRow r) Loose _ (r5 .1) in
+      let r7 = refuse-none (doubleRow r) Double _ (r6 .1) in
+      let r8 = refuse-none (placeRow r) Place _ (r7 .1) in
+      let links = anyBelow (unknownLinkAt r) allEnds in
+      let flags = anyBelow (unknownSignalAt r) sectionEnds in
+      let runs = anyBelow (unknownTrainAt r) (r .trains) in
+      let a = or-false (links || flags) runs (r4 .0) in
+      let b = or-false links flags (a .0) in
+      let j = or-false (anyBelow (wrongLinkAt r) allEnds) (anyBelow (unreturnedAt r) allEnds) (r5 .0) in
+      record {
+        bounds = bounded (r .sections) (r .points) (r .trains) (r3 .0);
+        link-known = λ i f h l. not-and (known r (endAt i)) (known r f) (rw l at (any-false (unknownLinkAt r) allEnds (b .0) i h));
+        signal-known = λ i h l. not-is (known r (endAt i)) (rw l at (any-false (unknownSignalAt r) sectionEnds (b .1) i h));
+        train-known = λ t h.
+            let w = not-and (ltb (runOf r t .start .0) (r .sections)) (ltb (runOf r t .destination .0) (r .sections)) (any-false (unknownTrainAt r) (r .trains) (a .1) t h) in
+            (ltb-true (runOf r t .start .0) (r .sections) (w .0), ltb-true (runOf r t .destination .0) (r .sections) (w .1));
+        link-right = λ i f h l.
+            right-of r (endAt i) f (rw l at (any-false (wrongLinkAt r) allEnds (j .0) i h)) (rw l at (any-false (unreturnedAt r) allEnds (j .1) i h));
+        port-joined = λ n l h q. clash refl (rw q at (loose-none r n (any-false (looseAt r) (r .points) (r6 .0) n h) l));
+        starts = λ t u h g. eqb-false (runOf r u .start .0) (runOf r t .start .0) (apart t u h g .0);
+        destinations = λ t u h g. eqb-false (runOf r u .destination .0) (runOf r t .destination .0) (apart t u h g .1);
+      }
+    where
+      apart : (t u : ℕ) → u < t → t < r .trains → (eqb (runOf r u .start .0) (runOf r t .start .0) ≡ false) × (eqb (runOf r u .destination .0) (runOf r t .destination .0) ≡ false)
+      apart t u h g =
+          let r3 = refuse-none (countRow r) Count _ e in
+          let r4 = refuse-none (unknownRow r) Unknown _ (r3 .1) in
+          let r5 = refuse-none (joinRow r) Join _ (r4 .1) in
+          let r6 = refuse-none (looseRow r) Loose _ (r5 .1) in
+          let r7 = refuse-none (doubleRow r) Double _ (r6 .1) in
+          let r8 = refuse-none (placeRow r) Place _ (r7 .1) in
+          or-false (eqb (runOf r u .start .0) (runOf r t .start .0)) (eqb (runOf r u .destination .0) (runOf r t .destination .0))
+          (any-false (sharesWith r t) t (any-false (sharesAt r) (r .trains) (r8 .0) t g) u h)
+
+  -- the converse
+  module _ (w : Accepted r) where
+    unknown-link : (i : ℕ) (j : Joined) → i < allEnds → linkAt r i ≡ j → unknownLink r (endAt i) j ≡ false
+    unknown-link i Nothing b l = refl
+    unknown-link i (With f) b l = let k = w .link-known i f b l in simp (k .0, k .1)
+
+    wrong-link : (i : ℕ) (j : Joined) → i < allEnds → linkAt r i ≡ j → wrongLink r (endAt i) j ≡ false
+    wrong-link i Nothing b l = refl
+    wrong-link i (With f) b l = let k = w .link-right i f b l in simp (k .not-ports, k .not-one, k .sides)
+
+    returned : (i : ℕ) (j : Joined) → i < allEnds → linkAt r i ≡ j → unreturned r (endAt i) j ≡ false
+    returned i Nothing b l = refl
+    returned i (With f) b l = simp (w .link-right i f b l .back)
+
+    unknown-signal : (i : ℕ) (p : Bool) → i < sectionEnds → flagAt r i ≡ p → (p && not (known r (endAt i))) ≡ false
+    unknown-signal i true b l = simp (w .signal-known i b l)
+    unknown-signal i false b l = refl
+
+    tight : (n : ℕ) (l : Leg) (j : Joined) → n < r .points → joined r (Port (record { 0 = n }) l) ≡ j → unjoined j ≡ false
+    tight n l Nothing b h = absurd (w .port-joined n l b h)
+    tight n l (With f) b h = refl
+
+    no-unknown : unknownRow r ≡ false
+    unfolding unknownRow
+    no-unknown =
+        or-none _ _
+        (or-none _ _
+        (none-any _ allEnds (λ i b. unknown-link i (linkAt r i) b refl))
+        (none-any _ sectionEnds (λ i b. unknown-signal i (flagAt r i) b refl)))
+        (none-any _ (r .trains) (λ t b.
+        let k = w .train-known t b in
+        simp (lt-ltb (runOf r t .start .0) (r .sections) (k .0), lt-ltb (runOf r t .destination .0) (r .sections) (k .1))))
+
+    no-join : joinRow r ≡ false
+    unfolding joinRow
+    no-join =
+        or-none _ _
+        (none-any _ allEnds (λ i b. wrong-link i (linkAt r i) b refl))
+        (none-any _ allEnds (λ i b. returned i (linkAt r i) b refl))
+
+    no-loose : looseRow r ≡ false
+    unfolding looseRow
+    no-loose =
+        none-any _ (r .points) (λ n b.
+        or-none _ _ (or-none _ _ (tight n Stem (joined r (Port (record { 0 = n }) Stem)) b refl) (tight n Plus (joined r (Port (record { 0 = n }) Plus)) b refl))
+        (tight n Minus (joined r (Port (record { 0 = n }) Minus)) b refl))
+
+    no-place : placeRow r ≡ false
+    unfolding placeRow
+    no-place =
+        none-any _ (r .trains) (λ t b.
+        none-any _ t (λ u h.
+        or-none _ _
+        (ne-eqb (runOf r u .start .0) (runOf r t .start .0) (w .starts t u h b))
+        (ne-eqb (runOf r u .destination .0) (runOf r t .destination .0) (w .destinations t u h b))))
+
+    pub facts-accepted : recordRefusal r ≡ none
+    unfolding recordRefusal first
+    facts-accepted = simp (within-bounds (r .sections) (r .points) (r .trains) (w .bounds), no-unknown, no-join, no-loose, no-place)
+
+-- what is known has a number that a railway can have
+pub known-numbered : (r : Railway) → Accepted r → (e : End) → known r e ≡ true → Numbered e
+known-numbered r w (Section n s) h = let b = w .bounds in omega (arith, ltb-true (n .0) (r .sections) h)
+known-numbered r w (Port n l) h = let b = w .bounds in omega (arith, ltb-true (n .0) (r .points) h)
+
+-- LOOKUPS of an accepted record
+joined-link : (r : Railway) (e f : End) → joined r e ≡ With f → (endIndex e < allEnds) × (linkAt r (endIndex e) ≡ With f)
+unfolding joined
+joined-link r e f h = cases (ltb (endIndex e) allEnds) refl h
+  where
+    cases : (b : Bool) → ltb (endIndex e) allEnds ≡ b → cond b (linkAt r (endIndex e)) Nothing ≡ With f → (endIndex e < allEnds) × (linkAt r (endIndex e) ≡ With f)
+    cases true p q = (ltb-true (endIndex e) allEnds p, q)
+    cases false p q = let z : _≡_ {A = ℕ} 0 1 = cc in absurd (omega arith)
+
+module _ (r : Railway) (w : Accepted r) where
+  -- .. stay within its counts
+  pub joined-known : (e f : End) → joined r e ≡ With f → (known r e ≡ true) × (known r f ≡ true)
+  joined-known e f h =
+      let l = joined-link r e f h in
+      let k = w .link-known (endIndex e) f (l .0) (l .1) in
+      (rw (end-index e (numbered-of e (l .0))) at (k .0), k .1)
+
+  -- .. are joins as they should be
+  pub joined-right : (e f : End) → joined r e ≡ With f → Right r e f
+  joined-right e f h =
+      let l = joined-link r e f h in
+      rw (end-index e (numbered-of e (l .0))) at (w .link-right (endIndex e) f (l .0) (l .1))
+
+  -- .. and are returned
+  pub joined-back : (e f : End) → joined r e ≡ With f → joined r f ≡ With e
+  joined-back e f h = cases (joined r f) refl (joined-right e f h .back)
+    where
+      cases : (j : Joined) → joined r f ≡ j → leadsTo j e ≡ true → joined r f ≡ With e
+      cases Nothing p q = clash q refl
+      cases (With g) p q =
+          let ne = known-numbered r w e (joined-known e f h .0) in
+          let ng = known-numbered r w g (joined-known f g p .1) in
+          p ∙ ap With (index-one g e ng ne (eqb-true (endIndex g) (endIndex e) q))
+
+  -- a signal stands at a section end that is there
+  pub signal-section : (e : End) → hasSignal r e ≡ true → known r e ≡ true
+  unfolding hasSignal
+  signal-section e h = cases (ltb (endIndex e) sectionEnds) refl h
+    where
+      cases : (b : Bool) → ltb (endIndex e) sectionEnds ≡ b → cond b (flagAt r (endIndex e)) false ≡ true → known r e ≡ true
+      cases true p q =
+          let l = ltb-true (endIndex e) sectionEnds p in
+          rw (end-index e (numbered-of e (omega arith))) at (w .signal-known (endIndex e) l q)
+      cases false p q = clash q refl
