@@ -2,3 +2,5 @@ pub mod Fields
 pub mod Lines
 pub mod Whole
 pub mod Exactly
+pub mod Ends
+pub mod Clean
