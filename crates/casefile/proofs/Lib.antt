@@ -4,3 +4,4 @@ pub mod Whole
 pub mod Exactly
 pub mod Ends
 pub mod Clean
+pub mod Told
