@@ -5,3 +5,4 @@ pub mod Exactly
 pub mod Ends
 pub mod Clean
 pub mod Told
+pub mod Again
