@@ -153,7 +153,7 @@ module _ (text : List ℕ) where
   is-refused f (refusing g a w) v = rw (first-one caseTable f g v w) a
   is-refused f (accepting d a e h) v = absurd (none-applies d e h f (rw (v .order) (Memᴰ·append-right (v .before) (List·Memᴰ·head refl))) (v .here))
 
-  accepted-one : (r q : Railway) → caseAnswer text ≡ accepted r → caseAnswer text ≡ accepted q → r ≡ q
+  pub accepted-one : (r q : Railway) → caseAnswer text ≡ accepted r → caseAnswer text ≡ accepted q → r ≡ q
   accepted-one r q a b = ap (λ (x : CaseRead). x .railway) (sym a ∙ b)
 
   accepted-is : (r : Railway) → Answered → caseAnswer text ≡ accepted r → AcceptedWith text r

@@ -6,3 +6,6 @@ pub mod Ends
 pub mod Clean
 pub mod Told
 pub mod Again
+pub mod Writer
+pub mod Lengths
+pub mod RoundTrip

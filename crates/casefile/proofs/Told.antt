@@ -42,7 +42,7 @@ use Rattle.casefile.proofs.Clean.{Clean, clean-facts, within-is}
 use Rattle.casefile.proofs.Ends.{signal-is, signal-self, end-field, Counted, field-end, Ties, forth, back, partner-ties, partner-one, partner-other}
 
 -- NAMES. The written end of a record's end names it, and no other does.
-names-field : (e : End) → Names (fieldOf e) e
+pub names-field : (e : End) → Names (fieldOf e) e
 names-field (Section n s) = (refl, refl)
 names-field (Port n l) = (refl, refl)
 
@@ -50,7 +50,7 @@ names-end : (a : EndField) → Counted a → Names a (endOf a)
 names-end (section n s) h = (omega arith, refl)
 names-end (port n l) h = (omega arith, refl)
 
-names-is : (a : EndField) (e : End) → Names a e → a ≡ fieldOf e
+pub names-is : (a : EndField) (e : End) → Names a e → a ≡ fieldOf e
 names-is (section n s) (Section m t) h = rw (h .0, h .1)
 names-is (section n s) (Port m l) h = absurd h
 names-is (port n l) (Section m t) h = absurd h
@@ -101,7 +101,7 @@ flagged r e h = cases (ltb (endIndex e) sectionEnds) refl h
     cases false p q = clash q refl
 
 -- the G line of a section end names it
-signal-names : (i : ℕ) → i < sectionEnds → Names (section (signalOf i .number) (signalOf i .side)) (endAt i)
+pub signal-names : (i : ℕ) → i < sectionEnds → Names (section (signalOf i .number) (signalOf i .side)) (endAt i)
 signal-names i h = rw (end-section i h) (refl, refl)
 
 pub signal-of : (i : ℕ) (g : SignalLine) → i < sectionEnds → fieldOf (endAt i) ≡ section (g .number) (g .side) → signalOf i ≡ g

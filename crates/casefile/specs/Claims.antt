@@ -83,6 +83,10 @@ pub record Told (d : Description) (r : Railway) : Type 0 where
 abbrev pub ReadAsTold : Type 0
 ReadAsTold = (text : List ℕ) (r : Railway) → caseAnswer text ≡ accepted r → (d : Description) × Describes text d × Told d r
 
+-- So does the text that the writer makes of an accepted record: it says what the record has.
+abbrev pub WrittenAsTold : Type 0
+WrittenAsTold = (r : Railway) → recordRefusal r ≡ none → (d : Description) × Describes (writtenText r) d × Told d r
+
 -- THE ROUND TRIP. What is written of an accepted record is a case text of the same railway, and fits into the bytes that a case text may have.
 abbrev pub RoundTrip : Type 0
 RoundTrip = (r : Railway) → recordRefusal r ≡ none → (q : Railway) × (caseAnswer (writtenText r) ≡ accepted q) × SameRailway r q
