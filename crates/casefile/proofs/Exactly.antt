@@ -175,6 +175,11 @@ module _ (text : List ℕ) where
       every-more Off _ _ (le-ltb mostBytes (length text) (w .short)) (every-more Off (row Form false) (descriptionRows d) refl (w .no-row)) in
       rw (read-complete text d (w .described), none-first (caseRows text (some d)) off, w .railway)
 
+-- the answer to a text that says something, by its rows
+pub answer-of : (text : List ℕ) (d : Description) → Describes text d → caseAnswer text ≡ judged (some d) (first (caseRows text (some d)))
+unfolding caseAnswer
+answer-of text d w = rw (read-complete text d w)
+
 -- GIVEN EXACTLY IF
 pub refused-exactly : RefusedExactly
 refused-exactly text f = (refused-is text f (answered text), is-refused text f (answered text))

@@ -9,3 +9,4 @@ pub mod Again
 pub mod Writer
 pub mod Lengths
 pub mod RoundTrip
+pub mod Examples
