@@ -1,5 +1,5 @@
--- Case texts and what comes of them, by computation: Yard A looked up entry by entry, one table of texts with their answers, the bounds, the lengths
--- and the writer with its buffer.
+-- Case texts and what comes of them, by computation: Yard A looked up entry by entry, one table of texts with their answers, and the
+-- writer with its buffer.
 -- Assumes nothing.
 use mathlib.Core.Path.{_≡_, refl}
 use mathlib.Core.Bool.{Bool, true, false}
@@ -11,9 +11,7 @@ use Prim.Native.String.{String}
 use Prim.Native.Char.{code}
 use lib.ListN.{length, replicate}
 use Rattle.laws.specs.Below.{anyBelow, listBelow, gatherBelow}
-use native.Mathlib.Omega.{arith}
-use Rattle.laws.specs.Lists.{any, repeats, Every}
-use Rattle.laws.proofs.Lists.{every-none, every-more}
+use Rattle.laws.specs.Lists.{any, repeats}
 use Rattle.text.specs.Text.{digits, line}
 use Rattle.text.specs.Reading.{isDigit, byteAt, digitsAt, numberAt, sameText}
 use Rattle.railway.specs.declared.Side.{Side}
@@ -37,13 +35,12 @@ use Rattle.casefile.specs.declared.CaseAnswer.{CaseAnswer}
 use Rattle.casefile.specs.declared.CaseAnswer.the-variants.{Accepted, Refused}
 use Rattle.casefile.specs.declared.Written.{Written}
 use Rattle.casefile.specs.declared.Written.the-variants as W
-use Rattle.casefile.specs.Form.{Description, each, rising, spell, WritableJoin, WritableSignal, WritableTrain, WellFormed, Describes}
+use Rattle.casefile.specs.Form.{each, rising, spell}
 use Rattle.casefile.specs.Rows.{joinEnds, unknownRow, joinRow, looseRow, doubleRow, placeRow}
 use Rattle.casefile.specs.Recording.{partner, railwayOf}
 use Rattle.casefile.specs.Writing.{descriptionOf, writtenText, writerRefusal, written, bufferAfter}
 use Rattle.casefile.specs.Given.{accepted, refused}
 use Rattle.casefile.specs.Reading.{counted, while, sideFieldAt, legFieldAt, endFieldAt, headerAt, pointLineAt, joinLineAt, signalLineAt, trainLineAt, walk, read, caseAnswer}
-use Rattle.casefile.proofs.Exactly.{answer-of}
 
 bytes : String → List ℕ
 bytes Str.[] = []
@@ -71,7 +68,7 @@ down n = Section (record { 0 = n }) Down
 yard-a : (given (caseAnswer (bytes yardA) .answer) ≡ 0)
     × ((recordA .sections ≡ 3) × (recordA .points ≡ 1) × (recordA .trains ≡ 2) × (legsOf recordA 0 ≡ Down))
     × (map (joined recordA) (down 0 ∷ up 0 ∷ down 1 ∷ up 1 ∷ down 2 ∷ up 2 ∷ Port (record { 0 = 0 }) Stem ∷ Port (record { 0 = 0 }) Plus ∷ Port (record { 0 = 0 }) Minus ∷ [])
-        ≡ Nothing ∷ With (Port (record { 0 = 0 }) Plus) ∷ Nothing ∷ With (Port (record { 0 = 0 }) Minus) ∷ With (Port (record { 0 = 0 }) Stem) ∷ Nothing ∷ With (down 2) ∷ With (up 0) ∷ With (up 1) ∷ [])
+    ≡ Nothing ∷ With (Port (record { 0 = 0 }) Plus) ∷ Nothing ∷ With (Port (record { 0 = 0 }) Minus) ∷ With (Port (record { 0 = 0 }) Stem) ∷ Nothing ∷ With (down 2) ∷ With (up 0) ∷ With (up 1) ∷ [])
     × (map (hasSignal recordA) (down 0 ∷ up 0 ∷ down 1 ∷ up 1 ∷ down 2 ∷ up 2 ∷ []) ≡ true ∷ false ∷ false ∷ true ∷ false ∷ false ∷ [])
     × (runOf recordA 0 ≡ record { heading = Up; start = record { 0 = 1 }; destination = record { 0 = 2 } })
     × (runOf recordA 1 ≡ record { heading = Down; start = record { 0 = 2 }; destination = record { 0 = 0 } })
@@ -250,53 +247,6 @@ numbers = refl
 return : bytes "\r" ≡ 13 ∷ []
 unfolding bytes
 return = refl
-
--- LENGTH. A text in form of 4,096 bytes is read on, and refused for its repeated signals; with one byte more, whatever it says, it is too long.
-copies : {A : Type 0} → ℕ → A → List A → List A
-copies zero x l = l
-copies (suc n) x l = x ∷ copies n x l
-
-every-copies : {A : Type 0} (P : A → Type 0) (n : ℕ) (x : A) (l : List A) → P x → Every P l → Every P (copies n x l)
-unfolding copies
-every-copies P zero x l p h = h
-every-copies P (suc n) x l p h = every-more P x (copies n x l) p (every-copies P n x l p h)
-
--- ten sections, G 1u so many times, G 10u so many times, one train
-long : ℕ → ℕ → Description
-long short wide =
-    record {
-      sections = 10;
-      points = 0;
-      trains = 1;
-      legs = [];
-      joins = [];
-      signals = copies short (record { number = 1; side = Up }) (copies wide (record { number = 10; side = Up }) []);
-      runs = record { heading = Up; start = 1; destination = 1 } ∷ [];
-    }
-
-long-said : (a b : ℕ) → Describes (spell (long a b)) (long a b)
-unfolding long
-long-said a b =
-    record {
-      well-formed =
-          record {
-            sections = omega arith;
-            points = omega arith;
-            trains = omega arith;
-            joins = every-none WritableJoin;
-            signals = every-copies WritableSignal a _ _ (omega arith) (every-copies WritableSignal b _ _ (omega arith) (every-none WritableSignal));
-            runs = every-more WritableTrain _ _ (omega arith, omega arith) (every-none WritableTrain);
-            one-a-point = refl;
-            one-a-train = refl;
-          };
-      spelling = refl;
-    }
-
-lengths : (length (spell (long 813 2)) ≡ 4096) × (caseAnswer (spell (long 813 2)) ≡ refused Double)
-    × (length (spell (long 812 3)) ≡ 4097) × (caseAnswer (spell (long 812 3)) ≡ refused Length)
-    × (given (caseAnswer (replicate 4096 0) .answer) ≡ 2) × (given (caseAnswer (replicate 4097 0) .answer) ≡ 1)
-unfolding long copies given spell each rising first digits line isDigit byteAt digitsAt numberAt headerAt walk read caseAnswer anyBelow any repeats joinEnds unknownRow joinRow looseRow doubleRow placeRow
-lengths = (refl, answer-of (spell (long 813 2)) (long 813 2) (long-said 813 2), refl, answer-of (spell (long 812 3)) (long 812 3) (long-said 812 3), refl, refl)
 
 -- THE WRITER. Yard A has 68 bytes: it fits into 68, leaves what stands behind, and is refused 67; rows 3 to 8 come before 9.
 writes : (written recordA (replicate 68 7) ≡ W.Bytes 68) × (bufferAfter recordA (replicate 68 7) ≡ bytes yardA)

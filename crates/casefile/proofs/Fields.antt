@@ -21,26 +21,26 @@ use Rattle.casefile.specs.Reading.{caseNumberAt, sideFieldAt, legFieldAt
 
 -- SIDES AND LEGS
 module _ (s : List ℕ) (at : ℕ) where
-  side-cases : (x : Side) (c : ℕ) (p q : Bool) → eqb (getD s at 0) 117 ≡ p → eqb (getD s at 0) 100 ≡ q
+  side-cases : (x : Side) (c : ℕ) (p q : Bool) → eqb (getD s at 0) (sideByte Up) ≡ p → eqb (getD s at 0) (sideByte Down) ≡ q
       → cond p (got Up (at + 1)) (cond q (got Down (at + 1)) bad) ≡ got x c → drop at s ≡ sideByte x ∷ drop c s
   side-cases x c true q hp hq e =
       let a : Up ≡ x = cc in
       let b : at + 1 ≡ c = cc in
-      rw (← a, ← b) (stands s at 117 (omega arith) (eqb-true (getD s at 0) 117 hp))
+      rw (← a, ← b) (stands s at (sideByte Up) (omega arith) (eqb-true (getD s at 0) (sideByte Up) hp))
   side-cases x c false true hp hq e =
       let a : Down ≡ x = cc in
       let b : at + 1 ≡ c = cc in
-      rw (← a, ← b) (stands s at 100 (omega arith) (eqb-true (getD s at 0) 100 hq))
+      rw (← a, ← b) (stands s at (sideByte Down) (omega arith) (eqb-true (getD s at 0) (sideByte Down) hq))
   side-cases x c false false hp hq e = bad-got refl e
 
   pub side-sound : (x : Side) (c : ℕ) → sideFieldAt s at ≡ got x c → drop at s ≡ sideByte x ∷ drop c s
   unfolding sideFieldAt
-  side-sound x c e = side-cases x c (eqb (getD s at 0) 117) (eqb (getD s at 0) 100) refl refl e
+  side-sound x c e = side-cases x c (eqb (getD s at 0) (sideByte Up)) (eqb (getD s at 0) (sideByte Down)) refl refl e
 
   pub side-complete : (x : Side) (rest : List ℕ) → Lies s at (sideByte x ∷ rest) → Reads s (sideFieldAt s at) x rest
   unfolding sideFieldAt
-  side-complete Up rest t = record { cursor = at + 1; is = rw (here t); left = past (117 ∷ []) rest t }
-  side-complete Down rest t = record { cursor = at + 1; is = rw (here t); left = past (100 ∷ []) rest t }
+  side-complete Up rest t = record { cursor = at + 1; is = rw (here t); left = past (sideByte Up ∷ []) rest t }
+  side-complete Down rest t = record { cursor = at + 1; is = rw (here t); left = past (sideByte Down ∷ []) rest t }
 
   -- a leg's letter is no side's
   side-none : (x : Leg) (rest : List ℕ) → Lies s at (legByte x ∷ rest) → sideFieldAt s at ≡ bad
@@ -49,31 +49,31 @@ module _ (s : List ℕ) (at : ℕ) where
   side-none Plus rest t = rw (here t)
   side-none Minus rest t = rw (here t)
 
-  leg-cases : (x : Leg) (c : ℕ) (p q u : Bool) → eqb (getD s at 0) 115 ≡ p → eqb (getD s at 0) 43 ≡ q → eqb (getD s at 0) 45 ≡ u
+  leg-cases : (x : Leg) (c : ℕ) (p q u : Bool) → eqb (getD s at 0) (legByte Stem) ≡ p → eqb (getD s at 0) (legByte Plus) ≡ q → eqb (getD s at 0) (legByte Minus) ≡ u
       → cond p (got Stem (at + 1)) (cond q (got Plus (at + 1)) (cond u (got Minus (at + 1)) bad)) ≡ got x c → drop at s ≡ legByte x ∷ drop c s
   leg-cases x c true q u hp hq hu e =
       let a : Stem ≡ x = cc in
       let b : at + 1 ≡ c = cc in
-      rw (← a, ← b) (stands s at 115 (omega arith) (eqb-true (getD s at 0) 115 hp))
+      rw (← a, ← b) (stands s at (legByte Stem) (omega arith) (eqb-true (getD s at 0) (legByte Stem) hp))
   leg-cases x c false true u hp hq hu e =
       let a : Plus ≡ x = cc in
       let b : at + 1 ≡ c = cc in
-      rw (← a, ← b) (stands s at 43 (omega arith) (eqb-true (getD s at 0) 43 hq))
+      rw (← a, ← b) (stands s at (legByte Plus) (omega arith) (eqb-true (getD s at 0) (legByte Plus) hq))
   leg-cases x c false false true hp hq hu e =
       let a : Minus ≡ x = cc in
       let b : at + 1 ≡ c = cc in
-      rw (← a, ← b) (stands s at 45 (omega arith) (eqb-true (getD s at 0) 45 hu))
+      rw (← a, ← b) (stands s at (legByte Minus) (omega arith) (eqb-true (getD s at 0) (legByte Minus) hu))
   leg-cases x c false false false hp hq hu e = bad-got refl e
 
   leg-sound : (x : Leg) (c : ℕ) → legFieldAt s at ≡ got x c → drop at s ≡ legByte x ∷ drop c s
   unfolding legFieldAt
-  leg-sound x c e = leg-cases x c (eqb (getD s at 0) 115) (eqb (getD s at 0) 43) (eqb (getD s at 0) 45) refl refl refl e
+  leg-sound x c e = leg-cases x c (eqb (getD s at 0) (legByte Stem)) (eqb (getD s at 0) (legByte Plus)) (eqb (getD s at 0) (legByte Minus)) refl refl refl e
 
   leg-complete : (x : Leg) (rest : List ℕ) → Lies s at (legByte x ∷ rest) → Reads s (legFieldAt s at) x rest
   unfolding legFieldAt
-  leg-complete Stem rest t = record { cursor = at + 1; is = rw (here t); left = past (115 ∷ []) rest t }
-  leg-complete Plus rest t = record { cursor = at + 1; is = rw (here t); left = past (43 ∷ []) rest t }
-  leg-complete Minus rest t = record { cursor = at + 1; is = rw (here t); left = past (45 ∷ []) rest t }
+  leg-complete Stem rest t = record { cursor = at + 1; is = rw (here t); left = past (legByte Stem ∷ []) rest t }
+  leg-complete Plus rest t = record { cursor = at + 1; is = rw (here t); left = past (legByte Plus ∷ []) rest t }
+  leg-complete Minus rest t = record { cursor = at + 1; is = rw (here t); left = past (legByte Minus ∷ []) rest t }
 
 -- ENDS
 pub record WrittenEnd (s : List ℕ) (at : ℕ) (e : EndField) (c : ℕ) : Type 0 where

@@ -10,3 +10,4 @@ pub mod Writer
 pub mod Lengths
 pub mod RoundTrip
 pub mod Examples
+pub mod Longest

@@ -173,7 +173,7 @@ module _ (s : List ℕ) (at : ℕ) where
       let m = check m n (eqb m n) refl k10 in
       carry (WrittenLine (λ x. WritableTrain x × (n < 1000)) (trainLine n) s at) (m .1)
       (record {
-        small = ((b .small, d .small), rw (m .0) at (a .small));
+        small = ((omega (arith, b .small, d .small), omega (arith, b .small, d .small)), rw (m .0) at (a .small));
         text = simp (e1, e2, a .text, e4, e5, e6, b .text, e8, d .text, e10, m .0, append-assoc);
       })))))))))))
 
@@ -186,7 +186,7 @@ module _ (s : List ℕ) (at : ℕ) where
       go-on _ (byte-complete s 9 c3 _ t3) (λ c4 t4.
       go-on _ (side-complete s c4 (x .heading) _ t4) (λ c5 t5.
       go-on _ (byte-complete s 9 c5 _ t5) (λ c6 t6.
-      go-on _ (number-complete s _ tab-stops 2 (x .start) c6 (omega arith) (w .0) t6) (λ c7 t7.
+      go-on _ (number-complete s _ tab-stops 2 _ c6 (omega arith) (omega (arith, w .0, w .1)) t6) (λ c7 t7.
       go-on _ (byte-complete s 9 c7 _ t7) (λ c8 t8.
-      go-on _ (number-complete s _ end-stops 2 (x .destination) c8 (omega arith) (w .1) t8) (λ c9 t9.
+      go-on _ (number-complete s _ end-stops 2 _ c8 (omega arith) (omega (arith, w .0, w .1)) t8) (λ c9 t9.
       go-on _ (byte-complete s 10 c9 _ t9) (λ c10 t10. rw (eq-eqb n n refl) (stop-here t10)))))))))))

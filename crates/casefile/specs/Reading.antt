@@ -15,7 +15,7 @@ use Rattle.railway.specs.declared.Refusal.{Refusal}
 use Rattle.railway.specs.declared.Refusal.the-variants.{Length, Form}
 use Rattle.railway.specs.Refusals.{Row, row, first}
 use Rattle.casefile.specs.declared.CaseRead.{CaseRead}
-use Rattle.casefile.specs.Form.{EndField, section, port, JoinLine, SignalLine, TrainLine, Description}
+use Rattle.casefile.specs.Form.{EndField, section, port, JoinLine, SignalLine, TrainLine, Description, sideByte, legByte}
 use Rattle.casefile.specs.Rows.{mostBytes, descriptionRows}
 use Rattle.casefile.specs.Recording.{railwayOf}
 use Rattle.casefile.specs.Given.{accepted, refused}
@@ -47,13 +47,13 @@ module _ (s : List ℕ) where
 
   -- `u` or `d`.
   unfoldable pub sideFieldAt : ℕ → Got Side
-  sideFieldAt c = cond (eqb (getD s c 0) 117) (got Up (c + 1)) (cond (eqb (getD s c 0) 100) (got Down (c + 1)) bad)
+  sideFieldAt c = cond (eqb (getD s c 0) (sideByte Up)) (got Up (c + 1)) (cond (eqb (getD s c 0) (sideByte Down)) (got Down (c + 1)) bad)
 
   -- `s`, `+` or `-`.
   unfoldable pub legFieldAt : ℕ → Got Leg
   legFieldAt c =
-      cond (eqb (getD s c 0) 115) (got Stem (c + 1))
-      (cond (eqb (getD s c 0) 43) (got Plus (c + 1)) (cond (eqb (getD s c 0) 45) (got Minus (c + 1)) bad))
+      cond (eqb (getD s c 0) (legByte Stem)) (got Stem (c + 1))
+      (cond (eqb (getD s c 0) (legByte Plus)) (got Plus (c + 1)) (cond (eqb (getD s c 0) (legByte Minus)) (got Minus (c + 1)) bad))
 
   -- The letter behind an end's number: a section's side, or else a point's port.
   abbrev pub markAt : ℕ → ℕ → Got Side → Got EndField
