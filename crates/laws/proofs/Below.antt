@@ -1,16 +1,17 @@
--- Laws of the numbers below k: all, any, lowest, how many, lists; and the steps of a loop that looks for one.
+-- Laws of the numbers below k: all, any, lowest, how many, sums, lists; and the steps of a loop that looks for one.
 -- Assumes nothing.
 use mathlib.Core.Path.{_≡_, refl, sym, _∙_, ap}
 use mathlib.Core.Logic.{_⊎_, inl, inr}
 use mathlib.Core.Bool.{Bool, true, false, cond, not, _&&_, _||_}
 use mathlib.Core.List.{List, [], _∷_, _++_, map, List·Memᴰ, List·Memᴰ·head, List·Memᴰ·append-cases, Memᴰ·append-left, Memᴰ·append-right}
 use mathlib.Core.Option.{Option, none, some}
-use Prim.Native.Nat.{ℕ, zero, suc, _+_, _≤_, _<_}
+use Prim.Native.Nat.{ℕ, zero, suc, _+_, _*_, _≤_, _<_}
 use native.Mathlib.Omega.{arith}
+use native.Mathlib.Nat.{mul-add}
 use native.Mathlib.Numerals.{add-one}
 use lib.ListN.{length, getD, length-append, length-map, List·getD-append, List·getD-map}
 use lib.Seq.{getD-at, ext-getD}
-use Rattle.laws.specs.Below.{allBelow, anyBelow, countBelow, listBelow, gatherBelow, lowest, orElse}
+use Rattle.laws.specs.Below.{allBelow, anyBelow, countBelow, sumBelow, listBelow, gatherBelow, lowest, orElse}
 use Rattle.laws.proofs.Bools.{bool?, lt?, clash, and-true, and-both, either, or-left, or-right, or-false}
 
 -- what holds below k and at k holds below k + 1
@@ -150,6 +151,23 @@ count-two f (suc k) i j l m a b = elim (lt? j k) [
   | inl n ↦ omega (arith, count-two f k i j l n a b)
   | inr n ↦ let z : j ≡ k = omega arith in let y : f k ≡ true = rw z at b in rw y (omega (arith, count-one f k i (omega arith) a))
 ]
+
+-- SUMS
+pub sum-same : (f g : ℕ → ℕ) (k : ℕ) → ((i : ℕ) → i < k → f i ≡ g i) → sumBelow f k ≡ sumBelow g k
+unfolding sumBelow
+sum-same f g zero h = refl
+sum-same f g (suc k) h = let a : sumBelow f k ≡ sumBelow g k = sum-same f g k (λ i l. h i (omega arith)) in let b : f k ≡ g k = h k (omega arith) in rw (a, b)
+
+-- the first summand apart
+pub sum-first : (f : ℕ → ℕ) (k : ℕ) → sumBelow f (suc k) ≡ f 0 + sumBelow (λ i. f (suc i)) k
+unfolding sumBelow
+sum-first f zero = omega arith
+sum-first f (suc k) = let h : sumBelow f (suc k) ≡ f 0 + sumBelow (λ i. f (suc i)) k = sum-first f k in omega arith
+
+pub sum-times : (s : ℕ) (f : ℕ → ℕ) (k : ℕ) → s * sumBelow f k ≡ sumBelow (λ i. s * f i) k
+unfolding sumBelow
+sum-times s f zero = omega arith
+sum-times s f (suc k) = mul-add s (sumBelow f k) (f k) ∙ (let h : s * sumBelow f k ≡ sumBelow (λ i. s * f i) k = sum-times s f k in rw h)
 
 -- LISTS made of a function
 module _ {A : Type 0} where
