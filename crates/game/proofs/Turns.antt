@@ -1,6 +1,6 @@
 -- Laws of a single turn: who moves where a train is named, when a play has ended, and that the computed test of a kept figure is the test.
 -- All go by cases on the tests that the definitions make. Assumes nothing.
-use mathlib.Core.Path.{_≡_, refl}
+use mathlib.Core.Path.{_≡_, refl, subst}
 use mathlib.Core.Logic.{_⊎_, inl, inr}
 use mathlib.Core.Bool.{Bool, true, false, not, _&&_, _||_}
 use mathlib.Core.Option.{Option, none, some}
@@ -9,9 +9,9 @@ use native.Mathlib.Omega.{arith}
 use lib.Dec.{ltb}
 use borrow.Author.Tests.{ltb-true, lt-ltb}
 use Rattle.laws.specs.Below.{allBelow, anyBelow}
-use Rattle.laws.proofs.Bools.{bool?, clash, either, or-left, or-right, and-true, and-both}
+use Rattle.laws.proofs.Bools.{bool?, option?, clash, either, or-left, or-right, and-true, and-both}
 use Rattle.laws.proofs.Below.{all-at, all-of, any-at, any-of, lowest-cases}
-use Rattle.game.specs.Game.{Game, may, mover}
+use Rattle.game.specs.Game.{Outcome, lost, at, Game, may, mover}
 use Rattle.game.specs.Claim.{Below, figureOf, Keeps}
 use Rattle.game.specs.Local.{isBelow, goesBelow, keepsTest}
 
@@ -87,3 +87,15 @@ module _ {S : Type 0} (g : Game S) (F : ℕ → Option ℕ) (p : ℕ) (s : S) (n
 -- figure 0 is kept by no setting: some train moves, and nothing is smaller
 pub no-keeps-zero : {S : Type 0} (g : Game S) (F : ℕ → Option ℕ) (p : ℕ) (s : S) → Keeps g F p s 0 → ⊥
 no-keeps-zero g F p s k = nothing-below (figureOf F (g .next p s (k .one-may .0))) (k .all-below (k .one-may .0) (k .one-may .1))
+
+-- a setting that keeps n by one table keeps m by another that has the same figures, smaller than m, where its moves end below n
+pub keeps-map : {S : Type 0} (g : Game S) (F G : ℕ → Option ℕ) (p : ℕ) (s : S) (n m : ℕ)
+    → ((t q j : ℕ) → may g p s t ≡ true → g .next p s t ≡ at q → F q ≡ some j → j < n → (G q ≡ some j) × (j < m)) → Keeps g F p s n → Keeps g G p s m
+keeps-map g F G p s n m f k = record { one-may = k .one-may; all-below = λ t a. go (g .next p s t) (λ q j e. f t q j a e) (k .all-below t a) }
+  where
+    go : (o : Outcome) → ((q j : ℕ) → o ≡ at q → F q ≡ some j → j < n → (G q ≡ some j) × (j < m)) → Below n (figureOf F o) → Below m (figureOf G o)
+    go (lost x) h b = b
+    go (at q) h b = elim (option? (F q)) [
+      | inl e ↦ absurd (subst (Below n) e b)
+      | inr e ↦ let r : (G q ≡ some (e .0)) × (e .0 < m) = h q (e .0) refl (e .1) (subst (Below n) (e .1) b) in rw (r .0) (r .1)
+    ]

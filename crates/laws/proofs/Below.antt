@@ -152,6 +152,37 @@ count-two f (suc k) i j l m a b = elim (lt? j k) [
   | inr n ↦ let z : j ≡ k = omega arith in let y : f k ≡ true = rw z at b in rw y (omega (arith, count-one f k i (omega arith) a))
 ]
 
+pub count-le : (f : ℕ → Bool) (k : ℕ) → countBelow f k ≤ k
+unfolding countBelow
+count-le f zero = omega arith
+count-le f (suc k) = omega (arith, count-le f k, bit-le (f k))
+  where
+    bit-le : (b : Bool) → cond b 1 0 ≤ 1
+    bit-le true = omega arith
+    bit-le false = omega arith
+
+-- a test that more pass counts more
+module _ (f g : ℕ → Bool) (keep : (i : ℕ) → f i ≡ true → g i ≡ true) where
+  count-step : (i : ℕ) → cond (f i) 1 0 ≤ cond (g i) 1 0
+  count-step i = elim (bool? (f i)) [ inl e ↦ rw (e, keep i e) (omega arith) | inr e ↦ rw e (omega arith) ]
+
+  pub count-mono : (k : ℕ) → countBelow f k ≤ countBelow g k
+  unfolding countBelow
+  count-mono zero = omega arith
+  count-mono (suc k) = omega (arith, count-mono k, count-step k)
+
+  pub count-more : (k i : ℕ) → i < k → f i ≡ false → g i ≡ true → countBelow f k < countBelow g k
+  unfolding countBelow
+  count-more zero i l a b = absurd (omega arith)
+  count-more (suc k) i l a b = elim (lt? i k) [
+    | inl m ↦ omega (arith, count-more k i m a b, count-step k)
+    | inr m ↦
+        let z : i ≡ k = omega arith in
+        let x : f k ≡ false = rw z at a in
+        let y : g k ≡ true = rw z at b in
+        rw (x, y) (omega (arith, count-mono k))
+  ]
+
 -- SUMS
 pub sum-same : (f g : ℕ → ℕ) (k : ℕ) → ((i : ℕ) → i < k → f i ≡ g i) → sumBelow f k ≡ sumBelow g k
 unfolding sumBelow
