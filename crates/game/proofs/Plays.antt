@@ -119,7 +119,7 @@ plays :  -- home in two turns, a setting for each anew; there the play has ended
     -- one that may not, or is not there: the lowest that may
     × (play (gameOf lines) (always shut) (names 0) 513 1 ≡ standing (turned 513 shut (some 1) ∷ []) 522)
     × (play (gameOf lines) (always shut) (names 9) 513 1 ≡ standing (turned 513 shut (some 1) ∷ []) 522)
-    -- none may: the placement stays, and the turn counts
+    -- with everybody held nothing moves, and the turns are played all the same
     × (play (gameOf yardA) (always shut) (names 1) 1 2 ≡ standing (turned 1 shut none ∷ turned 1 shut none ∷ []) 1)
     -- a lost play stays lost; one that starts lost, or at home, has ended
     × (play (gameOf yardA) (always wide) (names 1) 7 3 ≡ wrecked)

@@ -60,7 +60,7 @@ module _ {S : Type 0} (g : Game S) where
     ]
   ]
 
-  -- where none may move the placement stays, and the turn is one more of the history
+  -- a turn without a mover moves nothing and makes the history longer by one
   pub idle-stays : (h : List (Turn S)) (p : ℕ) (s : S) → turn g h p s none ≡ standing (grown g h p s none) p
   idle-stays h p s = refl
 
