@@ -2,7 +2,7 @@
 -- A train looks at its own signal, if it has one, and its way at points of the railway; a setting is asked nowhere else. And open signals only add moves.
 -- Assumes nothing.
 use mathlib.Core.Path.{_≡_, refl, sym, _∙_, ap}
-use mathlib.Core.Logic.{_⊎_, inl, inr}
+use mathlib.Core.Logic.{inl, inr}
 use mathlib.Core.Bool.{Bool, true, false, cond}
 use mathlib.Core.Option.{Option}
 use Prim.Native.Nat.{ℕ, _<_}
@@ -19,7 +19,6 @@ use Rattle.railway.specs.declared.Railway.{Railway}
 use Rattle.railway.specs.Bounds.{sectionEnds}
 use Rattle.railway.specs.Ends.{endIndex}
 use Rattle.railway.specs.Record.{flagAt, joined, hasSignal}
-use Rattle.game.specs.Game.{Game, may}
 use Rattle.game.specs.Claim.{Alike, OneChoice}
 use Rattle.game.specs.Setting.{Setting, SameSetting, headsFor, held, free, opensFor, mayMove}
 use Rattle.game.specs.Moves.{Passage, pastJoin, passes, enters, moveOf, gameOf}

@@ -10,7 +10,7 @@ use native.Mathlib.Omega.{arith}
 use lib.Dec.{ltb}
 use borrow.Author.Tests.{ltb-true, lt-ltb}
 use Rattle.laws.specs.Below.{allBelow, anyBelow}
-use Rattle.laws.proofs.Bools.{bool?, option?, clash, either, or-left, or-right, and-true, and-both}
+use Rattle.laws.proofs.Bools.{bool?, option?, clash, or-left, or-right, and-true, and-both}
 use Rattle.laws.proofs.Below.{all-at, all-of, any-at, any-of, lowest-cases}
 use Rattle.game.specs.Game.{Outcome, lost, at, Game, Turn, standing, may, mover, home, over, grown, turn}
 use Rattle.game.specs.Claim.{Below, figureOf, Keeps}

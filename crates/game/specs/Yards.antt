@@ -1,6 +1,5 @@
 -- The yards of document 01, "Yards to try", as records, line by line.
 -- Assumes nothing.
-use mathlib.Core.List.{List}
 use Prim.Native.Nat.{ℕ, _-_}
 use Rattle.railway.specs.declared.Side.{Side}
 use Rattle.railway.specs.declared.Side.the-variants.{Up, Down}
