@@ -9,8 +9,6 @@ use Prim.Native.Nat.{ℕ, _<_}
 use lib.Dec.{ltb}
 use borrow.Author.Tests.{ltb-true}
 use Rattle.laws.proofs.Bools.{bool?, clash, either, or-left, or-right}
-use Rattle.railway.specs.declared.SectionNo.{SectionNo}
-use Rattle.railway.specs.declared.PointNo.{PointNo}
 use Rattle.railway.specs.declared.End.{End}
 use Rattle.railway.specs.declared.End.the-variants.{Section, Port}
 use Rattle.railway.specs.declared.Joined.{Joined}

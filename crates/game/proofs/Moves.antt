@@ -12,13 +12,11 @@ use Rattle.laws.specs.Below.{listBelow}
 use Rattle.laws.proofs.Bools.{some-none}
 use Rattle.laws.proofs.Below.{list-length, list-get}
 use Rattle.railway.specs.declared.Leg.{Leg}
-use Rattle.railway.specs.declared.SectionNo.{SectionNo}
 use Rattle.railway.specs.declared.PointNo.{PointNo}
 use Rattle.railway.specs.declared.End.{End}
 use Rattle.railway.specs.declared.End.the-variants.{Section, Port}
 use Rattle.railway.specs.declared.Joined.{Joined}
 use Rattle.railway.specs.declared.Joined.the-variants.{Nothing, With}
-use Rattle.railway.specs.declared.Train.{Train}
 use Rattle.railway.specs.declared.Railway.{Railway}
 use Rattle.railway.specs.Record.{joined, runOf}
 use Rattle.game.specs.Game.{lost, at, collision}
