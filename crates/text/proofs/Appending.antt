@@ -11,6 +11,7 @@ use lib.Dec.{ltb}
 use lib.ListN.{length, take, drop, getD, set, length-set}
 use lib.Seq.{sets, sets-eq, set-out, take-suc, take-all}
 use borrow.Author.Tests.{lt-ltb, le-ltb}
+use Rattle.laws.specs.Below.{gatherBelow}
 use Rattle.text.specs.Text.{digits, line}
 use Rattle.text.specs.Appending.{next, bytesAfter, cursorAfter, Appended}
 
@@ -105,3 +106,17 @@ module _ {out text out′ : List ℕ} {at at′ : ℕ} (p : Appended out at text
 
   pub appended-cursor : at′ ≡ at + length text
   appended-cursor = p .cursor ∙ bytes-sets text out at room .1
+
+-- PIECES, one for each number below a bound
+module _ (f : ℕ → List ℕ) {o : List ℕ} {a : ℕ} where
+  pub pieces-none : Appended o a (gatherBelow f 0) o a
+  unfolding gatherBelow
+  pieces-none = append-none o a
+
+  module _ {o₁ : List ℕ} {a₁ : ℕ} where
+    pub pieces-next : {o₂ : List ℕ} {a₂ : ℕ} (i : ℕ) → Appended o a (gatherBelow f i) o₁ a₁ → Appended o₁ a₁ (f i) o₂ a₂ → Appended o a (gatherBelow f (i + 1)) o₂ a₂
+    unfolding gatherBelow
+    pieces-next i p q = rw (add-one i) (append-then p q)
+
+    pub pieces-all : (i n : ℕ) → i ≤ n → n ≤ i → Appended o a (gatherBelow f i) o₁ a₁ → Appended o a (gatherBelow f n) o₁ a₁
+    pieces-all i n h k p = let e : n ≡ i = omega arith in rw e p
