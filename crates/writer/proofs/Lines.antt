@@ -2,12 +2,12 @@
 -- the line that stands for a point, a section end or a train, or nothing.
 -- Assumes nothing.
 use Prim.Native.Nat.{ℕ, suc, _+_, _<_, _≤_}
-use mathlib.Core.Path.{_≡_, refl, sym, _∙_, ap}
-use mathlib.Core.Bool.{Bool, true, false, cond}
+use mathlib.Core.Path.{_≡_}
+use mathlib.Core.Bool.{Bool, true, false}
 use mathlib.Core.List.{List, [], _∷_, _++_}
 use native.Mathlib.Numerals.{add-one}
 use borrow.Author.Tests.{lt-ltb, le-ltb}
-use Rattle.text.specs.Text.{decimal, line}
+use Rattle.text.specs.Text.{decimal}
 use Rattle.text.specs.Appending.{Appended}
 use Rattle.text.proofs.Appending.{append-none, append-then, line-more, line-last}
 use Rattle.railway.specs.declared.Side.{Side}

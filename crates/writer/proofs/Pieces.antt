@@ -1,8 +1,8 @@
 -- The pieces of each part, one behind the other, make the writer's text. Rising lines and lines for each element are pieces by induction on the
 -- count; a section end's join and signal, asked by the end, are those at its index.
 -- Assumes nothing.
-use Prim.Native.Nat.{ℕ, zero, suc, _+_, _<_, _≤_}
-use mathlib.Core.Path.{_≡_, refl, sym, _∙_, ap}
+use Prim.Native.Nat.{ℕ, zero, suc, _+_, _<_}
+use mathlib.Core.Path.{_≡_, refl, sym, _∙_}
 use mathlib.Core.Bool.{Bool, true, false, cond}
 use mathlib.Core.List.{List, [], _∷_, _++_, append-assoc, append-nil}
 use native.Mathlib.Omega.{arith}
@@ -15,13 +15,13 @@ use Rattle.railway.specs.declared.Joined.the-variants.{Nothing, With}
 use Rattle.railway.specs.declared.Railway.{Railway}
 use Rattle.railway.specs.Bounds.{sectionEnds}
 use Rattle.railway.specs.Ends.{endIndex, endAt}
-use Rattle.railway.specs.Record.{linkAt, flagAt, joined, hasSignal, legsOf, runOf}
+use Rattle.railway.specs.Record.{linkAt, flagAt, legsOf, runOf}
 use Rattle.railway.proofs.Ends.{end-section, index-end}
 use Rattle.railway.proofs.Lookups.{joined-there, signal-there}
-use Rattle.casefile.specs.Form.{JoinLine, SignalLine, pointLine, joinLine, signalLine, trainLine, each, rising, spell}
+use Rattle.casefile.specs.Form.{pointLine, joinLine, signalLine, trainLine, each, rising, spell}
 use Rattle.casefile.specs.Writing.{joinFrom, joinAt, signalAt, trainFrom, descriptionOf, writtenText}
 use Rattle.writer.specs.declared.Part.the-variants.{Points, Joins, Signals, Trains}
-use Rattle.writer.specs.Pieces.{headerText, joinPiece, signalPiece, pieceOf}
+use Rattle.writer.specs.Pieces.{headerText, joinPiece, pieceOf}
 
 -- RISING LINES, and a line for each element
 module _ {A : Type 0} (f : ℕ → A → List ℕ) where

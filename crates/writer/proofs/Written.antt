@@ -1,13 +1,13 @@
 -- What the writer answers and leaves, by what it has found: a refused record or a short buffer changes nothing; else the text, which an accepted
 -- record's own buffer always holds, is copied to the front of the lent one.
 -- Assumes nothing.
-use Prim.Native.Nat.{ℕ, zero, _+_, _<_, _≤_}
+use Prim.Native.Nat.{ℕ, _+_, _<_, _≤_}
 use mathlib.Core.Path.{_≡_, refl, sym, _∙_, ap}
 use mathlib.Core.Bool.{Bool, true, false}
 use mathlib.Core.List.{List, [], _∷_, _++_}
 use mathlib.Core.Option.{Option, none, some}
 use native.Mathlib.Omega.{arith}
-use lib.ListN.{length, take, drop, replicate, length-replicate, length-take}
+use lib.ListN.{length, take, replicate, length-replicate, length-take}
 use lib.Seq.{take-append-seam}
 use borrow.Author.Tests.{lt-ltb, le-ltb}
 use Rattle.laws.specs.Below.{orElse}
@@ -21,7 +21,6 @@ use Rattle.railway.specs.Rows.{recordRows, recordRefusal}
 use Rattle.acceptance.specs.declared.Tested.{Tested}
 use Rattle.acceptance.specs.declared.Tested.the-variants as tested
 use Rattle.acceptance.specs.Answers.{Judged, refusalGiven}
-use Rattle.casefile.specs.declared.Written.{Written}
 use Rattle.casefile.specs.declared.Written.the-variants.{Bytes, Refused}
 use Rattle.casefile.specs.Rows.{mostBytes}
 use Rattle.casefile.specs.Writing.{spaceRow, writtenText, writerRefusal, written, bufferAfter}
@@ -39,7 +38,7 @@ first-then (x ∷ xs) ys = rw (first-then xs ys) (sym (refuse-then (x .applies) 
 
 -- WHICH ROW
 module _ (r : Railway) (buffer : List ℕ) where
-  rows-then : writerRefusal r buffer ≡ orElse (recordRefusal r) (first (row Space (spaceRow r buffer) ∷ []))
+  pub rows-then : writerRefusal r buffer ≡ orElse (recordRefusal r) (first (row Space (spaceRow r buffer) ∷ []))
   unfolding writerRefusal recordRefusal
   rows-then = first-then (recordRows r) (row Space (spaceRow r buffer) ∷ [])
 
@@ -50,7 +49,7 @@ module _ (r : Railway) (buffer : List ℕ) where
   unfolding first
   by-space h l = rows-then ∙ rw (h, lt-ltb (length buffer) (length (writtenText r)) l)
 
-  by-none : recordRefusal r ≡ none → length (writtenText r) ≤ length buffer → writerRefusal r buffer ≡ none
+  pub by-none : recordRefusal r ≡ none → length (writtenText r) ≤ length buffer → writerRefusal r buffer ≡ none
   unfolding first
   by-none h l = rows-then ∙ rw (h, le-ltb (length buffer) (length (writtenText r)) l)
 
