@@ -1,7 +1,7 @@
 // The test of a record: accepted, or refused with the first of rows 3 to 8 that applies. Any record may come in, crooked
 // ones too; each row looks at every place that it concerns.
 ghost use mathlib.Core.Path.{_≡_};
-ghost use mathlib.Core.Bool.{_||_};
+ghost use mathlib.Core.Bool.{_||_, _&&_};
 ghost use Prim.Native.Nat.{ℕ};
 ghost use Rattle.laws.specs.Below.{anyBelow};
 ghost use Rattle.railway.specs.Ends.{sameSide};
@@ -145,8 +145,8 @@ fn unknown_link(r: Railway, i: u8) -> bool
     match link_at(r, i) {
         Joined::Nothing => false,
         Joined::With(f) => {
-            if is_known(r, railway::end_at(i)) {
-                if is_known(r, f) { false } else { true }
+            if both_known(r, railway::end_at(i), f) {
+                false
             } else {
                 true
             }
@@ -235,6 +235,16 @@ fn is_known(r: Railway, e: End) -> bool
     match e {
         End::Section(n, _) => n.0 < r.sections,
         End::Port(n, _) => n.0 < r.points,
+    }
+}
+
+fn both_known(r: Railway, e: End, f: End) -> bool
+    ensures { λ b. ⌜ b ≡ (known r e && known r f) ⌝ }
+{
+    if is_known(r, e) {
+        is_known(r, f)
+    } else {
+        false
     }
 }
 
