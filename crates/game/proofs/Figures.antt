@@ -3,12 +3,12 @@
 use mathlib.Core.Path.{_≡_, refl, _∙_}
 use mathlib.Core.Logic.{_⊎_, inl, inr}
 use mathlib.Core.Bool.{Bool, true, false}
-use mathlib.Core.List.{List, [], _∷_, _++_}
+use mathlib.Core.List.{List, [], _∷_}
 use mathlib.Core.Option.{Option, none, some}
 use Prim.Native.Nat.{ℕ, zero, suc, _≤_, _<_}
 use native.Mathlib.Omega.{arith}
 use Rattle.laws.proofs.Bools.{option?, clash}
-use Rattle.game.specs.Game.{Game, Turn, Way, Choice, standing, home, over, play, homeAt, HomeWithin, Forced, IsFigure}
+use Rattle.game.specs.Game.{Game, Turn, Way, Choice, standing, home, over, grown, play, homeAt, HomeWithin, Forced, IsFigure}
 use Rattle.game.specs.Claim.{Keeps}
 use Rattle.game.specs.Local.{Inside, Solved}
 use Rattle.game.proofs.Turns.{keeps-map}
@@ -30,9 +30,9 @@ abbrev firstly : {S : Type 0} → S → (ℕ → S) → Way S
 firstly s f [] q = s
 firstly s f (x ∷ h) q = f q
 
-firstly-later : {S : Type 0} (s : S) (f : ℕ → S) (h : List (Turn S)) (x : Turn S) (q : ℕ) → firstly s f (h ++ (x ∷ [])) q ≡ f q
-firstly-later s f [] x q = refl
-firstly-later s f (y ∷ h) x q = refl
+firstly-later : {S : Type 0} (g : Game S) (s : S) (f : ℕ → S) (h : List (Turn S)) (p : ℕ) (o : S) (m : Option ℕ) (q : ℕ) → firstly s f (grown g h p o m) q ≡ f q
+firstly-later g s f [] p o m q = refl
+firstly-later g s f (y ∷ h) p o m q = refl
 
 module _ {S : Type 0} (g : Game S) where
   -- a play that starts where it has ended stays there
@@ -85,5 +85,5 @@ module _ {S : Type 0} (g : Game S) (F : ℕ → Option ℕ) (f : ℕ → S) (ins
         lost-none = lost-none;
         home-zero = home-zero;
         kept = kept;
-        least = λ p s n hp going k. least p n hp (firstly s f, comes-home g F f inside lost-none kept (firstly s f) (firstly-later s f) p n hp going k);
+        least = λ p s n hp going k. least p n hp (firstly s f, comes-home g F f inside lost-none kept (firstly s f) (firstly-later g s f) p n hp going k);
       }

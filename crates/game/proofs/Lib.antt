@@ -3,3 +3,7 @@ pub mod Homing
 pub mod Whole
 pub mod Figures
 pub mod Settle
+pub mod Codes
+pub mod Accepted
+pub mod Moves
+pub mod Agreeing

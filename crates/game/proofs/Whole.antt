@@ -24,7 +24,7 @@ module _ {S : Type 0} (g : Game S) (F : ℕ → Option ℕ) (f : ℕ → S) (ins
   follows p n hp e c = elim (bool? (home g p)) [
     | inl h ↦ (0, omega arith, h)
     | inr h ↦
-        comes-home g F f inside (ok .lost-none) (ok .kept) (following f) (λ h x q. refl) p n hp
+        comes-home g F f inside (ok .lost-none) (ok .kept) (following f) (λ h p s m q. refl) p n hp
         (not-over (g .isLost p) (g .isHome p) (not-lost g F f inside (ok .lost-none) (ok .kept) p n hp e) h)
         (ok .kept p n hp e h) c
   ]
