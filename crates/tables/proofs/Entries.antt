@@ -26,6 +26,7 @@ use Rattle.railway.specs.Record.{flagAt, hasSignal, runOf}
 use Rattle.railway.proofs.Ends.{index-one, numbered-of}
 use Rattle.game.specs.Placement.{standsOn, standsWith, sharesLower, shared}
 use Rattle.game.specs.Setting.{Setting, headsFor, held, opensFor, signalOpen}
+use Rattle.game.proofs.Agreeing.{Flagged, held-flag}
 use Rattle.tables.specs.Entries.{trainBits, opensIn, opensEnd, settingAt, entryFrom, entryOf}
 
 -- Of trains that are open by this test, train t heads for the end of index i.
@@ -82,14 +83,6 @@ module _ (r : Railway) (few : r .points ≤ trainBits) (plus : ℕ → Bool) (p 
 
 -- ENDS OF THEIR OWN: trains that share no section head for different ends
 module _ (r : Railway) (p : ℕ) where
-  pub held-index : (t : ℕ) → held r p t ≡ true → endIndex (headsFor r p t) < sectionEnds
-  unfolding held hasSignal
-  held-index t h = elim (bool? (ltb (endIndex (headsFor r p t)) sectionEnds)) [ inl y ↦ ltb-true (endIndex (headsFor r p t)) sectionEnds y | inr y ↦ clash h (rw y) ]
-
-  pub held-flag : (t : ℕ) → held r p t ≡ true → flagAt r (endIndex (headsFor r p t)) ≡ true
-  unfolding held hasSignal
-  held-flag t h = let y : ltb (endIndex (headsFor r p t)) sectionEnds ≡ true = lt-ltb (endIndex (headsFor r p t)) sectionEnds (held-index t h) in rw y at h
-
   module _ (apart : shared r p ≡ false) where
     meet : (i j : ℕ) → j < r .trains → i < j → standsOn r p i ≡ standsOn r p j → shared r p ≡ true
     unfolding shared
@@ -104,7 +97,7 @@ module _ (r : Railway) (p : ℕ) where
     pub own-end : (i j : ℕ) → i < r .trains → j < r .trains → held r p i ≡ true → endIndex (headsFor r p i) ≡ endIndex (headsFor r p j) → i ≡ j
     unfolding headsFor
     own-end i j li lj h q =
-        let a : endIndex (headsFor r p i) < allEnds = omega (arith, held-index i h) in
+        let a : endIndex (headsFor r p i) < allEnds = omega (arith, held-flag r p i h .below) in
         let e : headsFor r p i ≡ headsFor r p j = index-one (headsFor r p i) (headsFor r p j) (numbered-of (headsFor r p i) a) (numbered-of (headsFor r p j) (rw (← q) a)) q in
         let s : standsOn r p i ≡ standsOn r p j = ap stands e in
         one-section i j li lj s

@@ -1,1 +1,5 @@
 pub mod Entries
+pub mod Fewer
+pub mod Find
+pub mod Order
+pub mod Best
