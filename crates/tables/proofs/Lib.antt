@@ -3,3 +3,5 @@ pub mod Fewer
 pub mod Find
 pub mod Order
 pub mod Best
+pub mod Plays
+pub mod Unique
