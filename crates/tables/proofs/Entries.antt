@@ -25,8 +25,8 @@ use Rattle.railway.specs.Ends.{sideIndex, endIndex}
 use Rattle.railway.specs.Record.{flagAt, hasSignal, runOf}
 use Rattle.railway.proofs.Ends.{index-one, numbered-of}
 use Rattle.game.specs.Placement.{standsOn, standsWith, sharesLower, shared}
-use Rattle.game.specs.Setting.{Setting, headsFor, held, opensFor, signalOpen}
-use Rattle.game.proofs.Agreeing.{Flagged, held-flag}
+use Rattle.game.specs.Setting.{Setting, headsFor, held, free, opensFor, mayMove, signalOpen}
+use Rattle.game.proofs.Agreeing.{Flagged, held-flag, may-free, may-held}
 use Rattle.tables.specs.Entries.{trainBits, opensIn, opensEnd, settingAt, entryFrom, entryOf}
 
 -- Of trains that are open by this test, train t heads for the end of index i.
@@ -120,6 +120,13 @@ module _ (r : Railway) (p : ℕ) where
           off : (b : Bool) → (b && false) ≡ false
           off true = refl
           off false = refl
+
+      -- who may move: the free trains and the open ones
+      pub setting-may : (t : ℕ) → t < r .trains → mayMove r p (settingAt r p (entryFrom r plus opens)) t ≡ (free r p t || opens t)
+      setting-may t l = elim (bool? (held r p t)) [
+        | inl y ↦ may-held r p (settingAt r p (entryFrom r plus opens)) t y ∙ setting-for t l y ∙ rw y
+        | inr y ↦ may-free r p (settingAt r p (entryFrom r plus opens)) t y ∙ rw y
+      ]
 
       pub setting-signal : (t : ℕ) → t < r .trains → signalOpen r p (settingAt r p (entryFrom r plus opens)) t ≡ (held r p t && opens t)
       unfolding signalOpen

@@ -5,3 +5,4 @@ pub mod Order
 pub mod Best
 pub mod Plays
 pub mod Unique
+pub mod Points
