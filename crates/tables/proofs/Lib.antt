@@ -6,3 +6,5 @@ pub mod Best
 pub mod Plays
 pub mod Unique
 pub mod Points
+pub mod Certify
+pub mod Starred
