@@ -8,3 +8,5 @@ pub mod Unique
 pub mod Points
 pub mod Certify
 pub mod Starred
+pub mod Refusals
+pub mod Examples
