@@ -1,3 +1,4 @@
+pub mod Plays
 pub mod Turns
 pub mod Homing
 pub mod Whole
@@ -7,3 +8,4 @@ pub mod Codes
 pub mod Accepted
 pub mod Moves
 pub mod Agreeing
+pub mod Inhabited
