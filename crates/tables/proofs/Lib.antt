@@ -4,9 +4,11 @@ pub mod Find
 pub mod Order
 pub mod Best
 pub mod Plays
+pub mod Carry
 pub mod Unique
 pub mod Points
 pub mod Certify
 pub mod Starred
 pub mod Refusals
 pub mod Examples
+pub mod Exists
