@@ -12,3 +12,5 @@ pub mod Starred
 pub mod Refusals
 pub mod Examples
 pub mod Exists
+pub mod Rounds
+pub mod Promise
