@@ -7,6 +7,7 @@ pub mod Plays
 pub mod Carry
 pub mod Unique
 pub mod Points
+pub mod Exact
 pub mod Certify
 pub mod Starred
 pub mod Refusals
