@@ -1,14 +1,14 @@
 -- The other way round: a table that has every figure, and settings that keep them, agree with every single turn. And a placement has one figure only.
 -- A setting that keeps n, played first and the table's settings after it, forces home within n, so the figure is n at most. Assumes nothing.
 use mathlib.Core.Path.{_≡_, refl, _∙_}
-use mathlib.Core.Logic.{_⊎_, inl, inr}
-use mathlib.Core.Bool.{Bool, true, false}
+use mathlib.Core.Logic.{inl, inr}
+use mathlib.Core.Bool.{true, false}
 use mathlib.Core.List.{List, [], _∷_}
 use mathlib.Core.Option.{Option, none, some}
 use Prim.Native.Nat.{ℕ, zero, suc, _≤_, _<_}
 use native.Mathlib.Omega.{arith}
 use Rattle.laws.proofs.Bools.{option?, clash}
-use Rattle.game.specs.Game.{Game, Turn, Way, Choice, standing, home, over, grown, play, homeAt, HomeWithin, Forced, IsFigure}
+use Rattle.game.specs.Game.{Game, Turn, Way, Choice, standing, home, over, grown, play, HomeWithin, Forced, IsFigure}
 use Rattle.game.specs.Claim.{Keeps}
 use Rattle.game.specs.Local.{Inside, Solved}
 use Rattle.game.proofs.Turns.{lost-not-home, keeps-map}

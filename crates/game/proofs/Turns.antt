@@ -10,7 +10,7 @@ use native.Mathlib.Omega.{arith}
 use lib.Dec.{ltb}
 use borrow.Author.Tests.{ltb-true, lt-ltb}
 use Rattle.laws.specs.Below.{allBelow, anyBelow}
-use Rattle.laws.proofs.Bools.{bool?, option?, clash, either, or-left, or-right, and-true, and-both}
+use Rattle.laws.proofs.Bools.{bool?, option?, clash, or-left, or-right, and-true, and-both}
 use Rattle.laws.proofs.Below.{all-at, all-of, any-at, any-of, lowest-cases}
 use Rattle.game.specs.Game.{Outcome, lost, at, Game, Turn, standing, may, mover, home, over, grown, turn}
 use Rattle.game.specs.Claim.{Below, figureOf, Keeps}
@@ -60,7 +60,7 @@ module _ {S : Type 0} (g : Game S) where
     ]
   ]
 
-  -- where none may move the placement stays, and the turn is one more of the history
+  -- a turn without a mover moves nothing and makes the history longer by one
   pub idle-stays : (h : List (Turn S)) (p : ℕ) (s : S) → turn g h p s none ≡ standing (grown g h p s none) p
   idle-stays h p s = refl
 

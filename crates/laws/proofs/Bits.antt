@@ -1,7 +1,6 @@
 -- Laws of bits: a number below a power of two is made of its bits, what is made of bits has them, and two numbers can stand in one, the second above the first.
 -- Each goes by bit 0 and the bits above it. Assumes nothing.
-use mathlib.Core.Path.{_≡_, refl, sym, _∙_, ap, fun-ext}
-use mathlib.Core.Logic.{_⊎_, inl, inr}
+use mathlib.Core.Path.{_≡_, refl, sym, _∙_, fun-ext}
 use mathlib.Core.Bool.{Bool, true, false, cond}
 use Prim.Native.Nat.{ℕ, zero, suc, _+_, _*_, _/_, _%_, _^_, _≤_, _<_}
 use native.Mathlib.Omega.{arith}
@@ -9,7 +8,7 @@ use native.Mathlib.Nat.{pow-succ', mul-assoc, div-div-eq-div-mul}
 use lib.Dec.{eqb}
 use borrow.Author.Tests.{eqb-true, eqb-false}
 use Rattle.laws.specs.Bits.{bit, fromBits}
-use Rattle.laws.proofs.Bools.{bool?, clash}
+use Rattle.laws.proofs.Bools.{clash}
 
 -- bit 0 and the bits above it
 pub bit-zero : (v : ℕ) → bit v 0 ≡ eqb (v % 2) 1

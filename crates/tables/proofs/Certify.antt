@@ -1,9 +1,9 @@
 -- How the tables of a small yard are proved by computation: tables that pass a test made at every placement are filled tables.
 -- The test searches: where a figure stands, its number finds the table's entry and the number before it finds nothing; where none stands, no number that a table can
 -- hold finds anything. As the search misses no whole setting, such tables agree with every single turn, and what it finds is the plan's entry. Assumes nothing.
-use mathlib.Core.Path.{_≡_, refl, sym, _∙_}
-use mathlib.Core.Logic.{_⊎_, inl, inr}
-use mathlib.Core.Bool.{Bool, true, false, cond, not, _&&_, _||_}
+use mathlib.Core.Path.{_≡_, refl}
+use mathlib.Core.Logic.{inl, inr}
+use mathlib.Core.Bool.{Bool, true, false, cond, not, _&&_}
 use mathlib.Core.List.{List}
 use mathlib.Core.Option.{Option, none, some}
 use Prim.Native.Nat.{ℕ, zero, suc, _≤_, _<_}
@@ -16,8 +16,8 @@ use Rattle.laws.proofs.Bools.{bool?, lt?, clash, some-none, and-true}
 use Rattle.laws.proofs.Below.{all-at}
 use Rattle.railway.specs.declared.Railway.{Railway}
 use Rattle.railway.specs.Rows.{recordRefusal}
-use Rattle.game.specs.Game.{Game, home, over}
-use Rattle.game.specs.Claim.{Keeps, Whole}
+use Rattle.game.specs.Game.{home, over}
+use Rattle.game.specs.Claim.{Keeps}
 use Rattle.game.specs.Local.{Solved}
 use Rattle.game.specs.Placement.{placements, atHome, shared}
 use Rattle.game.specs.Setting.{Setting}

@@ -1,7 +1,7 @@
 -- Both searches give exactly the plan's entry, in an accepted case where no two trains share a section: they find v exactly if v is the entry of the plan's
 -- setting, and nothing exactly if no whole setting keeps the figure. What is found is the plan's entry, and there is one. Assumes nothing.
-use mathlib.Core.Path.{_≡_, refl, sym, _∙_}
-use mathlib.Core.Logic.{_↔_, _⊎_, inl, inr}
+use mathlib.Core.Path.{_≡_, sym, _∙_}
+use mathlib.Core.Logic.{_↔_, inl, inr}
 use mathlib.Core.Bool.{false}
 use mathlib.Core.Option.{Option, none, some}
 use Prim.Native.Nat.{ℕ}
@@ -12,7 +12,7 @@ use Rattle.game.specs.Claim.{Keeps}
 use Rattle.game.specs.Placement.{shared}
 use Rattle.game.specs.Setting.{Setting}
 use Rattle.game.specs.Moves.{gameOf}
-use Rattle.game.proofs.Accepted.{Facts, facts}
+use Rattle.game.proofs.Accepted.{facts}
 use Rattle.tables.specs.Entries.{settingAt, entryOf}
 use Rattle.tables.specs.Tables.{IsPlanSetting}
 use Rattle.tables.specs.Find.{find, findMet}

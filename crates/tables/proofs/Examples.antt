@@ -1,24 +1,24 @@
 -- Small values of the definitions, by computation: which refusal comes first, the bits of an entry, figures past the end of a table, the plan's order key by key.
 -- Assumes nothing.
 use mathlib.Core.Path.{_≡_, refl}
-use mathlib.Core.Bool.{Bool, true, false, _||_}
-use mathlib.Core.List.{List, [], _∷_}
+use mathlib.Core.Bool.{Bool, true, false}
+use mathlib.Core.List.{[], _∷_}
 use mathlib.Core.Option.{Option, none, some}
 use Prim.Native.Nat.{ℕ}
 use lib.Dec.{eqb}
 use lib.ListN.{replicate}
 use Rattle.laws.specs.Below.{anyBelow, countBelow, lowest}
 use Rattle.laws.specs.Bits.{fromBits}
-use Rattle.railway.specs.declared.Side.the-variants.{Up, Down}
+use Rattle.railway.specs.declared.Side.the-variants.{Up}
 use Rattle.railway.specs.declared.Railway.{Railway}
-use Rattle.railway.specs.declared.Refusal.the-variants.{Space, Join}
-use Rattle.railway.specs.Ends.{endAt, endIndex}
+use Rattle.railway.specs.declared.Refusal.the-variants.{Space}
+use Rattle.railway.specs.Ends.{endAt}
 use Rattle.railway.specs.Refusals.{first, numberOf}
-use Rattle.railway.specs.Record.{flagAt, joined, hasSignal, legsOf, runOf, withJoin, withSignal, withLegs, withTrain}
+use Rattle.railway.specs.Record.{joined, hasSignal, legsOf, runOf, withJoin, withSignal, withLegs, withTrain}
 use Rattle.railway.specs.Rows.{unknownRow, joinRow, looseRow, placeRow}
 use Rattle.game.specs.Placement.{sectionsIn, standsOn}
 use Rattle.game.specs.Setting.{Setting, headsFor, held, signalOpen}
-use Rattle.game.specs.Yards.{yardH, lineJ, lineT, sec, yardA, headOn}
+use Rattle.game.specs.Yards.{yardH, lineJ, lineT, sec, yardA}
 use Rattle.tables.specs.declared.SolverAnswer.the-variants.{Refused, Unsolvable, Figure}
 use Rattle.tables.specs.Entries.{settingAt, entryFrom, entryOf}
 use Rattle.tables.specs.Tables.{figureIn, tablesShort, caseRefusal, openSignals, lowestOpen, noLater}

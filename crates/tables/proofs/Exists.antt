@@ -2,8 +2,8 @@
 -- Tables made round by round, by the search, agree with every single turn and so have the figures; these are below the number for none, for there are no
 -- more rounds than placements. What the search finds is the plan's entry. Assumes nothing.
 use mathlib.Core.Path.{_≡_, refl, sym, _∙_, ap}
-use mathlib.Core.Logic.{_⊎_, inl, inr}
-use mathlib.Core.Bool.{Bool, true, false}
+use mathlib.Core.Logic.{inl, inr}
+use mathlib.Core.Bool.{false}
 use mathlib.Core.List.{List}
 use mathlib.Core.Option.{Option, none, some}
 use Prim.Native.Nat.{ℕ, zero, suc, _^_, _≤_, _<_}
@@ -17,10 +17,9 @@ use Rattle.laws.proofs.Below.{overwritten, overwritten-length, overwritten-belo
 use Rattle.railway.specs.declared.Railway.{Railway}
 use Rattle.railway.specs.Bounds.{mostSections, mostTrains}
 use Rattle.railway.specs.Rows.{recordRefusal}
-use Rattle.game.specs.Game.{Game, home, IsFigure}
+use Rattle.game.specs.Game.{home, IsFigure}
 use Rattle.game.specs.Local.{Solved}
 use Rattle.game.specs.Placement.{placements, shared}
-use Rattle.game.specs.Setting.{Setting}
 use Rattle.game.specs.Moves.{gameOf}
 use Rattle.game.proofs.Turns.{no-keeps-zero}
 use Rattle.game.proofs.Accepted.{Facts, facts}
@@ -28,7 +27,7 @@ use Rattle.game.proofs.Moves.{inside}
 use Rattle.game.proofs.Whole.{whole}
 use Rattle.game.proofs.Settle.{Searches, figures, settings, rounds, settled, range, rounds-solved}
 use Rattle.tables.specs.Entries.{settingAt}
-use Rattle.tables.specs.Tables.{noFigure, figureEntry, figureIn, IsPlanEntry, Filled}
+use Rattle.tables.specs.Tables.{noFigure, figureEntry, figureIn, IsPlanEntry}
 use Rattle.tables.specs.Solver.{Kept, SolverTables}
 use Rattle.tables.specs.Find.{find}
 use Rattle.tables.proofs.Find.{find-sound, find-complete}

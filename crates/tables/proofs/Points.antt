@@ -3,14 +3,13 @@
 -- point may as well lie at minus: these bits keep the figure if any do, and none are smaller. Assumes nothing.
 use mathlib.Core.Path.{_≡_, refl, sym, _∙_, ap, fun-ext}
 use mathlib.Core.Logic.{_⊎_, inl, inr}
-use mathlib.Core.Bool.{Bool, true, false, cond, not, _&&_, _||_}
-use mathlib.Core.List.{List, [], _∷_}
+use mathlib.Core.Bool.{Bool, true, false, not, _&&_, _||_}
+use mathlib.Core.List.{[], _∷_}
 use mathlib.Core.Option.{Option, none, some}
-use Prim.Native.Nat.{ℕ, _^_, _≤_, _<_}
+use Prim.Native.Nat.{ℕ, _≤_, _<_}
 use native.Mathlib.Omega.{arith}
 use lib.Dec.{ltb, eqb}
 use borrow.Author.Tests.{ltb-true, lt-ltb, eqb-true, eq-eqb, not-true}
-use Rattle.laws.specs.Below.{anyBelow, orElse}
 use Rattle.laws.specs.Lists.{any}
 use Rattle.laws.specs.Bits.{bit, fromBits}
 use Rattle.laws.proofs.Bools.{bool?, clash, either, and-true, and-both}
@@ -18,13 +17,12 @@ use Rattle.laws.proofs.Below.{any-at, any-of}
 use Rattle.laws.proofs.Bits.{bits-of, bits-plain, bits-below, bits-mono}
 use Rattle.railway.specs.declared.Leg.{Leg}
 use Rattle.railway.specs.declared.PointNo.{PointNo}
-use Rattle.railway.specs.declared.End.{End}
 use Rattle.railway.specs.declared.End.the-variants.{Section, Port}
 use Rattle.railway.specs.declared.Joined.{Joined}
 use Rattle.railway.specs.declared.Joined.the-variants.{Nothing, With}
 use Rattle.railway.specs.declared.Railway.{Railway}
 use Rattle.railway.specs.Record.{joined}
-use Rattle.game.specs.Game.{Outcome, Game, may}
+use Rattle.game.specs.Game.{Outcome, may}
 use Rattle.game.specs.Claim.{Below, figureOf, Keeps}
 use Rattle.game.specs.Local.{isBelow}
 use Rattle.game.specs.Placement.{shared}
@@ -33,9 +31,9 @@ use Rattle.game.specs.Moves.{Passage, through, pastPoint, pastJoin, passes, ent
 use Rattle.game.proofs.Turns.{below-is, is-below, may-train, may-allowed, keeps-test, test-keeps}
 use Rattle.game.proofs.Accepted.{Known, Facts}
 use Rattle.tables.specs.Entries.{settingAt, entryFrom}
-use Rattle.tables.specs.Find.{entryKeeps, tryOpen, firstFound, foundBy, find, atMinus, meetsPoint, needsPlus, somePlus, metEntry, tryMet, findMet}
+use Rattle.tables.specs.Find.{entryKeeps, tryOpen, foundBy, find, atMinus, meetsPoint, needsPlus, somePlus, metEntry, tryMet, findMet}
 use Rattle.tables.proofs.Entries.{entry-same, setting-plus, setting-may}
-use Rattle.tables.proofs.Find.{bitsKeep, Tried, try-cases}
+use Rattle.tables.proofs.Find.{try-cases}
 
 -- ONE POINT AT MOST: what is met behind a join, and that the rest of the way depends on no other point
 met-point : (r : Railway) (n : PointNo) (l : Option Leg) → pastPoint r n l .met ≡ n .0 ∷ []

@@ -1,7 +1,7 @@
 -- The solver's promise can be kept for every record and all tables, and one answer alone keeps it.
 -- Where something is refused the refusal says all; else filled tables exist, and the start's figure is one. Assumes nothing.
 use mathlib.Core.Path.{_≡_, refl, sym, _∙_, ap}
-use mathlib.Core.Logic.{_⊎_, inl, inr}
+use mathlib.Core.Logic.{inl, inr}
 use mathlib.Core.List.{List}
 use mathlib.Core.Option.{Option, none, some}
 use Prim.Native.Nat.{ℕ}
@@ -9,15 +9,14 @@ use Rattle.laws.proofs.Bools.{option?, some-none}
 use Rattle.railway.specs.declared.Railway.{Railway}
 use Rattle.railway.specs.declared.Refusal.{Refusal}
 use Rattle.railway.specs.Refusals.{numberOf}
-use Rattle.railway.specs.Rows.{recordRefusal}
-use Rattle.game.specs.Placement.{placements, startCode}
-use Rattle.game.proofs.Accepted.{Facts, facts}
+use Rattle.game.specs.Placement.{startCode}
+use Rattle.game.proofs.Accepted.{facts}
 use Rattle.game.proofs.Moves.{start-below}
 use Rattle.tables.specs.declared.SolverAnswer.{SolverAnswer}
 use Rattle.tables.specs.declared.SolverAnswer.the-variants.{Refused, Unsolvable, Figure}
 use Rattle.tables.specs.Tables.{figureIn, caseRefusal}
-use Rattle.tables.specs.Solver.{refusalGiven, numberGiven, figureGiven, SolverTables, SolverLeaves, SolverPost}
-use Rattle.tables.proofs.Refusals.{Enough, case-none}
+use Rattle.tables.specs.Solver.{refusalGiven, figureGiven, SolverTables, SolverPost}
+use Rattle.tables.proofs.Refusals.{case-none}
 use Rattle.tables.proofs.Exists.{Made, tables-exist}
 use Rattle.tables.proofs.Unique.{figure-same}
 

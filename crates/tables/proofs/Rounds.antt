@@ -1,13 +1,13 @@
 -- Round by round: for every n there are tables as they stand after round n, and where no figure is larger than n these are filled tables.
 -- They are the case's figures and entries up to n. A plan's entry looks at smaller figures alone, and those are there from their own round on. Assumes nothing.
 use mathlib.Core.Path.{_≡_, refl, sym, _∙_, ap}
-use mathlib.Core.Logic.{_⊎_, inl, inr}
+use mathlib.Core.Logic.{inl, inr}
 use mathlib.Core.Bool.{Bool, true, false, cond}
 use mathlib.Core.List.{List}
 use mathlib.Core.Option.{Option, none, some}
 use Prim.Native.Nat.{ℕ, _≤_, _<_}
 use native.Mathlib.Omega.{arith}
-use lib.ListN.{length, getD}
+use lib.ListN.{length}
 use lib.Dec.{leb}
 use borrow.Author.Tests.{leb-true, le-leb}
 use Rattle.laws.proofs.Bools.{bool?, some-none}
@@ -16,7 +16,7 @@ use Rattle.railway.specs.Rows.{recordRefusal}
 use Rattle.game.specs.Game.{IsFigure}
 use Rattle.game.specs.Placement.{placements}
 use Rattle.game.specs.Moves.{gameOf}
-use Rattle.game.proofs.Accepted.{Facts, facts}
+use Rattle.game.proofs.Accepted.{facts}
 use Rattle.game.proofs.Figures.{figure-one}
 use Rattle.tables.specs.Tables.{noFigure, figureIn, IsPlanEntry, Filled}
 use Rattle.tables.specs.Solver.{upTo, RoundTables}

@@ -1,9 +1,9 @@
 -- The starred figures, proved from the rules for whole plays: the tables of each yard are written out, pass the test of Certify by computation, and so have
 -- the figures. Assumes nothing.
 use mathlib.Core.Path.{_≡_, refl}
-use mathlib.Core.Bool.{Bool, true, false}
+use mathlib.Core.Bool.{true}
 use mathlib.Core.List.{List, [], _∷_}
-use mathlib.Core.Option.{Option, none, some}
+use mathlib.Core.Option.{none, some}
 use Prim.Native.Nat.{ℕ, _<_}
 use native.Mathlib.Omega.{arith}
 use Rattle.laws.specs.Below.{allBelow, anyBelow, sumBelow, listBelow, lowest}
@@ -14,16 +14,15 @@ use Rattle.railway.specs.Ends.{endAt}
 use Rattle.railway.specs.Refusals.{first}
 use Rattle.railway.specs.Record.{joined, hasSignal, legsOf, runOf, withJoin, withSignal, withLegs, withTrain}
 use Rattle.railway.specs.Rows.{unknownRow, joinRow, looseRow, placeRow, recordRefusal}
-use Rattle.game.specs.Game.{IsFigure}
 use Rattle.game.specs.Local.{keepsTest}
 use Rattle.game.specs.Placement.{codeOf, sectionsIn, placements, standsOn, startCode, atHome, shared}
 use Rattle.game.specs.Setting.{headsFor, held, mayMove}
-use Rattle.game.specs.Moves.{passes, occupied, moveOf, gameOf}
+use Rattle.game.specs.Moves.{passes, occupied, moveOf}
 use Rattle.game.specs.Yards.{yardA, yardALess, yardOne, upOneTwo, upTwoOne, upTwoOneHeld, headOn}
 use Rattle.tables.specs.Entries.{settingAt, entryFrom}
 use Rattle.tables.specs.Tables.{noFigure, figureIn, Filled}
 use Rattle.tables.specs.Find.{tryOpen, firstFound, find}
-use Rattle.tables.specs.Starred.{Star, placed, started, stars, starCode, Holds, AllHold, StarredHolds}
+use Rattle.tables.specs.Starred.{Star, placed, started, starCode, Holds, StarredHolds}
 use Rattle.tables.proofs.Certify.{certified, certify}
 
 -- what is computed of a yard: it is accepted, and its tables pass

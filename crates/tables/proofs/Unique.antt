@@ -1,8 +1,8 @@
 -- The tables are one: whatever two solvers leave is the same at every code. A placement has one figure. Two plan settings come no later than each other, so their
 -- keys are the same; the plan's setting opens one signal at most, so the lowest open train is the only one, and the entries have the same bits. Assumes nothing.
-use mathlib.Core.Path.{_≡_, refl, sym, _∙_, ap}
-use mathlib.Core.Logic.{_⊎_, inl, inr}
-use mathlib.Core.Bool.{Bool, true, false}
+use mathlib.Core.Path.{_≡_, refl, sym, _∙_}
+use mathlib.Core.Logic.{inl, inr}
+use mathlib.Core.Bool.{true, false}
 use mathlib.Core.List.{List}
 use mathlib.Core.Option.{Option, none, some}
 use Prim.Native.Nat.{ℕ, zero, suc, _≤_, _<_}
@@ -10,7 +10,6 @@ use native.Mathlib.Omega.{arith}
 use lib.ListN.{getD}
 use lib.Dec.{eqb}
 use borrow.Author.Tests.{eqb-true}
-use Rattle.laws.specs.Below.{countBelow, lowest}
 use Rattle.laws.specs.Bits.{bit, fromBits}
 use Rattle.laws.proofs.Bools.{bool?, lt?, clash, some-none, and-true}
 use Rattle.laws.proofs.Below.{lowest-cases, count-two}
@@ -19,8 +18,6 @@ use Rattle.railway.specs.declared.Railway.{Railway}
 use Rattle.railway.specs.Bounds.{sectionEnds}
 use Rattle.railway.specs.Ends.{endIndex}
 use Rattle.railway.specs.Rows.{recordRefusal}
-use Rattle.game.specs.Game.{IsFigure}
-use Rattle.game.specs.Claim.{Keeps}
 use Rattle.game.specs.Placement.{placements, shared}
 use Rattle.game.specs.Setting.{Setting, headsFor, held, opensFor, signalOpen}
 use Rattle.game.specs.Moves.{gameOf}
