@@ -15,3 +15,4 @@ pub mod Examples
 pub mod Exists
 pub mod Rounds
 pub mod Promise
+pub mod Steps

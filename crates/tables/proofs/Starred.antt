@@ -3,7 +3,7 @@
 use mathlib.Core.Path.{_≡_, refl}
 use mathlib.Core.Bool.{true}
 use mathlib.Core.List.{List, [], _∷_}
-use mathlib.Core.Option.{none, some}
+use mathlib.Core.Option.{none}
 use Prim.Native.Nat.{ℕ, _<_}
 use native.Mathlib.Omega.{arith}
 use Rattle.laws.specs.Below.{allBelow, anyBelow, sumBelow, listBelow, lowest}
@@ -22,7 +22,7 @@ use Rattle.game.specs.Yards.{yardA, yardALess, yardOne, upOneTwo, upTwoOne, upT
 use Rattle.tables.specs.Entries.{settingAt, entryFrom}
 use Rattle.tables.specs.Tables.{noFigure, figureIn, Filled}
 use Rattle.tables.specs.Find.{tryOpen, firstFound, find}
-use Rattle.tables.specs.Starred.{Star, placed, started, starCode, Holds, StarredHolds}
+use Rattle.tables.specs.Starred.{Star, starCode, Holds, StarredHolds}
 use Rattle.tables.proofs.Certify.{certified, certify}
 
 -- what is computed of a yard: it is accepted, and its tables pass
