@@ -16,3 +16,4 @@ pub mod Exists
 pub mod Rounds
 pub mod Promise
 pub mod Steps
+pub mod Inhabited
