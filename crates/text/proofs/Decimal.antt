@@ -17,6 +17,27 @@ use Rattle.laws.proofs.Lists.{all-append, all-weaken}
 use Rattle.text.specs.Text.{digits, decimal}
 use Rattle.text.specs.Reading.{isDigit, isPlain, valueOf}
 
+-- LENGTH, by what is allowed and by the number's size
+pub digits-length : (left n : ℕ) → length (digits left n) ≤ left
+unfolding digits
+digits-length zero n = omega arith
+digits-length (suc left) n = elim (bool? (ltb n 10)) [
+  | inl y ↦ rw y (omega arith)
+  | inr y ↦ rw (y, length-append (digits left (n / 10)) ((48 + n % 10) ∷ [])) (omega (arith, digits-length left (n / 10)))
+]
+
+pub digits-short : (left k n : ℕ) → n < 10 ^ suc k → length (digits left n) ≤ suc k
+unfolding digits
+digits-short zero k n l = omega arith
+digits-short (suc left) zero n l = let z : ltb n 10 ≡ true = lt-ltb n 10 (omega arith) in rw z (omega arith)
+digits-short (suc left) (suc k) n l = elim (bool? (ltb n 10)) [
+  | inl y ↦ rw y (omega arith)
+  | inr y ↦
+      let e : 10 ^ suc (suc k) ≡ 10 * 10 ^ suc k = pow-succ' 10 (suc k) in
+      let h : length (digits left (n / 10)) ≤ suc k = digits-short left k (n / 10) (omega arith) in
+      rw (y, length-append (digits left (n / 10)) ((48 + n % 10) ∷ [])) (omega arith)
+]
+
 -- DIGITS are digits, and plain
 pub digit-of : (n : ℕ) → n < 10 → isDigit (48 + n) ≡ true
 unfolding isDigit
@@ -39,28 +60,7 @@ digits-are (suc left) n = elim (bool? (ltb n 10)) [
 ]
 
 pub decimal-plain : (n : ℕ) → all isPlain (decimal n) ≡ true
-decimal-plain n = all-weaken isDigit isPlain digit-plain (decimal n) (digits-are 10 n)
-
--- LENGTH, by what is allowed and by the number's size
-pub digits-length : (left n : ℕ) → length (digits left n) ≤ left
-unfolding digits
-digits-length zero n = omega arith
-digits-length (suc left) n = elim (bool? (ltb n 10)) [
-  | inl y ↦ rw y (omega arith)
-  | inr y ↦ rw (y, length-append (digits left (n / 10)) ((48 + n % 10) ∷ [])) (omega (arith, digits-length left (n / 10)))
-]
-
-pub digits-short : (left k n : ℕ) → n < 10 ^ suc k → length (digits left n) ≤ suc k
-unfolding digits
-digits-short zero k n l = omega arith
-digits-short (suc left) zero n l = let z : ltb n 10 ≡ true = lt-ltb n 10 (omega arith) in rw z (omega arith)
-digits-short (suc left) (suc k) n l = elim (bool? (ltb n 10)) [
-  | inl y ↦ rw y (omega arith)
-  | inr y ↦
-      let e : 10 ^ suc (suc k) ≡ 10 * 10 ^ suc k = pow-succ' 10 (suc k) in
-      let h : length (digits left (n / 10)) ≤ suc k = digits-short left k (n / 10) (omega arith) in
-      rw (y, length-append (digits left (n / 10)) ((48 + n % 10) ∷ [])) (omega arith)
-]
+decimal-plain n = all-weaken isDigit isPlain digit-plain (decimal n) (digits-are _ n)
 
 -- VALUE
 value-behind : (a : ℕ) (s : List ℕ) (d : ℕ) → valueOf a (s ++ (d ∷ [])) ≡ valueOf a s * 10 + (d - 48)
@@ -80,7 +80,7 @@ value-digits (suc left) n l = elim (bool? (ltb n 10)) [
 ]
 
 pub value-decimal : (n : ℕ) → n < 10000000000 → valueOf 0 (decimal n) ≡ n
-value-decimal n l = value-digits 10 n (omega arith)
+value-decimal n l = value-digits _ n (omega arith)
 
 -- NO TWO NUMBERS are written alike
 pub decimal-one : (m n : ℕ) → m < 10000000000 → n < 10000000000 → decimal m ≡ decimal n → m ≡ n
