@@ -1,6 +1,6 @@
 -- Rows 1 to 8 of the table of numbers, for a case text: one definition a row, in the table's order. Rows 3 to 8 judge what the text says.
 -- Assumes nothing.
-use mathlib.Core.Bool.{Bool, true, false, not, _&&_, _||_}
+use mathlib.Core.Bool.{Bool, false, not, _&&_, _||_}
 use mathlib.Core.List.{List, [], _∷_, map}
 use mathlib.Core.Option.{Option, none, some}
 use Prim.Native.Nat.{ℕ, suc, _-_, _<_}
@@ -11,10 +11,9 @@ use Rattle.laws.specs.Lists.{any, repeats}
 use Rattle.railway.specs.declared.Side.{Side}
 use Rattle.railway.specs.declared.Side.the-variants.{Up}
 use Rattle.railway.specs.declared.Leg.the-variants.{Stem, Plus, Minus}
-use Rattle.railway.specs.declared.Refusal.{Refusal}
 use Rattle.railway.specs.declared.Refusal.the-variants.{Count, Unknown, Join, Loose, Double, Place}
 use Rattle.railway.specs.Ends.{sameSide, portSide, legIndex}
-use Rattle.railway.specs.Refusals.{Row, row, first}
+use Rattle.railway.specs.Refusals.{Row, row}
 use Rattle.railway.specs.Rows.{outside, Tied, wrongPair}
 use Rattle.casefile.specs.Form.{EndField, section, port, JoinLine, SignalLine, TrainLine, Description, Describes}
 
@@ -105,7 +104,7 @@ doubleRow d = repeats sameSignal (d .signals)
 unfoldable pub placeRow : Description → Bool
 placeRow d = repeats eqb (map (λ t. t .start) (d .runs)) || repeats eqb (map (λ t. t .destination) (d .runs))
 
--- Rows 3 to 8 in the table's order, and the first that applies to what a text says.
+-- Rows 3 to 8 of what a text says, in the table's order.
 abbrev pub descriptionRows : Description → List Row
 descriptionRows d =
     row Count (countRow d)
@@ -115,6 +114,3 @@ descriptionRows d =
     ∷ row Double (doubleRow d)
     ∷ row Place (placeRow d)
     ∷ []
-
-unfoldable pub descriptionRefusal : Description → Option Refusal
-descriptionRefusal d = first (descriptionRows d)

@@ -2,17 +2,17 @@
 -- are digits, are no more than its size asks for, begin with none that is zero, have the number as their value, and no two numbers share them.
 -- Assumes nothing.
 use mathlib.Core.Path.{_≡_, refl, sym, _∙_, ap}
-use mathlib.Core.Logic.{_⊎_, inl, inr}
-use mathlib.Core.Bool.{Bool, true, false, cond, not, _&&_}
+use mathlib.Core.Logic.{inl, inr}
+use mathlib.Core.Bool.{true}
 use mathlib.Core.List.{List, [], _∷_, _++_}
 use Prim.Native.Nat.{ℕ, zero, suc, _+_, _-_, _*_, _/_, _%_, _^_, _≤_, _<_}
 use native.Mathlib.Omega.{arith}
 use native.Mathlib.Nat.{pow-succ'}
 use lib.ListN.{length, length-append}
-use lib.Dec.{eqb, ltb}
+use lib.Dec.{ltb}
 use borrow.Author.Tests.{ltb-true, ltb-false, lt-ltb, le-ltb, ne-eqb}
 use Rattle.laws.specs.Lists.{all}
-use Rattle.laws.proofs.Bools.{bool?, lt?, and-true, and-both}
+use Rattle.laws.proofs.Bools.{bool?, and-true, and-both}
 use Rattle.laws.proofs.Lists.{all-append, all-weaken}
 use Rattle.text.specs.Text.{digits, decimal}
 use Rattle.text.specs.Reading.{isDigit, isPlain, valueOf}
