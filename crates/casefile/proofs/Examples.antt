@@ -4,6 +4,7 @@
 use mathlib.Core.Path.{_≡_, refl}
 use mathlib.Core.Bool.{true, false}
 use mathlib.Core.List.{List, [], _∷_, _++_, map}
+use mathlib.Core.Option.{none}
 use Prim.Native.Nat.{ℕ}
 use Prim.Native.String as Str
 use Prim.Native.String.{String}
@@ -57,15 +58,15 @@ up n = Section (record { 0 = n }) Up
 abbrev down : ℕ → End
 down n = Section (record { 0 = n }) Down
 
-yard-a : (given (caseAnswer (bytes yardA) .answer) ≡ 0)
+yard-a : (given (caseAnswer (bytes yardA) .answer) ≡ 0) × (recordRefusal recordA ≡ none)
     × ((recordA .sections ≡ 3) × (recordA .points ≡ 1) × (recordA .trains ≡ 2) × (legsOf recordA 0 ≡ Down))
     × (map (joined recordA) (down 0 ∷ up 0 ∷ down 1 ∷ up 1 ∷ down 2 ∷ up 2 ∷ Port (record { 0 = 0 }) Stem ∷ Port (record { 0 = 0 }) Plus ∷ Port (record { 0 = 0 }) Minus ∷ [])
     ≡ Nothing ∷ With (Port (record { 0 = 0 }) Plus) ∷ Nothing ∷ With (Port (record { 0 = 0 }) Minus) ∷ With (Port (record { 0 = 0 }) Stem) ∷ Nothing ∷ With (down 2) ∷ With (up 0) ∷ With (up 1) ∷ [])
     × (map (hasSignal recordA) (down 0 ∷ up 0 ∷ down 1 ∷ up 1 ∷ down 2 ∷ up 2 ∷ []) ≡ true ∷ false ∷ false ∷ true ∷ false ∷ false ∷ [])
     × (runOf recordA 0 ≡ record { heading = Up; start = record { 0 = 1 }; destination = record { 0 = 2 } })
     × (runOf recordA 1 ≡ record { heading = Down; start = record { 0 = 2 }; destination = record { 0 = 0 } })
-unfolding bytes yardA recordA given first digits line isDigit byteAt digitsAt numberAt counted while sideFieldAt legFieldAt endFieldAt headerAt pointLineAt joinLineAt signalLineAt trainLineAt walk read caseAnswer anyBelow listBelow any repeats joinEnds unknownRow joinRow looseRow doubleRow placeRow partner railwayOf endAt joined hasSignal legsOf runOf
-yard-a = (refl, (refl, refl, refl, refl), refl, refl, refl, refl)
+unfolding bytes yardA recordA given first digits line isDigit byteAt digitsAt numberAt counted while sideFieldAt legFieldAt endFieldAt headerAt pointLineAt joinLineAt signalLineAt trainLineAt walk read caseAnswer anyBelow listBelow any repeats joinEnds unknownRow joinRow looseRow doubleRow placeRow partner railwayOf endAt joined hasSignal legsOf runOf R.unknownRow R.joinRow R.looseRow R.placeRow recordRefusal
+yard-a = (refl, refl, (refl, refl, refl, refl), refl, refl, refl, refl)
 
 -- THE TABLE of texts, each with the number that it is refused with; 0: it is accepted.
 record Case : Type 0 where

@@ -28,7 +28,7 @@ LengthRow text = mostBytes < length text
 abbrev pub FormRow : List ℕ → Type 0
 FormRow text = (d : Description) → Describes text d → ⊥
 
--- 3, count: the number of sections, points or trains lies outside its bounds.
+-- 3, count: the H line has a number of sections, points or trains that no railway may have.
 abbrev pub countRow : Description → Bool
 countRow d = outside (d .sections) (d .points) (d .trains)
 
@@ -40,7 +40,7 @@ abbrev pub known : Description → EndField → Bool
 known d (section n s) = within n (d .sections)
 known d (port n l) = within n (d .points)
 
--- 4, unknown: a J, G or T line names a section or a point that is not there.
+-- 4, unknown: some section or point that a J, G or T line names has number 0, or one above the H line's.
 abbrev pub unknownJoin : Description → JoinLine → Bool
 unknownJoin d j = not (known d (j .one) && known d (j .other))
 
@@ -53,7 +53,7 @@ unknownTrain d t = not (within (t .start) (d .sections) && within (t .destinatio
 unfoldable pub unknownRow : Description → Bool
 unknownRow d = any (unknownJoin d) (d .joins) || any (unknownSignal d) (d .signals) || any (unknownTrain d) (d .runs)
 
--- 5, join: of a J line's ends both are ports, both belong to one section, or both are of one side; or an end is in two joins.
+-- 5, join: the ends of a J line are two ports, or two of one section, or lie on the same side; or an end stands in the J lines twice.
 -- An end's side is a section's own, a port's by the P line of its point.
 abbrev pub sectionOf : EndField → Option ℕ
 sectionOf (section n s) = some n
@@ -83,7 +83,7 @@ joinEnds (j ∷ js) = j .one ∷ j .other ∷ joinEnds js
 unfoldable pub joinRow : Description → Bool
 joinRow d = any (wrongJoin d) (d .joins) || repeats sameEnd (joinEnds (d .joins))
 
--- 6, loose: a point's port is in no join.
+-- 6, loose: no J line names some port of some point.
 abbrev pub looseEnd : Description → EndField → Bool
 looseEnd d e = not (any (sameEnd e) (joinEnds (d .joins)))
 
@@ -93,14 +93,14 @@ looseAt d i = looseEnd d (port (suc i) Stem) || looseEnd d (port (suc i) Plus) |
 unfoldable pub looseRow : Description → Bool
 looseRow d = anyBelow (looseAt d) (d .points)
 
--- 7, double: a signal is named twice.
+-- 7, double: two G lines name one section end.
 abbrev pub sameSignal : SignalLine → SignalLine → Bool
 sameSignal g h = eqb (g .number) (h .number) && sameSide (g .side) (h .side)
 
 unfoldable pub doubleRow : Description → Bool
 doubleRow d = repeats sameSignal (d .signals)
 
--- 8, place: two trains share a start, or two share a destination.
+-- 8, place: a section is the start of two trains, or the destination of two.
 unfoldable pub placeRow : Description → Bool
 placeRow d = repeats eqb (map (λ t. t .start) (d .runs)) || repeats eqb (map (λ t. t .destination) (d .runs))
 
