@@ -1,4 +1,4 @@
--- The numbers below k: whether all or some pass a test, how many and which do, which is the lowest, and what a function gives at each.
+-- The numbers below k: whether all or some pass a test, how many and which do, which is the lowest; what a function gives at each, and in sum.
 -- Assumes nothing.
 use Prim.Native.Nat.{ℕ, zero, suc, _+_}
 use mathlib.Core.Bool.{Bool, true, false, cond, _&&_, _||_}
@@ -19,6 +19,11 @@ anyBelow f (suc k) = anyBelow f k || f k
 unfoldable pub countBelow : (ℕ → Bool) → ℕ → ℕ
 countBelow f zero = 0
 countBelow f (suc k) = countBelow f k + cond (f k) 1 0
+
+-- The sum of what a function gives at the numbers below k.
+unfoldable pub sumBelow : (ℕ → ℕ) → ℕ → ℕ
+sumBelow f zero = 0
+sumBelow f (suc k) = sumBelow f k + f k
 
 -- The numbers below k that pass a test, rising.
 unfoldable pub whichBelow : (ℕ → Bool) → ℕ → List ℕ

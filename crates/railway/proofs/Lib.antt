@@ -5,4 +5,4 @@ pub mod Updates
 pub mod Refusals
 pub mod Accepted
 pub mod Same
-pub mod Testing
+pub mod Examples

@@ -4,4 +4,3 @@ pub mod Refusals
 pub mod Record
 pub mod Rows
 pub mod Same
-pub mod Answers

@@ -6,6 +6,7 @@ use Rattle.railway.specs.declared.Railway.{Railway}
 use Rattle.railway.specs.Bounds.{sectionEnds, allEnds}
 use Rattle.railway.specs.Record.{linkAt, flagAt, legsOf, runOf}
 
+-- The same railway.
 pub record SameRailway (r q : Railway) : Type 0 where
   pub sections : r .sections ≡ q .sections
   pub points : r .points ≡ q .points

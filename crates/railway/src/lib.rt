@@ -1,6 +1,6 @@
 // The railway record: sections, points, trains, joins and signals in tables of fixed size. It goes by value. Every lookup
 // and every update is total: what no railway can have is joined to nothing, has no signal, and changes nothing.
-// The test of a record, rows 3 to 8 of the table of numbers, is in `test`.
+// The test of a record, rows 3 to 8 of the table of numbers, is the crate `acceptance`.
 ghost use mathlib.Core.Path.{_≡_};
 ghost use lib.ListN.{set};
 ghost use Rattle.railway.specs.declared.Joined.the-variants.{With};
@@ -8,8 +8,6 @@ ghost use Rattle.railway.specs.Bounds.{mostSections, mostPoints, mostTra
 ghost use Rattle.railway.specs.Ends.{sideIndex, legIndex, endIndex, sideAt, legAt, endAt, portSide};
 ghost use Rattle.railway.specs.Record.{noTrain, emptyRailway, joined, hasSignal, legsOf, runOf, sideOf, withLinks, withJoin, withSignal, withLegs, withTrain};
 ghost use Rattle.railway.specs.Refusals.{number};
-
-pub mod test;
 
 pub enum Side {
     Up,

@@ -1,0 +1,38 @@
+-- What the answers of the record's functions stand for, and the conditions that its test looks for, by name.
+-- Contracts cite these; nothing of document 01 rests on the second part. Assumes nothing.
+use mathlib.Core.Path.{_≡_}
+use mathlib.Core.Bool.{Bool}
+use mathlib.Core.Option.{Option, none, some}
+use Prim.Native.Nat.{ℕ}
+use Rattle.railway.specs.declared.Refusal.{Refusal}
+use Rattle.railway.specs.declared.Railway.{Railway}
+use Rattle.acceptance.specs.declared.Tested.{Tested}
+use Rattle.acceptance.specs.declared.Tested.the-variants.{Accepted, Refused}
+use Rattle.acceptance.specs.declared.Flaw.{Flaw}
+use Rattle.acceptance.specs.declared.Flaw.the-variants.{UnknownLink, UnknownSignal, UnknownTrain, WrongLink, Unreturned, LoosePort, SharesWith}
+use Rattle.railway.specs.Refusals.{numberOf}
+use Rattle.railway.specs.Rows.{recordRefusal, unknownLinkAt, unknownSignalAt, unknownTrainAt, wrongLinkAt, unreturnedAt, looseAt, sharesWith}
+
+-- The refusal that a test answers, if it does, and its number in the table.
+abbrev pub refusalGiven : Tested → Option Refusal
+refusalGiven Accepted = none
+refusalGiven (Refused f) = some f
+
+-- .. its number.
+abbrev pub numberGiven : Tested → Option ℕ
+numberGiven t = numberOf (refusalGiven t)
+
+-- What the test of a record answers: the first of rows 3 to 8 that applies, by its number; accepted where none does.
+pub record Judged (r : Railway) (t : Tested) : Type 0 where
+  pub refusal : refusalGiven t ≡ recordRefusal r
+  pub numbered : numberGiven t ≡ numberOf (recordRefusal r)
+
+-- What the test looks for, place by place.
+abbrev pub flawAt : Railway → Flaw → ℕ → Bool
+flawAt r UnknownLink i = unknownLinkAt r i
+flawAt r UnknownSignal i = unknownSignalAt r i
+flawAt r UnknownTrain t = unknownTrainAt r t
+flawAt r WrongLink i = wrongLinkAt r i
+flawAt r Unreturned i = unreturnedAt r i
+flawAt r LoosePort n = looseAt r n
+flawAt r (SharesWith t) u = sharesWith r t u

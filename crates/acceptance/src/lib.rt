@@ -1,0 +1,333 @@
+// The test of a record: accepted, or refused with the first of rows 3 to 8 that applies. Any record may come in, crooked
+// ones too; each row looks at every place that it concerns.
+ghost use mathlib.Core.Path.{_≡_};
+ghost use mathlib.Core.Bool.{_||_, _&&_};
+ghost use Prim.Native.Nat.{ℕ};
+ghost use Rattle.laws.specs.Below.{anyBelow};
+ghost use Rattle.railway.specs.Ends.{sameSide};
+ghost use Rattle.railway.specs.Record.{linkAt, flagAt};
+ghost use Rattle.railway.specs.Rows.{outside, known, unknownLinkAt, unknownSignalAt, unknownTrainAt, unknownRow, sectionOf, bothPorts, oneSection, tied, wrongPair, wrongLinkAt, leadsTo, unreturnedAt, joinRow, unjoined, looseAt, sharesWith, placeRow};
+ghost use Rattle.acceptance.specs.Answers.{Judged, flawAt};
+use railway::End;
+use railway::Joined;
+use railway::Leg;
+use railway::PointNo;
+use railway::Railway;
+use railway::Refusal;
+use railway::Side;
+
+pub enum Tested {
+    Accepted,
+    Refused(Refusal),
+}
+
+// What the rows look for, place by place. The last is asked of a train and of those before it.
+pub enum Flaw {
+    UnknownLink,
+    UnknownSignal,
+    UnknownTrain,
+    WrongLink,
+    Unreturned,
+    LoosePort,
+    SharesWith(u8),
+}
+
+// The test of a record, rows 3 to 8 in the table's order. (Row 7 cannot apply: a record has one flag a signal.)
+pub fn test_record(r: Railway) -> Tested
+    ensures { λ t. ⌜ Judged r t ⌝ }
+{
+    if counts_outside(r.sections, r.points, r.trains) {
+        return Tested::Refused(Refusal::Count);
+    }
+    if unknown_named(r) {
+        return Tested::Refused(Refusal::Unknown);
+    }
+    if joined_wrongly(r) {
+        return Tested::Refused(Refusal::Join);
+    }
+    if any_flaw(r, Flaw::LoosePort, r.points) {
+        return Tested::Refused(Refusal::Loose);
+    }
+    if places_shared(r) {
+        return Tested::Refused(Refusal::Place);
+    }
+    Tested::Accepted
+}
+
+// Row 3.
+fn counts_outside(s: u8, p: u8, k: u8) -> bool
+    ensures { λ b. ⌜ b ≡ outside s p k ⌝ }
+{
+    if s < 1 {
+        return true;
+    }
+    if Railway::SECTIONS < s {
+        return true;
+    }
+    if Railway::POINTS < p {
+        return true;
+    }
+    if k < 1 {
+        return true;
+    }
+    Railway::TRAINS < k
+}
+
+// Row 4.
+fn unknown_named(r: Railway) -> bool
+    ensures { λ b. ⌜ b ≡ unknownRow r ⌝ }
+{
+    if any_flaw(r, Flaw::UnknownLink, Railway::ENDS) {
+        return true;
+    }
+    if any_flaw(r, Flaw::UnknownSignal, Railway::SECTION_ENDS) {
+        return true;
+    }
+    any_flaw(r, Flaw::UnknownTrain, r.trains)
+}
+
+// Row 5.
+fn joined_wrongly(r: Railway) -> bool
+    ensures { λ b. ⌜ b ≡ joinRow r ⌝ }
+{
+    if any_flaw(r, Flaw::WrongLink, Railway::ENDS) {
+        return true;
+    }
+    any_flaw(r, Flaw::Unreturned, Railway::ENDS)
+}
+
+// Row 8.
+fn places_shared(r: Railway) -> bool
+    ensures { λ b. ⌜ b ≡ placeRow r ⌝ }
+{
+    let k = r.trains;
+    let mut t: u8 = 0;
+    while t < k {
+        if any_flaw(r, Flaw::SharesWith(t), t) {
+            return true;
+        }
+        t += 1;
+    }
+    false
+}
+
+// Whether a flaw shows at one of the first n places.
+fn any_flaw(r: Railway, f: Flaw, n: u8) -> bool
+    ensures { λ b. ⌜ b ≡ anyBelow (flawAt r f) n ⌝ }
+{
+    let mut i: u8 = 0;
+    while i < n {
+        if has_flaw(r, f, i) {
+            return true;
+        }
+        i += 1;
+    }
+    false
+}
+
+fn has_flaw(r: Railway, f: Flaw, i: u8) -> bool
+    ensures { λ b. ⌜ b ≡ flawAt r f i ⌝ }
+{
+    match f {
+        Flaw::UnknownLink => unknown_link(r, i),
+        Flaw::UnknownSignal => unknown_signal(r, i),
+        Flaw::UnknownTrain => unknown_train(r, i),
+        Flaw::WrongLink => wrong_link(r, i),
+        Flaw::Unreturned => unreturned(r, i),
+        Flaw::LoosePort => loose_port(r, i),
+        Flaw::SharesWith(t) => shares_with(r, t, i),
+    }
+}
+
+fn unknown_link(r: Railway, i: u8) -> bool
+    ensures { λ b. ⌜ b ≡ unknownLinkAt r i ⌝ }
+{
+    match link_at(r, i) {
+        Joined::Nothing => false,
+        Joined::With(f) => {
+            if both_known(r, railway::end_at(i), f) {
+                false
+            } else {
+                true
+            }
+        }
+    }
+}
+
+fn unknown_signal(r: Railway, i: u8) -> bool
+    ensures { λ b. ⌜ b ≡ unknownSignalAt r i ⌝ }
+{
+    if flag_at(r, i) {
+        if is_known(r, railway::end_at(i)) {
+            false
+        } else {
+            true
+        }
+    } else {
+        false
+    }
+}
+
+fn unknown_train(r: Railway, t: u8) -> bool
+    ensures { λ b. ⌜ b ≡ unknownTrainAt r t ⌝ }
+{
+    let x = r.run_of(t);
+    let s = r.sections;
+    if x.start.0 < s {
+        if x.destination.0 < s { false } else { true }
+    } else {
+        true
+    }
+}
+
+fn wrong_link(r: Railway, i: u8) -> bool
+    ensures { λ b. ⌜ b ≡ wrongLinkAt r i ⌝ }
+{
+    match link_at(r, i) {
+        Joined::Nothing => false,
+        Joined::With(f) => wrong_pair(r, railway::end_at(i), f),
+    }
+}
+
+fn unreturned(r: Railway, i: u8) -> bool
+    ensures { λ b. ⌜ b ≡ unreturnedAt r i ⌝ }
+{
+    match link_at(r, i) {
+        Joined::Nothing => false,
+        Joined::With(f) => {
+            if leads_to(r.joined(f), railway::end_at(i)) {
+                false
+            } else {
+                true
+            }
+        }
+    }
+}
+
+fn loose_port(r: Railway, n: u8) -> bool
+    ensures { λ b. ⌜ b ≡ looseAt r n ⌝ }
+{
+    if is_unjoined(r.joined(End::Port(PointNo(n), Leg::Stem))) {
+        return true;
+    }
+    if is_unjoined(r.joined(End::Port(PointNo(n), Leg::Plus))) {
+        return true;
+    }
+    is_unjoined(r.joined(End::Port(PointNo(n), Leg::Minus)))
+}
+
+fn shares_with(r: Railway, t: u8, u: u8) -> bool
+    ensures { λ b. ⌜ b ≡ sharesWith r t u ⌝ }
+{
+    let x = r.run_of(u);
+    let y = r.run_of(t);
+    if x.start.0 == y.start.0 {
+        true
+    } else {
+        x.destination.0 == y.destination.0
+    }
+}
+
+// The section or point of an end is there.
+fn is_known(r: Railway, e: End) -> bool
+    ensures { λ b. ⌜ b ≡ known r e ⌝ }
+{
+    match e {
+        End::Section(n, _) => n.0 < r.sections,
+        End::Port(n, _) => n.0 < r.points,
+    }
+}
+
+fn both_known(r: Railway, e: End, f: End) -> bool
+    ensures { λ b. ⌜ b ≡ (known r e && known r f) ⌝ }
+{
+    if is_known(r, e) {
+        is_known(r, f)
+    } else {
+        false
+    }
+}
+
+// Two ends that no join may tie.
+fn wrong_pair(r: Railway, e: End, f: End) -> bool
+    ensures { λ b. ⌜ b ≡ wrongPair (tied r e) (tied r f) ⌝ }
+{
+    if both_or_one(e, f) {
+        return true;
+    }
+    same_side(r.side_of(e), r.side_of(f))
+}
+
+// Both are ports, or both belong to one section.
+fn both_or_one(e: End, f: End) -> bool
+    ensures { λ b. ⌜ b ≡ (bothPorts (sectionOf e) (sectionOf f) || oneSection (sectionOf e) (sectionOf f)) ⌝ }
+{
+    match e {
+        End::Section(m, _) => match f {
+            End::Section(n, _) => m.0 == n.0,
+            End::Port(_, _) => false,
+        },
+        End::Port(_, _) => match f {
+            End::Section(_, _) => false,
+            End::Port(_, _) => true,
+        },
+    }
+}
+
+fn same_side(a: Side, b: Side) -> bool
+    ensures { λ x. ⌜ x ≡ sameSide a b ⌝ }
+{
+    match a {
+        Side::Up => match b {
+            Side::Up => true,
+            Side::Down => false,
+        },
+        Side::Down => match b {
+            Side::Up => false,
+            Side::Down => true,
+        },
+    }
+}
+
+fn leads_to(j: Joined, e: End) -> bool
+    ensures { λ b. ⌜ b ≡ leadsTo j e ⌝ }
+{
+    match j {
+        Joined::Nothing => false,
+        Joined::With(f) => railway::index_of(f) == railway::index_of(e),
+    }
+}
+
+fn is_unjoined(j: Joined) -> bool
+    ensures { λ b. ⌜ b ≡ unjoined j ⌝ }
+{
+    match j {
+        Joined::Nothing => true,
+        Joined::With(_) => false,
+    }
+}
+
+// The join of the end with this index; nothing past the last.
+fn link_at(r: Railway, i: u8) -> Joined
+    ensures { λ j. ⌜ j ≡ linkAt r i ⌝ }
+{
+    let at = i as usize;
+    if i < Railway::ENDS {
+        let l = r.links[at];
+        l.to
+    } else {
+        Joined::Nothing
+    }
+}
+
+// Whether a signal stands at the section end with this index; none past the last.
+fn flag_at(r: Railway, i: u8) -> bool
+    ensures { λ b. ⌜ b ≡ flagAt r i ⌝ }
+{
+    let at = i as usize;
+    if i < Railway::SECTION_ENDS {
+        r.signals[at]
+    } else {
+        false
+    }
+}

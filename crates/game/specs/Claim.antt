@@ -1,0 +1,50 @@
+-- What a table of figures and a table of settings claim of whole plays, and when a setting keeps a placement's figure.
+-- Assumes nothing.
+use mathlib.Core.Path.{_≡_}
+use mathlib.Core.Bool.{true}
+use mathlib.Core.Logic.{_↔_}
+use mathlib.Core.Option.{Option, none, some}
+use Prim.Native.Nat.{ℕ, _<_}
+use Rattle.game.specs.Game.{Outcome, lost, at, Game, Way, Choice, following, positional, may, HomeWithin, ComesHome, Beats, IsFigure}
+
+-- A figure is there and is smaller than n.
+abbrev pub Below : ℕ → Option ℕ → Type 0
+Below n none = ⊥
+Below n (some j) = j < n
+
+-- The figure of what a move ends in; a loss has none.
+abbrev pub figureOf : (ℕ → Option ℕ) → Outcome → Option ℕ
+figureOf F (lost l) = none
+figureOf F (at q) = F q
+
+-- Setting s keeps figure n at placement p, the listed placements being those to which F gives a figure:
+-- somebody can move, and nobody who can comes to a loss, to a placement not listed, or to a figure that is not less than n (document 01, "Test of a plan", last sentence).
+pub record Keeps {S : Type 0} (g : Game S) (F : ℕ → Option ℕ) (p : ℕ) (s : S) (n : ℕ) : Type 0 where
+  pub one-may : (t : ℕ) × (may g p s t ≡ true)
+  pub all-below : (t : ℕ) → may g p s t ≡ true → Below n (figureOf F (g .next p s t))
+
+-- Two settings alike at placement p: they let the same trains move, and to the same end.
+pub record Alike {S : Type 0} (g : Game S) (p : ℕ) (s o : S) : Type 0 where
+  pub same-trains : (t : ℕ) → may g p s t ≡ may g p o t
+  pub same-ends : (t : ℕ) → may g p s t ≡ true → g .next p s t ≡ g .next p o t
+
+-- One choice of trains, by placement and setting alone, that beats every way of working wherever F has no figure.
+-- It names a train that is there, one that may move if any may, and the same under settings that are alike.
+pub record OneChoice {S : Type 0} (g : Game S) (F : ℕ → Option ℕ) : Type 0 where
+  pub named : ℕ → S → ℕ
+  pub there : (p : ℕ) (s : S) → 0 < g .trains → named p s < g .trains
+  pub moves : (p : ℕ) (s : S) (t : ℕ) → may g p s t ≡ true → may g p s (named p s) ≡ true
+  pub alike : (p : ℕ) (s o : S) → Alike g p s o → named p s ≡ named p o
+  pub beats : (w : Way S) (p : ℕ) → p < g .placements → F p ≡ none → Beats g (positional named) w p
+
+-- What figures F and settings f claim of whole plays.
+pub record Whole {S : Type 0} (g : Game S) (F : ℕ → Option ℕ) (f : ℕ → S) : Type 0 where
+  -- F is the figure
+  pub figures : (p : ℕ) → p < g .placements → IsFigure g p (F p)
+  -- who follows f is home within the figure, whatever the choice of trains
+  pub follow : (p n : ℕ) → p < g .placements → F p ≡ some n → (c : Choice S) → HomeWithin g (following f) c p n
+  -- against every way there is a choice of trains under which it is not home any sooner
+  pub not-sooner : (w : Way S) (p n : ℕ) → p < g .placements → F p ≡ some n → (c : Choice S) × ((m : ℕ) → m < n → ¬ (HomeWithin g w c p m))
+  -- there is no figure exactly where no way comes home against all choices
+  pub none-exactly : (p : ℕ) → p < g .placements → (F p ≡ none) ↔ ((w : Way S) → ¬ ((c : Choice S) → ComesHome g w c p))
+  pub one-choice : OneChoice g F

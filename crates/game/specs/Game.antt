@@ -1,0 +1,126 @@
+-- A game of placements, settings and trains, and its plays: document 01, "A turn", for any rules of moving.
+-- Placements and trains are numbers here; what they stand for on a railway is in Placement, Setting and Moves. Assumes nothing.
+use mathlib.Core.Path.{_≡_}
+use mathlib.Core.Bool.{Bool, true, false, cond, not, _&&_, _||_}
+use mathlib.Core.List.{List, [], _∷_, _++_}
+use mathlib.Core.Option.{Option, none, some}
+use Prim.Native.Nat.{ℕ, zero, suc, _≤_}
+use lib.Dec.{ltb}
+use Rattle.laws.specs.Below.{lowest}
+
+-- The two ways in which a move loses.
+pub data Loss : Type 0 where
+  derailment : Loss
+  collision : Loss
+
+-- What a move ends in: a loss, or the next placement.
+pub data Outcome : Type 0 where
+  lost : Loss → Outcome
+  at : ℕ → Outcome
+
+-- A game. Placements are the codes below `placements`, trains the numbers below `trains`; S is the type of settings.
+pub record Game (S : Type 0) : Type 0 where
+  pub placements : ℕ
+  pub trains : ℕ
+  pub isHome : ℕ → Bool
+  pub isLost : ℕ → Bool
+  -- in placement p the setting s lets train t move
+  pub allowed : ℕ → S → ℕ → Bool
+  -- what moving train t in placement p under setting s ends in
+  pub next : ℕ → S → ℕ → Outcome
+
+-- One turn that was played: the placement before it, the setting, and the train that moved, if one did.
+pub record Turn (S : Type 0) : Type 0 where
+  pub placement : ℕ
+  pub setting : S
+  pub moved : Option ℕ
+
+-- A way of working: a setting for the turns played so far, oldest first, and the present placement.
+abbrev pub Way : Type 0 → Type 0
+Way S = List (Turn S) → ℕ → S
+
+-- A choice of trains: it names a train, knowing the history, the placement and the setting that the way has picked.
+abbrev pub Choice : Type 0 → Type 0
+Choice S = List (Turn S) → ℕ → S → ℕ
+
+-- To follow a table of settings: whatever was played, what the table has for the placement reached.
+abbrev pub following : {S : Type 0} → (ℕ → S) → Way S
+following f h p = f p
+
+-- A choice of trains that is fixed by placement and setting alone.
+abbrev pub positional : {S : Type 0} → (ℕ → S → ℕ) → Choice S
+positional C h p s = C p s
+
+-- Where a play stands: lost by a move, or in a placement with these turns behind it.
+pub data Position (S : Type 0) : Type 0 where
+  wrecked : Position S
+  standing : List (Turn S) → ℕ → Position S
+
+module _ {S : Type 0} (g : Game S) where
+  -- Train t is there and may move in placement p under setting s.
+  abbrev pub may : ℕ → S → ℕ → Bool
+  may p s t = ltb t (g .trains) && g .allowed p s t
+
+  -- The train that moves where t is named: t if it may, else the lowest that may, else none.
+  abbrev pub mover : ℕ → S → ℕ → Option ℕ
+  mover p s t = cond (may p s t) (some t) (lowest (may p s) (g .trains))
+
+  -- Home, unless the placement counts as lost.
+  abbrev pub home : ℕ → Bool
+  home p = not (g .isLost p) && g .isHome p
+
+  -- A play has ended at home, and where the placement counts as lost.
+  abbrev pub over : ℕ → Bool
+  over p = g .isLost p || g .isHome p
+
+  -- The history with one more turn: the newest is last.
+  abbrev pub grown : List (Turn S) → ℕ → S → Option ℕ → List (Turn S)
+  grown h p s m = h ++ (record { placement = p; setting = s; moved = m } ∷ [])
+
+  abbrev pub arrive : List (Turn S) → Outcome → Position S
+  arrive h (lost l) = wrecked
+  arrive h (at q) = standing h q
+
+  -- A turn by the mover; without one nothing moves, and yet a turn has been played.
+  abbrev pub turn : List (Turn S) → ℕ → S → Option ℕ → Position S
+  turn h p s none = standing (grown h p s none) p
+  turn h p s (some t) = arrive (grown h p s (some t)) (g .next p s t)
+
+  -- The turn by the setting picked: way and choice are both handed the history.
+  abbrev pub turnBy : Choice S → List (Turn S) → ℕ → S → Position S
+  turnBy c h p s = turn h p s (mover p s (c h p s))
+
+  -- One more turn of a way against a choice, unless the play has ended.
+  abbrev pub step : Way S → Choice S → Position S → Position S
+  step w c wrecked = wrecked
+  step w c (standing h p) = cond (over p) (standing h p) (turnBy c h p (w h p))
+
+  -- The play from placement p after n turns; one that has ended stays as it is.
+  unfoldable pub play : Way S → Choice S → ℕ → ℕ → Position S
+  play w c p zero = standing [] p
+  play w c p (suc n) = step w c (play w c p n)
+
+  abbrev pub homeAt : Position S → Bool
+  homeAt wrecked = false
+  homeAt (standing h p) = home p
+
+  -- The play is home within n turns.
+  abbrev pub HomeWithin : Way S → Choice S → ℕ → ℕ → Type 0
+  HomeWithin w c p n = (m : ℕ) × (m ≤ n) × (homeAt (play w c p m) ≡ true)
+
+  -- The play comes home.
+  abbrev pub ComesHome : Way S → Choice S → ℕ → Type 0
+  ComesHome w c p = (m : ℕ) × (homeAt (play w c p m) ≡ true)
+
+  -- The choice beats the way from placement p: their play never comes home.
+  abbrev pub Beats : Choice S → Way S → ℕ → Type 0
+  Beats c w p = (m : ℕ) → homeAt (play w c p m) ≡ false
+
+  -- Home can be forced within n turns: one way is home within n whatever the choice of trains.
+  abbrev pub Forced : ℕ → ℕ → Type 0
+  Forced p n = (w : Way S) × ((c : Choice S) → HomeWithin w c p n)
+
+  -- The figure of a placement: the least number of turns within which home can be forced; none: there is no such number.
+  abbrev pub IsFigure : ℕ → Option ℕ → Type 0
+  IsFigure p none = (n : ℕ) → ¬ (Forced p n)
+  IsFigure p (some n) = Forced p n × ((m : ℕ) → Forced p m → n ≤ m)

@@ -1,0 +1,7 @@
+pub mod Game
+pub mod Placement
+pub mod Setting
+pub mod Moves
+pub mod Claim
+pub mod Local
+pub mod Yards

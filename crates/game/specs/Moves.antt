@@ -1,0 +1,91 @@
+-- Where a train that leaves by an end comes to, what a move ends in, and the railway's game (document 01, "A turn", second paragraph).
+-- Assumes nothing.
+use mathlib.Core.Bool.{Bool, true, false, cond, not, _&&_}
+use mathlib.Core.List.{List, [], _∷_}
+use mathlib.Core.Option.{Option, none, some}
+use Prim.Native.Nat.{ℕ}
+use lib.ListN.{set}
+use lib.Dec.{eqb}
+use Rattle.laws.specs.Below.{anyBelow}
+use Rattle.railway.specs.declared.Leg.{Leg}
+use Rattle.railway.specs.declared.Leg.the-variants.{Stem, Plus, Minus}
+use Rattle.railway.specs.declared.PointNo.{PointNo}
+use Rattle.railway.specs.declared.End.{End}
+use Rattle.railway.specs.declared.End.the-variants.{Section, Port}
+use Rattle.railway.specs.declared.Joined.{Joined}
+use Rattle.railway.specs.declared.Joined.the-variants.{Nothing, With}
+use Rattle.railway.specs.declared.Railway.{Railway}
+use Rattle.railway.specs.Record.{joined}
+use Rattle.railway.specs.Rows.{sectionOf}
+use Rattle.game.specs.Game.{derailment, collision, Outcome, lost, at, Game}
+use Rattle.game.specs.Placement.{codeOf, placements, sectionsOf, standsOn, atHome, shared}
+use Rattle.game.specs.Setting.{Setting, headsFor, mayMove}
+
+-- A train on its way: the points that it has met, in order, and the section that it comes to; none: it derails.
+pub record Passage : Type 0 where
+  pub met : List ℕ
+  pub reached : Option ℕ
+
+-- The leg of a point that is set.
+abbrev pub legSet : Bool → Leg
+legSet true = Plus
+legSet false = Minus
+
+-- Where a train that enters a point by this port leaves it, the point lying at plus or not; none: it enters by the leg that is not set, and derails.
+abbrev pub through : Leg → Bool → Option Leg
+through Stem plus = some (legSet plus)
+through Plus true = some Stem
+through Plus false = none
+through Minus true = none
+through Minus false = some Stem
+
+-- The section behind a point's port. No accepted record has a port in no join, or joined to a port: there a train derails.
+abbrev pub behindPort : Joined → Option ℕ
+behindPort Nothing = none
+behindPort (With e) = sectionOf e
+
+abbrev pub pastPoint : Railway → PointNo → Option Leg → Passage
+pastPoint r n none = record { met = n .0 ∷ []; reached = none }
+pastPoint r n (some l) = record { met = n .0 ∷ []; reached = behindPort (joined r (Port n l)) }
+
+-- Past a join: into a section, or over a point; at the end of the track the train derails.
+abbrev pub pastJoin : Railway → (ℕ → Bool) → Joined → Passage
+pastJoin r plus Nothing = record { met = []; reached = none }
+pastJoin r plus (With (Section n side)) = record { met = []; reached = some (n .0) }
+pastJoin r plus (With (Port n leg)) = pastPoint r n (through leg (plus (n .0)))
+
+-- Leaving by section end e, with these points at plus.
+unfoldable pub passes : Railway → (ℕ → Bool) → End → Passage
+passes r plus e = pastJoin r plus (joined r e)
+
+-- Another train than t stands on section x.
+abbrev pub otherOn : Railway → ℕ → ℕ → ℕ → ℕ → Bool
+otherOn r p t x u = not (eqb u t) && eqb (standsOn r p u) x
+
+unfoldable pub occupied : Railway → ℕ → ℕ → ℕ → Bool
+occupied r p t x = anyBelow (otherOn r p t x) (r .trains)
+
+-- The code of the placement with train t put on section x.
+abbrev pub codeWith : Railway → ℕ → ℕ → ℕ → ℕ
+codeWith r p t x = codeOf (r .sections) (set (sectionsOf r p) t x)
+
+-- Train t comes to this section, or derails.
+abbrev pub enters : Railway → ℕ → ℕ → Option ℕ → Outcome
+enters r p t none = lost derailment
+enters r p t (some x) = cond (occupied r p t x) (lost collision) (at (codeWith r p t x))
+
+-- What moving train t ends in.
+unfoldable pub moveOf : Railway → ℕ → Setting → ℕ → Outcome
+moveOf r p s t = enters r p t (passes r (s .plus) (headsFor r p t) .reached)
+
+-- The railway's game.
+abbrev pub gameOf : Railway → Game Setting
+gameOf r =
+    record {
+      placements = placements r;
+      trains = r .trains;
+      isHome = atHome r;
+      isLost = shared r;
+      allowed = mayMove r;
+      next = moveOf r;
+    }

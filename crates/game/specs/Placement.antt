@@ -1,0 +1,51 @@
+-- Placements and their codes, home and lost (document 01, "A turn", beginning and third paragraph).
+-- Sections and trains count from 0 here: the document's numbers less one. Assumes nothing.
+use mathlib.Core.Bool.{Bool}
+use mathlib.Core.List.{List, [], _∷_}
+use Prim.Native.Nat.{ℕ, zero, suc, _*_, _/_, _%_, _^_}
+use lib.ListN.{length, getD}
+use lib.Dec.{eqb}
+use Rattle.laws.specs.Below.{allBelow, anyBelow, sumBelow, listBelow}
+use Rattle.railway.specs.declared.Railway.{Railway}
+use Rattle.railway.specs.Record.{runOf}
+
+-- The code of a placement, given as the section of each train: each section times a power of the number of sections, in sum.
+unfoldable pub codeOf : ℕ → List ℕ → ℕ
+codeOf s xs = sumBelow (λ t. getD xs t 0 * s ^ t) (length xs)
+
+-- The placement that a code stands for: the sections of k trains, the first train's first. (Codes, in proofs/: nothing is lost either way.)
+unfoldable pub sectionsIn : ℕ → ℕ → ℕ → List ℕ
+sectionsIn s zero p = []
+sectionsIn s (suc k) p = (p % s) ∷ sectionsIn s k (p / s)
+
+-- How many placements there are: the codes are the numbers below.
+abbrev pub placements : Railway → ℕ
+placements r = (r .sections) ^ (r .trains)
+
+-- The sections of all trains, and of train t, in the placement of code p.
+abbrev pub sectionsOf : Railway → ℕ → List ℕ
+sectionsOf r p = sectionsIn (r .sections) (r .trains) p
+
+unfoldable pub standsOn : Railway → ℕ → ℕ → ℕ
+standsOn r p t = getD (sectionsOf r p) t 0
+
+-- The code of the start: each train stands on its start.
+unfoldable pub startCode : Railway → ℕ
+startCode r = codeOf (r .sections) (listBelow (λ t. runOf r t .start .0) (r .trains))
+
+-- Home: each train stands on its destination.
+abbrev pub arrived : Railway → ℕ → ℕ → Bool
+arrived r p t = eqb (standsOn r p t) (runOf r t .destination .0)
+
+unfoldable pub atHome : Railway → ℕ → Bool
+atHome r p = allBelow (arrived r p) (r .trains)
+
+-- Two trains share a section: the placement counts as lost.
+abbrev pub standsWith : Railway → ℕ → ℕ → ℕ → Bool
+standsWith r p t u = eqb (standsOn r p u) (standsOn r p t)
+
+abbrev pub sharesLower : Railway → ℕ → ℕ → Bool
+sharesLower r p t = anyBelow (standsWith r p t) t
+
+unfoldable pub shared : Railway → ℕ → Bool
+shared r p = anyBelow (sharesLower r p) (r .trains)

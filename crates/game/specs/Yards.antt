@@ -1,0 +1,77 @@
+-- The yards of document 01, "Yards to try", as records, line by line.
+-- Assumes nothing.
+use Prim.Native.Nat.{ℕ, _-_}
+use Rattle.railway.specs.declared.Side.{Side}
+use Rattle.railway.specs.declared.Side.the-variants.{Up, Down}
+use Rattle.railway.specs.declared.Leg.{Leg}
+use Rattle.railway.specs.declared.Leg.the-variants.{Stem, Plus, Minus}
+use Rattle.railway.specs.declared.End.{End}
+use Rattle.railway.specs.declared.End.the-variants.{Section, Port}
+use Rattle.railway.specs.declared.Railway.{Railway}
+use Rattle.railway.specs.Record.{emptyRailway, withJoin, withSignal, withLegs, withTrain}
+
+-- The lines of a case file, with the document's numbers; H comes first, and each other line is added to what stands behind it.
+abbrev pub yardH : ℕ → ℕ → ℕ → Railway
+yardH s p k =
+    record {
+      sections = s;
+      points = p;
+      trains = k;
+      legs = emptyRailway .legs;
+      links = emptyRailway .links;
+      signals = emptyRailway .signals;
+      runs = emptyRailway .runs;
+    }
+
+abbrev pub lineP : ℕ → Side → Railway → Railway
+lineP n side r = withLegs r (n - 1) side
+
+abbrev pub lineJ : End → End → Railway → Railway
+lineJ a b r = withJoin r a b
+
+abbrev pub lineG : End → Railway → Railway
+lineG e r = withSignal r e
+
+abbrev pub lineT : ℕ → Side → ℕ → ℕ → Railway → Railway
+lineT t heading a b r = withTrain r (t - 1) (record { heading = heading; start = record { 0 = a - 1 }; destination = record { 0 = b - 1 } })
+
+abbrev pub sec : ℕ → Side → End
+sec n s = Section (record { 0 = n - 1 }) s
+
+abbrev pub port : ℕ → Leg → End
+port n l = Port (record { 0 = n - 1 }) l
+
+-- Yard A without its signal at 1d, and Yard A.
+abbrev pub yardALess : Railway
+yardALess =
+    lineT 2 Down 3 1
+    (lineT 1 Up 2 3
+    (lineG (sec 2 Up)
+    (lineJ (sec 3 Down) (port 1 Stem)
+    (lineJ (sec 2 Up) (port 1 Minus)
+    (lineJ (sec 1 Up) (port 1 Plus)
+    (lineP 1 Down (yardH 3 1 2)))))))
+
+abbrev pub yardA : Railway
+yardA = lineG (sec 1 Down) yardALess
+
+-- One section, and one train that starts at home.
+abbrev pub yardOne : Railway
+yardOne = lineT 1 Up 1 1 (yardH 1 0 1)
+
+-- Two sections, joined 1u to 2d, for k trains.
+abbrev pub yardTwo : ℕ → Railway
+yardTwo k = lineJ (sec 1 Up) (sec 2 Down) (yardH 2 0 k)
+
+-- There: a train up from 1 to 2; one up from 2 to 1, without and with a signal at 2u; two trains head on, with signals at 1u and 2d.
+abbrev pub upOneTwo : Railway
+upOneTwo = lineT 1 Up 1 2 (yardTwo 1)
+
+abbrev pub upTwoOne : Railway
+upTwoOne = lineT 1 Up 2 1 (yardTwo 1)
+
+abbrev pub upTwoOneHeld : Railway
+upTwoOneHeld = lineG (sec 2 Up) upTwoOne
+
+abbrev pub headOn : Railway
+headOn = lineT 2 Down 2 1 (lineT 1 Up 1 2 (lineG (sec 2 Down) (lineG (sec 1 Up) (yardTwo 2))))

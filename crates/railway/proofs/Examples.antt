@@ -1,0 +1,151 @@
+-- Records and the number each gets, by computation: every row, its edges, rows that apply together, and records that no text gives.
+-- Assumes nothing.
+use mathlib.Core.Path.{_≡_, refl}
+use mathlib.Core.Bool.{Bool, true, false}
+use mathlib.Core.List.{List, [], _∷_, map}
+use mathlib.Core.Option.{Option, none, some}
+use Prim.Native.Nat.{ℕ, _-_}
+use Rattle.laws.specs.Below.{anyBelow}
+use Rattle.railway.specs.declared.Side.{Side}
+use Rattle.railway.specs.declared.Side.the-variants.{Up, Down}
+use Rattle.railway.specs.declared.Leg.{Leg}
+use Rattle.railway.specs.declared.Leg.the-variants.{Stem, Plus, Minus}
+use Rattle.railway.specs.declared.SectionNo.{SectionNo}
+use Rattle.railway.specs.declared.PointNo.{PointNo}
+use Rattle.railway.specs.declared.End.{End}
+use Rattle.railway.specs.declared.End.the-variants.{Section, Port}
+use Rattle.railway.specs.declared.Joined.{Joined}
+use Rattle.railway.specs.declared.Joined.the-variants.{Nothing, With}
+use Rattle.railway.specs.declared.Train.{Train}
+use Rattle.railway.specs.declared.Railway.{Railway}
+use Rattle.railway.specs.Ends.{endAt}
+use Rattle.railway.specs.Refusals.{first, numberOf}
+use Rattle.railway.specs.Record.{emptyRailway, joined, hasSignal, legsOf, runOf, sideOf, withLinks, setLink, withJoin, withSignal, withLegs, withTrain}
+use Rattle.railway.specs.Rows.{unknownRow, joinRow, looseRow, placeRow, recordRefusal}
+
+-- records, with the document's numbers: counts, then what is added to them
+counts : ℕ → ℕ → ℕ → Railway
+counts s p k =
+    record {
+      sections = s;
+      points = p;
+      trains = k;
+      legs = emptyRailway .legs;
+      links = emptyRailway .links;
+      signals = emptyRailway .signals;
+      runs = emptyRailway .runs;
+    }
+
+u : ℕ → End
+u n = Section (record { 0 = n - 1 }) Up
+
+d : ℕ → End
+d n = Section (record { 0 = n - 1 }) Down
+
+port : Leg → ℕ → End
+port l n = Port (record { 0 = n - 1 }) l
+
+train : ℕ → Side → ℕ → ℕ → Railway → Railway
+train t h a b r = withTrain r (t - 1) (record { heading = h; start = record { 0 = a - 1 }; destination = record { 0 = b - 1 } })
+
+join : End → End → Railway → Railway
+join a b r = withJoin r a b
+
+-- one direction of a join, which no text gives
+half : End → End → Railway → Railway
+half a b r = withLinks r (setLink a b (r .links))
+
+signal : End → Railway → Railway
+signal e r = withSignal r e
+
+legs : ℕ → Side → Railway → Railway
+legs n side r = withLegs r (n - 1) side
+
+-- two sections, no point, one train from 1 to 1, or two trains; and a point whose stem, plus and minus meet these ends
+two : Railway
+two = counts 2 0 1
+
+two2 : Railway
+two2 = counts 2 0 2
+
+fork : Side → End → End → End → Railway
+fork side stem plus minus = legs 1 side (join (port Stem 1) stem (join (port Plus 1) plus (join (port Minus 1) minus (counts 3 1 1))))
+
+record Case : Type 0 where
+  number : Option ℕ
+  of : Railway
+
+gets : Option ℕ → Railway → Case
+gets n r = record { number = n; of = r }
+
+cases : List Case
+cases =
+    -- accepted: a join and a signal; a signal at an end in no join; a point with legs down, and with legs up; the most of each
+    gets none (signal (u 2) (join (u 1) (d 2) two))
+    ∷ gets none (fork Down (d 3) (u 1) (u 2))
+    ∷ gets none (fork Up (u 1) (d 2) (d 3))
+    ∷ gets none (counts 48 0 1)
+    ∷ gets none (train 4 Up 4 4 (train 3 Up 3 3 (train 2 Up 2 2 (counts 4 0 4))))
+    -- a train may start on another's destination; runs and legs beyond the counts are not looked at
+    ∷ gets none (train 2 Down 2 1 (train 1 Up 1 2 (counts 2 0 2)))
+    ∷ gets none (legs 3 Down (train 2 Up 9 9 two))
+    -- 3
+    ∷ gets (some 3) emptyRailway
+    ∷ gets (some 3) (counts 0 0 1)
+    ∷ gets (some 3) (counts 49 0 1)
+    ∷ gets (some 3) (counts 2 17 1)
+    ∷ gets (some 3) (counts 2 0 0)
+    ∷ gets (some 3) (counts 2 0 5)
+    -- 4: a join to a section or point that is not there, one at such an end, a signal, a start, a destination
+    ∷ gets (some 4) (join (u 1) (d 3) two)
+    ∷ gets (some 4) (join (u 1) (port Stem 1) two)
+    ∷ gets (some 4) (half (d 3) (u 1) two)
+    ∷ gets (some 4) (signal (d 3) two)
+    ∷ gets (some 4) (train 1 Up 3 1 two)
+    ∷ gets (some 4) (train 1 Up 1 3 two)
+    -- 5: two ports, one section, an end with itself, one side (of sections, of a port with legs down and with legs up), a link that is not returned, an end in two joins
+    ∷ gets (some 5) (join (port Plus 1) (port Stem 1) (counts 2 1 1))
+    ∷ gets (some 5) (join (u 1) (d 1) two)
+    ∷ gets (some 5) (join (u 1) (u 1) two)
+    ∷ gets (some 5) (join (u 1) (u 2) two)
+    ∷ gets (some 5) (fork Down (u 1) (d 2) (d 3))
+    ∷ gets (some 5) (fork Up (d 3) (u 1) (u 2))
+    ∷ gets (some 5) (half (u 1) (d 2) two)
+    ∷ gets (some 5) (half (u 3) (d 2) (join (u 1) (d 2) (counts 3 0 1)))
+    -- 6: no port joined, 16 points being within the bounds; one of three not joined
+    ∷ gets (some 6) (counts 2 16 1)
+    ∷ gets (some 6) (join (d 1) (port Stem 1) (join (u 1) (port Plus 1) (legs 1 Down (counts 2 1 1))))
+    ∷ gets (some 6) (join (d 2) (port Stem 1) (join (u 1) (port Plus 1) (legs 1 Down (counts 2 1 1))))
+    -- 8: a start shared, a destination shared, by trains that do not follow each other
+    ∷ gets (some 8) (train 2 Up 1 2 two2)
+    ∷ gets (some 8) (train 2 Up 2 1 two2)
+    ∷ gets (some 8) (train 3 Up 1 3 (train 2 Up 2 2 (counts 3 0 3)))
+    -- 3 with 4, 4 with 5, 4 with 6, 5 with 6, 5 with 8, 6 with 8: the first in the table's order
+    ∷ gets (some 3) (signal (d 3) (counts 2 17 1))
+    ∷ gets (some 4) (join (u 1) (u 2) (signal (d 3) two))
+    ∷ gets (some 4) (train 1 Up 3 1 (counts 2 1 1))
+    ∷ gets (some 5) (join (u 1) (u 2) (counts 2 1 1))
+    ∷ gets (some 5) (join (u 1) (u 2) (train 2 Up 1 2 two2))
+    ∷ gets (some 6) (train 2 Up 1 2 (counts 2 1 2))
+    ∷ []
+
+numbers : map (λ k. numberOf (recordRefusal (k .of))) cases ≡ map (λ k. k .number) cases
+unfolding anyBelow endAt first joined hasSignal legsOf runOf withJoin withSignal withLegs withTrain unknownRow joinRow looseRow placeRow recordRefusal counts u d port train join half signal legs two two2 fork gets cases
+numbers = refl
+
+-- LOOKUPS in such a record, the values written out: found from both ends, nothing elsewhere, nothing at ends that no railway has.
+looked : List Joined
+looked = map (joined (fork Down (d 3) (u 1) (u 2))) (u 1 ∷ u 2 ∷ d 3 ∷ port Stem 1 ∷ port Plus 1 ∷ port Minus 1 ∷ d 1 ∷ port Stem 2 ∷ d 49 ∷ port Stem 17 ∷ [])
+
+lookups : looked ≡ With (port Plus 1) ∷ With (port Minus 1) ∷ With (port Stem 1) ∷ With (d 3) ∷ With (u 1) ∷ With (u 2) ∷ Nothing ∷ Nothing ∷ Nothing ∷ Nothing ∷ []
+unfolding joined legsOf withJoin withLegs counts u d port join legs fork looked
+lookups = refl
+
+-- SIDES: with legs down the stem lies up; with legs up it lies down.
+sides : map (sideOf (fork Down (d 3) (u 1) (u 2))) (port Stem 1 ∷ port Plus 1 ∷ port Minus 1 ∷ []) ≡ Up ∷ Down ∷ Down ∷ []
+unfolding legsOf withJoin withLegs counts u d port join legs fork
+sides = refl
+
+sides-up : map (sideOf (fork Up (u 1) (d 2) (d 3))) (port Stem 1 ∷ port Plus 1 ∷ port Minus 1 ∷ []) ≡ Down ∷ Up ∷ Up ∷ []
+unfolding legsOf withJoin withLegs counts u d port join legs fork
+sides-up = refl

@@ -1,0 +1,34 @@
+-- What an entry of the setting table stands for, and the entry of points and open trains (document 01, "The two tables and the plan").
+-- Assumes nothing.
+use mathlib.Core.Bool.{Bool, _&&_}
+use Prim.Native.Nat.{ℕ, _+_, _*_, _^_}
+use lib.Dec.{eqb}
+use Rattle.laws.specs.Below.{anyBelow}
+use Rattle.laws.specs.Bits.{bit, fromBits}
+use Rattle.railway.specs.declared.Railway.{Railway}
+use Rattle.railway.specs.Ends.{endIndex}
+use Rattle.game.specs.Setting.{Setting, headsFor, signalOpen}
+
+-- The bit of the first train: points have the bits below, point 1 the lowest.
+abbrev pub trainBits : ℕ
+trainBits = 16
+
+-- Entry v says that train t's signal is open.
+abbrev pub opensIn : ℕ → ℕ → Bool
+opensIn v t = bit v (trainBits + t)
+
+-- Entry v opens, at placement p, the signal at the section end of index i: it is that of an open train.
+abbrev pub opensEnd : Railway → ℕ → ℕ → ℕ → ℕ → Bool
+opensEnd r p v i t = opensIn v t && eqb i (endIndex (headsFor r p t))
+
+-- The whole setting of an entry at placement p: signals of no open train are closed.
+unfoldable pub settingAt : Railway → ℕ → ℕ → Setting
+settingAt r p v = record { plus = bit v; isOpen = λ i. anyBelow (opensEnd r p v i) (r .trains) }
+
+-- The entry of points at plus and open trains.
+unfoldable pub entryFrom : Railway → (ℕ → Bool) → (ℕ → Bool) → ℕ
+entryFrom r plus opens = fromBits plus (r .points) + 2 ^ trainBits * fromBits opens (r .trains)
+
+-- The entry of a whole setting at placement p. Signals that no train heads for leave no trace in it.
+abbrev pub entryOf : Railway → ℕ → Setting → ℕ
+entryOf r p s = entryFrom r (s .plus) (signalOpen r p s)

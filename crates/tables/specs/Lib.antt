@@ -1,0 +1,5 @@
+pub mod Entries
+pub mod Tables
+pub mod Solver
+pub mod Starred
+pub mod Find

@@ -1,0 +1,66 @@
+-- What a solver promises: the meaning of its answer, and what it leaves in the two lent tables, for every record and all tables.
+-- Assumes nothing.
+use mathlib.Core.Path.{_≡_}
+use mathlib.Core.Bool.{Bool, true, cond}
+use mathlib.Core.List.{List}
+use mathlib.Core.Option.{Option, none, some}
+use Prim.Native.Nat.{ℕ, _≤_, _<_}
+use lib.ListN.{length, getD}
+use lib.Dec.{leb}
+use Rattle.railway.specs.declared.Railway.{Railway}
+use Rattle.railway.specs.declared.Refusal.{Refusal}
+use Rattle.railway.specs.Refusals.{numberOf}
+use Rattle.game.specs.Game.{IsFigure}
+use Rattle.game.specs.Placement.{placements, startCode}
+use Rattle.game.specs.Moves.{gameOf}
+use Rattle.tables.specs.declared.SolverAnswer.{SolverAnswer}
+use Rattle.tables.specs.declared.SolverAnswer.the-variants.{Refused, Unsolvable, Figure}
+use Rattle.tables.specs.Tables.{noFigure, figureIn, caseRefusal, IsPlanEntry, Filled}
+
+-- The refusal that an answer gives, if it does, its number, and the start's figure.
+abbrev pub refusalGiven : SolverAnswer → Option Refusal
+refusalGiven (Refused f) = some f
+refusalGiven Unsolvable = none
+refusalGiven (Figure n) = none
+
+abbrev pub numberGiven : SolverAnswer → Option ℕ
+numberGiven a = numberOf (refusalGiven a)
+
+abbrev pub figureGiven : SolverAnswer → Option ℕ
+figureGiven (Refused f) = none
+figureGiven Unsolvable = none
+figureGiven (Figure n) = some n
+
+-- A table that was lent and comes back: as long as before, and the same past the last code.
+pub record Kept (r : Railway) (old new : List ℕ) : Type 0 where
+  pub as-long : length new ≡ length old
+  pub past : (p : ℕ) → placements r ≤ p → getD new p 0 ≡ getD old p 0
+
+-- What the solver leaves in two tables that are long enough, in an accepted case.
+pub record SolverTables (r : Railway) (figs sets figs′ sets′ : List ℕ) : Type 0 where
+  pub filled : Filled r figs′ sets′
+  pub kept-figs : Kept r figs figs′
+  pub kept-sets : Kept r sets sets′
+
+-- Refused: both tables as they were. Else both filled, and the answer has the start's figure.
+abbrev pub SolverLeaves : Railway → SolverAnswer → List ℕ → List ℕ → List ℕ → List ℕ → Option Refusal → Type 0
+SolverLeaves r a figs sets figs′ sets′ (some f) = (figs′ ≡ figs) × (sets′ ≡ sets)
+SolverLeaves r a figs sets figs′ sets′ none = SolverTables r figs sets figs′ sets′ × (figureGiven a ≡ figureIn figs′ (startCode r))
+
+-- The solver's promise: it refuses with the first of rows 3 to 9 that applies, by its number, and only then.
+pub record SolverPost (r : Railway) (a : SolverAnswer) (figs sets figs′ sets′ : List ℕ) : Type 0 where
+  pub refusal : refusalGiven a ≡ caseRefusal r figs sets
+  pub numbered : numberGiven a ≡ numberOf (caseRefusal r figs sets)
+  pub leaves : SolverLeaves r a figs sets figs′ sets′ (caseRefusal r figs sets)
+
+-- ROUND BY ROUND. A figure that is at most n.
+abbrev pub upTo : ℕ → Option ℕ → Option ℕ
+upTo n none = none
+upTo n (some j) = cond (leb j n) (some j) none
+
+-- After round n the tables have each placement's figure and the plan's setting if the figure is at most n, else none and zero.
+-- Where no figure is larger than n this is `Filled`.
+pub record RoundTables (r : Railway) (n : ℕ) (figs sets : List ℕ) : Type 0 where
+  pub entries : (p : ℕ) → p < placements r → getD figs p noFigure ≤ noFigure
+  pub figures : (p : ℕ) → p < placements r → (f : Option ℕ) → IsFigure (gameOf r) p f → figureIn figs p ≡ upTo n f
+  pub settings : (p : ℕ) → p < placements r → IsPlanEntry r (figureIn figs) p (figureIn figs p) (getD sets p 0)

@@ -1,0 +1,60 @@
+-- The starred figures of document 01, "Yards to try", as one table with one statement.
+-- Assumes nothing.
+use mathlib.Core.Path.{_≡_}
+use mathlib.Core.Bool.{Bool, true, false}
+use mathlib.Core.List.{List, [], _∷_, map}
+use mathlib.Core.Option.{Option, none, some}
+use Prim.Native.Nat.{ℕ, _-_}
+use Rattle.railway.specs.declared.Railway.{Railway}
+use Rattle.railway.specs.Rows.{recordRefusal}
+use Rattle.game.specs.Game.{IsFigure}
+use Rattle.game.specs.Placement.{codeOf, startCode}
+use Rattle.game.specs.Moves.{gameOf}
+use Rattle.game.specs.Yards.{yardA, yardALess, yardOne, upOneTwo, upTwoOne, upTwoOneHeld, headOn}
+
+-- A starred fact: in this yard the placement, with the document's section numbers, has this figure; it is said of the start or of any placement.
+pub record Star : Type 0 where
+  pub yard : Railway
+  pub ofStart : Bool
+  pub sections : List ℕ
+  pub figure : Option ℕ
+
+abbrev pub placed : Railway → List ℕ → Option ℕ → Star
+placed r xs f = record { yard = r; ofStart = false; sections = xs; figure = f }
+
+abbrev pub started : Railway → List ℕ → Option ℕ → Star
+started r xs f = record { yard = r; ofStart = true; sections = xs; figure = f }
+
+-- The starred figures, in the document's order.
+abbrev pub stars : List Star
+stars =
+    placed yardA (2 ∷ 3 ∷ []) (some 2)
+    ∷ placed yardA (2 ∷ 1 ∷ []) (some 1)
+    ∷ placed yardA (3 ∷ 1 ∷ []) (some 0)
+    ∷ placed yardA (1 ∷ 3 ∷ []) none
+    ∷ placed yardA (3 ∷ 2 ∷ []) none
+    ∷ placed yardA (1 ∷ 1 ∷ []) none
+    ∷ started yardALess (2 ∷ 3 ∷ []) none
+    ∷ started yardOne (1 ∷ []) (some 0)
+    ∷ started upOneTwo (1 ∷ []) (some 1)
+    ∷ started upTwoOne (2 ∷ []) none
+    ∷ started upTwoOneHeld (2 ∷ []) none
+    ∷ started headOn (1 ∷ 2 ∷ []) none
+    ∷ []
+
+abbrev pub starCode : Star → ℕ
+starCode x = codeOf (x .yard .sections) (map (λ n. n - 1) (x .sections))
+
+-- A starred fact holds: the yard is accepted, the placement is the start where that is meant, and it has the figure by the rules for whole plays.
+pub record Holds (x : Star) : Type 0 where
+  pub accepted : recordRefusal (x .yard) ≡ none
+  pub start : x .ofStart ≡ true → startCode (x .yard) ≡ starCode x
+  pub figure : IsFigure (gameOf (x .yard)) (starCode x) (x .figure)
+
+abbrev pub AllHold : List Star → Type 0
+AllHold [] = Unit {0}
+AllHold (x ∷ xs) = Holds x × AllHold xs
+
+-- The statement for the whole table.
+abbrev pub StarredHolds : Type 0
+StarredHolds = AllHold stars

@@ -1,0 +1,87 @@
+-- The two tables: figures, and the plan's setting by its rule over all whole settings (document 01, "The two tables and the plan"); row 9 for tables.
+-- Assumes nothing.
+use mathlib.Core.Path.{_≡_}
+use mathlib.Core.Bool.{Bool, true, cond, _&&_, _||_}
+use mathlib.Core.List.{List, [], _∷_, _++_}
+use mathlib.Core.Option.{Option, none, some, Option·getD}
+use Prim.Native.Nat.{ℕ, zero, suc, _≤_, _<_}
+use lib.ListN.{length, getD}
+use lib.Dec.{eqb, ltb, leb}
+use Rattle.laws.specs.Below.{countBelow, lowest}
+use Rattle.laws.specs.Bits.{fromBits}
+use Rattle.railway.specs.declared.Railway.{Railway}
+use Rattle.railway.specs.declared.Refusal.{Refusal}
+use Rattle.railway.specs.declared.Refusal.the-variants.{Space}
+use Rattle.railway.specs.Bounds.{sectionEnds}
+use Rattle.railway.specs.Refusals.{row, first}
+use Rattle.railway.specs.Record.{flagAt}
+use Rattle.railway.specs.Rows.{recordRows}
+use Rattle.game.specs.Game.{IsFigure}
+use Rattle.game.specs.Claim.{Keeps}
+use Rattle.game.specs.Placement.{placements}
+use Rattle.game.specs.Setting.{Setting, signalOpen}
+use Rattle.game.specs.Moves.{gameOf}
+use Rattle.tables.specs.Entries.{settingAt, entryOf}
+
+-- What the figure table has for none.
+abbrev pub noFigure : ℕ
+noFigure = 4294967295
+
+-- The figure that the table has at a code; past its end there is none.
+abbrev pub figureEntry : ℕ → Option ℕ
+figureEntry x = cond (eqb x noFigure) none (some x)
+
+abbrev pub figureIn : List ℕ → ℕ → Option ℕ
+figureIn figs p = figureEntry (getD figs p noFigure)
+
+-- The setting that the setting table has at a code.
+abbrev pub settingIn : Railway → List ℕ → ℕ → Setting
+settingIn r sets p = settingAt r p (getD sets p 0)
+
+-- 9, space, for tables: one of the two lent tables has fewer entries than there are placements.
+unfoldable pub tablesShort : Railway → List ℕ → List ℕ → Bool
+tablesShort r figs sets = ltb (length figs) (placements r) || ltb (length sets) (placements r)
+
+-- The first of rows 3 to 9 that applies to a record and two lent tables.
+unfoldable pub caseRefusal : Railway → List ℕ → List ℕ → Option Refusal
+caseRefusal r figs sets = first (recordRows r ++ (row Space (tablesShort r figs sets) ∷ []))
+
+-- THE PLAN'S RULE. How many signals of the yard a setting opens.
+abbrev pub opensSignal : Railway → Setting → ℕ → Bool
+opensSignal r s i = flagAt r i && s .isOpen i
+
+unfoldable pub openSignals : Railway → Setting → ℕ
+openSignals r s = countBelow (opensSignal r s) sectionEnds
+
+-- The lowest train whose signal is open; past the last train if no train's is.
+unfoldable pub lowestOpen : Railway → ℕ → Setting → ℕ
+lowestOpen r p s = Option·getD (lowest (signalOpen r p s) (r .trains)) (r .trains)
+
+-- The point bits of a setting.
+abbrev pub pointBits : Railway → Setting → ℕ
+pointBits r s = fromBits (s .plus) (r .points)
+
+-- The first key decides, and the rest where it is equal.
+abbrev pub thenBy : ℕ → ℕ → Bool → Bool
+thenBy a b rest = ltb a b || eqb a b && rest
+
+-- The plan's order of settings at placement p, by three keys, less being better: how many signals are open, the lowest open train, the point bits as a number.
+unfoldable pub noLater : Railway → ℕ → Setting → Setting → Bool
+noLater r p a b = thenBy (openSignals r a) (openSignals r b) (thenBy (lowestOpen r p a) (lowestOpen r p b) (leb (pointBits r a) (pointBits r b)))
+
+-- The plan's setting at placement p of figure n: it keeps the figure, and of all whole settings that do none comes before it.
+pub record IsPlanSetting (r : Railway) (F : ℕ → Option ℕ) (p n : ℕ) (s : Setting) : Type 0 where
+  pub keeps : Keeps (gameOf r) F p s n
+  pub earliest : (o : Setting) → Keeps (gameOf r) F p o n → noLater r p s o ≡ true
+
+-- The setting table's entry v where the figure is f: the plan's setting and no bit besides, or zero where there is no figure or figure 0.
+abbrev pub IsPlanEntry : Railway → (ℕ → Option ℕ) → ℕ → Option ℕ → ℕ → Type 0
+IsPlanEntry r F p none v = v ≡ 0
+IsPlanEntry r F p (some zero) v = v ≡ 0
+IsPlanEntry r F p (some (suc n)) v = IsPlanSetting r F p (suc n) (settingAt r p v) × (entryOf r p (settingAt r p v) ≡ v)
+
+-- At every code the two tables have the placement's figure and the plan's setting.
+pub record Filled (r : Railway) (figs sets : List ℕ) : Type 0 where
+  pub entries : (p : ℕ) → p < placements r → getD figs p noFigure ≤ noFigure
+  pub figures : (p : ℕ) → p < placements r → IsFigure (gameOf r) p (figureIn figs p)
+  pub settings : (p : ℕ) → p < placements r → IsPlanEntry r (figureIn figs) p (figureIn figs p) (getD sets p 0)
