@@ -67,11 +67,11 @@ unfolding gatherBelow
 gather-short f h zero = omega arith
 gather-short f h (suc k) = simp length-append (omega (arith, h k, gather-short f h k))
 
-one-at-most : {A : Type 0} (x : A) (p : Bool) → length (cond p (x ∷ []) []) ≤ 1
+pub one-at-most : {A : Type 0} (x : A) (p : Bool) → length (cond p (x ∷ []) []) ≤ 1
 one-at-most x true = omega arith
 one-at-most x false = omega arith
 
-one-join : (i : ℕ) (x : Joined) → length (joinFrom i x) ≤ 1
+pub one-join : (i : ℕ) (x : Joined) → length (joinFrom i x) ≤ 1
 one-join i Nothing = omega arith
 one-join i (With f) = one-at-most (record { one = fieldOf (endAt i); other = fieldOf f }) (ltb i (endIndex f))
 

@@ -11,3 +11,4 @@ pub mod Again
 pub mod Writer
 pub mod Lengths
 pub mod RoundTrip
+pub mod Order

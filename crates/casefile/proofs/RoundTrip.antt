@@ -179,7 +179,7 @@ module _ (r : Railway) (w : Accepted r) where
         runs = runs-said;
       }
 
-  described : Describes (writtenText r) (descriptionOf r)
+  pub described : Describes (writtenText r) (descriptionOf r)
   unfolding writtenText
   described = record { well-formed = well-formed r w; spelling = refl }
 
