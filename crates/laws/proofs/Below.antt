@@ -3,7 +3,7 @@
 use mathlib.Core.Path.{_≡_, refl, sym, _∙_, ap}
 use mathlib.Core.Logic.{_⊎_, inl, inr}
 use mathlib.Core.Bool.{Bool, true, false, cond, not, _&&_, _||_}
-use mathlib.Core.List.{List, [], _∷_, _++_, map, List·Memᴰ, List·Memᴰ·head, List·Memᴰ·append-cases, Memᴰ·append-left, Memᴰ·append-right}
+use mathlib.Core.List.{List, [], _∷_, _++_, map, List·Memᴰ, List·Memᴰ·head, List·Memᴰ·tail, List·Memᴰ·append-cases, Memᴰ·append-left, Memᴰ·append-right}
 use mathlib.Core.Option.{Option, none, some}
 use Prim.Native.Nat.{ℕ, zero, suc, _+_, _-_, _*_, _≤_, _<_}
 use native.Mathlib.Omega.{arith}
@@ -224,6 +224,24 @@ module _ {A : Type 0} where
   unfolding gatherBelow
   gather-same f g zero h = refl
   gather-same f g (suc k) h = let a : gatherBelow f k ≡ gatherBelow g k = gather-same f g k (λ i l. h i (omega arith)) in let b : f k ≡ g k = h k (omega arith) in rw (a, b)
+
+  -- an element of a list comes from some number below k
+  pub record Listed (f : ℕ → A) (k : ℕ) (x : A) : Type 0 where
+    pub index : ℕ
+    pub below : index < k
+    pub is : x ≡ f index
+
+  pub listed : (f : ℕ → A) (k : ℕ) (x : A) → List·Memᴰ x (listBelow f k) → Listed f k x
+  unfolding listBelow
+  listed f zero x m = elim m [ ]
+  listed f (suc k) x m = elim (List·Memᴰ·append-cases (listBelow f k) m) [
+    | inl h ↦ let t = listed f k x h in record { index = t .index; below = omega (arith, t .below); is = t .is }
+    | inr h ↦ last h
+  ]
+    where
+      last : List·Memᴰ x (f k ∷ []) → Listed f (suc k) x
+      last (List·Memᴰ·head e) = record { index = k; below = omega arith; is = e }
+      last (List·Memᴰ·tail n) = elim n [ ]
 
   -- an element of what was gathered comes from some number below k, and what a number below k gives is gathered
   pub record Gathered (f : ℕ → List A) (k : ℕ) (x : A) : Type 0 where

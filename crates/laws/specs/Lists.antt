@@ -1,7 +1,7 @@
 -- Tests over a list.
 -- Assumes nothing.
 use mathlib.Core.Bool.{Bool, true, false, _&&_, _||_}
-use mathlib.Core.List.{List, [], _∷_}
+use mathlib.Core.List.{List, [], _∷_, List·Memᴰ}
 
 module _ {A : Type 0} where
   -- Some element passes the test.
@@ -18,3 +18,7 @@ module _ {A : Type 0} where
   unfoldable pub repeats : (A → A → Bool) → List A → Bool
   repeats same [] = false
   repeats same (x ∷ xs) = any (same x) xs || repeats same xs
+
+  -- Every element is such.
+  abbrev pub Every : (A → Type 0) → List A → Type 0
+  Every P xs = (x : A) → List·Memᴰ x xs → P x

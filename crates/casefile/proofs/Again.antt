@@ -1,0 +1,169 @@
+-- The railway of an accepted description is accepted as a record. Every link comes from a J line, every flag from a G line and every train from a
+-- T line, so what the rows say of the lines they say of the record; a link is returned because its J line joins both its ends.
+-- Assumes nothing.
+use Prim.Native.Nat.{ℕ, suc, _-_, _/_, _<_, _≤_}
+use mathlib.Core.Path.{_≡_, refl, sym, _∙_, ap}
+use mathlib.Core.Bool.{true, false}
+use mathlib.Core.List.{map}
+use mathlib.Core.Option.{Option, none, some}
+use native.Mathlib.Omega.{arith}
+use lib.Dec.{eqb}
+use lib.ListN.{getD, length-map, List·getD-map}
+use borrow.Author.Tests.{eqb-false, eq-eqb, ne-eqb, lt-ltb}
+use Rattle.laws.specs.Lists.{repeats}
+use Rattle.laws.proofs.Bools.{clash}
+use Rattle.laws.proofs.Lists.{any-found, repeats-apart}
+use Rattle.railway.specs.declared.Side.{Side}
+use Rattle.railway.specs.declared.Side.the-variants.{Up, Down}
+use Rattle.railway.specs.declared.Leg.{Leg}
+use Rattle.railway.specs.declared.End.{End}
+use Rattle.railway.specs.declared.End.the-variants.{Port}
+use Rattle.railway.specs.declared.Joined.the-variants.{Nothing, With}
+use Rattle.railway.specs.declared.Train.{Train}
+use Rattle.railway.specs.declared.Railway.{Railway}
+use Rattle.railway.specs.Bounds.{sectionEnds, allEnds}
+use Rattle.railway.specs.Ends.{sameSide, portSide, endIndex, endAt}
+use Rattle.railway.specs.Record.{linkAt, flagAt, joined, runOf}
+use Rattle.railway.specs.Record as R
+use Rattle.railway.specs.Rows.{bothPorts, oneSection, recordRefusal}
+use Rattle.railway.specs.Rows as RR
+use Rattle.railway.proofs.Ends.{end-section}
+use Rattle.railway.proofs.Accepted.{Right, Accepted, facts-accepted}
+use Rattle.casefile.specs.Form.{EndField, section, port, SignalLine, TrainLine, Description, WellFormed}
+use Rattle.casefile.specs.Rows.{known, sectionOf, sideOf, sameSignal}
+use Rattle.casefile.specs.Recording.{endOf, fieldOf, partner, signalOf, trainOf, noTrainLine, railwayOf}
+use Rattle.casefile.specs.Claims.{AcceptedAgain}
+use Rattle.casefile.proofs.Exactly.{accepted-exactly}
+use Rattle.casefile.proofs.Clean.{Clean, clean-facts, within-is}
+use Rattle.casefile.proofs.Ends.{signal-is, end-field, Counted, field-end, Ties, forth, back, partner-ties, partner-one, partner-other, partner-nothing}
+use Rattle.casefile.proofs.Told.{link-at, flag-at, legs-at, run-at, joined-at, counted-end, numbered-end, run-known}
+
+-- the tests of row 5, of ends as written and of the record's
+ports-same : (a b : EndField) → bothPorts (RR.sectionOf (endOf a)) (RR.sectionOf (endOf b)) ≡ bothPorts (sectionOf a) (sectionOf b)
+ports-same (section m s) (section n t) = refl
+ports-same (section m s) (port n l) = refl
+ports-same (port m l) (section n s) = refl
+ports-same (port m l) (port n k) = refl
+
+less-one : (m n : ℕ) → 1 ≤ m → 1 ≤ n → eqb m n ≡ false → eqb (m - 1) (n - 1) ≡ false
+less-one m n a b h = ne-eqb (m - 1) (n - 1) (λ e. eqb-false m n h (omega arith))
+
+one-same : (a b : EndField) → Counted a → Counted b → oneSection (sectionOf a) (sectionOf b) ≡ false → oneSection (RR.sectionOf (endOf a)) (RR.sectionOf (endOf b)) ≡ false
+one-same (section m s) (section n t) p q h = less-one m n p q h
+one-same (section m s) (port n l) p q h = refl
+one-same (port m l) b p q h = refl
+
+-- .. turned round
+ports-turned : (a b : Option ℕ) → bothPorts a b ≡ false → bothPorts b a ≡ false
+ports-turned none none h = h
+ports-turned none (some n) h = refl
+ports-turned (some m) none h = refl
+ports-turned (some m) (some n) h = refl
+
+one-turned : (a b : Option ℕ) → oneSection a b ≡ false → oneSection b a ≡ false
+one-turned none none h = refl
+one-turned none (some n) h = refl
+one-turned (some m) none h = refl
+one-turned (some m) (some n) h = ne-eqb n m (λ e. eqb-false m n h (sym e))
+
+side-turned : (s t : Side) → sameSide s t ≡ false → sameSide t s ≡ false
+side-turned Up Up h = h
+side-turned Up Down h = refl
+side-turned Down Up h = refl
+side-turned Down Down h = h
+
+module _ (d : Description) (w : Clean d) where
+  known-end : (a : EndField) → known d a ≡ true → RR.known (railwayOf d) (endOf a) ≡ true
+  unfolding railwayOf
+  known-end (section n s) h = let k = within-is n (d .sections) h in lt-ltb (n - 1) (d .sections) (omega arith)
+  known-end (port n l) h = let k = within-is n (d .points) h in lt-ltb (n - 1) (d .points) (omega arith)
+
+  side-end : (a : EndField) → known d a ≡ true → R.sideOf (railwayOf d) (endOf a) ≡ sideOf d a
+  side-end (section n s) h = refl
+  side-end (port n l) h = let k = within-is n (d .points) h in ap (λ (s : Side). portSide s l) (legs-at d (n - 1) (omega arith) (w .bounds .few-points))
+
+  right-end : (a b : EndField) → known d a ≡ true → known d b ≡ true → bothPorts (sectionOf a) (sectionOf b) ≡ false → oneSection (sectionOf a) (sectionOf b) ≡ false
+      → sameSide (sideOf d a) (sideOf d b) ≡ false → partner (d .joins) b ≡ With (endOf a) → Right (railwayOf d) (endOf a) (endOf b)
+  right-end a b ka kb p o s t =
+      record {
+        not-ports = ports-same a b ∙ p;
+        not-one = one-same a b (counted-end d w a ka) (counted-end d w b kb) o;
+        sides = rw (side-end a ka, side-end b kb) s;
+        back = rw (joined-at d (endOf b) (numbered-end d w b kb), field-end b (counted-end d w b kb), t) (eq-eqb (endIndex (endOf a)) (endIndex (endOf a)) refl);
+      }
+
+  tied-known : (a : EndField) (x : End) → Ties (d .joins) a x → (RR.known (railwayOf d) (endOf a) ≡ true) × (RR.known (railwayOf d) x ≡ true)
+  tied-known a x (forth j m p q) = let k = w .join-known j m in (rw p (known-end (j .one) (k .0)), rw q (known-end (j .other) (k .1)))
+  tied-known a x (back j m p q) = let k = w .join-known j m in (rw p (known-end (j .other) (k .1)), rw q (known-end (j .one) (k .0)))
+
+  tied-right : (a : EndField) (x : End) → Ties (d .joins) a x → Right (railwayOf d) (endOf a) x
+  tied-right a x (forth j m p q) =
+      let k = w .join-known j m in
+      let r = w .join-right j m in
+      rw (p, q) (right-end (j .one) (j .other) (k .0) (k .1) (r .not-ports) (r .not-one) (r .sides) (partner-other (d .joins) j (w .ends-once) m))
+  tied-right a x (back j m p q) =
+      let k = w .join-known j m in
+      let r = w .join-right j m in
+      rw (p, q)
+      (right-end (j .other) (j .one) (k .1) (k .0) (ports-turned (sectionOf (j .one)) (sectionOf (j .other)) (r .not-ports))
+      (one-turned (sectionOf (j .one)) (sectionOf (j .other)) (r .not-one))
+      (side-turned (sideOf d (j .one)) (sideOf d (j .other)) (r .sides)) (partner-one (d .joins) j (w .ends-once) m))
+
+  ties-at : (i : ℕ) (x : End) → i < allEnds → linkAt (railwayOf d) i ≡ With x → Ties (d .joins) (fieldOf (endAt i)) x
+  ties-at i x h l = partner-ties (d .joins) (fieldOf (endAt i)) x (sym (link-at d i h) ∙ l)
+
+  signal-known : (i : ℕ) → i < sectionEnds → flagAt (railwayOf d) i ≡ true → RR.known (railwayOf d) (endAt i) ≡ true
+  unfolding railwayOf
+  signal-known i h l =
+      let f = any-found (sameSignal (signalOf i)) (d .signals) (sym (flag-at d i h) ∙ l) in
+      let e = ap (λ (g : SignalLine). g .number) (signal-is (signalOf i) (f .element) (f .passes)) in
+      let k = within-is (f .element .number) (d .sections) (w .signal-known (f .element) (f .member)) in
+      rw (end-section i h) (lt-ltb (i / 2) (d .sections) (omega arith))
+
+  port-joined : (n : ℕ) (l : Leg) → n < d .points → joined (railwayOf d) (Port (record { 0 = n }) l) ≡ Nothing → ⊥
+  port-joined n l h e =
+      let b = w .bounds in
+      clash (w .port-joined n l h)
+      (partner-nothing (d .joins) (port (suc n) l) (sym (joined-at d (Port (record { 0 = n }) l) (omega arith)) ∙ e))
+
+  module _ (f : WellFormed d) where
+    train-known : (t : ℕ) → t < d .trains → (runOf (railwayOf d) t .start .0 < d .sections) × (runOf (railwayOf d) t .destination .0 < d .sections)
+    train-known t h =
+        let k = run-known d w f t h in
+        rw (run-at d t h (w .bounds .few-trains)) (omega arith)
+
+    -- a number of each train: where those of the T lines do not repeat, those of the record are apart
+    apart : (p : TrainLine → ℕ) (q : Train → ℕ) → ((t : TrainLine) → q (trainOf t) ≡ p t - 1)
+        → ((t : ℕ) → t < d .trains → 1 ≤ p (getD (d .runs) t noTrainLine))
+        → repeats eqb (map p (d .runs)) ≡ false → (t u : ℕ) → u < t → t < d .trains → q (runOf (railwayOf d) u) ≡ q (runOf (railwayOf d) t) → ⊥
+    apart p q h g e t u l b z =
+        let c = w .bounds .few-trains in
+        let x : q (runOf (railwayOf d) u) ≡ p (getD (d .runs) u noTrainLine) - 1 = ap q (run-at d u (omega arith) c) ∙ h _ in
+        let y : q (runOf (railwayOf d) t) ≡ p (getD (d .runs) t noTrainLine) - 1 = ap q (run-at d t b c) ∙ h _ in
+        let i = g u (omega arith) in
+        let j = g t b in
+        let k = repeats-apart eqb (map p (d .runs)) (p noTrainLine) u t e l (rw (length-map (d .runs) p, f .one-a-train) b) in
+        eqb-false (p (getD (d .runs) u noTrainLine)) (p (getD (d .runs) t noTrainLine)) (rw (List·getD-map p (d .runs) u noTrainLine, List·getD-map p (d .runs) t noTrainLine) at k) (omega arith)
+
+    pub accepted-record : Accepted (railwayOf d)
+    unfolding railwayOf
+    accepted-record =
+        record {
+          bounds = w .bounds;
+          link-known = λ i x h l. let k = tied-known (fieldOf (endAt i)) x (ties-at i x h l) in (rw end-field at (k .0), k .1);
+          signal-known = signal-known;
+          train-known = train-known;
+          link-right = λ i x h l. rw end-field at (tied-right (fieldOf (endAt i)) x (ties-at i x h l));
+          port-joined = port-joined;
+          starts = apart (λ t. t .start) (λ t. t .start .0) (λ t. refl) (λ t h. run-known d w f t h .0) (w .starts);
+          destinations = apart (λ t. t .destination) (λ t. t .destination .0) (λ t. refl) (λ t h. run-known d w f t h .2) (w .destinations);
+        }
+
+refusal-of : (r q : Railway) → r ≡ q → recordRefusal q ≡ none → recordRefusal r ≡ none
+refusal-of r q p h = rw p h
+
+pub accepted-again : AcceptedAgain
+accepted-again text r e =
+    let a = accepted-exactly text r .0 e in
+    let d = a .description in
+    refusal-of r (railwayOf d) (a .railway) (facts-accepted (railwayOf d) (accepted-record d (clean-facts d (a .no-row)) (a .described .well-formed)))

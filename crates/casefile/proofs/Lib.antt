@@ -1,0 +1,14 @@
+pub mod Examples
+pub mod Fields
+pub mod Lines
+pub mod Whole
+pub mod Exactly
+pub mod Longest
+pub mod Ends
+pub mod Clean
+pub mod Told
+pub mod Again
+pub mod Writer
+pub mod Lengths
+pub mod RoundTrip
+pub mod Order

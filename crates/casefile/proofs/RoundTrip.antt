@@ -1,0 +1,229 @@
+-- The round trip. An accepted record has what its own written lines say, field by field, as has the railway read from them; and two records that
+-- have what the same lines say are the same railway.
+-- Assumes nothing.
+use Prim.Native.Nat.{ℕ, _+_, _*_, _<_}
+use mathlib.Core.Path.{_≡_, refl, sym, _∙_, ap}
+use mathlib.Core.Logic.{_⊎_, inl, inr}
+use mathlib.Core.Bool.{Bool, true, false}
+use native.Mathlib.Omega.{arith}
+use lib.ListN.{getD}
+use borrow.Author.Tests.{eqb-false}
+use Rattle.laws.specs.Below.{listBelow, gatherBelow}
+use Rattle.laws.proofs.Bools.{clash, lt?}
+use Rattle.laws.proofs.Below.{list-same, gather-same, list-get}
+use Rattle.railway.specs.declared.Side.{Side}
+use Rattle.railway.specs.declared.Side.the-variants.{Up}
+use Rattle.railway.specs.declared.SectionNo.{SectionNo}
+use Rattle.railway.specs.declared.End.{End}
+use Rattle.railway.specs.declared.End.the-variants.{Section, Port}
+use Rattle.railway.specs.declared.Joined.{Joined}
+use Rattle.railway.specs.declared.Joined.the-variants.{Nothing, With}
+use Rattle.railway.specs.declared.Train.{Train}
+use Rattle.railway.specs.declared.Railway.{Railway}
+use Rattle.railway.specs.Bounds.{mostSections, sectionEnds, allEnds}
+use Rattle.railway.specs.Ends.{sideIndex, endIndex, endAt}
+use Rattle.railway.specs.Record.{joined, hasSignal, legsOf, runOf}
+use Rattle.railway.specs.Rows.{bothPorts, oneSection}
+use Rattle.railway.specs.Rows as RR
+use Rattle.railway.specs.Same.{SameRailway}
+use Rattle.railway.proofs.Ends.{Numbered, side-small, end-index, index-end, section-index, section-below, port-behind, numbered-of}
+use Rattle.railway.proofs.Lookups.{joined-there, signal-there}
+use Rattle.railway.proofs.Accepted.{Accepted, accepted-facts, known-numbered, joined-known, joined-right, joined-back}
+use Rattle.railway.proofs.Same.{same-sym, same-trans}
+use Rattle.casefile.specs.Form.{EndField, section, TrainLine, Description, spell, Describes}
+use Rattle.casefile.specs.Recording.{fieldOf, signalOf, noTrainLine, railwayOf}
+use Rattle.casefile.specs.Writing.{joinAt, signalAt, trainFrom, descriptionOf, writtenText}
+use Rattle.casefile.specs.Given.{accepted}
+use Rattle.casefile.specs.Reading.{caseAnswer}
+use Rattle.casefile.specs.Claims.{Names, Joins, Signals, Runs, Told, WrittenAsTold, RoundTrip, ReadAgain, SameText, TextSame}
+use Rattle.casefile.proofs.Exactly.{accepted-exactly, accepted-one}
+use Rattle.casefile.proofs.Clean.{facts-clean}
+use Rattle.casefile.proofs.Ends.{field-one}
+use Rattle.casefile.proofs.Told.{names-field, names-is, signal-names, Flagged, flagged, told}
+use Rattle.casefile.proofs.Again.{accepted-again}
+use Rattle.casefile.proofs.Writer.{from-link, from-flag, join-written, signal-written, joined-link, link-joined, link-back, clean, well-formed}
+use Rattle.casefile.proofs.Lengths.{short}
+
+-- THE SAME LINES, THE SAME RAILWAY
+joined-one : (x y : Joined) → ((f : End) → x ≡ With f → y ≡ With f) → ((f : End) → y ≡ With f → x ≡ With f) → x ≡ y
+joined-one Nothing Nothing p q = refl
+joined-one Nothing (With g) p q = q g refl
+joined-one (With f) y p q = sym (p f refl)
+
+bool-one : (a b : Bool) → (a ≡ true → b ≡ true) → (b ≡ true → a ≡ true) → a ≡ b
+bool-one true b p q = sym (p refl)
+bool-one false true p q = q refl
+bool-one false false p q = refl
+
+run-one : (t : TrainLine) (a b : Train) → Runs t a → Runs t b → a ≡ b
+run-one t a b p q =
+    let s : a .start .0 ≡ b .start .0 = omega (arith, p .start, q .start) in
+    let d : a .destination .0 ≡ b .destination .0 = omega (arith, p .destination, q .destination) in
+    parts (a .heading) (b .heading) (a .start .0) (b .start .0) (a .destination .0) (b .destination .0) (p .heading ∙ sym (q .heading)) s d
+  where
+    parts : (g h : Side) (m n k l : ℕ) → g ≡ h → m ≡ n → k ≡ l
+        → _≡_ {A = Train} (record { heading = g; start = record { 0 = m }; destination = record { 0 = k } }) (record { heading = h; start = record { 0 = n }; destination = record { 0 = l } })
+    parts g h m n k l x y z = rw (x, y, z)
+
+module _ (d : Description) (r q : Railway) (t : Told d r) (u : Told d q) where
+  joined-told : (e : End) → joined r e ≡ joined q e
+  joined-told e =
+      joined-one (joined r e) (joined q e) (λ f h. u .joins e f .1 (t .joins e f .0 h)) (λ f h. t .joins e f .1 (u .joins e f .0 h))
+
+  signal-told : (e : End) → hasSignal r e ≡ hasSignal q e
+  signal-told e =
+      bool-one (hasSignal r e) (hasSignal q e) (λ h. u .signals e .1 (t .signals e .0 h)) (λ h. t .signals e .1 (u .signals e .0 h))
+
+  pub told-same : SameRailway r q
+  told-same =
+      record {
+        sections = t .sections ∙ sym (u .sections);
+        points = t .points ∙ sym (u .points);
+        trains = t .trains ∙ sym (u .trains);
+        legs = λ n h. let b : n < d .points = rw (t .points) at h in t .legs n b ∙ sym (u .legs n b);
+        joins = λ i h.
+            let x = sym (index-end i h) in
+            joined-there r (endAt i) i x h ∙ joined-told (endAt i) ∙ sym (joined-there q (endAt i) i x h);
+        signals = λ i h.
+            let x = sym (index-end i (omega arith)) in
+            signal-there r (endAt i) i x h ∙ signal-told (endAt i) ∙ sym (signal-there q (endAt i) i x h);
+        runs = λ n h. let b : n < d .trains = rw (t .trains) at h in run-one (getD (d .runs) n noTrainLine) (runOf r n) (runOf q n) (t .runs n b) (u .runs n b);
+      }
+
+-- WHAT THE WRITER SAYS OF A RECORD
+-- of two ends that a join may tie, one has the earlier index, and that is a section's
+index-of : (n : SectionNo) (s : Side) → n .0 < mostSections → 2 * n .0 + sideIndex s ≡ endIndex (Section n s)
+index-of n s h = section-index (Section n s) n s (sideIndex s) refl h refl
+
+earlier : (e f : End) → Numbered e → Numbered f → bothPorts (RR.sectionOf e) (RR.sectionOf f) ≡ false → oneSection (RR.sectionOf e) (RR.sectionOf f) ≡ false
+    → ((endIndex e < sectionEnds) × (endIndex e < endIndex f)) ⊎ ((endIndex f < sectionEnds) × (endIndex f < endIndex e))
+earlier (Section m s) (Section n t) a b p o =
+    let x = index-of m s a in
+    let y = index-of n t b in
+    let u = side-small s in
+    let v = side-small t in
+    let d = eqb-false (m .0) (n .0) o in
+    elim (lt? (m .0) (n .0)) [ inl l ↦ inl (section-below m s a, omega arith) | inr l ↦ inr (section-below n t b, omega arith) ]
+earlier (Section m s) (Port n l) a b p o = let x = section-below m s a in let y = port-behind n l in inl (x, omega arith)
+earlier (Port m l) (Section n t) a b p o = let x = section-below n t b in let y = port-behind m l in inr (x, omega arith)
+earlier (Port m l) (Port n k) a b p o = clash refl p
+
+module _ (r : Railway) (w : Accepted r) where
+  joins-said : (e f : End) → joined r e ≡ With f → Joins (descriptionOf r .joins) e f
+  unfolding descriptionOf
+  joins-said e f h =
+      let k = joined-known r w e f h in
+      let n = known-numbered r w e (k .0) in
+      let m = known-numbered r w f (k .1) in
+      let t = joined-right r w e f h in
+      elim (earlier e f n m (t .not-ports) (t .not-one)) [
+        | inl l ↦
+            record {
+              join = _;
+              member = join-written r (endIndex e) f (l .0) (link-joined r w e f n h) (l .1);
+              ties = inl (rw (end-index e n) (names-field e), names-field f);
+            }
+        | inr l ↦
+            record {
+              join = _;
+              member = join-written r (endIndex f) e (l .0) (link-joined r w f e m (joined-back r w e f h)) (l .1);
+              ties = inr (rw (end-index f m) (names-field f), names-field e);
+            }
+      ]
+
+  -- an end that is named as another is, is that end
+  named-one : (a : EndField) (e f : End) → Names a e → a ≡ fieldOf f → e ≡ f
+  named-one a e f n p = field-one e f (sym (names-is a e n) ∙ p)
+
+  said-joins : (e f : End) → Joins (descriptionOf r .joins) e f → joined r e ≡ With f
+  said-joins e f t =
+      let c = from-link r w (t .join) (t .member) in
+      let o = c .origin in
+      let b : c .index < allEnds = omega (arith, c .below) in
+      elim (t .ties) [
+        | inl h ↦ rw (named-one (t .join .one) e (endAt (c .index)) (h .0) (o .one), named-one (t .join .other) f (o .to) (h .1) (o .other)) (joined-link r w (c .index) (o .to) b (o .link))
+        | inr h ↦ rw (named-one (t .join .one) f (endAt (c .index)) (h .0) (o .one), named-one (t .join .other) e (o .to) (h .1) (o .other)) (link-back r w (c .index) (o .to) b (o .link))
+      ]
+
+  signals-said : (e : End) → Flagged r e → Signals (descriptionOf r .signals) e
+  unfolding descriptionOf
+  signals-said e t =
+      record {
+        signal = signalOf (endIndex e);
+        member = signal-written r (endIndex e) (t .below) (t .flag);
+        names = rw (end-index e (numbered-of e (omega (arith, t .below)))) at (signal-names (endIndex e) (t .below));
+      }
+
+  said-signals : (e : End) → Signals (descriptionOf r .signals) e → hasSignal r e ≡ true
+  said-signals e t =
+      from-flag r w (λ g. Names (section (g .number) (g .side)) e → hasSignal r e ≡ true)
+      (λ i b l n.
+      let z : e ≡ endAt i = field-one e (endAt i) (sym (names-is (section (signalOf i .number) (signalOf i .side)) e n) ∙ names-is (section (signalOf i .number) (signalOf i .side)) (endAt i) (signal-names i b)) in
+      sym (signal-there r e i (sym (ap endIndex z ∙ index-end i (omega arith))) b) ∙ l)
+      (t .signal) (t .member) (t .names)
+
+  runs-said : (t : ℕ) → t < r .trains → Runs (getD (descriptionOf r .runs) t noTrainLine) (runOf r t)
+  unfolding descriptionOf
+  runs-said t h = rw (list-get (λ t. trainFrom (runOf r t)) (r .trains) t noTrainLine h) (record { heading = refl; start = refl; destination = refl })
+
+  pub said : Told (descriptionOf r) r
+  unfolding descriptionOf
+  said =
+      record {
+        sections = refl;
+        points = refl;
+        trains = refl;
+        legs = λ n h. sym (list-get (legsOf r) (r .points) n Up h);
+        joins = λ e f. (joins-said e f, said-joins e f);
+        signals = λ e. (λ h. signals-said e (flagged r e h), said-signals e);
+        runs = runs-said;
+      }
+
+  pub described : Describes (writtenText r) (descriptionOf r)
+  unfolding writtenText
+  described = record { well-formed = well-formed r w; spelling = refl }
+
+  trip : caseAnswer (writtenText r) ≡ accepted (railwayOf (descriptionOf r))
+  unfolding writtenText
+  trip =
+      let d = descriptionOf r in
+      accepted-exactly (writtenText r) (railwayOf d) .1
+      (record { short = short r w; description = d; described = described; no-row = facts-clean d (clean r w); railway = refl })
+
+  same : SameRailway r (railwayOf (descriptionOf r))
+  same = told-same (descriptionOf r) r (railwayOf (descriptionOf r)) said (told (descriptionOf r) (clean r w) (well-formed r w))
+
+pub written-as-told : WrittenAsTold
+written-as-told r e = let w = accepted-facts r e in (descriptionOf r, described r w, said r w)
+
+pub round-trip : RoundTrip
+round-trip r e = let w = accepted-facts r e in (railwayOf (descriptionOf r), trip r w, same r w)
+
+-- THE SAME RAILWAY, THE SAME TEXT
+description-same : (r q : Railway) → SameRailway r q → descriptionOf r ≡ descriptionOf q
+unfolding descriptionOf
+description-same r q h =
+    let a : listBelow (legsOf r) (r .points) ≡ listBelow (legsOf q) (r .points) = list-same (legsOf r) (legsOf q) (r .points) (h .legs) in
+    let b : gatherBelow (joinAt r) sectionEnds ≡ gatherBelow (joinAt q) sectionEnds
+    = gather-same (joinAt r) (joinAt q) sectionEnds (λ i l. (let z = h .joins i (omega arith) in rw z)) in
+    let c : gatherBelow (signalAt r) sectionEnds ≡ gatherBelow (signalAt q) sectionEnds
+    = gather-same (signalAt r) (signalAt q) sectionEnds (λ i l. (let z = h .signals i l in rw z)) in
+    let e : listBelow (λ t. trainFrom (runOf r t)) (r .trains) ≡ listBelow (λ t. trainFrom (runOf q t)) (r .trains)
+    = list-same (λ t. trainFrom (runOf r t)) (λ t. trainFrom (runOf q t)) (r .trains) (λ t l. ap trainFrom (h .runs t l)) in
+    rw (a, b, c, e, h .sections, h .points, h .trains)
+
+pub same-text : SameText
+unfolding writtenText
+same-text r q h = ap spell (description-same r q h)
+
+pub text-same : TextSame
+text-same r q a b e =
+    let x = round-trip r a in
+    let y = round-trip q b in
+    let z : x .0 ≡ y .0 = accepted-one (writtenText r) (x .0) (y .0) (x .1) (rw e (y .1)) in
+    same-trans (rw z at (x .2)) (same-sym (y .2))
+
+pub read-again : ReadAgain
+read-again text r e =
+    let t = round-trip r (accepted-again text r e) in
+    (t .0, t .1, t .2, same-text (t .0) r (same-sym (t .2)))

@@ -1,0 +1,229 @@
+-- The whole text: reading gives a description exactly where it is well formed and spells the text. The lines come one after the other, and the
+-- byte that a line begins with tells J, G and T lines apart, so each list of lines ends where the next begins.
+-- Assumes nothing.
+use Prim.Native.Nat.{ℕ, zero, suc, _+_, _<_, _≤_}
+use mathlib.Core.Path.{_≡_, refl, sym, _∙_, ap}
+use mathlib.Core.Bool.{Bool, true, false, cond}
+use mathlib.Core.List.{List, [], _∷_, _++_, append-assoc, append-nil, List·Memᴰ·head, List·Memᴰ·tail}
+use mathlib.Core.Option.{Option, none, some}
+use native.Mathlib.Omega.{arith}
+use lib.Dec.{ltb, eqb}
+use lib.ListN.{length, getD, drop, length-append, length-drop, drop-of-length-le}
+use borrow.Author.Tests.{ltb-false, le-ltb}
+use Rattle.laws.specs.Lists.{Every}
+use Rattle.laws.proofs.Lists.{every-none, every-more}
+use Rattle.text.specs.Text.{line}
+use Rattle.text.specs.Reading.{Got, bad, got, then, value}
+use Rattle.text.proofs.Cursor.{bad-got, carry, Lies, Reads, steps, on, go-on, stop-here, here}
+use Rattle.railway.specs.declared.Side.{Side}
+use Rattle.casefile.specs.Form.{JoinLine, SignalLine, TrainLine, Description, pointLine, joinLine, signalLine, trainLine, each, rising, spell, WritableJoin, WritableSignal, WritableTrain, Describes}
+use Rattle.casefile.specs.Rows.{FormRow}
+use Rattle.casefile.specs.Reading.{counted, while, headerAt, pointLineAt, joinLineAt, signalLineAt, trainLineAt, walk, read}
+use Rattle.casefile.specs.Claims.{ReadIsSpelling, DescribesOne, FormDecided}
+use Rattle.casefile.proofs.Lines.{WrittenLine, join-sound, join-complete, signal-sound, signal-complete, header-sound, header-complete, point-sound, point-complete, train-sound, train-complete}
+
+-- LINES BY COUNT
+module _ {A : Type 0} (good : A → Type 0) (spelling : ℕ → A → List ℕ) (s : List ℕ) (line : ℕ → ℕ → Got A) where
+  pub record WrittenLines (k n at : ℕ) (xs : List A) (c : ℕ) : Type 0 where
+    pub many : length xs ≡ k
+    pub small : Every good xs
+    pub text : drop at s ≡ rising spelling n xs ++ drop c s
+
+  module _ (sound : (n at : ℕ) (x : A) (c : ℕ) → line n at ≡ got x c → WrittenLine good (spelling n) s at x c) where
+    pub counted-sound : (k n at : ℕ) (xs : List A) (c : ℕ) → counted line k n at ≡ got xs c → WrittenLines k n at xs c
+    unfolding counted rising
+    counted-sound zero n at xs c e = carry (WrittenLines zero n at) e (record { many = refl; small = every-none good; text = refl })
+    counted-sound (suc k) n at xs c e =
+        let t = steps (line n at) _ xs c e in
+        let u = steps (counted line k (suc n) (t .cursor)) _ xs c (t .second) in
+        let w = sound n at (t .value) (t .cursor) (t .first) in
+        let v = counted-sound k (suc n) (t .cursor) (u .value) (u .cursor) (u .first) in
+        carry (WrittenLines (suc k) n at) (u .second)
+        (record {
+          many = ap suc (v .many);
+          small = every-more good _ _ (w .small) (v .small);
+          text = simp (w .text, v .text, append-assoc);
+        })
+
+  module _ (complete : (n at : ℕ) (x : A) (rest : List ℕ) → n < 1000 → good x → Lies s at (spelling n x ++ rest) → Reads s (line n at) x rest) where
+    pub counted-complete : (n at : ℕ) (xs : List A) (rest : List ℕ) → n + length xs ≤ 1000 → Every good xs → Lies s at (rising spelling n xs ++ rest)
+        → Reads s (counted line (length xs) n at) xs rest
+    unfolding counted rising
+    counted-complete n at [] rest h a t = stop-here t
+    counted-complete n at (x ∷ xs) rest h a t =
+        go-on _ (complete n at x _ (omega arith) (a x (List·Memᴰ·head refl)) (rw append-assoc at t)) (λ c1 t1.
+        go-on _ (counted-complete (suc n) c1 xs rest (omega arith) (λ y m. a y (List·Memᴰ·tail m)) t1) (λ c2 t2. stop-here t2))
+
+-- LINES AS MANY AS THERE ARE
+module _ {A : Type 0} (good : A → Type 0) (spelling : A → List ℕ) (s : List ℕ) (begins : ℕ → Bool) (line : ℕ → Got A) where
+  pub record WrittenEach (at : ℕ) (xs : List A) (c : ℕ) : Type 0 where
+    pub small : Every good xs
+    pub text : drop at s ≡ each spelling xs ++ drop c s
+
+  module _ (sound : (at : ℕ) (x : A) (c : ℕ) → line at ≡ got x c → WrittenLine good spelling s at x c) where
+    while-step : (most at : ℕ) (xs : List A) (c : ℕ) (p : Bool)
+        → ((at : ℕ) (xs : List A) (c : ℕ) → while begins line most at ≡ got xs c → WrittenEach at xs c)
+        → elim p [ true ↦ then (line at) (λ x c. then (while begins line most c) (λ xs c. got (x ∷ xs) c)) | false ↦ got [] at ] ≡ got xs c → WrittenEach at xs c
+    unfolding each
+    while-step most at xs c false ih e = carry (WrittenEach at) e (record { small = every-none good; text = refl })
+    while-step most at xs c true ih e =
+        let t = steps (line at) _ xs c e in
+        let u = steps (while begins line most (t .cursor)) _ xs c (t .second) in
+        let w = sound at (t .value) (t .cursor) (t .first) in
+        let v = ih (t .cursor) (u .value) (u .cursor) (u .first) in
+        carry (WrittenEach at) (u .second) (record { small = every-more good _ _ (w .small) (v .small); text = simp (w .text, v .text, append-assoc) })
+
+    pub while-sound : (most at : ℕ) (xs : List A) (c : ℕ) → while begins line most at ≡ got xs c → WrittenEach at xs c
+    unfolding while each
+    while-sound zero at xs c e = carry (WrittenEach at) e (record { small = every-none good; text = refl })
+    while-sound (suc most) at xs c e = while-step most at xs c (begins at) (λ at xs c h. while-sound most at xs c h) e
+
+  module _ (complete : (at : ℕ) (x : A) (rest : List ℕ) → good x → Lies s at (spelling x ++ rest) → Reads s (line at) x rest)
+      (starts : (at : ℕ) (x : A) (rest : List ℕ) → Lies s at (spelling x ++ rest) → begins at ≡ true)
+      (rest : List ℕ) (ends : (at : ℕ) → Lies s at rest → begins at ≡ false) where
+    pub while-complete : (most at : ℕ) (xs : List A) → length xs ≤ most → Every good xs → Lies s at (each spelling xs ++ rest) → Reads s (while begins line most at) xs rest
+    unfolding while each
+    while-complete zero at [] h a t = stop-here t
+    while-complete zero at (x ∷ xs) h a t = absurd (omega arith)
+    while-complete (suc most) at [] h a t = rw (ends at t, while) (stop-here t)
+    while-complete (suc most) at (x ∷ xs) h a t =
+        let t′ = rw append-assoc at t in
+        rw (starts at x _ t′, while)
+        (go-on _ (complete at x _ (a x (List·Memᴰ·head refl)) t′) (λ c1 t1.
+        go-on _ (while-complete most c1 xs (omega arith) (λ y m. a y (List·Memᴰ·tail m)) t1) (λ c2 t2. stop-here t2)))
+
+-- THE TEXT
+value-some : {A : Type 0} {B : Type 0} (g : Got A) (x : A) → value g ≡ some x → ((c : ℕ) → g ≡ got x c → B) → B
+value-some bad x e f = let z : _≡_ {A = ℕ} 0 1 = cc in absurd (omega arith)
+value-some (got y c) x e f = let z : y ≡ x = cc in f c (rw z)
+
+ended : {A : Type 0} (s : List ℕ) (c : ℕ) (p : Bool) {x y : A} {b : ℕ} → ltb c (length s) ≡ p → cond p bad (got x c) ≡ got y b → (length s ≤ c) × (got x c ≡ got y b)
+ended s c true h e = bad-got refl e
+ended s c false h e = (ltb-false c (length s) h, e)
+
+module _ (s : List ℕ) where
+  points-sound : (n at : ℕ) (x : Side) (c : ℕ) → pointLineAt s n at ≡ got x c → WrittenLine (λ x. Unit {0}) (pointLine n) s at x c
+  points-sound n at x c e = record { small = tt; text = point-sound s at n x c e .text }
+
+  trains-sound : (n at : ℕ) (x : TrainLine) (c : ℕ) → trainLineAt s n at ≡ got x c → WrittenLine WritableTrain (trainLine n) s at x c
+  trains-sound n at x c e = let w = train-sound s at n x c e in record { small = w .small .0; text = w .text }
+
+  pub read-sound : (d : Description) → read s ≡ some d → Describes s d
+  unfolding walk read spell
+  read-sound d e =
+      value-some (walk s) d e (λ c k.
+      on (headerAt s 0) _ d c k (λ h c1 f1 k1.
+      on (counted (pointLineAt s) (h .points) 1 c1) _ d c k1 (λ legs c2 f2 k2.
+      on (while (λ c. eqb (getD s c 0) 74) (joinLineAt s) (length s) c2) _ d c k2 (λ joins c3 f3 k3.
+      on (while (λ c. eqb (getD s c 0) 71) (signalLineAt s) (length s) c3) _ d c k3 (λ signals c4 f4 k4.
+      on (counted (trainLineAt s) (h .trains) 1 c4) _ d c k4 (λ runs c5 f5 k5.
+      let z = ended s c5 (ltb c5 (length s)) refl k5 in
+      let w1 = header-sound s 0 h c1 f1 in
+      let w2 = counted-sound (λ x. Unit {0}) pointLine s (pointLineAt s) points-sound (h .points) 1 c1 legs c2 f2 in
+      let w3 = while-sound WritableJoin joinLine s (λ c. eqb (getD s c 0) 74) (joinLineAt s) (join-sound s) (length s) c2 joins c3 f3 in
+      let w4 = while-sound WritableSignal signalLine s (λ c. eqb (getD s c 0) 71) (signalLineAt s) (signal-sound s) (length s) c3 signals c4 f4 in
+      let w5 = counted-sound WritableTrain trainLine s (trainLineAt s) trains-sound (h .trains) 1 c4 runs c5 f5 in
+      carry (λ d c. Describes s d) (z .1)
+      (record {
+        well-formed =
+            record {
+              sections = w1 .small .0;
+              points = w1 .small .1;
+              trains = w1 .small .2;
+              one-a-point = w2 .many;
+              joins = w3 .small;
+              signals = w4 .small;
+              runs = w5 .small;
+              one-a-train = w5 .many;
+            };
+        spelling = sym (w1 .text ∙ rw (w2 .text, w3 .text, w4 .text, w5 .text, drop-of-length-le s (z .0), append-nil));
+      })))))))
+
+  -- the other way round
+  points-complete : (c n : ℕ) (legs : List Side) (rest : List ℕ) → n < 1000 → length legs ≡ n → Lies s c (rising pointLine 1 legs ++ rest)
+      → Reads s (counted (pointLineAt s) n 1 c) legs rest
+  points-complete c n legs rest h e t =
+      rw (← e)
+      (counted-complete (λ x. Unit {0}) pointLine s (pointLineAt s) (λ n at x rest b u. point-complete s at n x rest b) 1 c legs rest (omega arith) (λ x m. tt) t)
+
+  trains-complete : (c n : ℕ) (runs : List TrainLine) → n < 1000 → length runs ≡ n → Every WritableTrain runs → Lies s c (rising trainLine 1 runs)
+      → Reads s (counted (trainLineAt s) n 1 c) runs []
+  trains-complete c n runs h e a t =
+      rw (← e)
+      (counted-complete WritableTrain trainLine s (trainLineAt s) (λ n at x rest b u. train-complete s at n x rest b u) 1 c runs [] (omega arith) a (rw append-nil t))
+
+  -- as many lines as there are fit into the text
+  each-long : {A : Type 0} (spelling : A → List ℕ) → ((x : A) → 1 ≤ length (spelling x)) → (xs : List A) → length xs ≤ length (each spelling xs)
+  unfolding each
+  each-long spelling h [] = omega arith
+  each-long spelling h (x ∷ xs) = simp length-append (omega (arith, h x, each-long spelling h xs))
+
+  fits : (c : ℕ) (l rest : List ℕ) → Lies s c (l ++ rest) → length l ≤ length s
+  fits c l rest t = omega (arith, length-drop c s, simp length-append at (ap length (t .text)))
+
+  -- no J line begins where the signals do, no G line where the trains do
+  no-join : (gs : List SignalLine) (ts : List TrainLine) (at : ℕ) → Lies s at (each signalLine gs ++ rising trainLine 1 ts) → eqb (getD s at 0) 74 ≡ false
+  unfolding each rising line
+  no-join [] [] at t = rw (here t)
+  no-join [] (x ∷ ts) at t = rw (here t)
+  no-join (g ∷ gs) ts at t = rw (here t)
+
+  no-signal : (ts : List TrainLine) (at : ℕ) → Lies s at (rising trainLine 1 ts) → eqb (getD s at 0) 71 ≡ false
+  unfolding rising line
+  no-signal [] at t = rw (here t)
+  no-signal (x ∷ ts) at t = rw (here t)
+
+  joins-complete : (c : ℕ) (js : List JoinLine) (gs : List SignalLine) (ts : List TrainLine) → Every WritableJoin js
+      → Lies s c (each joinLine js ++ (each signalLine gs ++ rising trainLine 1 ts))
+      → Reads s (while (λ c. eqb (getD s c 0) 74) (joinLineAt s) (length s) c) js (each signalLine gs ++ rising trainLine 1 ts)
+  unfolding line
+  joins-complete c js gs ts a t =
+      while-complete WritableJoin joinLine s (λ c. eqb (getD s c 0) 74) (joinLineAt s) (join-complete s) (λ at x rest t. rw (here t)) _ (no-join gs ts) (length s) c js
+      (omega (arith, each-long joinLine (λ x. omega arith) js, fits c (each joinLine js) _ t)) a t
+
+  signals-complete : (c : ℕ) (gs : List SignalLine) (ts : List TrainLine) → Every WritableSignal gs
+      → Lies s c (each signalLine gs ++ rising trainLine 1 ts)
+      → Reads s (while (λ c. eqb (getD s c 0) 71) (signalLineAt s) (length s) c) gs (rising trainLine 1 ts)
+  unfolding line
+  signals-complete c gs ts a t =
+      while-complete WritableSignal signalLine s (λ c. eqb (getD s c 0) 71) (signalLineAt s) (signal-complete s) (λ at x rest t. rw (here t)) _ (no-signal ts) (length s) c gs
+      (omega (arith, each-long signalLine (λ x. omega arith) gs, fits c (each signalLine gs) _ t)) a t
+
+  at-end : (c : ℕ) → Lies s c [] → ltb c (length s) ≡ false
+  at-end c t = le-ltb c (length s) (omega (arith, length-drop c s, ap length (t .text)))
+
+  walk-complete : (d : Description) → Describes s d → Reads s (walk s) d []
+  unfolding walk spell
+  walk-complete d w =
+      let f = w .well-formed in
+      let t : Lies s 0 (spell d) = record { text = sym (w .spelling) } in
+      go-on _ (header-complete s 0 (record { sections = d .sections; points = d .points; trains = d .trains }) _ (f .sections, f .points, f .trains) t) (λ c1 t1.
+      go-on _ (points-complete c1 (d .points) (d .legs) _ (f .points) (f .one-a-point) t1) (λ c2 t2.
+      go-on _ (joins-complete c2 (d .joins) (d .signals) (d .runs) (f .joins) t2) (λ c3 t3.
+      go-on _ (signals-complete c3 (d .signals) (d .runs) (f .signals) t3) (λ c4 t4.
+      go-on _ (trains-complete c4 (d .trains) (d .runs) (f .trains) (f .one-a-train) (f .runs) t4) (λ c5 t5.
+      rw (at-end c5 t5) (stop-here t5))))))
+
+  pub read-complete : (d : Description) → Describes s d → read s ≡ some d
+  unfolding read
+  read-complete d w = rw (walk-complete d w .is)
+
+-- (a)
+pub read-is-spelling : ReadIsSpelling
+read-is-spelling text d = (read-sound text d, read-complete text d)
+
+pub describes-one : DescribesOne
+describes-one text d e p q =
+    let a = read-complete text d p in
+    let b = read-complete text e q in
+    cc
+
+none-is : (text : List ℕ) → read text ≡ none → FormRow text
+none-is text h d w = let e = read-complete text d w in let z : _≡_ {A = ℕ} 0 1 = cc in omega arith
+
+form-is : (text : List ℕ) (o : Option Description) → read text ≡ o → FormRow text → read text ≡ none
+form-is text none h f = h
+form-is text (some d) h f = absurd (f d (read-sound text d h))
+
+pub form-decided : FormDecided
+form-decided text = (none-is text, form-is text (read text) refl)

@@ -1,0 +1,339 @@
+-- What the writer says of an accepted record: its description is well formed, and none of rows 3 to 8 applies to it. Each J line comes from a link at
+-- the earlier of its two ends, and links are returned, so no end stands in two J lines; every port's link leads back to a section end, which has the
+-- J line.
+-- Assumes nothing.
+use Prim.Native.Nat.{ℕ, zero, suc, _-_, _/_, _%_, _<_, _≤_}
+use mathlib.Core.Path.{_≡_, refl, sym, _∙_, ap}
+use mathlib.Core.Bool.{Bool, true, false, cond}
+use mathlib.Core.List.{List, [], _∷_, _++_, map, List·Memᴰ, List·Memᴰ·head, List·Memᴰ·tail}
+use native.Mathlib.Omega.{arith}
+use lib.Dec.{ltb, eqb}
+use borrow.Author.Tests.{eqb-false, ne-eqb, lt-ltb, ltb-true}
+use Rattle.laws.specs.Below.{listBelow, gatherBelow}
+use Rattle.laws.specs.Lists.{any, repeats, Every}
+use Rattle.laws.proofs.Bools.{clash, not-true}
+use Rattle.laws.proofs.Below.{list-length, list-get, listed, gathered, in-gathered}
+use Rattle.laws.proofs.Lists.{any-true, repeats-gather, repeats-list, map-append}
+use Rattle.railway.specs.declared.Side.the-variants.{Up}
+use Rattle.railway.specs.declared.Leg.{Leg}
+use Rattle.railway.specs.declared.End.{End}
+use Rattle.railway.specs.declared.End.the-variants.{Section, Port}
+use Rattle.railway.specs.declared.Joined.{Joined}
+use Rattle.railway.specs.declared.Joined.the-variants.{Nothing, With}
+use Rattle.railway.specs.declared.Train.{Train}
+use Rattle.railway.specs.declared.Railway.{Railway}
+use Rattle.railway.specs.Bounds.{sectionEnds, allEnds}
+use Rattle.railway.specs.Ends.{sideAt, endIndex, endAt}
+use Rattle.railway.specs.Record.{linkAt, flagAt, joined, legsOf, runOf}
+use Rattle.railway.specs.Record as R
+use Rattle.railway.specs.Rows.{bothPorts, oneSection}
+use Rattle.railway.specs.Rows as RR
+use Rattle.railway.proofs.Ends.{Numbered, index-below, index-end, end-section, section-below, port-behind}
+use Rattle.railway.proofs.Lookups.{joined-there}
+use Rattle.railway.proofs.Accepted.{Right, Accepted, joined-known, joined-right, joined-back}
+use Rattle.casefile.specs.Form.{EndField, section, port, JoinLine, SignalLine, TrainLine, WritableEnd, WritableSignal, WritableTrain, WellFormed}
+use Rattle.casefile.specs.Rows.{within, known, sectionOf, sideOf, sameEnd, joinEnds, sameSignal}
+use Rattle.casefile.specs.Recording.{fieldOf, signalOf}
+use Rattle.casefile.specs.Writing.{joinFrom, joinAt, signalAt, trainFrom, descriptionOf}
+use Rattle.casefile.proofs.Clean.{Clean, RightJoin, is-within}
+use Rattle.casefile.proofs.Ends.{same-self, not-same, signal-is, field-one, other-end}
+
+-- the tests of row 5, of the record's ends and of ends as written
+ports-same : (e f : End) → bothPorts (sectionOf (fieldOf e)) (sectionOf (fieldOf f)) ≡ bothPorts (RR.sectionOf e) (RR.sectionOf f)
+ports-same (Section m s) (Section n t) = refl
+ports-same (Section m s) (Port n l) = refl
+ports-same (Port m l) (Section n s) = refl
+ports-same (Port m l) (Port n k) = refl
+
+more-one : (m n : ℕ) → eqb m n ≡ false → eqb (suc m) (suc n) ≡ false
+more-one m n h = ne-eqb (suc m) (suc n) (λ e. eqb-false m n h (omega arith))
+
+one-same : (e f : End) → oneSection (RR.sectionOf e) (RR.sectionOf f) ≡ false → oneSection (sectionOf (fieldOf e)) (sectionOf (fieldOf f)) ≡ false
+one-same (Section m s) (Section n t) h = more-one (m .0) (n .0) h
+one-same (Section m s) (Port n l) h = refl
+one-same (Port m l) f h = refl
+
+-- WHERE A LINE COMES FROM
+module _ (r : Railway) where
+  pub record Origin (i : ℕ) (j : JoinLine) : Type 0 where
+    pub to : End
+    pub link : linkAt r i ≡ With to
+    pub later : i < endIndex to
+    pub one : j .one ≡ fieldOf (endAt i)
+    pub other : j .other ≡ fieldOf to
+
+  origin-later : (i : ℕ) (f : End) (p : Bool) (j : JoinLine) → linkAt r i ≡ With f → ltb i (endIndex f) ≡ p
+      → List·Memᴰ j (cond p (record { one = fieldOf (endAt i); other = fieldOf f } ∷ []) []) → Origin i j
+  origin-later i f true j l h (List·Memᴰ·head q) =
+      record { to = f; link = l; later = ltb-true i (endIndex f) h; one = ap (λ (x : JoinLine). x .one) q; other = ap (λ (x : JoinLine). x .other) q }
+  origin-later i f true j l h (List·Memᴰ·tail m) = elim m [ ]
+  origin-later i f false j l h m = elim m [ ]
+
+  origin-link : (i : ℕ) (x : Joined) (j : JoinLine) → linkAt r i ≡ x → List·Memᴰ j (joinFrom i x) → Origin i j
+  origin-link i Nothing j l m = elim m [ ]
+  origin-link i (With f) j l m = origin-later i f (ltb i (endIndex f)) j l refl m
+
+  pub origin : (i : ℕ) (j : JoinLine) → List·Memᴰ j (joinAt r i) → Origin i j
+  origin i j m = origin-link i (linkAt r i) j refl m
+
+  pub join-written : (i : ℕ) (f : End) → i < sectionEnds → linkAt r i ≡ With f → i < endIndex f
+      → List·Memᴰ (record { one = fieldOf (endAt i); other = fieldOf f }) (gatherBelow (joinAt r) sectionEnds)
+  join-written i f b l h = in-gathered (joinAt r) sectionEnds i _ b (rw (l, lt-ltb i (endIndex f) h) (List·Memᴰ·head refl))
+
+  pub record FlagOf (i : ℕ) (g : SignalLine) : Type 0 where
+    pub flag : flagAt r i ≡ true
+    pub is : g ≡ signalOf i
+
+  flag-of : (i : ℕ) (p : Bool) (g : SignalLine) → flagAt r i ≡ p → List·Memᴰ g (cond p (signalOf i ∷ []) []) → FlagOf i g
+  flag-of i true g h (List·Memᴰ·head q) = record { flag = h; is = q }
+  flag-of i true g h (List·Memᴰ·tail m) = elim m [ ]
+  flag-of i false g h m = elim m [ ]
+
+  pub signal-origin : (i : ℕ) (g : SignalLine) → List·Memᴰ g (signalAt r i) → FlagOf i g
+  signal-origin i g m = flag-of i (flagAt r i) g refl m
+
+  pub signal-written : (i : ℕ) → i < sectionEnds → flagAt r i ≡ true → List·Memᴰ (signalOf i) (gatherBelow (signalAt r) sectionEnds)
+  signal-written i b l = in-gathered (signalAt r) sectionEnds i (signalOf i) b (rw l (List·Memᴰ·head refl))
+
+-- a G line is known by its index
+pub signal-one : (i j : ℕ) → i < sectionEnds → j < sectionEnds → signalOf i ≡ signalOf j → i ≡ j
+signal-one i j a b e =
+    let f : fieldOf (endAt i) ≡ fieldOf (endAt j) = rw (end-section i a, end-section j b) (ap (λ (g : SignalLine). section (g .number) (g .side)) e) in
+    sym (index-end i (omega arith)) ∙ ap endIndex (field-one (endAt i) (endAt j) f) ∙ index-end j (omega arith)
+
+joinEnds-append : (js ks : List JoinLine) → joinEnds (js ++ ks) ≡ joinEnds js ++ joinEnds ks
+unfolding joinEnds
+joinEnds-append [] ks = refl
+joinEnds-append (j ∷ js) ks = ap (λ (l : List EndField). j .one ∷ j .other ∷ l) (joinEnds-append js ks)
+
+joinEnds-gather : (f : ℕ → List JoinLine) (k : ℕ) → joinEnds (gatherBelow f k) ≡ gatherBelow (λ i. joinEnds (f i)) k
+unfolding gatherBelow joinEnds
+joinEnds-gather f zero = refl
+joinEnds-gather f (suc k) = joinEnds-append (gatherBelow f k) (f k) ∙ ap (λ (l : List EndField). l ++ joinEnds (f k)) (joinEnds-gather f k)
+
+with-one : (x : Joined) (f g : End) → x ≡ With f → x ≡ With g → f ≡ g
+with-one x f g p q = cc
+
+module _ (r : Railway) (w : Accepted r) where
+  -- a link and what it is looked up as
+  pub joined-link : (i : ℕ) (f : End) → i < allEnds → linkAt r i ≡ With f → joined r (endAt i) ≡ With f
+  joined-link i f b l = sym (joined-there r (endAt i) i (sym (index-end i b)) b) ∙ l
+
+  pub link-joined : (e f : End) → Numbered e → joined r e ≡ With f → linkAt r (endIndex e) ≡ With f
+  link-joined e f n l = joined-there r e (endIndex e) refl (index-below e n) ∙ l
+
+  pub link-back : (i : ℕ) (f : End) → i < allEnds → linkAt r i ≡ With f → joined r f ≡ With (endAt i)
+  link-back i f b l = joined-back r w (endAt i) f (joined-link i f b l)
+
+  -- ENDS IN TWO JOINS: none. An end that the J line of an index names is the earlier of the two, or the later.
+  data Named (i : ℕ) (y : EndField) : Type 0 where
+    earlier : (f : End) → linkAt r i ≡ With f → i < endIndex f → y ≡ fieldOf (endAt i) → Named i y
+    later : (f : End) → linkAt r i ≡ With f → i < endIndex f → y ≡ fieldOf f → Named i y
+
+  named-in : (js : List JoinLine) (i : ℕ) (y : EndField) → ((j : JoinLine) → List·Memᴰ j js → Origin r i j) → List·Memᴰ y (joinEnds js) → Named i y
+  unfolding joinEnds
+  named-in [] i y h m = elim m [ ]
+  named-in (j ∷ js) i y h (List·Memᴰ·head p) = let o = h j (List·Memᴰ·head refl) in earlier (o .to) (o .link) (o .later) (p ∙ o .one)
+  named-in (j ∷ js) i y h (List·Memᴰ·tail (List·Memᴰ·head p)) = let o = h j (List·Memᴰ·head refl) in later (o .to) (o .link) (o .later) (p ∙ o .other)
+  named-in (j ∷ js) i y h (List·Memᴰ·tail (List·Memᴰ·tail m)) = named-in js i y (λ k q. h k (List·Memᴰ·tail q)) m
+
+  named : (i : ℕ) (y : EndField) → List·Memᴰ y (joinEnds (joinAt r i)) → Named i y
+  named i y m = named-in (joinAt r i) i y (origin r i) m
+
+  index-of : (e f : End) → fieldOf e ≡ fieldOf f → endIndex e ≡ endIndex f
+  index-of e f p = ap endIndex (field-one e f p)
+
+  apart : (i j : ℕ) (x y : EndField) → i < j → j < sectionEnds → Named i x → Named j y → x ≡ y → ⊥
+  apart i j x y h b (earlier f l k p) (earlier g m n q) e =
+      omega (arith, sym (index-end i (omega arith)) ∙ index-of (endAt i) (endAt j) (sym p ∙ e ∙ q) ∙ index-end j (omega arith))
+  apart i j x y h b (earlier f l k p) (later g m n q) e =
+      omega (arith, sym (index-end i (omega arith)) ∙ index-of (endAt i) g (sym p ∙ e ∙ q))
+  apart i j x y h b (later f l k p) (earlier g m n q) e =
+      let z : f ≡ endAt j = field-one f (endAt j) (sym p ∙ e ∙ q) in
+      let u : joined r (endAt j) ≡ With (endAt i) = rw z at (link-back i f (omega arith) l) in
+      let v : g ≡ endAt i = with-one (joined r (endAt j)) g (endAt i) (joined-link j g (omega arith) m) u in
+      omega (arith, ap endIndex v ∙ index-end i (omega arith))
+  apart i j x y h b (later f l k p) (later g m n q) e =
+      let z : f ≡ g = field-one f g (sym p ∙ e ∙ q) in
+      let u : joined r g ≡ With (endAt i) = rw z at (link-back i f (omega arith) l) in
+      let v : endAt i ≡ endAt j = with-one (joined r g) (endAt i) (endAt j) u (link-back j g (omega arith) m) in
+      omega (arith, sym (index-end i (omega arith)) ∙ ap endIndex v ∙ index-end j (omega arith))
+
+  once-later : (i : ℕ) (f : End) (p : Bool) → i < sectionEnds → ltb i (endIndex f) ≡ p
+      → repeats sameEnd (joinEnds (cond p (record { one = fieldOf (endAt i); other = fieldOf f } ∷ []) [])) ≡ false
+  unfolding joinEnds repeats any
+  once-later i f false b h = refl
+  once-later i f true b h =
+      let l = ltb-true i (endIndex f) h in
+      rw (not-same (fieldOf (endAt i)) (fieldOf f) (λ e. omega (arith, sym (index-end i (omega arith)) ∙ index-of (endAt i) f e)))
+
+  once-link : (i : ℕ) (x : Joined) → i < sectionEnds → repeats sameEnd (joinEnds (joinFrom i x)) ≡ false
+  unfolding joinEnds repeats
+  once-link i Nothing b = refl
+  once-link i (With f) b = once-later i f (ltb i (endIndex f)) b refl
+
+  ends-once : repeats sameEnd (joinEnds (gatherBelow (joinAt r) sectionEnds)) ≡ false
+  ends-once =
+      rw (joinEnds-gather (joinAt r) sectionEnds)
+      (repeats-gather sameEnd (λ i. joinEnds (joinAt r i)) sectionEnds (λ i b. once-link i (linkAt r i) b)
+      (λ i j x y h b m n. not-same x y (apart i j x y h b (named i x m) (named j y n))))
+
+  -- SIGNALS NAMED TWICE: none.
+  one-signal : (i : ℕ) (p : Bool) → repeats sameSignal (cond p (signalOf i ∷ []) []) ≡ false
+  unfolding repeats any
+  one-signal i true = refl
+  one-signal i false = refl
+
+  signals-once : repeats sameSignal (gatherBelow (signalAt r) sectionEnds) ≡ false
+  signals-once =
+      repeats-gather sameSignal (signalAt r) sectionEnds (λ i b. one-signal i (flagAt r i))
+      (λ i j x y h b m n.
+      let p = signal-origin r i x m in
+      let q = signal-origin r j y n in
+      not-true (sameSignal x y) (λ e. omega (arith, h, signal-one i j (omega arith) b (sym (p .is) ∙ signal-is x y e ∙ q .is))))
+
+  -- WHAT IS KNOWN
+  field-known : (e : End) → RR.known r e ≡ true → known (descriptionOf r) (fieldOf e) ≡ true
+  unfolding descriptionOf
+  field-known (Section n s) h = let k = ltb-true (n .0) (r .sections) h in is-within (suc (n .0)) (r .sections) (omega arith) (omega arith)
+  field-known (Port n l) h = let k = ltb-true (n .0) (r .points) h in is-within (suc (n .0)) (r .points) (omega arith) (omega arith)
+
+  side-known : (e : End) → RR.known r e ≡ true → sideOf (descriptionOf r) (fieldOf e) ≡ R.sideOf r e
+  unfolding descriptionOf
+  side-known (Section n s) h = refl
+  side-known (Port n l) h =
+      let x : suc (n .0) - 1 ≡ n .0 = omega arith in
+      rw (x, list-get (legsOf r) (r .points) (n .0) Up (ltb-true (n .0) (r .points) h))
+
+  -- a J line: its index, and the link there
+  pub record FromLink (j : JoinLine) : Type 0 where
+    pub index : ℕ
+    pub below : index < sectionEnds
+    pub origin : Origin r index j
+
+  pub from-link : (j : JoinLine) → List·Memᴰ j (descriptionOf r .joins) → FromLink j
+  unfolding descriptionOf
+  from-link j m = let t = gathered (joinAt r) sectionEnds j m in record { index = t .index; below = t .below; origin = origin r (t .index) j (t .there) }
+
+  link-ends : (j : JoinLine) (t : FromLink j) → (RR.known r (endAt (t .index)) ≡ true) × (RR.known r (t .origin .to) ≡ true)
+  link-ends j t = w .link-known (t .index) (t .origin .to) (omega (arith, t .below)) (t .origin .link)
+
+  join-known : (j : JoinLine) → List·Memᴰ j (descriptionOf r .joins) → (known (descriptionOf r) (j .one) ≡ true) × (known (descriptionOf r) (j .other) ≡ true)
+  join-known j m =
+      let t = from-link j m in
+      let k = link-ends j t in
+      (rw (t .origin .one) (field-known (endAt (t .index)) (k .0)), rw (t .origin .other) (field-known (t .origin .to) (k .1)))
+
+  right-by : (j : JoinLine) (e f : End) → j .one ≡ fieldOf e → j .other ≡ fieldOf f → RR.known r e ≡ true → RR.known r f ≡ true → Right r e f → RightJoin (descriptionOf r) j
+  right-by j e f p q ke kf t =
+      record {
+        not-ports = rw (p, q) (ports-same e f ∙ t .not-ports);
+        not-one = rw (p, q) (one-same e f (t .not-one));
+        sides = rw (p, q, side-known e ke, side-known f kf) (t .sides);
+      }
+
+  join-right : (j : JoinLine) → List·Memᴰ j (descriptionOf r .joins) → RightJoin (descriptionOf r) j
+  join-right j m =
+      let t = from-link j m in
+      let o = t .origin in
+      let k = link-ends j t in
+      right-by j (endAt (t .index)) (o .to) (o .one) (o .other) (k .0) (k .1) (w .link-right (t .index) (o .to) (omega (arith, t .below)) (o .link))
+
+  -- EVERY PORT IS IN A J LINE: the one of the section end that its link leads to
+  port-by : (e f : End) → sectionEnds ≤ endIndex e → joined r e ≡ With f → bothPorts (RR.sectionOf e) (RR.sectionOf f) ≡ false
+      → any (sameEnd (fieldOf e)) (joinEnds (descriptionOf r .joins)) ≡ true
+  unfolding descriptionOf
+  port-by (Section m s) f b l h = let k = ltb-true (m .0) (r .sections) (joined-known r w (Section m s) f l .0) in let c = w .bounds in absurd (omega (arith, section-below m s (omega arith)))
+  port-by (Port m k) (Port n i) b l h = clash refl h
+  port-by (Port m k) (Section n s) b l h =
+      let c = w .bounds in
+      let x = ltb-true (n .0) (r .sections) (joined-known r w (Port m k) (Section n s) l .1) in
+      let q = section-below n s (omega arith) in
+      let back = link-joined (Section n s) (Port m k) (omega arith) (joined-back r w (Port m k) (Section n s) l) in
+      let line = join-written r (endIndex (Section n s)) (Port m k) q back (omega arith) in
+      any-true (sameEnd (fieldOf (Port m k))) _ (fieldOf (Port m k)) (other-end _ _ line) (same-self (fieldOf (Port m k)))
+
+  port-link : (e : End) (x : Joined) → sectionEnds ≤ endIndex e → (joined r e ≡ Nothing → ⊥) → joined r e ≡ x → any (sameEnd (fieldOf e)) (joinEnds (descriptionOf r .joins)) ≡ true
+  port-link e Nothing b h l = absurd (h l)
+  port-link e (With f) b h l = port-by e f b l (joined-right r w e f l .not-ports)
+
+  port-joined : (n : ℕ) (l : Leg) → n < r .points → any (sameEnd (port (suc n) l)) (joinEnds (descriptionOf r .joins)) ≡ true
+  port-joined n l b =
+      let e = Port (record { 0 = n }) l in
+      port-link e (joined r e) (port-behind (record { 0 = n }) l) (w .port-joined n l b) refl
+
+  -- TRAINS
+  pub from-train : (P : TrainLine → Type 0) → ((t : ℕ) → t < r .trains → P (trainFrom (runOf r t))) → Every P (descriptionOf r .runs)
+  unfolding descriptionOf
+  from-train P h t m = let k = listed (λ t. trainFrom (runOf r t)) (r .trains) t m in rw (k .is) (h (k .index) (k .below))
+
+  pub from-flag : (P : SignalLine → Type 0) → ((i : ℕ) → i < sectionEnds → flagAt r i ≡ true → P (signalOf i)) → Every P (descriptionOf r .signals)
+  unfolding descriptionOf
+  from-flag P h g m =
+      let t = gathered (signalAt r) sectionEnds g m in
+      let o = signal-origin r (t .index) g (t .there) in
+      rw (o .is) (h (t .index) (t .below) (o .flag))
+
+  map-list : {A B : Type 0} (p : A → B) (f : ℕ → A) (k : ℕ) → map p (listBelow f k) ≡ listBelow (λ i. p (f i)) k
+  unfolding listBelow
+  map-list p f zero = refl
+  map-list p f (suc k) = map-append p (listBelow f k) (f k ∷ []) ∙ ap (λ (l : List _). l ++ (p (f k) ∷ [])) (map-list p f k)
+
+  no-repeat : (p : TrainLine → ℕ) (q : Train → ℕ) → ((t : Train) → p (trainFrom t) ≡ suc (q t))
+      → ((t u : ℕ) → u < t → t < r .trains → q (runOf r u) ≡ q (runOf r t) → ⊥) → repeats eqb (map p (descriptionOf r .runs)) ≡ false
+  unfolding descriptionOf
+  no-repeat p q h e =
+      rw (map-list p (λ t. trainFrom (runOf r t)) (r .trains))
+      (repeats-list eqb (λ t. p (trainFrom (runOf r t))) (r .trains)
+      (λ u t a b. ne-eqb (p (trainFrom (runOf r u))) (p (trainFrom (runOf r t))) (λ z. e t u a b (omega (arith, h (runOf r u), h (runOf r t))))))
+
+  -- a section end with a signal has a section that is there
+  flag-section : (i : ℕ) → i < sectionEnds → flagAt r i ≡ true → i / 2 < r .sections
+  flag-section i b l =
+      let k : RR.known r (Section (record { 0 = i / 2 }) (sideAt (i % 2))) ≡ true = rw (end-section i b) at (w .signal-known i b l) in
+      ltb-true (i / 2) (r .sections) k
+
+  pub clean : Clean (descriptionOf r)
+  unfolding descriptionOf
+  clean =
+      record {
+        bounds = w .bounds;
+        join-known = join-known;
+        signal-known =
+            from-flag (λ g. within (g .number) (r .sections) ≡ true)
+            (λ i b l. let k = flag-section i b l in is-within (suc (i / 2)) (r .sections) (omega arith) (omega arith));
+        train-known =
+            from-train (λ t. (within (t .start) (r .sections) ≡ true) × (within (t .destination) (r .sections) ≡ true))
+            (λ t h.
+            let k = w .train-known t h in
+            (is-within (suc (runOf r t .start .0)) (r .sections) (omega arith) (omega arith), is-within (suc (runOf r t .destination .0)) (r .sections) (omega arith) (omega arith)));
+        join-right = join-right;
+        ends-once = ends-once;
+        port-joined = port-joined;
+        signals-once = signals-once;
+        starts = no-repeat (λ t. t .start) (λ t. t .start .0) (λ t. refl) (w .starts);
+        destinations = no-repeat (λ t. t .destination) (λ t. t .destination .0) (λ t. refl) (w .destinations);
+      }
+
+  -- WELL FORMED
+  field-small : (e : End) → RR.known r e ≡ true → WritableEnd (fieldOf e)
+  field-small (Section n s) h = let b = w .bounds in let k = ltb-true (n .0) (r .sections) h in omega arith
+  field-small (Port n l) h = let b = w .bounds in let k = ltb-true (n .0) (r .points) h in omega arith
+
+  pub well-formed : WellFormed (descriptionOf r)
+  unfolding descriptionOf
+  well-formed =
+      let b = w .bounds in
+      record {
+        sections = omega arith;
+        points = omega arith;
+        trains = omega arith;
+        joins = λ j m.
+            let t = from-link j m in
+            let k = link-ends j t in
+            (rw (t .origin .one) (field-small (endAt (t .index)) (k .0)), rw (t .origin .other) (field-small (t .origin .to) (k .1)));
+        signals = from-flag WritableSignal (λ i h l. omega arith);
+        runs = from-train WritableTrain (λ t h. let k = w .train-known t h in (omega arith, omega arith));
+        one-a-point = list-length (legsOf r) (r .points);
+        one-a-train = list-length (λ t. trainFrom (runOf r t)) (r .trains);
+      }

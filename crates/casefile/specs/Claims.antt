@@ -1,0 +1,134 @@
+-- What is claimed of the case file, a sentence to each; proofs/ has the proofs.
+-- Assumes nothing.
+use mathlib.Core.Path.{_≡_}
+use mathlib.Core.Bool.{Bool, true, _&&_}
+use mathlib.Core.Logic.{_↔_, _⊎_}
+use mathlib.Core.List.{List, [], _∷_, map, List·Memᴰ}
+use mathlib.Core.Option.{none, some}
+use Prim.Native.Nat.{ℕ, suc, _*_, _<_, _≤_}
+use lib.Dec.{ltb}
+use lib.ListN.{length, getD}
+use Rattle.laws.specs.Lists.{all, Every}
+use Rattle.railway.specs.declared.Side.the-variants.{Up, Down}
+use Rattle.railway.specs.declared.End.{End}
+use Rattle.railway.specs.declared.End.the-variants.{Section, Port}
+use Rattle.railway.specs.declared.Joined.the-variants.{With}
+use Rattle.railway.specs.declared.Train.{Train}
+use Rattle.railway.specs.declared.Railway.{Railway}
+use Rattle.railway.specs.declared.Refusal.{Refusal}
+use Rattle.railway.specs.Record.{joined, hasSignal, legsOf, runOf}
+use Rattle.railway.specs.Rows.{recordRefusal}
+use Rattle.railway.specs.Same.{SameRailway}
+use Rattle.casefile.specs.Form.{EndField, section, port, JoinLine, SignalLine, TrainLine, Description, Describes}
+use Rattle.casefile.specs.Rows.{mostBytes, FormRow}
+use Rattle.casefile.specs.Recording.{noTrainLine}
+use Rattle.casefile.specs.Writing.{writtenText}
+use Rattle.casefile.specs.Given.{accepted, refused, RefusedWith, AcceptedWith}
+use Rattle.casefile.specs.Reading.{read, caseAnswer}
+
+-- READING IS SPELLING. Reading gives a description exactly where it is well formed and spells the text.
+abbrev pub ReadIsSpelling : Type 0
+ReadIsSpelling = (text : List ℕ) (d : Description) → (read text ≡ some d) ↔ Describes text d
+
+-- So a text says one thing at most, and row 2 applies exactly where reading gives nothing.
+abbrev pub DescribesOne : Type 0
+DescribesOne = (text : List ℕ) (d e : Description) → Describes text d → Describes text e → d ≡ e
+
+abbrev pub FormDecided : Type 0
+FormDecided = (text : List ℕ) → (read text ≡ none) ↔ FormRow text
+
+-- GIVEN EXACTLY IF. A refusal is answered exactly where its row applies and none before it, a railway exactly where no row applies and it is the text's.
+abbrev pub RefusedExactly : Type 0
+RefusedExactly = (text : List ℕ) (f : Refusal) → (caseAnswer text ≡ refused f) ↔ RefusedWith text f
+
+abbrev pub AcceptedExactly : Type 0
+AcceptedExactly = (text : List ℕ) (r : Railway) → (caseAnswer text ≡ accepted r) ↔ AcceptedWith text r
+
+-- Every text gets one of the two.
+abbrev pub AlwaysAnswered : Type 0
+AlwaysAnswered = (text : List ℕ) → ((r : Railway) × (caseAnswer text ≡ accepted r)) ⊎ ((f : Refusal) × (caseAnswer text ≡ refused f))
+
+-- FIELD BY FIELD. An end as written names an end of the record: the same kind, the number less one, the same side or leg.
+abbrev pub Names : EndField → End → Type 0
+Names (section n s) (Section m t) = (n ≡ suc (m .0)) × (s ≡ t)
+Names (section n s) (Port m l) = ⊥
+Names (port n l) (Section m t) = ⊥
+Names (port n l) (Port m k) = (n ≡ suc (m .0)) × (l ≡ k)
+
+-- Some J line ties the two ends, either first; some G line names the end.
+pub record Joins (js : List JoinLine) (e f : End) : Type 0 where
+  pub join : JoinLine
+  pub member : List·Memᴰ join js
+  pub ties : (Names (join .one) e × Names (join .other) f) ⊎ (Names (join .one) f × Names (join .other) e)
+
+pub record Signals (gs : List SignalLine) (e : End) : Type 0 where
+  pub signal : SignalLine
+  pub member : List·Memᴰ signal gs
+  pub names : Names (section (signal .number) (signal .side)) e
+
+-- A T line says this of a train.
+pub record Runs (t : TrainLine) (run : Train) : Type 0 where
+  pub heading : run .heading ≡ t .heading
+  pub start : suc (run .start .0) ≡ t .start
+  pub destination : suc (run .destination .0) ≡ t .destination
+
+-- The record has what the lines say: the H line's counts, P line n the legs of point n, the J lines its joins, the G lines its signals, T line t train t.
+pub record Told (d : Description) (r : Railway) : Type 0 where
+  pub sections : r .sections ≡ d .sections
+  pub points : r .points ≡ d .points
+  pub trains : r .trains ≡ d .trains
+  pub legs : (n : ℕ) → n < d .points → legsOf r n ≡ getD (d .legs) n Up
+  pub joins : (e f : End) → (joined r e ≡ With f) ↔ Joins (d .joins) e f
+  pub signals : (e : End) → (hasSignal r e ≡ true) ↔ Signals (d .signals) e
+  pub runs : (t : ℕ) → t < d .trains → Runs (getD (d .runs) t noTrainLine) (runOf r t)
+
+abbrev pub ReadAsTold : Type 0
+ReadAsTold = (text : List ℕ) (r : Railway) → caseAnswer text ≡ accepted r → (d : Description) × Describes text d × Told d r
+
+-- So does the text that the writer makes of an accepted record: it says what the record has.
+abbrev pub WrittenAsTold : Type 0
+WrittenAsTold = (r : Railway) → recordRefusal r ≡ none → (d : Description) × Describes (writtenText r) d × Told d r
+
+-- THE ROUND TRIP. What is written of an accepted record is a case text of the same railway, and fits into the bytes that a case text may have.
+abbrev pub RoundTrip : Type 0
+RoundTrip = (r : Railway) → recordRefusal r ≡ none → (q : Railway) × (caseAnswer (writtenText r) ≡ accepted q) × SameRailway r q
+
+abbrev pub WrittenFits : Type 0
+WrittenFits = (r : Railway) → recordRefusal r ≡ none → length (writtenText r) ≤ mostBytes
+
+-- A railway that was read is accepted when it is handed in as a record.
+abbrev pub AcceptedAgain : Type 0
+AcceptedAgain = (text : List ℕ) (r : Railway) → caseAnswer text ≡ accepted r → recordRefusal r ≡ none
+
+-- So what was read, written and read again is the same railway, and what is written of it is what was written before.
+abbrev pub ReadAgain : Type 0
+ReadAgain =
+    (text : List ℕ) (r : Railway) → caseAnswer text ≡ accepted r
+    → (q : Railway) × (caseAnswer (writtenText r) ≡ accepted q) × SameRailway r q × (writtenText q ≡ writtenText r)
+
+-- THE WRITER'S ORDER. Where an end stands in it: section ends by number, down before up, and ports behind them all.
+abbrev pub rank : EndField → ℕ
+rank (section n Down) = 2 * n
+rank (section n Up) = suc (2 * n)
+rank (port n l) = 2000
+
+-- Numbers that strictly rise.
+unfoldable pub rises : List ℕ → Bool
+rises [] = true
+rises (x ∷ xs) = all (ltb x) xs && rises xs
+
+-- Of a J line the earlier end comes first, which so is a section's; J and G lines rise by the end that they begin with.
+pub record Sorted (d : Description) : Type 0 where
+  pub first : Every (λ j. rank (j .one) < rank (j .other)) (d .joins)
+  pub joins : rises (map (λ j. rank (j .one)) (d .joins)) ≡ true
+  pub signals : rises (map (λ g. rank (section (g .number) (g .side))) (d .signals)) ≡ true
+
+abbrev pub WriterSorts : Type 0
+WriterSorts = (r : Railway) → recordRefusal r ≡ none → (d : Description) → Describes (writtenText r) d → Sorted d
+
+-- THE SAME RAILWAY has the same text, and accepted records with the same text are the same railway.
+abbrev pub SameText : Type 0
+SameText = (r q : Railway) → SameRailway r q → writtenText r ≡ writtenText q
+
+abbrev pub TextSame : Type 0
+TextSame = (r q : Railway) → recordRefusal r ≡ none → recordRefusal q ≡ none → writtenText r ≡ writtenText q → SameRailway r q

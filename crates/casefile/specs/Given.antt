@@ -1,0 +1,68 @@
+-- What a case text is answered with (document 01, "Numbers that a desk can get": its third column, and the sentence on which number is given).
+-- A number is given exactly if its row applies and none before it; a text is accepted exactly if no row applies. Stated over texts and what
+-- they say, not through any reading. Assumes nothing.
+use mathlib.Core.Path.{_≡_}
+use mathlib.Core.Bool.{Bool, true, false}
+use mathlib.Core.List.{List, [], _∷_, _++_}
+use Prim.Native.Nat.{ℕ, _≤_}
+use lib.ListN.{length}
+use Rattle.laws.specs.Lists.{Every}
+use Rattle.railway.specs.declared.Railway.{Railway}
+use Rattle.railway.specs.declared.Refusal.{Refusal}
+use Rattle.railway.specs.declared.Refusal.the-variants.{Length, Form, Count, Unknown, Join, Loose, Double, Place, Space, PlanForm, PlanFault}
+use Rattle.railway.specs.Record.{emptyRailway}
+use Rattle.casefile.specs.declared.CaseRead.{CaseRead}
+use Rattle.casefile.specs.declared.CaseAnswer.the-variants.{Accepted, Refused}
+use Rattle.casefile.specs.Form.{Description, Describes}
+use Rattle.casefile.specs.Rows.{mostBytes, LengthRow, FormRow, countRow, unknownRow, joinRow, looseRow, doubleRow, placeRow, descriptionRows}
+use Rattle.casefile.specs.Recording.{railwayOf}
+
+-- The answers: accepted, with a railway; refused, with the empty record beside it.
+abbrev pub accepted : Railway → CaseRead
+accepted r = record { answer = Accepted; railway = r }
+
+abbrev pub refused : Refusal → CaseRead
+refused f = record { answer = Refused f; railway = emptyRailway }
+
+-- What the text says passes a test.
+pub record Says (text : List ℕ) (test : Description → Bool) : Type 0 where
+  pub description : Description
+  pub described : Describes text description
+  pub passes : test description ≡ true
+
+-- A row applies to a text. Rows 9 to 11 judge no case text.
+abbrev pub Applies : List ℕ → Refusal → Type 0
+Applies text Length = LengthRow text
+Applies text Form = FormRow text
+Applies text Count = Says text countRow
+Applies text Unknown = Says text unknownRow
+Applies text Join = Says text joinRow
+Applies text Loose = Says text looseRow
+Applies text Double = Says text doubleRow
+Applies text Place = Says text placeRow
+Applies text Space = ⊥
+Applies text PlanForm = ⊥
+Applies text PlanFault = ⊥
+
+-- The rows that judge a case text, in the table's order.
+abbrev pub caseTable : List Refusal
+caseTable = Length ∷ Form ∷ Count ∷ Unknown ∷ Join ∷ Loose ∷ Double ∷ Place ∷ []
+
+-- Of the rows of a table, this one applies and none that stands before it.
+pub record FirstOf (applies : Refusal → Type 0) (table : List Refusal) (f : Refusal) : Type 0 where
+  pub before : List Refusal
+  pub after : List Refusal
+  pub order : table ≡ before ++ (f ∷ after)
+  pub here : applies f
+  pub not-before : Every (λ g. applies g → ⊥) before
+
+abbrev pub RefusedWith : List ℕ → Refusal → Type 0
+RefusedWith text f = FirstOf (Applies text) caseTable f
+
+-- The text is not too long, says something to which none of rows 3 to 8 applies, and the railway is that of what it says.
+pub record AcceptedWith (text : List ℕ) (r : Railway) : Type 0 where
+  pub short : length text ≤ mostBytes
+  pub description : Description
+  pub described : Describes text description
+  pub no-row : Every (λ x. x .applies ≡ false) (descriptionRows description)
+  pub railway : r ≡ railwayOf description

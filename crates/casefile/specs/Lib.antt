@@ -1,0 +1,7 @@
+pub mod Form
+pub mod Rows
+pub mod Recording
+pub mod Writing
+pub mod Given
+pub mod Reading
+pub mod Claims

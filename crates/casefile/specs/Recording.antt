@@ -1,0 +1,56 @@
+-- The railway of a description: the record that a case text is read into. It counts from 0. `Claims` has what it answers, field by field, in
+-- words of its own. Assumes nothing.
+use mathlib.Core.Bool.{cond}
+use mathlib.Core.List.{List, [], _∷_}
+use Prim.Native.Nat.{ℕ, suc, _-_, _/_, _%_}
+use lib.ListN.{getD}
+use Rattle.laws.specs.Below.{listBelow}
+use Rattle.laws.specs.Lists.{any}
+use Rattle.railway.specs.declared.Side.the-variants.{Up}
+use Rattle.railway.specs.declared.End.{End}
+use Rattle.railway.specs.declared.End.the-variants.{Section, Port}
+use Rattle.railway.specs.declared.Joined.{Joined}
+use Rattle.railway.specs.declared.Joined.the-variants.{Nothing, With}
+use Rattle.railway.specs.declared.Train.{Train}
+use Rattle.railway.specs.declared.Railway.{Railway}
+use Rattle.railway.specs.Bounds.{mostPoints, mostTrains, sectionEnds, allEnds}
+use Rattle.railway.specs.Ends.{sideAt, endAt}
+use Rattle.casefile.specs.Form.{EndField, section, port, JoinLine, SignalLine, TrainLine, Description}
+use Rattle.casefile.specs.Rows.{sameEnd, sameSignal}
+
+-- An end as written and in the record.
+abbrev pub endOf : EndField → End
+endOf (section n s) = Section (record { 0 = n - 1 }) s
+endOf (port n l) = Port (record { 0 = n - 1 }) l
+
+abbrev pub fieldOf : End → EndField
+fieldOf (Section n s) = section (suc (n .0)) s
+fieldOf (Port n l) = port (suc (n .0)) l
+
+-- What the J lines join an end to.
+unfoldable pub partner : List JoinLine → EndField → Joined
+partner [] e = Nothing
+partner (j ∷ js) e = cond (sameEnd e (j .one)) (With (endOf (j .other))) (cond (sameEnd e (j .other)) (With (endOf (j .one))) (partner js e))
+
+-- The G line that names the section end of an index.
+abbrev pub signalOf : ℕ → SignalLine
+signalOf i = record { number = suc (i / 2); side = sideAt (i % 2) }
+
+-- A T line in the record, and what stands for one that is not there.
+abbrev pub trainOf : TrainLine → Train
+trainOf t = record { heading = t .heading; start = record { 0 = t .start - 1 }; destination = record { 0 = t .destination - 1 } }
+
+abbrev pub noTrainLine : TrainLine
+noTrainLine = record { heading = Up; start = 1; destination = 1 }
+
+unfoldable pub railwayOf : Description → Railway
+railwayOf d =
+    record {
+      sections = d .sections;
+      points = d .points;
+      trains = d .trains;
+      legs = listBelow (λ n. record { side = getD (d .legs) n Up }) mostPoints;
+      links = listBelow (λ i. record { to = partner (d .joins) (fieldOf (endAt i)) }) allEnds;
+      signals = listBelow (λ i. any (sameSignal (signalOf i)) (d .signals)) sectionEnds;
+      runs = listBelow (λ t. trainOf (getD (d .runs) t noTrainLine)) mostTrains;
+    }

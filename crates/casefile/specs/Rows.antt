@@ -1,0 +1,116 @@
+-- Rows 1 to 8 of the table of numbers, for a case text: one definition a row, in the table's order. Rows 3 to 8 judge what the text says.
+-- Assumes nothing.
+use mathlib.Core.Bool.{Bool, false, not, _&&_, _||_}
+use mathlib.Core.List.{List, [], _∷_, map}
+use mathlib.Core.Option.{Option, none, some}
+use Prim.Native.Nat.{ℕ, suc, _-_, _<_}
+use lib.Dec.{leb, eqb}
+use lib.ListN.{length, getD}
+use Rattle.laws.specs.Below.{anyBelow}
+use Rattle.laws.specs.Lists.{any, repeats}
+use Rattle.railway.specs.declared.Side.{Side}
+use Rattle.railway.specs.declared.Side.the-variants.{Up}
+use Rattle.railway.specs.declared.Leg.the-variants.{Stem, Plus, Minus}
+use Rattle.railway.specs.declared.Refusal.the-variants.{Count, Unknown, Join, Loose, Double, Place}
+use Rattle.railway.specs.Ends.{sameSide, portSide, legIndex}
+use Rattle.railway.specs.Refusals.{Row, row}
+use Rattle.railway.specs.Rows.{outside, Tied, wrongPair}
+use Rattle.casefile.specs.Form.{EndField, section, port, JoinLine, SignalLine, TrainLine, Description, Describes}
+
+-- 1, length: the text has more bytes than a case text may have.
+abbrev pub mostBytes : ℕ
+mostBytes = 4096
+
+abbrev pub LengthRow : List ℕ → Type 0
+LengthRow text = mostBytes < length text
+
+-- 2, form: the text says nothing.
+abbrev pub FormRow : List ℕ → Type 0
+FormRow text = (d : Description) → Describes text d → ⊥
+
+-- 3, count: the H line has a number of sections, points or trains that no railway may have.
+abbrev pub countRow : Description → Bool
+countRow d = outside (d .sections) (d .points) (d .trains)
+
+-- A number from 1 to a count; an end whose section or point is there.
+abbrev pub within : ℕ → ℕ → Bool
+within n count = leb 1 n && leb n count
+
+abbrev pub known : Description → EndField → Bool
+known d (section n s) = within n (d .sections)
+known d (port n l) = within n (d .points)
+
+-- 4, unknown: some section or point that a J, G or T line names has number 0, or one above the H line's.
+abbrev pub unknownJoin : Description → JoinLine → Bool
+unknownJoin d j = not (known d (j .one) && known d (j .other))
+
+abbrev pub unknownSignal : Description → SignalLine → Bool
+unknownSignal d g = not (within (g .number) (d .sections))
+
+abbrev pub unknownTrain : Description → TrainLine → Bool
+unknownTrain d t = not (within (t .start) (d .sections) && within (t .destination) (d .sections))
+
+unfoldable pub unknownRow : Description → Bool
+unknownRow d = any (unknownJoin d) (d .joins) || any (unknownSignal d) (d .signals) || any (unknownTrain d) (d .runs)
+
+-- 5, join: the ends of a J line are two ports, or two of one section, or lie on the same side; or an end stands in the J lines twice.
+-- An end's side is a section's own, a port's by the P line of its point.
+abbrev pub sectionOf : EndField → Option ℕ
+sectionOf (section n s) = some n
+sectionOf (port n l) = none
+
+abbrev pub sideOf : Description → EndField → Side
+sideOf d (section n s) = s
+sideOf d (port n l) = portSide (getD (d .legs) (n - 1) Up) l
+
+abbrev pub tied : Description → EndField → Tied
+tied d e = record { section = sectionOf e; side = sideOf d e }
+
+abbrev pub wrongJoin : Description → JoinLine → Bool
+wrongJoin d j = wrongPair (tied d (j .one)) (tied d (j .other))
+
+abbrev pub sameEnd : EndField → EndField → Bool
+sameEnd (section m s) (section n t) = eqb m n && sameSide s t
+sameEnd (section m s) (port n l) = false
+sameEnd (port m l) (section n s) = false
+sameEnd (port m l) (port n k) = eqb m n && eqb (legIndex l) (legIndex k)
+
+-- The ends that the J lines name, each as often as it is named.
+unfoldable pub joinEnds : List JoinLine → List EndField
+joinEnds [] = []
+joinEnds (j ∷ js) = j .one ∷ j .other ∷ joinEnds js
+
+unfoldable pub joinRow : Description → Bool
+joinRow d = any (wrongJoin d) (d .joins) || repeats sameEnd (joinEnds (d .joins))
+
+-- 6, loose: no J line names some port of some point.
+abbrev pub looseEnd : Description → EndField → Bool
+looseEnd d e = not (any (sameEnd e) (joinEnds (d .joins)))
+
+abbrev pub looseAt : Description → ℕ → Bool
+looseAt d i = looseEnd d (port (suc i) Stem) || looseEnd d (port (suc i) Plus) || looseEnd d (port (suc i) Minus)
+
+unfoldable pub looseRow : Description → Bool
+looseRow d = anyBelow (looseAt d) (d .points)
+
+-- 7, double: two G lines name one section end.
+abbrev pub sameSignal : SignalLine → SignalLine → Bool
+sameSignal g h = eqb (g .number) (h .number) && sameSide (g .side) (h .side)
+
+unfoldable pub doubleRow : Description → Bool
+doubleRow d = repeats sameSignal (d .signals)
+
+-- 8, place: a section is the start of two trains, or the destination of two.
+unfoldable pub placeRow : Description → Bool
+placeRow d = repeats eqb (map (λ t. t .start) (d .runs)) || repeats eqb (map (λ t. t .destination) (d .runs))
+
+-- Rows 3 to 8 of what a text says, in the table's order.
+abbrev pub descriptionRows : Description → List Row
+descriptionRows d =
+    row Count (countRow d)
+    ∷ row Unknown (unknownRow d)
+    ∷ row Join (joinRow d)
+    ∷ row Loose (looseRow d)
+    ∷ row Double (doubleRow d)
+    ∷ row Place (placeRow d)
+    ∷ []

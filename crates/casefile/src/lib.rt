@@ -1,0 +1,22 @@
+// The case file: what a case text says of a railway and what the writer makes of one. The definitions are in specs/, the theorems in proofs/.
+// Declared here are the answers of reader and writer.
+use railway::Railway;
+use railway::Refusal;
+
+// What a case text is answered with: it is accepted, or refused with the first row of the table of numbers that applies.
+pub enum CaseAnswer {
+    Accepted,
+    Refused(Refusal),
+}
+
+// The answer and the railway of the text; the empty record where the text is refused.
+pub struct CaseRead {
+    pub answer: CaseAnswer,
+    pub railway: Railway,
+}
+
+// What the writer answers: how many bytes it has written, or why it has written none.
+pub enum Written {
+    Bytes(usize),
+    Refused(Refusal),
+}
