@@ -3,7 +3,7 @@
 use Prim.Native.Nat.{ℕ, zero, suc, _<_}
 use mathlib.Core.Path.{_≡_, refl, sym, _∙_, ap}
 use mathlib.Core.Bool.{Bool, true, false, not, _&&_, _||_}
-use mathlib.Core.List.{List, [], _∷_, map, List·Memᴰ, List·Memᴰ·head, List·Memᴰ·tail}
+use mathlib.Core.List.{List, [], _∷_, _++_, map, List·Memᴰ, List·Memᴰ·head, List·Memᴰ·tail}
 use native.Mathlib.Omega.{arith}
 use lib.Dec.{eqb}
 use lib.ListN.{length, getD}
@@ -48,6 +48,16 @@ module _ {A : Type 0} where
   unfolding all
   all-each f [] h = refl
   all-each f (y ∷ l) h = and-both (f y) (all f l) (h y (List·Memᴰ·head refl)) (all-each f l (λ x m. h x (List·Memᴰ·tail m)))
+
+  pub all-append : (f : A → Bool) (s t : List A) → all f s ≡ true → all f t ≡ true → all f (s ++ t) ≡ true
+  unfolding all
+  all-append f [] t p q = q
+  all-append f (x ∷ s) t p q = let h = and-true (f x) (all f s) p in and-both (f x) (all f (s ++ t)) (h .0) (all-append f s t (h .1) q)
+
+  pub all-weaken : (f g : A → Bool) → ((x : A) → f x ≡ true → g x ≡ true) → (l : List A) → all f l ≡ true → all g l ≡ true
+  unfolding all
+  all-weaken f g h [] p = refl
+  all-weaken f g h (x ∷ l) p = let t = and-true (f x) (all f l) p in and-both (g x) (all g l) (h x (t .0)) (all-weaken f g h l (t .1))
 
   pub repeats-head : (same : A → A → Bool) (x : A) (l : List A) → repeats same (x ∷ l) ≡ false → ((y : A) → List·Memᴰ y l → same x y ≡ false) × (repeats same l ≡ false)
   unfolding repeats

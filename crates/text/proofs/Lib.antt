@@ -1,0 +1,4 @@
+pub mod Examples
+pub mod Decimal
+pub mod Cursor
+pub mod Lines

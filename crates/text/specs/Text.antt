@@ -1,0 +1,27 @@
+-- How numbers and lines are written, in a case file and in a plan alike (document 01, "The case file": lines, fields, numbers; "The two tables
+-- and the plan": figures). A text is the list of its bytes. Assumes nothing.
+use mathlib.Core.Bool.{cond}
+use mathlib.Core.List.{List, [], _∷_, _++_}
+use Prim.Native.Nat.{ℕ, zero, suc, _+_, _/_, _%_}
+use lib.Dec.{ltb}
+
+-- The decimal digits of a number, none in front that is zero; `0` is zero. At most as many as the first number says.
+unfoldable pub digits : ℕ → ℕ → List ℕ
+digits zero n = []
+digits (suc left) n = cond (ltb n 10) ((48 + n) ∷ []) (digits left (n / 10) ++ ((48 + n % 10) ∷ []))
+
+-- A number as it is written. Ten digits are enough for both formats: a case file writes numbers below 1,000, a plan figures below 4,294,967,295.
+abbrev pub decimal : ℕ → List ℕ
+decimal n = digits 10 n
+
+-- A line: its fields, byte 9 between one and the next, byte 10 behind the last.
+abbrev pub tab : ℕ
+tab = 9
+
+abbrev pub lineEnd : ℕ
+lineEnd = 10
+
+unfoldable pub line : List (List ℕ) → List ℕ
+line [] = lineEnd ∷ []
+line (f ∷ []) = f ++ (lineEnd ∷ [])
+line (f ∷ g ∷ fs) = f ++ (tab ∷ line (g ∷ fs))
