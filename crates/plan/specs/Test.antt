@@ -1,0 +1,68 @@
+-- The test of a plan (document 01, "The two tables and the plan": test of a plan), a field for each of its sentences, over what a plan lists.
+-- Plans are read off their lines here, and off two tables. Assumes nothing.
+use mathlib.Core.Path.{_≡_}
+use mathlib.Core.Bool.{Bool, true, false, cond, _&&_}
+use mathlib.Core.List.{List, [], _∷_}
+use mathlib.Core.Option.{Option, none, some}
+use Prim.Native.Nat.{ℕ, _<_}
+use lib.ListN.{getD}
+use lib.Dec.{eqb}
+use Rattle.laws.specs.Below.{anyBelow}
+use Rattle.laws.specs.Bits.{bit}
+use Rattle.railway.specs.declared.Railway.{Railway}
+use Rattle.railway.specs.Ends.{endIndex}
+use Rattle.game.specs.Claim.{Keeps}
+use Rattle.game.specs.Placement.{placements, startCode, atHome, shared}
+use Rattle.game.specs.Setting.{Setting, headsFor, held}
+use Rattle.game.specs.Moves.{gameOf}
+use Rattle.tables.specs.Entries.{opensIn}
+use Rattle.tables.specs.Tables.{figureIn}
+use Rattle.plan.specs.Lines.{PlacementLine, lineCode}
+
+-- What a plan lists at a placement: its figure (none: the placement is not listed), the open trains, the points at plus.
+pub record Listing : Type 0 where
+  pub figure : ℕ → Option ℕ
+  pub opens : ℕ → ℕ → Bool
+  pub plus : ℕ → ℕ → Bool
+
+-- The whole setting that is listed at placement p: the signals that open trains head for are open, all others closed.
+abbrev pub opensAt : Railway → Listing → ℕ → ℕ → ℕ → Bool
+opensAt r L p i t = L .opens p t && eqb i (endIndex (headsFor r p t))
+
+unfoldable pub listedSetting : Railway → Listing → ℕ → Setting
+listedSetting r L p = record { plus = L .plus p; isOpen = λ i. anyBelow (opensAt r L p i) (r .trains) }
+
+-- A plan with figure m in its first line passes the test.
+pub record Test (r : Railway) (m : ℕ) (L : Listing) : Type 0 where
+  -- the start is listed, and the first line has its figure
+  pub start : L .figure (startCode r) ≡ some m
+  -- where a placement is listed no two trains share a section
+  pub apart : (p n : ℕ) → p < placements r → L .figure p ≡ some n → shared r p ≡ false
+  -- .. and a train that is open has a signal at the end that it heads for
+  pub signalled : (p n t : ℕ) → p < placements r → L .figure p ≡ some n → t < r .trains → L .opens p t ≡ true → held r p t ≡ true
+  -- where it is not home some train may move, and every move that is allowed ends in a listed placement of smaller figure
+  pub kept : (p n : ℕ) → p < placements r → L .figure p ≡ some n → atHome r p ≡ false → Keeps (gameOf r) (L .figure) p (listedSetting r L p) n
+
+-- WHAT LINES LIST. The line for placement p.
+unfoldable pub lineOn : Railway → List PlacementLine → ℕ → Option PlacementLine
+lineOn r [] p = none
+lineOn r (d ∷ ds) p = cond (eqb (lineCode r d) p) (some d) (lineOn r ds p)
+
+abbrev pub figureOn : Option PlacementLine → Option ℕ
+figureOn none = none
+figureOn (some d) = some (d .figure)
+
+abbrev pub opensOn : Option PlacementLine → ℕ → Bool
+opensOn none t = false
+opensOn (some d) t = getD (d .opens) t false
+
+abbrev pub plusOn : Option PlacementLine → ℕ → Bool
+plusOn none n = false
+plusOn (some d) n = getD (d .plus) n false
+
+abbrev pub byLines : Railway → List PlacementLine → Listing
+byLines r ds = record { figure = λ p. figureOn (lineOn r ds p); opens = λ p. opensOn (lineOn r ds p); plus = λ p. plusOn (lineOn r ds p) }
+
+-- WHAT TABLES LIST: the placements with a figure.
+abbrev pub byTables : List ℕ → List ℕ → Listing
+byTables figs sets = record { figure = figureIn figs; opens = λ p. opensIn (getD sets p 0); plus = λ p. bit (getD sets p 0) }
