@@ -1,0 +1,11 @@
+pub mod Plays
+pub mod Turns
+pub mod Homing
+pub mod Whole
+pub mod Figures
+pub mod Settle
+pub mod Codes
+pub mod Accepted
+pub mod Moves
+pub mod Agreeing
+pub mod Inhabited

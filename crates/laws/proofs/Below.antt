@@ -1,16 +1,17 @@
--- Laws of the numbers below k: all, any, lowest, how many, lists; and the steps of a loop that looks for one.
+-- Laws of the numbers below k: all, any, lowest, how many, sums, lists; and the steps of a loop that looks for one.
 -- Assumes nothing.
 use mathlib.Core.Path.{_≡_, refl, sym, _∙_, ap}
 use mathlib.Core.Logic.{_⊎_, inl, inr}
 use mathlib.Core.Bool.{Bool, true, false, cond, not, _&&_, _||_}
 use mathlib.Core.List.{List, [], _∷_, _++_, map, List·Memᴰ, List·Memᴰ·head, List·Memᴰ·append-cases, Memᴰ·append-left, Memᴰ·append-right}
 use mathlib.Core.Option.{Option, none, some}
-use Prim.Native.Nat.{ℕ, zero, suc, _+_, _≤_, _<_}
+use Prim.Native.Nat.{ℕ, zero, suc, _+_, _*_, _≤_, _<_}
 use native.Mathlib.Omega.{arith}
+use native.Mathlib.Nat.{mul-add}
 use native.Mathlib.Numerals.{add-one}
 use lib.ListN.{length, getD, length-append, length-map, List·getD-append, List·getD-map}
 use lib.Seq.{getD-at, ext-getD}
-use Rattle.laws.specs.Below.{allBelow, anyBelow, countBelow, listBelow, gatherBelow, lowest, orElse}
+use Rattle.laws.specs.Below.{allBelow, anyBelow, countBelow, sumBelow, listBelow, gatherBelow, lowest, orElse}
 use Rattle.laws.proofs.Bools.{bool?, lt?, clash, and-true, and-both, either, or-left, or-right, or-false}
 
 -- what holds below k and at k holds below k + 1
@@ -150,6 +151,54 @@ count-two f (suc k) i j l m a b = elim (lt? j k) [
   | inl n ↦ omega (arith, count-two f k i j l n a b)
   | inr n ↦ let z : j ≡ k = omega arith in let y : f k ≡ true = rw z at b in rw y (omega (arith, count-one f k i (omega arith) a))
 ]
+
+pub count-le : (f : ℕ → Bool) (k : ℕ) → countBelow f k ≤ k
+unfolding countBelow
+count-le f zero = omega arith
+count-le f (suc k) = omega (arith, count-le f k, bit-le (f k))
+  where
+    bit-le : (b : Bool) → cond b 1 0 ≤ 1
+    bit-le true = omega arith
+    bit-le false = omega arith
+
+-- a test that more pass counts more
+module _ (f g : ℕ → Bool) (keep : (i : ℕ) → f i ≡ true → g i ≡ true) where
+  count-step : (i : ℕ) → cond (f i) 1 0 ≤ cond (g i) 1 0
+  count-step i = elim (bool? (f i)) [ inl e ↦ rw (e, keep i e) (omega arith) | inr e ↦ rw e (omega arith) ]
+
+  pub count-mono : (k : ℕ) → countBelow f k ≤ countBelow g k
+  unfolding countBelow
+  count-mono zero = omega arith
+  count-mono (suc k) = omega (arith, count-mono k, count-step k)
+
+  pub count-more : (k i : ℕ) → i < k → f i ≡ false → g i ≡ true → countBelow f k < countBelow g k
+  unfolding countBelow
+  count-more zero i l a b = absurd (omega arith)
+  count-more (suc k) i l a b = elim (lt? i k) [
+    | inl m ↦ omega (arith, count-more k i m a b, count-step k)
+    | inr m ↦
+        let z : i ≡ k = omega arith in
+        let x : f k ≡ false = rw z at a in
+        let y : g k ≡ true = rw z at b in
+        rw (x, y) (omega (arith, count-mono k))
+  ]
+
+-- SUMS
+pub sum-same : (f g : ℕ → ℕ) (k : ℕ) → ((i : ℕ) → i < k → f i ≡ g i) → sumBelow f k ≡ sumBelow g k
+unfolding sumBelow
+sum-same f g zero h = refl
+sum-same f g (suc k) h = let a : sumBelow f k ≡ sumBelow g k = sum-same f g k (λ i l. h i (omega arith)) in let b : f k ≡ g k = h k (omega arith) in rw (a, b)
+
+-- the first summand apart
+pub sum-first : (f : ℕ → ℕ) (k : ℕ) → sumBelow f (suc k) ≡ f 0 + sumBelow (λ i. f (suc i)) k
+unfolding sumBelow
+sum-first f zero = omega arith
+sum-first f (suc k) = let h : sumBelow f (suc k) ≡ f 0 + sumBelow (λ i. f (suc i)) k = sum-first f k in omega arith
+
+pub sum-times : (s : ℕ) (f : ℕ → ℕ) (k : ℕ) → s * sumBelow f k ≡ sumBelow (λ i. s * f i) k
+unfolding sumBelow
+sum-times s f zero = omega arith
+sum-times s f (suc k) = mul-add s (sumBelow f k) (f k) ∙ (let h : s * sumBelow f k ≡ sumBelow (λ i. s * f i) k = sum-times s f k in rw h)
 
 -- LISTS made of a function
 module _ {A : Type 0} where

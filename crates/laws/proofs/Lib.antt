@@ -1,4 +1,5 @@
 pub mod Bools
 pub mod Below
 pub mod Lists
+pub mod Bits
 pub mod Which

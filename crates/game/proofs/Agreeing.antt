@@ -1,0 +1,99 @@
+-- Settings that agree on the railway are alike: they let the same trains move, to the same ends, and the one choice names the same train under both.
+-- A train looks at its own signal, if it has one, and its way at points of the railway; a setting is asked nowhere else. And open signals only add moves.
+-- Assumes nothing.
+use mathlib.Core.Path.{_≡_, refl, sym, _∙_, ap}
+use mathlib.Core.Logic.{_⊎_, inl, inr}
+use mathlib.Core.Bool.{Bool, true, false, cond}
+use mathlib.Core.Option.{Option}
+use Prim.Native.Nat.{ℕ, _<_}
+use lib.Dec.{ltb}
+use borrow.Author.Tests.{ltb-true}
+use Rattle.laws.proofs.Bools.{bool?, clash, either, or-left, or-right}
+use Rattle.railway.specs.declared.SectionNo.{SectionNo}
+use Rattle.railway.specs.declared.PointNo.{PointNo}
+use Rattle.railway.specs.declared.End.{End}
+use Rattle.railway.specs.declared.End.the-variants.{Section, Port}
+use Rattle.railway.specs.declared.Joined.{Joined}
+use Rattle.railway.specs.declared.Joined.the-variants.{Nothing, With}
+use Rattle.railway.specs.declared.Railway.{Railway}
+use Rattle.railway.specs.Bounds.{sectionEnds}
+use Rattle.railway.specs.Ends.{endIndex}
+use Rattle.railway.specs.Record.{flagAt, joined, hasSignal}
+use Rattle.game.specs.Game.{Game, may}
+use Rattle.game.specs.Claim.{Alike, OneChoice}
+use Rattle.game.specs.Setting.{Setting, SameSetting, headsFor, held, free, opensFor, mayMove}
+use Rattle.game.specs.Moves.{Passage, pastJoin, passes, enters, moveOf, gameOf}
+use Rattle.game.proofs.Accepted.{Known, Facts}
+
+-- a signal that stands has its flag
+pub record Flagged (r : Railway) (e : End) : Type 0 where
+  pub below : endIndex e < sectionEnds
+  pub flag : flagAt r (endIndex e) ≡ true
+
+pub signal-flag : (r : Railway) (e : End) → hasSignal r e ≡ true → Flagged r e
+unfolding hasSignal
+signal-flag r e h = go (ltb (endIndex e) sectionEnds) refl h
+  where
+    go : (b : Bool) → ltb (endIndex e) sectionEnds ≡ b → cond b (flagAt r (endIndex e)) false ≡ true → Flagged r e
+    go true l f = record { below = ltb-true (endIndex e) sectionEnds l; flag = f }
+    go false l f = clash f refl
+
+module _ (r : Railway) where
+  pub held-flag : (p t : ℕ) → held r p t ≡ true → Flagged r (headsFor r p t)
+  unfolding held
+  held-flag p t h = signal-flag r (headsFor r p t) h
+
+  -- who may move: a free train always, another as its signal says
+  pub may-free : (p : ℕ) (s : Setting) (t : ℕ) → held r p t ≡ false → mayMove r p s t ≡ true
+  unfolding mayMove
+  may-free p s t h = rw h
+
+  pub may-held : (p : ℕ) (s : Setting) (t : ℕ) → held r p t ≡ true → mayMove r p s t ≡ opensFor r p s t
+  unfolding mayMove
+  may-held p s t h = rw h
+
+  pub may-same : (a b : Setting) → SameSetting r a b → (p t : ℕ) → mayMove r p a t ≡ mayMove r p b t
+  may-same a b same p t = elim (bool? (held r p t)) [
+    | inl h ↦ let f = held-flag p t h in may-held p a t h ∙ same .signals (endIndex (headsFor r p t)) (f .below) (f .flag) ∙ sym (may-held p b t h)
+    | inr h ↦ may-free p a t h ∙ sym (may-free p b t h)
+  ]
+
+  -- open signals only add moves
+  pub may-more : (a b : Setting) → ((i : ℕ) → a .isOpen i ≡ true → b .isOpen i ≡ true) → (p t : ℕ) → mayMove r p a t ≡ true → mayMove r p b t ≡ true
+  unfolding mayMove
+  may-more a b more p t m = elim (either (free r p t) (opensFor r p a t) m) [
+    | inl f ↦ or-left (free r p t) (opensFor r p b t) f
+    | inr o ↦ or-right (free r p t) (opensFor r p b t) (more (endIndex (headsFor r p t)) o)
+  ]
+
+-- ways over the railway's points depend on nothing else
+abbrev pub SamePoints : Railway → (ℕ → Bool) → (ℕ → Bool) → Type 0
+SamePoints r a b = (n : ℕ) → n < r .points → a n ≡ b n
+
+module _ (r : Railway) (ok : Facts r) where
+  join-same : (a b : ℕ → Bool) → SamePoints r a b → (j : Joined) → Known r j → pastJoin r a j ≡ pastJoin r b j
+  join-same a b same Nothing k = refl
+  join-same a b same (With (Section n d)) k = refl
+  join-same a b same (With (Port n l)) k = let e : a (n .0) ≡ b (n .0) = same (n .0) (ltb-true (n .0) (r .points) k) in rw e
+
+  pub passes-same : (a b : ℕ → Bool) → SamePoints r a b → (e : End) → passes r a e ≡ passes r b e
+  unfolding passes
+  passes-same a b same e = join-same a b same (joined r e) (ok .joins e)
+
+  pub move-same : (a b : Setting) → SamePoints r (a .plus) (b .plus) → (p t : ℕ) → moveOf r p a t ≡ moveOf r p b t
+  unfolding moveOf
+  move-same a b same p t = ap (λ (w : Passage). enters r p t (w .reached)) (passes-same (a .plus) (b .plus) same (headsFor r p t))
+
+  pub alike : (a b : Setting) → SameSetting r a b → (p : ℕ) → Alike (gameOf r) p a b
+  alike a b same p =
+      record {
+        same-trains = λ t. let e : mayMove r p a t ≡ mayMove r p b t = may-same r a b same p t in rw e;
+        same-ends = λ t m. move-same a b (same .points) p t;
+      }
+
+  -- the one choice names a train of the railway, and the same under settings that agree
+  pub choice-there : (F : ℕ → Option ℕ) (c : OneChoice (gameOf r) F) (p : ℕ) (s : Setting) → c .named p s < r .trains
+  choice-there F c p s = c .there p s (ok .one-train)
+
+  pub choice-agrees : (F : ℕ → Option ℕ) (c : OneChoice (gameOf r) F) (p : ℕ) (a b : Setting) → SameSetting r a b → c .named p a ≡ c .named p b
+  choice-agrees F c p a b same = c .alike p a b (alike a b same p)

@@ -1,0 +1,108 @@
+-- Laws of an accepted railway's moves: trains stand on its sections and come to its sections, so that moves stay among the placements; the start is one of them.
+-- A train comes to a section that a join names, and every join names what is there. Assumes nothing.
+use mathlib.Core.Path.{_≡_, refl, sym, _∙_, ap}
+use mathlib.Core.Bool.{Bool, true, false, cond}
+use mathlib.Core.List.{List}
+use mathlib.Core.Option.{Option, none, some}
+use Prim.Native.Nat.{ℕ, _^_, _<_}
+use native.Mathlib.Omega.{arith}
+use lib.ListN.{length, getD, set, length-set}
+use lib.Dec.{ltb}
+use borrow.Author.Tests.{ltb-true}
+use Rattle.laws.specs.Below.{listBelow}
+use Rattle.laws.proofs.Bools.{some-none}
+use Rattle.laws.proofs.Below.{list-length, list-get}
+use Rattle.railway.specs.declared.Leg.{Leg}
+use Rattle.railway.specs.declared.SectionNo.{SectionNo}
+use Rattle.railway.specs.declared.PointNo.{PointNo}
+use Rattle.railway.specs.declared.End.{End}
+use Rattle.railway.specs.declared.End.the-variants.{Section, Port}
+use Rattle.railway.specs.declared.Joined.{Joined}
+use Rattle.railway.specs.declared.Joined.the-variants.{Nothing, With}
+use Rattle.railway.specs.declared.Train.{Train}
+use Rattle.railway.specs.declared.Railway.{Railway}
+use Rattle.railway.specs.Record.{joined, runOf}
+use Rattle.game.specs.Game.{Outcome, lost, at, collision}
+use Rattle.game.specs.Local.{Inside}
+use Rattle.game.specs.Placement.{codeOf, sectionsIn, sectionsOf, standsOn, placements, startCode}
+use Rattle.game.specs.Setting.{Setting, headsFor}
+use Rattle.game.specs.Moves.{through, behindPort, pastPoint, pastJoin, passes, occupied, codeWith, enters, moveOf, gameOf}
+use Rattle.game.proofs.Codes.{AllBelow, code-below, sections-code, sections-length, sections-below, set-below}
+use Rattle.game.proofs.Accepted.{Known, Facts}
+
+module _ (r : Railway) (ok : Facts r) where
+  -- every train stands on a section of the railway
+  pub section-below : (p t : ℕ) → t < r .trains → standsOn r p t < r .sections
+  unfolding standsOn
+  section-below p t l = sections-below (r .sections) (r .trains) p (ok .one-section) t (rw (sections-length (r .sections) (r .trains) p) l)
+
+  -- and comes to one
+  behind-below : (j : Joined) (x : ℕ) → Known r j → behindPort j ≡ some x → x < r .sections
+  behind-below Nothing x k e = some-none e refl
+  behind-below (With (Section n d)) x k e = let z : n .0 ≡ x = cc in omega (arith, ltb-true (n .0) (r .sections) k)
+  behind-below (With (Port n g)) x k e = some-none e refl
+
+  point-below : (n : PointNo) (l : Option Leg) (x : ℕ) → pastPoint r n l .reached ≡ some x → x < r .sections
+  point-below n none x e = some-none e refl
+  point-below n (some l) x e = behind-below (joined r (Port n l)) x (ok .joins (Port n l)) e
+
+  join-below : (plus : ℕ → Bool) (j : Joined) (x : ℕ) → Known r j → pastJoin r plus j .reached ≡ some x → x < r .sections
+  join-below plus Nothing x k e = some-none e refl
+  join-below plus (With (Section n d)) x k e = let z : n .0 ≡ x = cc in omega (arith, ltb-true (n .0) (r .sections) k)
+  join-below plus (With (Port n g)) x k e = point-below n (through g (plus (n .0))) x e
+
+  pub passes-below : (plus : ℕ → Bool) (e : End) (x : ℕ) → passes r plus e .reached ≡ some x → x < r .sections
+  unfolding passes
+  passes-below plus e x h = join-below plus (joined r e) x (ok .joins e) h
+
+  -- a placement with one train put on another section is a placement
+  pub code-with-below : (p t x : ℕ) → x < r .sections → codeWith r p t x < placements r
+  code-with-below p t x l =
+      let n : length (set (sectionsOf r p) t x) ≡ r .trains = length-set (sectionsOf r p) t x ∙ sections-length (r .sections) (r .trains) p in
+      let c : codeWith r p t x < r .sections ^ length (set (sectionsOf r p) t x) =
+      code-below (r .sections) (set (sectionsOf r p) t x) (set-below (r .sections) (sectionsOf r p) t x (sections-below (r .sections) (r .trains) p (ok .one-section)) l) in
+      rw n at c
+
+  -- .. and in it that train stands there, and the others as before
+  pub sections-with : (p t x : ℕ) → x < r .sections → sectionsOf r (codeWith r p t x) ≡ set (sectionsOf r p) t x
+  sections-with p t x l =
+      let n : length (set (sectionsOf r p) t x) ≡ r .trains = length-set (sectionsOf r p) t x ∙ sections-length (r .sections) (r .trains) p in
+      let c : sectionsIn (r .sections) (length (set (sectionsOf r p) t x)) (codeWith r p t x) ≡ set (sectionsOf r p) t x =
+      sections-code (r .sections) (set (sectionsOf r p) t x) (ok .one-section) (set-below (r .sections) (sectionsOf r p) t x (sections-below (r .sections) (r .trains) p (ok .one-section)) l) in
+      rw n at c
+
+  enters-below : (p t q : ℕ) (o : Option ℕ) → ((x : ℕ) → o ≡ some x → x < r .sections) → enters r p t o ≡ at q → q < placements r
+  enters-below p t q none h e = let z : _≡_ {A = ℕ} 0 1 = cc in absurd (omega arith)
+  enters-below p t q (some x) h e = go (occupied r p t x) e
+    where
+      go : (b : Bool) → cond b (lost collision) (at (codeWith r p t x)) ≡ at q → q < placements r
+      go true e = let z : _≡_ {A = ℕ} 0 1 = cc in absurd (omega arith)
+      go false e = let z : codeWith r p t x ≡ q = cc in rw z at (code-with-below p t x (h x refl))
+
+  -- the moves stay among the placements
+  pub move-inside : (p : ℕ) (s : Setting) (t q : ℕ) → moveOf r p s t ≡ at q → q < placements r
+  unfolding moveOf
+  move-inside p s t q e = enters-below p t q (passes r (s .plus) (headsFor r p t) .reached) (passes-below (s .plus) (headsFor r p t)) e
+
+  pub inside : Inside (gameOf r)
+  inside p s t q hp m e = move-inside p s t q e
+
+  -- THE START is a placement, and each train stands on its start there
+  abbrev starts : List ℕ
+  starts = listBelow (λ t. runOf r t .start .0) (r .trains)
+
+  starts-length : length starts ≡ r .trains
+  starts-length = list-length (λ t. runOf r t .start .0) (r .trains)
+
+  starts-below : AllBelow (r .sections) starts
+  starts-below i l = let h : i < r .trains = rw starts-length at l in rw (list-get (λ t. runOf r t .start .0) (r .trains) i 0 h) (ok .starts i h)
+
+  pub start-below : startCode r < placements r
+  unfolding startCode
+  start-below = rw starts-length at (code-below (r .sections) starts starts-below)
+
+  pub start-stands : (t : ℕ) → t < r .trains → standsOn r (startCode r) t ≡ runOf r t .start .0
+  unfolding startCode standsOn
+  start-stands t l =
+      let c : sectionsOf r (codeOf (r .sections) starts) ≡ starts = rw starts-length at (sections-code (r .sections) starts (ok .one-section) starts-below) in
+      rw c (list-get (λ t. runOf r t .start .0) (r .trains) t 0 l)

@@ -1,0 +1,131 @@
+-- Moves and plays by computation: one line for each clause of document 01, "A turn", and what a way and a choice are handed. No theorem rests on these;
+-- they show what the definitions say, where the theorem on whole plays would not notice a slip. Assumes nothing.
+-- In Yard A (three sections) placement (a, b) has code (a - 1) + 3 (b - 1): (2, 1) is 1, (3, 1) is 2, (1, 2) is 3, (3, 2) is 5, (1, 3) is 6, (2, 3) is 7.
+use mathlib.Core.Path.{_≡_, refl}
+use mathlib.Core.Bool.{Bool, true, false, cond, _&&_}
+use mathlib.Core.List.{List, [], _∷_, _++_}
+use mathlib.Core.Option.{Option, none, some}
+use Prim.Native.Nat.{ℕ}
+use lib.Dec.{eqb}
+use Rattle.laws.specs.Below.{allBelow, anyBelow, sumBelow, listBelow, lowest}
+use Rattle.railway.specs.declared.Side.the-variants.{Up, Down}
+use Rattle.railway.specs.declared.Leg.the-variants.{Stem, Plus, Minus}
+use Rattle.railway.specs.declared.Railway.{Railway}
+use Rattle.railway.specs.Ends.{endAt}
+use Rattle.railway.specs.Refusals.{first}
+use Rattle.railway.specs.Record.{joined, hasSignal, legsOf, runOf, withJoin, withSignal, withLegs, withTrain}
+use Rattle.railway.specs.Rows.{unknownRow, joinRow, looseRow, placeRow, recordRefusal}
+use Rattle.game.specs.Game.{derailment, collision, lost, at, Turn, Way, Choice, Position, wrecked, standing, play}
+use Rattle.game.specs.Placement.{codeOf, sectionsIn, standsOn, sectionsOf, startCode, atHome, shared}
+use Rattle.game.specs.Setting.{Setting, headsFor, held, mayMove}
+use Rattle.game.specs.Moves.{passes, occupied, moveOf, gameOf}
+use Rattle.game.specs.Yards.{yardH, lineP, lineJ, lineG, lineT, sec, port, yardA}
+
+-- THE YARDS. A loop: a train up from 1 by the plus leg comes round into its own section, by the minus leg to 2.
+abbrev loop : Railway
+loop =
+    lineT 2 Up 2 1
+    (lineT 1 Up 1 2
+    (lineJ (sec 2 Down) (port 1 Minus)
+    (lineJ (sec 1 Down) (port 1 Plus)
+    (lineJ (sec 1 Up) (port 1 Stem)
+    (lineP 1 Up (yardH 2 1 2))))))
+
+-- Three lines apart from each other: sections 1 to 3 for train 1, 4 to 6 for train 2, 7 to 9 for train 3; a signal at 1u. Train 1 is to go to 2.
+-- (a, b, c) has code (a - 1) + 9 (b - 1) + 81 (c - 1): the start (1, 4, 7) is 513, (1, 5, 7) is 522, (2, 5, 7) is 523, (3, 5, 7) is 524.
+abbrev lines : Railway
+lines =
+    lineT 3 Up 7 9
+    (lineT 2 Up 4 6
+    (lineT 1 Up 1 2
+    (lineG (sec 1 Up)
+    (lineJ (sec 8 Up) (sec 9 Down)
+    (lineJ (sec 7 Up) (sec 8 Down)
+    (lineJ (sec 5 Up) (sec 6 Down)
+    (lineJ (sec 4 Up) (sec 5 Down)
+    (lineJ (sec 2 Up) (sec 3 Down)
+    (lineJ (sec 1 Up) (sec 2 Down)
+    (yardH 9 0 3))))))))))
+
+yards : (recordRefusal yardA ≡ none) × (recordRefusal loop ≡ none) × (recordRefusal lines ≡ none) × (startCode yardA ≡ 7) × (startCode lines ≡ 513) × (sectionsOf lines 524 ≡ 2 ∷ 4 ∷ 6 ∷ [])
+unfolding recordRefusal first unknownRow joinRow looseRow placeRow anyBelow joined legsOf runOf endAt withJoin withSignal withLegs withTrain startCode codeOf sumBelow listBelow sectionsIn
+yards = (refl, refl, refl, refl, refl, refl)
+
+-- THE SETTINGS. All points at plus and all signals closed; all at minus and closed; all at minus and open.
+abbrev plus : Setting
+plus = record { plus = λ n. true; isOpen = λ i. false }
+
+abbrev shut : Setting
+shut = record { plus = λ n. false; isOpen = λ i. false }
+
+abbrev wide : Setting
+wide = record { plus = λ n. false; isOpen = λ i. true }
+
+-- WHO MAY MOVE: held by a closed signal, let go by an open one; free without one.
+may : (mayMove yardA 7 shut 0 ≡ false) × (mayMove yardA 7 wide 0 ≡ true) × (mayMove yardA 7 shut 1 ≡ true) × (mayMove yardA 1 shut 1 ≡ false)
+unfolding mayMove held headsFor standsOn sectionsIn runOf hasSignal withJoin withSignal withLegs withTrain
+may = (refl, refl, refl, refl)
+
+-- MOVES
+moves :  -- by the stem to the leg that is set
+    (moveOf yardA 7 plus 1 ≡ at 1) × (moveOf yardA 6 shut 1 ≡ at 3)
+    -- by the leg that is set to the stem
+    × (moveOf yardA 3 plus 0 ≡ at 5) × (moveOf yardA 1 shut 0 ≡ at 2)
+    -- by the other leg, and at the end of the track
+    × (moveOf yardA 3 shut 0 ≡ lost derailment) × (moveOf yardA 7 plus 0 ≡ lost derailment) × (moveOf yardA 1 plus 1 ≡ lost derailment)
+    -- where another train stands; round into its own section
+    × (moveOf yardA 7 shut 1 ≡ lost collision) × (moveOf loop 2 shut 0 ≡ lost collision) × (moveOf loop 2 plus 0 ≡ at 2)
+    -- the points met: one, also where the train derails at it; none
+    × (passes yardA (plus .plus) (sec 2 Up) .met ≡ 0 ∷ []) × (passes yardA (plus .plus) (sec 1 Down) .met ≡ []) × (passes lines (plus .plus) (sec 1 Up) .met ≡ [])
+unfolding moveOf passes occupied headsFor standsOn sectionsIn codeOf sumBelow runOf joined anyBelow withJoin withSignal withLegs withTrain
+moves = (refl, refl, refl, refl, refl, refl, refl, refl, refl, refl, refl, refl, refl)
+
+-- PLAYS
+abbrev turned : ℕ → Setting → Option ℕ → Turn Setting
+turned p s m = record { placement = p; setting = s; moved = m }
+
+-- at (2, 3) the point at plus; elsewhere at minus, and open
+abbrev by-placement : Way Setting
+by-placement h p = cond (eqb p 7) plus wide
+
+abbrev always : Setting → Way Setting
+always s h p = s
+
+abbrev names : ℕ → Choice Setting
+names t h p s = t
+
+-- the first turn was played from placement p, and train t moved
+abbrev moved-is : ℕ → Option ℕ → Bool
+moved-is t none = false
+moved-is t (some u) = eqb u t
+
+abbrev first-was : ℕ → ℕ → List (Turn Setting) → Bool
+first-was p t [] = false
+first-was p t (x ∷ h) = eqb (x .placement) p && moved-is t (x .moved)
+
+-- open, and naming train 1, if in the first turn train 2 left the start; else shut, and naming train 2
+abbrev by-first : Way Setting
+by-first h p = cond (first-was 513 1 h) wide shut
+
+abbrev names-by-first : Choice Setting
+names-by-first h p s = cond (first-was 513 1 h) 0 1
+
+plays :  -- home in two turns, a setting for each anew; there the play has ended
+    (play (gameOf yardA) by-placement (λ h p s. cond (eqb p 7) 1 0) 7 2 ≡ standing (turned 7 plus (some 1) ∷ turned 1 wide (some 0) ∷ []) 2)
+    × (play (gameOf yardA) by-placement (λ h p s. cond (eqb p 7) 1 0) 7 4 ≡ standing (turned 7 plus (some 1) ∷ turned 1 wide (some 0) ∷ []) 2)
+    -- of two that may, the one that is named
+    × (play (gameOf lines) (always shut) (names 1) 513 1 ≡ standing (turned 513 shut (some 1) ∷ []) 522)
+    × (play (gameOf lines) (always shut) (names 2) 513 1 ≡ standing (turned 513 shut (some 2) ∷ []) 594)
+    -- one that may not, or is not there: the lowest that may
+    × (play (gameOf lines) (always shut) (names 0) 513 1 ≡ standing (turned 513 shut (some 1) ∷ []) 522)
+    × (play (gameOf lines) (always shut) (names 9) 513 1 ≡ standing (turned 513 shut (some 1) ∷ []) 522)
+    -- none may: the placement stays, and the turn counts
+    × (play (gameOf yardA) (always shut) (names 1) 1 2 ≡ standing (turned 1 shut none ∷ turned 1 shut none ∷ []) 1)
+    -- a lost play stays lost; one that starts lost, or at home, has ended
+    × (play (gameOf yardA) (always wide) (names 1) 7 3 ≡ wrecked)
+    × (play (gameOf yardA) (always wide) (names 1) 0 3 ≡ standing [] 0)
+    × (play (gameOf yardA) (always wide) (names 1) 2 3 ≡ standing [] 2)
+    -- way and choice both look at the oldest turn, at every turn after it; and train 1 is moved on from its destination
+    × (play (gameOf lines) by-first names-by-first 513 3 ≡ standing (turned 513 shut (some 1) ∷ turned 522 wide (some 0) ∷ turned 523 wide (some 0) ∷ []) 524)
+unfolding play lowest moveOf passes occupied mayMove held headsFor standsOn sectionsIn codeOf sumBelow runOf joined hasSignal allBelow anyBelow atHome shared withJoin withSignal withLegs withTrain
+plays = (refl, refl, refl, refl, refl, refl, refl, refl, refl, refl, refl)
