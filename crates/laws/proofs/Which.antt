@@ -7,6 +7,7 @@ use mathlib.Core.List.{List, [], _∷_, _++_, map, map-append, append-nil}
 use mathlib.Core.Option.{Option, none, some}
 use Prim.Native.Nat.{ℕ, zero, suc, _≤_, _<_}
 use native.Mathlib.Omega.{arith}
+use lib.ListN.{length, length-append}
 use lib.Dec.{leb}
 use borrow.Author.Tests.{leb-true, le-leb, lt-leb}
 use Rattle.laws.specs.Below.{anyBelow, whichBelow, lowest, orElse}
@@ -85,3 +86,12 @@ next-some f (suc k) c q e = elim (lowest-cases (fromOn f c) k) [
 
 pub from-zero : (f : ℕ → Bool) (k : ℕ) → whichBelow (fromOn f 0) k ≡ whichBelow f k
 from-zero f k = ap (λ (g : ℕ → Bool). whichBelow g k) (fun-ext (λ p. let e : leb 0 p ≡ true = le-leb 0 p (omega arith) in rw e))
+
+pub which-length : (f : ℕ → Bool) (k : ℕ) → length (whichBelow f k) ≤ k
+unfolding whichBelow
+which-length f zero = omega arith
+which-length f (suc k) = rw (length-append (whichBelow f k) (cond (f k) (k ∷ []) [])) (omega (arith, which-length f k, last (f k)))
+  where
+    last : (c : Bool) → length (cond c (k ∷ []) []) ≤ 1
+    last true = omega arith
+    last false = omega arith

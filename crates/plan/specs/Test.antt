@@ -26,11 +26,11 @@ pub record Listing : Type 0 where
   pub plus : ℕ → ℕ → Bool
 
 -- The whole setting that is listed at placement p: the signals that open trains head for are open, all others closed.
-abbrev pub opensAt : Railway → Listing → ℕ → ℕ → ℕ → Bool
-opensAt r L p i t = L .opens p t && eqb i (endIndex (headsFor r p t))
+abbrev pub opensListed : Railway → Listing → ℕ → ℕ → ℕ → Bool
+opensListed r L p i t = L .opens p t && eqb i (endIndex (headsFor r p t))
 
 unfoldable pub listedSetting : Railway → Listing → ℕ → Setting
-listedSetting r L p = record { plus = L .plus p; isOpen = λ i. anyBelow (opensAt r L p i) (r .trains) }
+listedSetting r L p = record { plus = L .plus p; isOpen = λ i. anyBelow (opensListed r L p i) (r .trains) }
 
 -- A plan with figure m in its first line passes the test.
 pub record Test (r : Railway) (m : ℕ) (L : Listing) : Type 0 where
