@@ -1,3 +1,4 @@
 pub mod Reading
 pub mod Lengths
 pub mod Emits
+pub mod Tested
