@@ -3,3 +3,4 @@ pub mod Below
 pub mod Lists
 pub mod Bits
 pub mod Which
+pub mod Snoc

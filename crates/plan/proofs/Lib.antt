@@ -2,3 +2,5 @@ pub mod Reading
 pub mod Lengths
 pub mod Emits
 pub mod Tested
+pub mod Forms
+pub mod Checks
