@@ -2,15 +2,13 @@
 -- A train looks at its own signal, if it has one, and its way at points of the railway; a setting is asked nowhere else. And open signals only add moves.
 -- Assumes nothing.
 use mathlib.Core.Path.{_≡_, refl, sym, _∙_, ap}
-use mathlib.Core.Logic.{_⊎_, inl, inr}
+use mathlib.Core.Logic.{inl, inr}
 use mathlib.Core.Bool.{Bool, true, false, cond}
 use mathlib.Core.Option.{Option}
 use Prim.Native.Nat.{ℕ, _<_}
 use lib.Dec.{ltb}
 use borrow.Author.Tests.{ltb-true}
 use Rattle.laws.proofs.Bools.{bool?, clash, either, or-left, or-right}
-use Rattle.railway.specs.declared.SectionNo.{SectionNo}
-use Rattle.railway.specs.declared.PointNo.{PointNo}
 use Rattle.railway.specs.declared.End.{End}
 use Rattle.railway.specs.declared.End.the-variants.{Section, Port}
 use Rattle.railway.specs.declared.Joined.{Joined}
@@ -19,7 +17,6 @@ use Rattle.railway.specs.declared.Railway.{Railway}
 use Rattle.railway.specs.Bounds.{sectionEnds}
 use Rattle.railway.specs.Ends.{endIndex}
 use Rattle.railway.specs.Record.{flagAt, joined, hasSignal}
-use Rattle.game.specs.Game.{Game, may}
 use Rattle.game.specs.Claim.{Alike, OneChoice}
 use Rattle.game.specs.Setting.{Setting, SameSetting, headsFor, held, free, opensFor, mayMove}
 use Rattle.game.specs.Moves.{Passage, pastJoin, passes, enters, moveOf, gameOf}

@@ -1,17 +1,17 @@
 -- The other way round: a table that has every figure, and settings that keep them, agree with every single turn. And a placement has one figure only.
 -- A setting that keeps n, played first and the table's settings after it, forces home within n, so the figure is n at most. Assumes nothing.
 use mathlib.Core.Path.{_≡_, refl, _∙_}
-use mathlib.Core.Logic.{_⊎_, inl, inr}
-use mathlib.Core.Bool.{Bool, true, false}
+use mathlib.Core.Logic.{inl, inr}
+use mathlib.Core.Bool.{true, false}
 use mathlib.Core.List.{List, [], _∷_}
 use mathlib.Core.Option.{Option, none, some}
 use Prim.Native.Nat.{ℕ, zero, suc, _≤_, _<_}
 use native.Mathlib.Omega.{arith}
 use Rattle.laws.proofs.Bools.{option?, clash}
-use Rattle.game.specs.Game.{Game, Turn, Way, Choice, standing, home, over, grown, play, homeAt, HomeWithin, Forced, IsFigure}
+use Rattle.game.specs.Game.{Game, Turn, Way, Choice, standing, home, over, grown, play, HomeWithin, Forced, IsFigure}
 use Rattle.game.specs.Claim.{Keeps}
 use Rattle.game.specs.Local.{Inside, Solved}
-use Rattle.game.proofs.Turns.{keeps-map}
+use Rattle.game.proofs.Turns.{lost-not-home, keeps-map}
 use Rattle.game.proofs.Homing.{comes-home}
 
 -- a placement has one figure
@@ -45,8 +45,9 @@ module _ {S : Type 0} (g : Game S) where
   pub lost-unforced : (p n : ℕ) → g .isLost p ≡ true → Forced g p n → ⊥
   lost-unforced p n l x =
       let a : HomeWithin g (x .0) (λ h p s. 0) p n = x .1 (λ h p s. 0) in
-      let e : play g (x .0) (λ h p s. 0) p (a .0) ≡ standing [] p = ended (x .0) (λ h p s. 0) p (rw l) (a .0) in
-      clash (a .2) (rw (e, l))
+      let o = lost-not-home g p l in
+      let e : play g (x .0) (λ h p s. 0) p (a .0) ≡ standing [] p = ended (x .0) (λ h p s. 0) p (o .1) (a .0) in
+      clash (a .2) (rw e (o .0))
 
   pub forced-zero : (p : ℕ) → Forced g p 0 → home g p ≡ true
   unfolding play

@@ -1,7 +1,7 @@
 -- The hypotheses of the theorems can be met: the smallest game with a placement at home, one on the way and one lost, and Yard A.
 -- All is computed, but that a search which tries the one setting that lets the train move finds it. Assumes nothing.
 use mathlib.Core.Path.{_≡_, refl, sym}
-use mathlib.Core.Logic.{_⊎_, inl, inr}
+use mathlib.Core.Logic.{inl, inr}
 use mathlib.Core.Bool.{Bool, true, false, cond, not, _||_}
 use mathlib.Core.Option.{Option, none, some}
 use Prim.Native.Nat.{ℕ, _<_}

@@ -1,28 +1,25 @@
 -- Laws of an accepted railway's moves: trains stand on its sections and come to its sections, so that moves stay among the placements; the start is one of them.
 -- A train comes to a section that a join names, and every join names what is there. Assumes nothing.
-use mathlib.Core.Path.{_≡_, refl, sym, _∙_, ap}
+use mathlib.Core.Path.{_≡_, refl, _∙_}
 use mathlib.Core.Bool.{Bool, true, false, cond}
 use mathlib.Core.List.{List}
 use mathlib.Core.Option.{Option, none, some}
 use Prim.Native.Nat.{ℕ, _^_, _<_}
 use native.Mathlib.Omega.{arith}
-use lib.ListN.{length, getD, set, length-set}
-use lib.Dec.{ltb}
+use lib.ListN.{length, set, length-set}
 use borrow.Author.Tests.{ltb-true}
 use Rattle.laws.specs.Below.{listBelow}
 use Rattle.laws.proofs.Bools.{some-none}
 use Rattle.laws.proofs.Below.{list-length, list-get}
 use Rattle.railway.specs.declared.Leg.{Leg}
-use Rattle.railway.specs.declared.SectionNo.{SectionNo}
 use Rattle.railway.specs.declared.PointNo.{PointNo}
 use Rattle.railway.specs.declared.End.{End}
 use Rattle.railway.specs.declared.End.the-variants.{Section, Port}
 use Rattle.railway.specs.declared.Joined.{Joined}
 use Rattle.railway.specs.declared.Joined.the-variants.{Nothing, With}
-use Rattle.railway.specs.declared.Train.{Train}
 use Rattle.railway.specs.declared.Railway.{Railway}
 use Rattle.railway.specs.Record.{joined, runOf}
-use Rattle.game.specs.Game.{Outcome, lost, at, collision}
+use Rattle.game.specs.Game.{lost, at, collision}
 use Rattle.game.specs.Local.{Inside}
 use Rattle.game.specs.Placement.{codeOf, sectionsIn, sectionsOf, standsOn, placements, startCode}
 use Rattle.game.specs.Setting.{Setting, headsFor}
@@ -97,12 +94,12 @@ module _ (r : Railway) (ok : Facts r) where
   starts-below : AllBelow (r .sections) starts
   starts-below i l = let h : i < r .trains = rw starts-length at l in rw (list-get (λ t. runOf r t .start .0) (r .trains) i 0 h) (ok .starts i h)
 
-  pub start-below : startCode r < placements r
-  unfolding startCode
-  start-below = rw starts-length at (code-below (r .sections) starts starts-below)
-
   pub start-stands : (t : ℕ) → t < r .trains → standsOn r (startCode r) t ≡ runOf r t .start .0
   unfolding startCode standsOn
   start-stands t l =
       let c : sectionsOf r (codeOf (r .sections) starts) ≡ starts = rw starts-length at (sections-code (r .sections) starts (ok .one-section) starts-below) in
       rw c (list-get (λ t. runOf r t .start .0) (r .trains) t 0 l)
+
+  pub start-below : startCode r < placements r
+  unfolding startCode
+  start-below = rw starts-length at (code-below (r .sections) starts starts-below)

@@ -3,7 +3,7 @@
 -- In Yard A (three sections) placement (a, b) has code (a - 1) + 3 (b - 1): (2, 1) is 1, (3, 1) is 2, (1, 2) is 3, (3, 2) is 5, (1, 3) is 6, (2, 3) is 7.
 use mathlib.Core.Path.{_≡_, refl}
 use mathlib.Core.Bool.{Bool, true, false, cond, _&&_}
-use mathlib.Core.List.{List, [], _∷_, _++_}
+use mathlib.Core.List.{List, [], _∷_}
 use mathlib.Core.Option.{Option, none, some}
 use Prim.Native.Nat.{ℕ}
 use lib.Dec.{eqb}
@@ -15,7 +15,7 @@ use Rattle.railway.specs.Ends.{endAt}
 use Rattle.railway.specs.Refusals.{first}
 use Rattle.railway.specs.Record.{joined, hasSignal, legsOf, runOf, withJoin, withSignal, withLegs, withTrain}
 use Rattle.railway.specs.Rows.{unknownRow, joinRow, looseRow, placeRow, recordRefusal}
-use Rattle.game.specs.Game.{derailment, collision, lost, at, Turn, Way, Choice, Position, wrecked, standing, play}
+use Rattle.game.specs.Game.{derailment, collision, lost, at, Turn, Way, Choice, wrecked, standing, play}
 use Rattle.game.specs.Placement.{codeOf, sectionsIn, standsOn, sectionsOf, startCode, atHome, shared}
 use Rattle.game.specs.Setting.{Setting, headsFor, held, mayMove}
 use Rattle.game.specs.Moves.{passes, occupied, moveOf, gameOf}
@@ -119,7 +119,7 @@ plays :  -- home in two turns, a setting for each anew; there the play has ended
     -- one that may not, or is not there: the lowest that may
     × (play (gameOf lines) (always shut) (names 0) 513 1 ≡ standing (turned 513 shut (some 1) ∷ []) 522)
     × (play (gameOf lines) (always shut) (names 9) 513 1 ≡ standing (turned 513 shut (some 1) ∷ []) 522)
-    -- none may: the placement stays, and the turn counts
+    -- with everybody held nothing moves, and the turns are played all the same
     × (play (gameOf yardA) (always shut) (names 1) 1 2 ≡ standing (turned 1 shut none ∷ turned 1 shut none ∷ []) 1)
     -- a lost play stays lost; one that starts lost, or at home, has ended
     × (play (gameOf yardA) (always wide) (names 1) 7 3 ≡ wrecked)

@@ -1,9 +1,9 @@
 -- Tables made round by round agree with every single turn, and no more rounds are needed than there are placements.
 -- Round n gives figure n where some setting moves only below n. A figure was given in its own round and stays, so a setting that keeps figure j by the whole table
 -- keeps it by the table of round j - 1; each round adds a placement or is the last. Assumes nothing.
-use mathlib.Core.Path.{_≡_, refl, sym, _∙_, ap, subst}
+use mathlib.Core.Path.{_≡_, refl, sym, _∙_, subst}
 use mathlib.Core.Logic.{_⊎_, inl, inr}
-use mathlib.Core.Bool.{Bool, true, false, cond, not, _&&_, _||_}
+use mathlib.Core.Bool.{Bool, true, false, cond, not, _&&_}
 use mathlib.Core.Option.{Option, none, some}
 use Prim.Native.Nat.{ℕ, zero, suc, _+_, _≤_, _<_}
 use native.Mathlib.Omega.{arith}

@@ -2,14 +2,14 @@
 -- Who follows the settings loses one from the figure each turn, so is home in time. Against him stands the choice that moves, of the trains that may,
 -- one whose move ends in the largest figure, none counting as the largest: under it a figure falls by one a turn at most, and none stays none.
 -- Assumes nothing.
-use mathlib.Core.Path.{_≡_, refl, sym, _∙_, ap, subst, fun-ext}
+use mathlib.Core.Path.{_≡_, refl, ap, subst, fun-ext}
 use mathlib.Core.Logic.{_⊎_, inl, inr}
 use mathlib.Core.Bool.{Bool, true, false, cond}
 use mathlib.Core.List.{List}
 use mathlib.Core.Option.{Option, none, some}
 use Prim.Native.Nat.{ℕ, zero, suc, _+_, _≤_, _<_}
 use native.Mathlib.Omega.{arith}
-use Rattle.laws.proofs.Bools.{bool?, option?, lt?, clash, some-none}
+use Rattle.laws.proofs.Bools.{bool?, option?, lt?, clash}
 use Rattle.laws.proofs.Below.{upto}
 use Rattle.game.specs.Game.{Outcome, lost, at, Game, Turn, Way, Choice, following, positional, Position, wrecked, standing, may, mover, home, over, arrive, step, play, homeAt, HomeWithin, ComesHome, Beats, IsFigure}
 use Rattle.game.specs.Claim.{Below, figureOf, Keeps, Alike, OneChoice, Whole}

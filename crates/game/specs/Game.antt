@@ -4,7 +4,7 @@ use mathlib.Core.Path.{_≡_}
 use mathlib.Core.Bool.{Bool, true, false, cond, not, _&&_, _||_}
 use mathlib.Core.List.{List, [], _∷_, _++_}
 use mathlib.Core.Option.{Option, none, some}
-use Prim.Native.Nat.{ℕ, zero, suc, _≤_, _<_}
+use Prim.Native.Nat.{ℕ, zero, suc, _≤_}
 use lib.Dec.{ltb}
 use Rattle.laws.specs.Below.{lowest}
 
@@ -39,11 +39,11 @@ pub record Turn (S : Type 0) : Type 0 where
 abbrev pub Way : Type 0 → Type 0
 Way S = List (Turn S) → ℕ → S
 
--- A choice of trains: a train for the same, and the setting just picked.
+-- A choice of trains: it names a train, knowing the history, the placement and the setting that the way has picked.
 abbrev pub Choice : Type 0 → Type 0
 Choice S = List (Turn S) → ℕ → S → ℕ
 
--- To follow a table of settings: its setting for the present placement.
+-- To follow a table of settings: whatever was played, what the table has for the placement reached.
 abbrev pub following : {S : Type 0} → (ℕ → S) → Way S
 following f h p = f p
 
@@ -69,7 +69,7 @@ module _ {S : Type 0} (g : Game S) where
   abbrev pub home : ℕ → Bool
   home p = not (g .isLost p) && g .isHome p
 
-  -- A play ends where the trains are home or lost.
+  -- A play has ended at home, and where the placement counts as lost.
   abbrev pub over : ℕ → Bool
   over p = g .isLost p || g .isHome p
 
@@ -81,7 +81,7 @@ module _ {S : Type 0} (g : Game S) where
   arrive h (lost l) = wrecked
   arrive h (at q) = standing h q
 
-  -- A turn by the mover; where there is none the placement stays, and the turn counts.
+  -- A turn by the mover; without one nothing moves, and yet a turn has been played.
   abbrev pub turn : List (Turn S) → ℕ → S → Option ℕ → Position S
   turn h p s none = standing (grown h p s none) p
   turn h p s (some t) = arrive (grown h p s (some t)) (g .next p s t)

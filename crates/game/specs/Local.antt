@@ -6,7 +6,7 @@ use mathlib.Core.Option.{Option, none, some}
 use Prim.Native.Nat.{ℕ, _≤_, _<_}
 use lib.Dec.{ltb}
 use Rattle.laws.specs.Below.{allBelow, anyBelow}
-use Rattle.game.specs.Game.{Outcome, at, Game, may, home, over}
+use Rattle.game.specs.Game.{at, Game, may, home, over}
 use Rattle.game.specs.Claim.{figureOf, Keeps}
 
 -- That a setting keeps a figure, computed.

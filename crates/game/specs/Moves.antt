@@ -7,10 +7,8 @@ use Prim.Native.Nat.{ℕ}
 use lib.ListN.{set}
 use lib.Dec.{eqb}
 use Rattle.laws.specs.Below.{anyBelow}
-use Rattle.railway.specs.declared.Side.{Side}
 use Rattle.railway.specs.declared.Leg.{Leg}
 use Rattle.railway.specs.declared.Leg.the-variants.{Stem, Plus, Minus}
-use Rattle.railway.specs.declared.SectionNo.{SectionNo}
 use Rattle.railway.specs.declared.PointNo.{PointNo}
 use Rattle.railway.specs.declared.End.{End}
 use Rattle.railway.specs.declared.End.the-variants.{Section, Port}
@@ -19,7 +17,7 @@ use Rattle.railway.specs.declared.Joined.the-variants.{Nothing, With}
 use Rattle.railway.specs.declared.Railway.{Railway}
 use Rattle.railway.specs.Record.{joined}
 use Rattle.railway.specs.Rows.{sectionOf}
-use Rattle.game.specs.Game.{Loss, derailment, collision, Outcome, lost, at, Game}
+use Rattle.game.specs.Game.{derailment, collision, Outcome, lost, at, Game}
 use Rattle.game.specs.Placement.{codeOf, placements, sectionsOf, standsOn, atHome, shared}
 use Rattle.game.specs.Setting.{Setting, headsFor, mayMove}
 

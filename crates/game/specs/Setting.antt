@@ -3,11 +3,8 @@
 use mathlib.Core.Path.{_≡_}
 use mathlib.Core.Bool.{Bool, true, not, _&&_, _||_}
 use Prim.Native.Nat.{ℕ, _<_}
-use Rattle.railway.specs.declared.Side.{Side}
-use Rattle.railway.specs.declared.SectionNo.{SectionNo}
 use Rattle.railway.specs.declared.End.{End}
-use Rattle.railway.specs.declared.End.the-variants.{Section, Port}
-use Rattle.railway.specs.declared.Train.{Train}
+use Rattle.railway.specs.declared.End.the-variants.{Section}
 use Rattle.railway.specs.declared.Railway.{Railway}
 use Rattle.railway.specs.Bounds.{sectionEnds}
 use Rattle.railway.specs.Ends.{endIndex}

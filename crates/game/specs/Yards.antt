@@ -1,16 +1,12 @@
 -- The yards of document 01, "Yards to try", as records, line by line.
 -- Assumes nothing.
-use mathlib.Core.List.{List}
 use Prim.Native.Nat.{ℕ, _-_}
 use Rattle.railway.specs.declared.Side.{Side}
 use Rattle.railway.specs.declared.Side.the-variants.{Up, Down}
 use Rattle.railway.specs.declared.Leg.{Leg}
 use Rattle.railway.specs.declared.Leg.the-variants.{Stem, Plus, Minus}
-use Rattle.railway.specs.declared.SectionNo.{SectionNo}
-use Rattle.railway.specs.declared.PointNo.{PointNo}
 use Rattle.railway.specs.declared.End.{End}
 use Rattle.railway.specs.declared.End.the-variants.{Section, Port}
-use Rattle.railway.specs.declared.Train.{Train}
 use Rattle.railway.specs.declared.Railway.{Railway}
 use Rattle.railway.specs.Record.{emptyRailway, withJoin, withSignal, withLegs, withTrain}
 

@@ -3,18 +3,17 @@
 -- every setting that keeps the figure opens the signal of some train, and with that signal alone its points keep the figure too: the search
 -- would have found a lower train or smaller bits. Assumes nothing.
 use mathlib.Core.Path.{_≡_, refl, sym, _∙_}
-use mathlib.Core.Logic.{_⊎_, inl, inr}
-use mathlib.Core.Bool.{Bool, true, false, _&&_}
+use mathlib.Core.Logic.{inl, inr}
+use mathlib.Core.Bool.{Bool, true, false}
 use mathlib.Core.Option.{Option, none, some}
 use Prim.Native.Nat.{ℕ, _^_, _≤_, _<_}
 use native.Mathlib.Omega.{arith}
 use lib.Dec.{eqb}
-use borrow.Author.Tests.{eqb-true, eq-eqb}
+use borrow.Author.Tests.{eq-eqb}
 use Rattle.laws.specs.Bits.{bit}
 use Rattle.laws.proofs.Bools.{bool?, lt?, clash, some-none, and-true, and-both}
 use Rattle.railway.specs.declared.Railway.{Railway}
 use Rattle.railway.specs.Ends.{endIndex}
-use Rattle.game.specs.Game.{Game, may}
 use Rattle.game.specs.Claim.{Keeps}
 use Rattle.game.specs.Placement.{shared}
 use Rattle.game.specs.Setting.{Setting, headsFor, held, opensFor, signalOpen}
@@ -26,7 +25,7 @@ use Rattle.tables.specs.Tables.{openSignals, lowestOpen, pointBits, noLa
 use Rattle.tables.specs.Find.{tryOpen, find}
 use Rattle.tables.proofs.Entries.{one-open, entry-again}
 use Rattle.tables.proofs.Fewer.{may-cases, bits-small, keeps-closed, keeps-one}
-use Rattle.tables.proofs.Find.{Tried, bitsKeep, try-finds, Found, find-cases, find-none}
+use Rattle.tables.proofs.Find.{Tried, bitsKeep, try-finds, Found, find-cases}
 use Rattle.tables.proofs.Order.{earlier, one-counted, zero-closed, none-lowest, Lowest, some-lowest, closed-counted, opened-counted, made-bits}
 
 module _ (r : Railway) (ok : Facts r) (p : ℕ) (F : ℕ → Option ℕ) (n : ℕ) where

@@ -2,31 +2,27 @@
 -- other; so the setting of an entry has its points and opens the signals of its open trains. Trains that do not share a section head for ends of their own:
 -- where all open trains are held, the entry of that setting is the entry again. Assumes nothing.
 use mathlib.Core.Path.{_≡_, refl, sym, _∙_, ap}
-use mathlib.Core.Logic.{_⊎_, inl, inr}
-use mathlib.Core.Bool.{Bool, true, false, cond, not, _&&_, _||_}
-use Prim.Native.Nat.{ℕ, zero, suc, _+_, _*_, _^_, _≤_, _<_}
+use mathlib.Core.Logic.{inl, inr}
+use mathlib.Core.Bool.{Bool, true, false, _&&_, _||_}
+use Prim.Native.Nat.{ℕ, _^_, _≤_, _<_}
 use native.Mathlib.Omega.{arith}
 use native.Mathlib.Nat.{pow-le-pow-right}
-use lib.Dec.{ltb, eqb}
-use borrow.Author.Tests.{ltb-true, eqb-true, eq-eqb, lt-ltb}
+use lib.Dec.{eqb}
+use borrow.Author.Tests.{eqb-true, eq-eqb}
 use Rattle.laws.specs.Below.{anyBelow}
 use Rattle.laws.specs.Bits.{bit, fromBits}
-use Rattle.laws.proofs.Bools.{bool?, lt?, clash, and-true, and-both}
-use Rattle.laws.proofs.Below.{any-at, any-of, any-same, none-any}
-use Rattle.laws.proofs.Bits.{bits-of, bits-same, bits-plain, bits-below, low-bit, high-bit}
-use Rattle.railway.specs.declared.Side.{Side}
-use Rattle.railway.specs.declared.SectionNo.{SectionNo}
+use Rattle.laws.proofs.Bools.{bool?, lt?, clash, and-both}
+use Rattle.laws.proofs.Below.{any-of, any-same, none-any}
+use Rattle.laws.proofs.Bits.{bits-same, bits-plain, bits-below, low-bit, high-bit}
 use Rattle.railway.specs.declared.End.{End}
 use Rattle.railway.specs.declared.End.the-variants.{Section, Port}
-use Rattle.railway.specs.declared.Train.{Train}
 use Rattle.railway.specs.declared.Railway.{Railway}
-use Rattle.railway.specs.Bounds.{mostSections, sectionEnds, allEnds}
-use Rattle.railway.specs.Ends.{sideIndex, endIndex}
-use Rattle.railway.specs.Record.{flagAt, hasSignal, runOf}
+use Rattle.railway.specs.Bounds.{allEnds}
+use Rattle.railway.specs.Ends.{endIndex}
 use Rattle.railway.proofs.Ends.{index-one, numbered-of}
 use Rattle.game.specs.Placement.{standsOn, standsWith, sharesLower, shared}
-use Rattle.game.specs.Setting.{Setting, headsFor, held, opensFor, signalOpen}
-use Rattle.game.proofs.Agreeing.{Flagged, held-flag}
+use Rattle.game.specs.Setting.{headsFor, held, free, opensFor, mayMove, signalOpen}
+use Rattle.game.proofs.Agreeing.{held-flag, may-free, may-held}
 use Rattle.tables.specs.Entries.{trainBits, opensIn, opensEnd, settingAt, entryFrom, entryOf}
 
 -- Of trains that are open by this test, train t heads for the end of index i.
@@ -120,6 +116,13 @@ module _ (r : Railway) (p : ℕ) where
           off : (b : Bool) → (b && false) ≡ false
           off true = refl
           off false = refl
+
+      -- who may move: the free trains and the open ones
+      pub setting-may : (t : ℕ) → t < r .trains → mayMove r p (settingAt r p (entryFrom r plus opens)) t ≡ (free r p t || opens t)
+      setting-may t l = elim (bool? (held r p t)) [
+        | inl y ↦ may-held r p (settingAt r p (entryFrom r plus opens)) t y ∙ setting-for t l y ∙ rw y
+        | inr y ↦ may-free r p (settingAt r p (entryFrom r plus opens)) t y ∙ rw y
+      ]
 
       pub setting-signal : (t : ℕ) → t < r .trains → signalOpen r p (settingAt r p (entryFrom r plus opens)) t ≡ (held r p t && opens t)
       unfolding signalOpen

@@ -3,20 +3,20 @@
 -- need be open, and else that of one train is enough. Assumes nothing.
 use mathlib.Core.Path.{_≡_, refl, sym, _∙_}
 use mathlib.Core.Logic.{_⊎_, inl, inr}
-use mathlib.Core.Bool.{Bool, true, false, not, _&&_, _||_}
+use mathlib.Core.Bool.{Bool, true, false}
 use mathlib.Core.Option.{Option}
-use Prim.Native.Nat.{ℕ, _^_, _≤_, _<_}
+use Prim.Native.Nat.{ℕ, _^_, _<_}
 use lib.Dec.{ltb, eqb}
 use borrow.Author.Tests.{lt-ltb, eqb-true, eq-eqb, not-true}
-use Rattle.laws.specs.Bits.{bit, fromBits}
-use Rattle.laws.proofs.Bools.{bool?, clash, either, or-left, or-right, and-true, and-both}
+use Rattle.laws.specs.Bits.{bit}
+use Rattle.laws.proofs.Bools.{clash, either, or-right, and-both}
 use Rattle.laws.proofs.Bits.{bits-plain, bits-below}
 use Rattle.railway.specs.declared.Railway.{Railway}
 use Rattle.railway.specs.Ends.{endIndex}
-use Rattle.game.specs.Game.{Game, may}
+use Rattle.game.specs.Game.{may}
 use Rattle.game.specs.Claim.{Keeps}
-use Rattle.game.specs.Setting.{Setting, headsFor, held, free, opensFor, mayMove, signalOpen}
-use Rattle.game.specs.Moves.{moveOf, gameOf}
+use Rattle.game.specs.Setting.{Setting, headsFor, held, free, opensFor, mayMove}
+use Rattle.game.specs.Moves.{gameOf}
 use Rattle.game.proofs.Turns.{may-train, may-allowed}
 use Rattle.game.proofs.Accepted.{Facts}
 use Rattle.game.proofs.Agreeing.{may-free, may-more, SamePoints, move-same}

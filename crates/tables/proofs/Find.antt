@@ -4,24 +4,22 @@
 use mathlib.Core.Path.{_≡_, refl, sym, _∙_}
 use mathlib.Core.Logic.{_⊎_, inl, inr}
 use mathlib.Core.Bool.{Bool, true, false}
-use mathlib.Core.Option.{Option, none, some, Option·map}
+use mathlib.Core.Option.{Option, none, some}
 use Prim.Native.Nat.{ℕ, zero, suc, _^_, _≤_, _<_}
 use native.Mathlib.Omega.{arith}
 use lib.Dec.{eqb}
-use Rattle.laws.specs.Below.{lowest, orElse}
 use Rattle.laws.specs.Bits.{bit}
-use Rattle.laws.proofs.Bools.{bool?, option?, clash, some-none}
+use Rattle.laws.proofs.Bools.{option?, clash, some-none}
 use Rattle.laws.proofs.Below.{upto, lowest-cases, lowest-least}
 use Rattle.railway.specs.declared.Railway.{Railway}
-use Rattle.game.specs.Game.{Game, may}
 use Rattle.game.specs.Claim.{Keeps}
-use Rattle.game.specs.Setting.{Setting, held, opensFor}
+use Rattle.game.specs.Setting.{Setting}
 use Rattle.game.specs.Moves.{gameOf}
 use Rattle.game.proofs.Turns.{may-train, keeps-test, test-keeps}
 use Rattle.game.proofs.Accepted.{Facts}
 use Rattle.tables.specs.Entries.{settingAt, entryFrom}
 use Rattle.tables.specs.Tables.{pointBits}
-use Rattle.tables.specs.Find.{entryKeeps, tryOpen, firstFound, foundBy, find}
+use Rattle.tables.specs.Find.{entryKeeps, tryOpen, firstFound, find}
 use Rattle.tables.proofs.Fewer.{may-cases, bits-small, keeps-closed, keeps-one}
 
 -- the first found: there is one and none before it, or nothing is found

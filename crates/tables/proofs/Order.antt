@@ -1,15 +1,13 @@
 -- The plan's order of settings, key by key: how many signals a setting opens, which train is the lowest open one, the point bits; for the settings of entries with
 -- no train open and with one. An open train's signal stands at a section end of its own and is counted there. Assumes nothing.
 use mathlib.Core.Path.{_≡_, refl, sym, _∙_}
-use mathlib.Core.Logic.{_⊎_, inl, inr}
-use mathlib.Core.Bool.{Bool, true, false, _&&_, _||_}
-use mathlib.Core.Option.{Option, none, some}
+use mathlib.Core.Logic.{inl, inr}
+use mathlib.Core.Bool.{Bool, true, false, _&&_}
 use Prim.Native.Nat.{ℕ, _^_, _≤_, _<_}
 use native.Mathlib.Omega.{arith}
 use lib.Dec.{ltb, leb, eqb}
 use borrow.Author.Tests.{ltb-true, lt-ltb, eqb-true, eq-eqb, leb-true, le-leb}
-use Rattle.laws.specs.Below.{countBelow, lowest}
-use Rattle.laws.specs.Bits.{bit, fromBits}
+use Rattle.laws.specs.Bits.{bit}
 use Rattle.laws.proofs.Bools.{bool?, lt?, clash, either, or-left, or-right, and-true, and-both}
 use Rattle.laws.proofs.Below.{lowest-cases, lowest-least, count-one, count-none, count-at-most-one}
 use Rattle.laws.proofs.Bits.{bits-of, bits-same}

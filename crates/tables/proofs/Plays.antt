@@ -3,7 +3,7 @@
 use mathlib.Core.Path.{_≡_}
 use mathlib.Core.Bool.{false}
 use mathlib.Core.List.{List}
-use mathlib.Core.Option.{Option, none, some}
+use mathlib.Core.Option.{none, some}
 use Prim.Native.Nat.{ℕ, suc, _<_}
 use lib.ListN.{getD}
 use Rattle.laws.proofs.Bools.{not-true}
@@ -14,7 +14,7 @@ use Rattle.game.specs.Claim.{Keeps, Whole}
 use Rattle.game.specs.Local.{Solved}
 use Rattle.game.specs.Placement.{placements, shared}
 use Rattle.game.specs.Moves.{gameOf}
-use Rattle.game.proofs.Accepted.{Facts, facts}
+use Rattle.game.proofs.Accepted.{facts}
 use Rattle.game.proofs.Moves.{inside}
 use Rattle.game.proofs.Figures.{lost-unforced, figures-solved}
 use Rattle.game.proofs.Whole.{whole}

@@ -1,8 +1,8 @@
 -- The tables are one: whatever two solvers leave is the same at every code. A placement has one figure. Two plan settings come no later than each other, so their
 -- keys are the same; the plan's setting opens one signal at most, so the lowest open train is the only one, and the entries have the same bits. Assumes nothing.
-use mathlib.Core.Path.{_≡_, refl, sym, _∙_, ap}
-use mathlib.Core.Logic.{_⊎_, inl, inr}
-use mathlib.Core.Bool.{Bool, true, false}
+use mathlib.Core.Path.{_≡_, refl, sym, _∙_}
+use mathlib.Core.Logic.{inl, inr}
+use mathlib.Core.Bool.{true, false}
 use mathlib.Core.List.{List}
 use mathlib.Core.Option.{Option, none, some}
 use Prim.Native.Nat.{ℕ, zero, suc, _≤_, _<_}
@@ -10,7 +10,6 @@ use native.Mathlib.Omega.{arith}
 use lib.ListN.{getD}
 use lib.Dec.{eqb}
 use borrow.Author.Tests.{eqb-true}
-use Rattle.laws.specs.Below.{countBelow, lowest}
 use Rattle.laws.specs.Bits.{bit, fromBits}
 use Rattle.laws.proofs.Bools.{bool?, lt?, clash, some-none, and-true}
 use Rattle.laws.proofs.Below.{lowest-cases, count-two}
@@ -19,20 +18,18 @@ use Rattle.railway.specs.declared.Railway.{Railway}
 use Rattle.railway.specs.Bounds.{sectionEnds}
 use Rattle.railway.specs.Ends.{endIndex}
 use Rattle.railway.specs.Rows.{recordRefusal}
-use Rattle.game.specs.Game.{IsFigure}
-use Rattle.game.specs.Claim.{Keeps}
 use Rattle.game.specs.Placement.{placements, shared}
 use Rattle.game.specs.Setting.{Setting, headsFor, held, opensFor, signalOpen}
 use Rattle.game.specs.Moves.{gameOf}
 use Rattle.game.proofs.Turns.{may-train}
 use Rattle.game.proofs.Accepted.{Facts, facts}
-use Rattle.game.proofs.Moves.{inside}
-use Rattle.game.proofs.Figures.{figure-one, keeps-same}
+use Rattle.game.proofs.Figures.{figure-one}
 use Rattle.tables.specs.Entries.{settingAt, entryFrom, entryOf}
 use Rattle.tables.specs.Tables.{noFigure, figureEntry, figureIn, opensSignal, openSignals, lowestOpen, pointBits, IsPlanSetting, IsPlanEntry, Filled}
 use Rattle.tables.proofs.Entries.{own-end}
 use Rattle.tables.proofs.Fewer.{may-cases, keeps-closed, keeps-one}
 use Rattle.tables.proofs.Order.{Keys, keys, fewest, open-counts, Lowest, some-lowest, closed-counted, opened-counted}
+use Rattle.tables.proofs.Carry.{entry-same-figures}
 use Rattle.tables.proofs.Plays.{filled-apart}
 
 module _ (r : Railway) (ok : Facts r) (p : ℕ) where
@@ -97,18 +94,6 @@ module _ (r : Railway) (ok : Facts r) (p : ℕ) where
     entry-one F (some zero) v w x y = x ∙ sym y
     entry-one F (some (suc n)) v w x y = sym (x .1) ∙ plan-one F (suc n) (settingAt r p v) (settingAt r p w) (x .0) (y .0) ∙ y .1
 
--- the plan's entry depends on the figures at the placements alone
-pub entry-by : (r : Railway) → Facts r → (F G : ℕ → Option ℕ) → ((q : ℕ) → q < placements r → F q ≡ G q) → (p : ℕ) (f : Option ℕ) (v : ℕ) → p < placements r → IsPlanEntry r F p f v → IsPlanEntry r G p f v
-entry-by r ok F G same p none v l x = x
-entry-by r ok F G same p (some zero) v l x = x
-entry-by r ok F G same p (some (suc n)) v l x = (
-  record {
-    keeps = keeps-same (gameOf r) F G (inside r ok) (λ q lq. sym (same q lq)) p (settingAt r p v) (suc n) l (x .0 .keeps);
-    earliest = λ o k. x .0 .earliest o (keeps-same (gameOf r) G F (inside r ok) same p o (suc n) l k);
-  },
-  x .1,
-)
-
 -- entries of the figure table that stand for the same figure are equal
 pub figure-entry-one : (x y : ℕ) → figureEntry x ≡ figureEntry y → x ≡ y
 figure-entry-one x y e = elim (bool? (eqb x noFigure)) [
@@ -134,7 +119,7 @@ module _ (r : Railway) (accepted : recordRefusal r ≡ none) (figs sets figs′ 
   sets-one p l = go (figureIn figs p) refl
     where
       theirs : IsPlanEntry r (figureIn figs) p (figureIn figs p) (getD sets′ p 0)
-      theirs = entry-by r (facts r accepted) (figureIn figs′) (figureIn figs) (λ q lq. sym (figure-same q lq)) p (figureIn figs p) (getD sets′ p 0) l
+      theirs = entry-same-figures r (facts r accepted) (figureIn figs′) (figureIn figs) (λ q lq. sym (figure-same q lq)) p (figureIn figs p) (getD sets′ p 0) l
           (let e : figureIn figs p ≡ figureIn figs′ p = figure-same p l in rw e (b .settings p l))
 
       go : (f : Option ℕ) → figureIn figs p ≡ f → getD sets p 0 ≡ getD sets′ p 0

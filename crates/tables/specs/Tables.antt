@@ -65,7 +65,7 @@ pointBits r s = fromBits (s .plus) (r .points)
 abbrev pub thenBy : ℕ → ℕ → Bool → Bool
 thenBy a b rest = ltb a b || eqb a b && rest
 
--- The plan's order of settings at placement p: fewest open signals, then the lowest train, then the smallest point bits.
+-- The plan's order of settings at placement p, by three keys, less being better: how many signals are open, the lowest open train, the point bits as a number.
 unfoldable pub noLater : Railway → ℕ → Setting → Setting → Bool
 noLater r p a b = thenBy (openSignals r a) (openSignals r b) (thenBy (lowestOpen r p a) (lowestOpen r p b) (leb (pointBits r a) (pointBits r b)))
 
