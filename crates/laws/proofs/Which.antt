@@ -11,10 +11,10 @@ use lib.ListN.{length, length-append}
 use lib.Dec.{leb}
 use borrow.Author.Tests.{leb-true, le-leb, lt-leb}
 use Rattle.laws.specs.Below.{anyBelow, whichBelow, lowest, orElse}
-use Rattle.laws.specs.Lists.{any}
+use Rattle.laws.specs.Lists.{any, all}
 use Rattle.laws.proofs.Bools.{bool?, lt?, some-none, and-true}
 use Rattle.laws.proofs.Below.{lowest-cases}
-use Rattle.laws.proofs.Lists.{any-append}
+use Rattle.laws.proofs.Lists.{any-append, all-append}
 
 -- some of them passes another test, when it is changed
 pub any-which : {A : Type 0} (g : A → Bool) (h : ℕ → A) (f : ℕ → Bool) (k : ℕ) → any g (map h (whichBelow f k)) ≡ anyBelow (λ i. f i && g (h i)) k
@@ -95,3 +95,15 @@ which-length f (suc k) = rw (length-append (whichBelow f k) (cond (f k) (k ∷ [
     last : (c : Bool) → length (cond c (k ∷ []) []) ≤ 1
     last true = omega arith
     last false = omega arith
+
+-- all of them pass another test, when they are changed
+pub all-which : {A : Type 0} (g : A → Bool) (h : ℕ → A) (f : ℕ → Bool) (k : ℕ) → ((i : ℕ) → i < k → f i ≡ true → g (h i) ≡ true) → all g (map h (whichBelow f k)) ≡ true
+unfolding all whichBelow
+all-which g h f zero e = refl
+all-which g h f (suc k) e =
+    ap (all g) (map-append h (whichBelow f k) (cond (f k) (k ∷ []) []))
+    ∙ all-append g (map h (whichBelow f k)) (map h (cond (f k) (k ∷ []) [])) (all-which g h f k (λ i l. e i (omega arith))) (last (f k) (e k (omega arith)))
+  where
+    last : (c : Bool) → (c ≡ true → g (h k) ≡ true) → all g (map h (cond c (k ∷ []) [])) ≡ true
+    last true q = rw (q refl)
+    last false q = refl

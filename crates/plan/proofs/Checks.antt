@@ -8,7 +8,6 @@ use mathlib.Core.List.{List, [], _∷_, _++_, map, map-append, append-assoc, app
 use mathlib.Core.Option.{Option, none, some}
 use Prim.Native.Nat.{ℕ, zero, suc, _+_, _/_, _^_, _≤_, _<_}
 use native.Mathlib.Omega.{arith}
-use native.Mathlib.Nat.{zero-div}
 use lib.ListN.{length, getD, set, replicate, length-set, length-replicate, getD-replicate}
 use lib.Seq.{getD-set-same, getD-set-other}
 use lib.Dec.{eqb, ltb, leb}
@@ -17,6 +16,7 @@ use Rattle.laws.specs.Bits.{bit}
 use Rattle.laws.specs.Lists.{all}
 use Rattle.laws.proofs.Bools.{bool?, option?, eq?, clash, some-none, and-true}
 use Rattle.laws.proofs.Lists.{all-in, getD-member}
+use Rattle.laws.proofs.Bits.{bit-none}
 use Rattle.railway.specs.declared.Railway.{Railway}
 use Rattle.railway.specs.declared.Refusal.{Refusal}
 use Rattle.railway.specs.declared.Refusal.the-variants.{PlanForm, PlanFault}
@@ -72,11 +72,11 @@ module _ (r : Railway) where
       go false e f = f e
 
   -- A TABLE that has at each code what the line for it says, and else one number
-  abbrev cell : ℕ → (PlacementLine → ℕ) → Option PlacementLine → ℕ
+  abbrev pub cell : ℕ → (PlacementLine → ℕ) → Option PlacementLine → ℕ
   cell other of none = other
   cell other of (some d) = of d
 
-  record Cells (other : ℕ) (of : PlacementLine → ℕ) (ds : List PlacementLine) (table : List ℕ) : Type 0 where
+  pub record Cells (other : ℕ) (of : PlacementLine → ℕ) (ds : List PlacementLine) (table : List ℕ) : Type 0 where
     long : placements r ≤ length table
     has : (p : ℕ) → p < placements r → getD table p other ≡ cell other of (lineOn r ds p)
 
@@ -113,11 +113,11 @@ module _ (r : Railway) (a : recordRefusal r ≡ none) where
       rw (f .each-train) at c
 
   -- WHAT STATE AND TABLES HOLD after calls that took these lines
-  record Tables (ds : List PlacementLine) (c : Checking) : Type 0 where
+  pub record Tables (ds : List PlacementLine) (c : Checking) : Type 0 where
     figs : Cells r noFigure (λ d. d .figure) ds (c .figs)
     sets : Cells r 0 (lineEntry r) ds (c .sets)
 
-  data Holds (taken : List (List ℕ)) (c : Checking) : Type 0 where
+  pub data Holds (taken : List (List ℕ)) (c : Checking) : Type 0 where
     unbegun : taken ≡ [] → c .state ≡ Fresh → Tables [] c → Holds taken c
     begun : (m : ℕ) (ds : List PlacementLine) → Form r taken m ds → c .state ≡ Begun m (codeAfter 0 (codes r ds)) → Tables ds c → Holds taken c
 
@@ -125,7 +125,7 @@ module _ (r : Railway) (a : recordRefusal r ≡ none) where
   fine ds c t = none-refused r (c .figs) (c .sets) a (t .figs .long) (t .sets .long)
 
   -- A CALL for one more line takes it, if with it the lines are in form; else it is refused as plan form and leaves all as it was
-  data Call (taken : List (List ℕ)) (text : List ℕ) (c : Checking) (x : Left LineAnswer) : Type 0 where
+  pub data Call (taken : List (List ℕ)) (text : List ℕ) (c : Checking) (x : Left LineAnswer) : Type 0 where
     took : x .answer ≡ Taken → InForm r (taken ++ (text ∷ [])) → Holds (taken ++ (text ∷ [])) (x .checking) → Call taken text c x
     refused : x .answer ≡ LineRefused PlanForm → ¬ (InForm r (taken ++ (text ∷ []))) → x .checking ≡ c → Call taken text c x
 
@@ -191,14 +191,14 @@ module _ (r : Railway) (a : recordRefusal r ≡ none) where
   reads-on {taken} {text} {c} e s x =
       subst (λ (o : Option Refusal). Call taken text c (takesIf r c text o)) (sym e) (subst (λ (state : Checker). Call taken text c (takes r c state (readLine r text))) (sym s) x)
 
-  call : (taken : List (List ℕ)) (text : List ℕ) (c : Checking) → Holds taken c → Call taken text c (takeLine r c text)
+  pub call : (taken : List (List ℕ)) (text : List ℕ) (c : Checking) → Holds taken c → Call taken text c (takeLine r c text)
   unfolding takeLine
   call taken text c (unbegun e s t) = reads-on (fine [] c t) s (fresh-takes taken text c e t (readLine r text) refl)
   call taken text c (begun m ds f s t) = reads-on (fine ds c t) s (begun-takes taken text c m ds f t (readLine r text) refl)
 
   -- ALL CALLS
-  record Ran (taken texts : List (List ℕ)) (u : Run) : Type 0 where
-    holds : Holds (taken ++ takenTexts (u .answers) texts) (u .end)
+  pub record Ran (taken texts : List (List ℕ)) (u : Run) : Type 0 where
+    pub holds : Holds (taken ++ takenTexts (u .answers) texts) (u .end)
     answered : length (u .answers) ≡ length texts
     others : (x : LineAnswer) → List·Memᴰ x (u .answers) → (x ≡ Taken) ⊎ (x ≡ LineRefused PlanForm)
     whole : InForm r (taken ++ texts) → takenTexts (u .answers) texts ≡ texts
@@ -227,15 +227,12 @@ module _ (r : Railway) (a : recordRefusal r ≡ none) where
         whole = λ f. absurd (i (form-front r ls taken l (subst (InForm r) (sym (regroup taken l ls)) f)));
       }
 
-  ran : (texts taken : List (List ℕ)) (c : Checking) → Holds taken c → Ran taken texts (run r texts c)
+  pub ran : (texts taken : List (List ℕ)) (c : Checking) → Holds taken c → Ran taken texts (run r texts c)
   unfolding run takenTexts
   ran [] taken c h = record { holds = rw (append-nil taken) h; answered = refl; others = λ x m. elim m [ ]; whole = λ f. refl }
   ran (l ∷ ls) taken c h = ran-step taken l ls c (takeLine r c l) h (call taken l c h) (λ before k. ran ls before (takeLine r c l .checking) k)
 
   -- WHAT THE TABLES LIST is what the lines list
-  zero-bit : (n : ℕ) → bit 0 n ≡ false
-  zero-bit n = let e : 0 / (2 ^ n) ≡ 0 = zero-div (2 ^ n) in rw e
-
   listed : (ds : List PlacementLine) (c : Checking) → all (fits r) (map placementLine ds) ≡ true → Tables ds c → SameListing r (byTables (c .figs) (c .sets)) (byLines r ds)
   listed ds c f t =
       record {
@@ -249,11 +246,11 @@ module _ (r : Railway) (a : recordRefusal r ≡ none) where
       figure (some d) h = rw (ne-eqb (d .figure) noFigure (λ e. omega (arith, fits-parts r d (h d refl) .figured)))
 
       opens : (o : Option PlacementLine) (u : ℕ) → u < r .trains → opensIn (cell r 0 (lineEntry r) o) u ≡ opensOn o u
-      opens none u k = zero-bit (16 + u)
+      opens none u k = bit-none (16 + u)
       opens (some d) u k = entry-opens r (ok .few-points) (λ n. getD (d .plus) n false) (λ t. getD (d .opens) t false) u k
 
       plus : (o : Option PlacementLine) (n : ℕ) → n < r .points → bit (cell r 0 (lineEntry r) o) n ≡ plusOn o n
-      plus none n k = zero-bit n
+      plus none n k = bit-none n
       plus (some d) n k = entry-plus r (ok .few-points) (λ n. getD (d .plus) n false) (λ t. getD (d .opens) t false) n k
 
   -- THE TEST over the tables is the test over the lines
@@ -308,7 +305,7 @@ module _ (r : Railway) (a : recordRefusal r ≡ none) where
         early = (λ q. (let z : _≡_ {A = ℕ} 0 1 = cc in absurd (omega arith)), λ q. no-form r m ds (subst (λ (ls : List (List ℕ)). Form r ls m ds) q f));
       }
 
-  answers : (taken : List (List ℕ)) (c : Checking) → Holds taken c → Answers taken (testPlan r c .answer)
+  pub answers : (taken : List (List ℕ)) (c : Checking) → Holds taken c → Answers taken (testPlan r c .answer)
   unfolding testPlan
   answers taken c (unbegun e s t) = subst (Answers taken) (sym (tests-at c (fine [] c t) s)) (answers-unbegun taken e)
   answers taken c (begun m ds f s t) = subst (Answers taken) (sym (tests-at c (fine ds c t) s)) (answers-begun taken m ds f (testHolds r m (byTables (c .figs) (c .sets))) (over-lines m ds c f t))
@@ -329,7 +326,7 @@ module _ (r : Railway) (a : recordRefusal r ≡ none) where
         others = n .others;
       }
 
-  fresh-holds : (k l : ℕ) → placements r ≤ k → placements r ≤ l → Holds [] (freshChecking k l)
+  pub fresh-holds : (k l : ℕ) → placements r ≤ k → placements r ≤ l → Holds [] (freshChecking k l)
   fresh-holds k l i j = unbegun refl refl (record { figs = cells-fresh r noFigure (λ d. d .figure) k i; sets = cells-fresh r 0 (lineEntry r) l j })
 
 pub checked-holds : CheckedHolds

@@ -22,6 +22,7 @@ use Rattle.railway.specs.Refusals.{Row, row, refuseIf, first}
 use Rattle.railway.specs.Rows.{recordRows, recordRefusal}
 use Rattle.game.specs.Placement.{placements, startCode}
 use Rattle.tables.specs.Tables.{noFigure, figureIn, tablesShort, caseRefusal}
+use Rattle.tables.proofs.Refusals.{case-none}
 use Rattle.plan.specs.declared.PlanPlace.{PlanPlace}
 use Rattle.plan.specs.declared.PlanPlace.the-variants.{Top, From}
 use Rattle.plan.specs.declared.Emitted.{Emitted}
@@ -31,18 +32,8 @@ use Rattle.plan.specs.Text.{hasFigure, lineFor, planLines, planTexts}
 use Rattle.plan.specs.Emitter.{Wrote, unwritten, written, nextCode, lineOf, lineAt, emitLine, Emission, goOn, emission, emissionInto, longEnough}
 
 -- in an accepted case with tables long enough nothing is refused
-first-behind : (xs ys : List Row) → first xs ≡ none → first (xs ++ ys) ≡ first ys
-unfolding first
-first-behind [] ys e = refl
-first-behind (x ∷ xs) ys e = go (x .applies) e (first-behind xs ys)
-  where
-    go : (b : Bool) → refuseIf b (x .refusal) (first xs) ≡ none → (first xs ≡ none → first (xs ++ ys) ≡ first ys) → refuseIf b (x .refusal) (first (xs ++ ys)) ≡ first ys
-    go true e h = some-none refl e
-    go false e h = h e
-
 pub none-refused : (r : Railway) (figs sets : List ℕ) → recordRefusal r ≡ none → placements r ≤ length figs → placements r ≤ length sets → caseRefusal r figs sets ≡ none
-unfolding caseRefusal recordRefusal tablesShort first
-none-refused r figs sets a lf ls = first-behind (recordRows r) (row Space (tablesShort r figs sets) ∷ []) a ∙ rw (le-ltb (length figs) (placements r) lf, le-ltb (length sets) (placements r) ls)
+none-refused r figs sets a lf ls = case-none r figs sets .1 (a, record { figures = lf; settings = ls })
 
 no-buffers : {A : Type 0} (ls : List (List ℕ)) → longEnough ls [] ≡ true → A
 unfolding longEnough

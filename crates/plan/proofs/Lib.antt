@@ -4,3 +4,5 @@ pub mod Emits
 pub mod Tested
 pub mod Forms
 pub mod Checks
+pub mod Plan
+pub mod Demand
