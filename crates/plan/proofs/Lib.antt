@@ -6,3 +6,4 @@ pub mod Forms
 pub mod Checks
 pub mod Plan
 pub mod Demand
+pub mod Outputs

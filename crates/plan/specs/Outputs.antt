@@ -22,11 +22,11 @@ pub record Output : Type 0 where
   pub yard : Railway
   pub text : String
 
-abbrev pub outputs : List Output
-outputs =
-    record { yard = yardA; text = "plan\t2\n2\t1\t1\t1\t-\n3\t1\t0\t0\t-\n2\t3\t2\t0\t+\n" }
-    ∷ record { yard = yardOne; text = "plan\t0\n1\t0\t0\t.\n" }
-    ∷ []
+abbrev pub outputA : Output
+outputA = record { yard = yardA; text = "plan\t2\n2\t1\t1\t1\t-\n3\t1\t0\t0\t-\n2\t3\t2\t0\t+\n" }
+
+abbrev pub outputOne : Output
+outputOne = record { yard = yardOne; text = "plan\t0\n1\t0\t0\t.\n" }
 
 -- The yard is accepted, and this is the plan's text by any two tables that have every placement's figure and the plan's setting.
 pub record Writes (x : Output) : Type 0 where
@@ -38,4 +38,4 @@ AllWrite [] = Unit {0}
 AllWrite (x ∷ xs) = Writes x × AllWrite xs
 
 abbrev pub OutputsHold : Type 0
-OutputsHold = AllWrite outputs
+OutputsHold = AllWrite (outputA ∷ outputOne ∷ [])
