@@ -7,3 +7,4 @@ pub mod Checks
 pub mod Plan
 pub mod Demand
 pub mod Outputs
+pub mod Examples
