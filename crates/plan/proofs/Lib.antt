@@ -8,3 +8,4 @@ pub mod Plan
 pub mod Demand
 pub mod Outputs
 pub mod Examples
+pub mod Inhabited
