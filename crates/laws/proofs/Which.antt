@@ -1,10 +1,10 @@
 -- Laws of the numbers below k that pass a test, as a rising list: which of them pass another test, what comes first from a number on, when two such lists are the same.
 -- Each goes by the last number, as the list is made. Assumes nothing.
 use mathlib.Core.Path.{_≡_, refl, sym, _∙_, ap, fun-ext}
-use mathlib.Core.Logic.{_⊎_, inl, inr}
+use mathlib.Core.Logic.{inl, inr}
 use mathlib.Core.Bool.{Bool, true, false, cond, _&&_, _||_}
-use mathlib.Core.List.{List, [], _∷_, _++_, map, map-append, append-nil}
-use mathlib.Core.Option.{Option, none, some}
+use mathlib.Core.List.{List, [], _∷_, _++_, map, map-append}
+use mathlib.Core.Option.{none, some}
 use Prim.Native.Nat.{ℕ, zero, suc, _≤_, _<_}
 use native.Mathlib.Omega.{arith}
 use lib.ListN.{length, length-append}
@@ -12,7 +12,7 @@ use lib.Dec.{leb}
 use borrow.Author.Tests.{leb-true, le-leb, lt-leb}
 use Rattle.laws.specs.Below.{anyBelow, whichBelow, lowest, orElse}
 use Rattle.laws.specs.Lists.{any, all}
-use Rattle.laws.proofs.Bools.{bool?, lt?, some-none, and-true}
+use Rattle.laws.proofs.Bools.{bool?, some-none, and-true}
 use Rattle.laws.proofs.Below.{lowest-cases}
 use Rattle.laws.proofs.Lists.{any-append, all-append}
 

@@ -2,30 +2,30 @@
 -- for it says, and the state says which code may come next (`Holds`); a call that refuses leaves that, and a call that takes a line brings it forward. So the
 -- test over the tables is the test over the lines. Assumes nothing.
 use mathlib.Core.Path.{_≡_, refl, sym, _∙_, ap, subst}
-use mathlib.Core.Logic.{_⊎_, inl, inr, _↔_, _≢_}
-use mathlib.Core.Bool.{Bool, true, false, cond, not, _&&_}
+use mathlib.Core.Logic.{_⊎_, inl, inr, _↔_}
+use mathlib.Core.Bool.{Bool, true, false, cond}
 use mathlib.Core.List.{List, [], _∷_, _++_, map, map-append, append-assoc, append-nil, List·Memᴰ, List·Memᴰ·cases-cons}
 use mathlib.Core.Option.{Option, none, some}
-use Prim.Native.Nat.{ℕ, zero, suc, _+_, _/_, _^_, _≤_, _<_}
+use Prim.Native.Nat.{ℕ, suc, _+_, _^_, _≤_, _<_}
 use native.Mathlib.Omega.{arith}
 use lib.ListN.{length, getD, set, replicate, length-set, length-replicate, getD-replicate}
 use lib.Seq.{getD-set-same, getD-set-other}
 use lib.Dec.{eqb, ltb, leb}
-use borrow.Author.Tests.{ltb-true, ltb-false, le-ltb, eqb-true, eq-eqb, ne-eqb, leb-true}
+use borrow.Author.Tests.{ltb-true, ltb-false, eq-eqb, ne-eqb}
 use Rattle.laws.specs.Bits.{bit}
 use Rattle.laws.specs.Lists.{all}
-use Rattle.laws.proofs.Bools.{bool?, option?, eq?, clash, some-none, and-true}
+use Rattle.laws.proofs.Bools.{eq?, clash, some-none, and-true}
 use Rattle.laws.proofs.Lists.{all-in, getD-member}
 use Rattle.laws.proofs.Bits.{bit-none}
 use Rattle.railway.specs.declared.Railway.{Railway}
 use Rattle.railway.specs.declared.Refusal.{Refusal}
 use Rattle.railway.specs.declared.Refusal.the-variants.{PlanForm, PlanFault}
 use Rattle.railway.specs.Rows.{recordRefusal}
-use Rattle.game.specs.Placement.{codeOf, placements}
+use Rattle.game.specs.Placement.{placements}
 use Rattle.game.proofs.Accepted.{Facts, facts}
-use Rattle.game.proofs.Codes.{AllBelow, code-below}
-use Rattle.tables.specs.Entries.{opensIn, entryFrom}
-use Rattle.tables.specs.Tables.{noFigure, figureEntry, figureIn, caseRefusal}
+use Rattle.game.proofs.Codes.{code-below}
+use Rattle.tables.specs.Entries.{opensIn}
+use Rattle.tables.specs.Tables.{noFigure, figureEntry, caseRefusal}
 use Rattle.tables.proofs.Entries.{entry-plus, entry-opens}
 use Rattle.plan.specs.declared.Checker.{Checker}
 use Rattle.plan.specs.declared.Checker.the-variants.{Fresh, Begun}
@@ -33,16 +33,16 @@ use Rattle.plan.specs.declared.LineAnswer.{LineAnswer}
 use Rattle.plan.specs.declared.LineAnswer.the-variants.{Taken, Refused as LineRefused}
 use Rattle.plan.specs.declared.TestAnswer.{TestAnswer}
 use Rattle.plan.specs.declared.TestAnswer.the-variants.{Pass, Refused as TestRefused}
-use Rattle.plan.specs.Lines.{PlacementLine, PlanLine, startLine, placementLine, spell, fits, lineCode, rises, planOf}
+use Rattle.plan.specs.Lines.{PlacementLine, PlanLine, startLine, placementLine, spell, fits, lineCode, rises}
 use Rattle.plan.specs.Reading.{readLine}
-use Rattle.plan.specs.Test.{Listing, Test, lineOn, figureOn, opensOn, plusOn, byLines, byTables}
+use Rattle.plan.specs.Test.{Test, lineOn, figureOn, opensOn, plusOn, byLines, byTables}
 use Rattle.plan.specs.Computed.{testHolds}
-use Rattle.plan.specs.Checker.{Checking, Left, left, freshChecking, lineEntry, begin, enter, refuse, takes, takesIf, takeLine, tests, testPlan, Run, onward, run, isTaken, takenTexts}
+use Rattle.plan.specs.Checker.{Checking, Left, left, freshChecking, lineEntry, enter, refuse, takes, takesIf, takeLine, tests, testPlan, Run, onward, run, isTaken, takenTexts}
 use Rattle.plan.specs.Checked.{Form, InForm, Passing, Failing, Checked, CheckedHolds}
-use Rattle.plan.proofs.Reading.{Fits, fits-parts, Spells, reads-line, reads}
+use Rattle.plan.proofs.Reading.{fits-parts, Spells, reads-line, reads}
 use Rattle.plan.proofs.Emits.{none-refused}
 use Rattle.plan.proofs.Tested.{SameListing, listing-back, test-same, tested}
-use Rattle.plan.proofs.Forms.{codeAfter, rises-snoc, code-after, code-after-snoc, codes, form-start, form-snoc, Last, only, more, form-last, form-front, no-form, OnePlan, form-one}
+use Rattle.plan.proofs.Forms.{codeAfter, code-after, code-after-snoc, codes, form-start, form-snoc, Last, only, more, form-last, form-front, no-form, form-one}
 
 -- THE LINE FOR A PLACEMENT, when a line is added behind
 module _ (r : Railway) where

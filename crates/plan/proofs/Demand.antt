@@ -2,9 +2,9 @@
 -- plan is in form and passes, and lines that the checker refuses leave no trace. Assumes nothing.
 use mathlib.Core.Path.{_≡_, refl, sym, _∙_, ap, subst}
 use mathlib.Core.Bool.{Bool, true, false, not, cond, _&&_, _||_}
-use mathlib.Core.List.{List, [], _∷_, _++_, map, append-assoc, append-nil}
-use mathlib.Core.Option.{Option, none, some}
-use Prim.Native.Nat.{ℕ, _≤_, _<_}
+use mathlib.Core.List.{List, [], _∷_, _++_, map, append-assoc}
+use mathlib.Core.Option.{none}
+use Prim.Native.Nat.{ℕ, _≤_}
 use native.Mathlib.Omega.{arith}
 use lib.ListN.{length}
 use lib.Dec.{leb}
@@ -12,21 +12,17 @@ use borrow.Author.Tests.{le-leb}
 use Rattle.laws.specs.Lists.{all}
 use Rattle.laws.proofs.Bools.{clash, and-true, and-both}
 use Rattle.railway.specs.declared.Railway.{Railway}
-use Rattle.railway.specs.declared.Refusal.{Refusal}
 use Rattle.railway.specs.Rows.{recordRefusal}
-use Rattle.game.specs.Placement.{placements, startCode}
-use Rattle.game.proofs.Accepted.{Facts, facts}
-use Rattle.tables.specs.declared.SolverAnswer.{SolverAnswer}
-use Rattle.tables.specs.Tables.{figureIn, caseRefusal}
-use Rattle.tables.specs.Solver.{refusalGiven, figureGiven, SolverTables, SolverLeaves, SolverPost}
+use Rattle.game.proofs.Accepted.{facts}
+use Rattle.tables.specs.Tables.{caseRefusal}
+use Rattle.tables.specs.Solver.{SolverLeaves}
 use Rattle.tables.proofs.Plays.{filled-whole}
 use Rattle.plan.specs.declared.LineAnswer.{LineAnswer}
-use Rattle.plan.specs.declared.LineAnswer.the-variants.{Taken, Refused as LineRefused}
 use Rattle.plan.specs.Lines.{PlanLine, spell, fits}
 use Rattle.plan.specs.Text.{planLines, planTexts}
-use Rattle.plan.specs.Checker.{Checking, Left, freshChecking, takeLine, testPlan, Run, onward, run, isTaken, takenTexts}
+use Rattle.plan.specs.Checker.{Checking, Left, freshChecking, takeLine, Run, onward, run, isTaken, takenTexts}
 use Rattle.plan.specs.Checked.{InForm, Passing}
-use Rattle.plan.specs.Demand3.{Handed, ownTexts, othersRefused, Passed, Demand3, Demand3Holds}
+use Rattle.plan.specs.Demand3.{Handed, ownTexts, othersRefused, Passed, Demand3Holds}
 use Rattle.plan.proofs.Lengths.{at-most-45}
 use Rattle.plan.proofs.Emits.{none-refused, emits, emits-into, emits-none}
 use Rattle.plan.proofs.Forms.{form-front}

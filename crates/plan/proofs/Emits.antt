@@ -1,35 +1,31 @@
 -- The emitter's calls write the plan's lines, and end. From code c on the plan's lines are those of the placements from c on that have a figure; the lowest of
 -- them is written by the next call, and those behind it are the lines from there on. Assumes nothing.
 use mathlib.Core.Path.{_≡_, refl, sym, _∙_, ap, subst}
-use mathlib.Core.Logic.{_⊎_, inl, inr}
-use mathlib.Core.Bool.{Bool, true, false, cond, _&&_}
+use mathlib.Core.Logic.{inl, inr}
+use mathlib.Core.Bool.{true}
 use mathlib.Core.List.{List, [], _∷_, _++_, map}
-use mathlib.Core.Option.{Option, none, some}
+use mathlib.Core.Option.{none, some}
 use Prim.Native.Nat.{ℕ, zero, suc, _+_, _≤_, _<_}
 use native.Mathlib.Omega.{arith}
-use lib.ListN.{length, getD, take, drop, length-append, length-drop}
+use lib.ListN.{length, getD, drop, length-append, length-drop}
 use lib.Seq.{take-append-seam}
-use lib.Dec.{ltb, leb}
+use lib.Dec.{leb}
 use borrow.Author.Tests.{leb-true, le-ltb}
-use Rattle.laws.specs.Below.{whichBelow, lowest}
+use Rattle.laws.specs.Below.{whichBelow}
 use Rattle.laws.specs.Lists.{all}
-use Rattle.laws.proofs.Bools.{option?, clash, some-none, and-true}
+use Rattle.laws.proofs.Bools.{option?, clash, and-true}
 use Rattle.laws.proofs.Which.{fromOn, next-none, next-some, from-zero}
 use Rattle.railway.specs.declared.Railway.{Railway}
-use Rattle.railway.specs.declared.Refusal.{Refusal}
-use Rattle.railway.specs.declared.Refusal.the-variants.{Space}
-use Rattle.railway.specs.Refusals.{Row, row, refuseIf, first}
-use Rattle.railway.specs.Rows.{recordRows, recordRefusal}
+use Rattle.railway.specs.Rows.{recordRefusal}
 use Rattle.game.specs.Placement.{placements, startCode}
-use Rattle.tables.specs.Tables.{noFigure, figureIn, tablesShort, caseRefusal}
+use Rattle.tables.specs.Tables.{noFigure, figureIn, caseRefusal}
 use Rattle.tables.proofs.Refusals.{case-none}
 use Rattle.plan.specs.declared.PlanPlace.{PlanPlace}
 use Rattle.plan.specs.declared.PlanPlace.the-variants.{Top, From}
-use Rattle.plan.specs.declared.Emitted.{Emitted}
-use Rattle.plan.specs.declared.Emitted.the-variants.{Line, End, NoPlan, Refused}
-use Rattle.plan.specs.Lines.{PlacementLine, PlanLine, startLine, placementLine, spell}
+use Rattle.plan.specs.declared.Emitted.the-variants.{Line, End, NoPlan}
+use Rattle.plan.specs.Lines.{startLine, placementLine, spell}
 use Rattle.plan.specs.Text.{hasFigure, lineFor, planLines, planTexts}
-use Rattle.plan.specs.Emitter.{Wrote, unwritten, written, nextCode, lineOf, lineAt, emitLine, Emission, goOn, emission, emissionInto, longEnough}
+use Rattle.plan.specs.Emitter.{unwritten, written, nextCode, lineAt, emitLine, Emission, goOn, emission, emissionInto, longEnough}
 
 -- in an accepted case with tables long enough nothing is refused
 pub none-refused : (r : Railway) (figs sets : List ℕ) → recordRefusal r ≡ none → placements r ≤ length figs → placements r ≤ length sets → caseRefusal r figs sets ≡ none

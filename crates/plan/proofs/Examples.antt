@@ -1,7 +1,7 @@
 -- The checker's and the emitter's answers by computation: one table of texts handed in, with the numbers that each line and the test get; one of calls of the emitter.
 -- Assumes nothing.
 use mathlib.Core.Path.{_≡_, refl}
-use mathlib.Core.Bool.{Bool, true, false, cond, _&&_}
+use mathlib.Core.Bool.{Bool, true, false, _&&_}
 use mathlib.Core.List.{List, [], _∷_, map}
 use mathlib.Core.Option.{Option, none, some}
 use Prim.Native.Nat.{ℕ}
@@ -19,7 +19,7 @@ use Rattle.railway.specs.declared.Refusal.the-variants.{Space}
 use Rattle.railway.specs.Ends.{endAt}
 use Rattle.railway.specs.Refusals.{first}
 use Rattle.railway.specs.Record.{joined, hasSignal, legsOf, runOf, withJoin, withSignal, withLegs, withTrain}
-use Rattle.railway.specs.Rows.{unknownRow, joinRow, looseRow, placeRow, recordRefusal}
+use Rattle.railway.specs.Rows.{unknownRow, joinRow, looseRow, placeRow}
 use Rattle.game.specs.Local.{keepsTest}
 use Rattle.game.specs.Placement.{codeOf, sectionsIn, standsOn, startCode, atHome, shared}
 use Rattle.game.specs.Setting.{headsFor, held, mayMove}
@@ -37,7 +37,7 @@ use Rattle.plan.specs.Emitter.{numberGiven, Wrote, unwritten, emitLine}
 use Rattle.plan.specs.Test.{listedSetting}
 use Rattle.plan.specs.Reading.{guess, readLine}
 use Rattle.plan.specs.Computed.{placementFine, testHolds}
-use Rattle.plan.specs.Checker.{Checking, freshChecking, lineNumber, testNumber, takeLine, testPlan, Run, run}
+use Rattle.plan.specs.Checker.{freshChecking, lineNumber, testNumber, takeLine, testPlan, Run, run}
 use Rattle.plan.specs.Outputs.{bytes}
 
 -- A text and the number that its call is to get; 0: it is taken.

@@ -1,14 +1,14 @@
 -- The hypotheses can be met: Yard A's tables are what a solver leaves that keeps its promise, its start has a figure, buffers are long enough, and lines that
 -- the checker refuses come among the plan's; there are plans that pass and plans that fail. Assumes nothing.
 use mathlib.Core.Path.{_≡_, refl, sym, _∙_}
-use mathlib.Core.Bool.{Bool, true, false, cond}
+use mathlib.Core.Bool.{true, false}
 use mathlib.Core.List.{List, [], _∷_, map}
-use mathlib.Core.Option.{none, some}
-use Prim.Native.Nat.{ℕ, _≤_}
+use mathlib.Core.Option.{some}
+use Prim.Native.Nat.{ℕ}
 use Prim.Native.String.{String}
 use native.Mathlib.Omega.{arith}
-use lib.ListN.{length, getD, replicate, List·getD-eq-default}
-use Rattle.laws.specs.Below.{allBelow, anyBelow, sumBelow, whichBelow, listBelow, lowest}
+use lib.ListN.{length, replicate, List·getD-eq-default}
+use Rattle.laws.specs.Below.{allBelow, anyBelow, sumBelow, whichBelow, listBelow}
 use Rattle.laws.specs.Bits.{fromBits}
 use Rattle.laws.specs.Lists.{any, all}
 use Rattle.text.specs.Text.{digits, line}

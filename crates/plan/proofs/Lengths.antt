@@ -1,9 +1,9 @@
 -- A line that fits an accepted case has 45 bytes at most, so a longer text is refused by its form alone. Four sections take three bytes each with their tabs,
 -- a figure ten and a tab, the open trains four and a tab, the points sixteen and the line end. Assumes nothing.
-use mathlib.Core.Path.{_≡_, refl, sym, _∙_, ap}
-use mathlib.Core.Bool.{Bool, true, false, cond, _&&_}
+use mathlib.Core.Path.{_≡_, _∙_}
+use mathlib.Core.Bool.{true, false}
 use mathlib.Core.List.{List, [], _∷_, _++_, map}
-use Prim.Native.Nat.{ℕ, zero, suc, _+_, _*_, _≤_, _<_}
+use Prim.Native.Nat.{ℕ, suc, _+_, _*_, _≤_, _<_}
 use native.Mathlib.Omega.{arith}
 use lib.ListN.{length, getD, length-append, length-map}
 use lib.Dec.{ltb}
@@ -16,8 +16,8 @@ use Rattle.text.specs.Text.{decimal, line}
 use Rattle.text.proofs.Decimal.{digits-length, digits-short}
 use Rattle.railway.specs.declared.Railway.{Railway}
 use Rattle.game.proofs.Accepted.{Facts}
-use Rattle.plan.specs.Lines.{PlacementLine, PlanLine, startLine, placementLine, orByte, openField, sign, pointField, sectionField, planWord, spell, fits}
-use Rattle.plan.proofs.Reading.{Fits, fits-parts}
+use Rattle.plan.specs.Lines.{PlanLine, startLine, placementLine, orByte, openField, sign, pointField, sectionField, planWord, spell, fits}
+use Rattle.plan.proofs.Reading.{fits-parts}
 
 -- a line is as long as its fields, with one byte behind each
 unfoldable total : List (List ℕ) → ℕ

@@ -9,3 +9,4 @@ pub mod Demand
 pub mod Outputs
 pub mod Examples
 pub mod Inhabited
+pub mod Rules

@@ -1,14 +1,12 @@
 -- The plan texts that are written out hold for all filled tables: they are computed for one pair, which is certified, and all filled tables make the same plan.
 -- Assumes nothing.
 use mathlib.Core.Path.{_≡_, refl, _∙_, ap}
-use mathlib.Core.Bool.{true}
 use mathlib.Core.List.{List, [], _∷_, flatten}
 use mathlib.Core.Option.{none}
 use Prim.Native.Nat.{ℕ}
 use Rattle.laws.specs.Below.{allBelow, anyBelow, sumBelow, whichBelow, listBelow, lowest}
 use Rattle.laws.specs.Bits.{fromBits}
 use Rattle.text.specs.Text.{digits, line}
-use Rattle.railway.specs.declared.Railway.{Railway}
 use Rattle.railway.specs.Ends.{endAt}
 use Rattle.railway.specs.Refusals.{first}
 use Rattle.railway.specs.Record.{joined, hasSignal, legsOf, runOf, withJoin, withSignal, withLegs, withTrain}

@@ -5,7 +5,7 @@ use mathlib.Core.Logic.{_⊎_, inl, inr}
 use mathlib.Core.Bool.{Bool, true, false, cond, not, _&&_}
 use mathlib.Core.List.{List, [], _∷_, _++_, map, map-append, append-nil}
 use mathlib.Core.Option.{Option, none, some}
-use Prim.Native.Nat.{ℕ, zero, suc, _+_, _/_, _^_, _≤_, _<_}
+use Prim.Native.Nat.{ℕ, zero, suc, _+_, _≤_, _<_}
 use native.Mathlib.Omega.{arith}
 use lib.ListN.{length, getD}
 use lib.Dec.{eqb, ltb, leb}
@@ -13,29 +13,25 @@ use borrow.Author.Tests.{lt-ltb, eqb-true, eq-eqb, ne-eqb, le-leb, le-ltb}
 use Rattle.laws.specs.Below.{whichBelow, listBelow, orElse}
 use Rattle.laws.specs.Bits.{bit}
 use Rattle.laws.specs.Lists.{all}
-use Rattle.laws.proofs.Bools.{bool?, option?, lt?, eq?, clash, some-none, and-true, and-both}
+use Rattle.laws.proofs.Bools.{lt?, eq?, clash, some-none, and-true, and-both}
 use Rattle.laws.proofs.Below.{list-length, list-get}
-use Rattle.laws.proofs.Lists.{all-each}
 use Rattle.laws.proofs.Bits.{bit-none}
 use Rattle.laws.proofs.Which.{which-map, all-which}
 use Rattle.railway.specs.declared.Railway.{Railway}
 use Rattle.railway.specs.Rows.{recordRefusal}
-use Rattle.game.specs.Game.{home}
-use Rattle.game.specs.Claim.{Keeps}
-use Rattle.game.specs.Placement.{codeOf, sectionsOf, placements, startCode, atHome, shared}
+use Rattle.game.specs.Placement.{sectionsOf, placements, startCode, atHome, shared}
 use Rattle.game.specs.Setting.{Setting, held, opensFor, signalOpen}
-use Rattle.game.specs.Moves.{gameOf}
 use Rattle.game.proofs.Accepted.{Facts, facts}
 use Rattle.game.proofs.Codes.{AllBelow, sections-length, sections-below, code-sections}
 use Rattle.game.proofs.Moves.{start-below}
-use Rattle.tables.specs.Entries.{opensIn, settingAt, entryFrom, entryOf}
-use Rattle.tables.specs.Tables.{noFigure, figureEntry, figureIn, settingIn, IsPlanEntry, Filled}
+use Rattle.tables.specs.Entries.{opensIn, settingAt}
+use Rattle.tables.specs.Tables.{noFigure, figureEntry, figureIn, IsPlanEntry, Filled}
 use Rattle.tables.proofs.Entries.{entry-opens}
 use Rattle.tables.proofs.Plays.{filled-solved, filled-apart}
 use Rattle.tables.proofs.Unique.{figs-one, sets-one}
-use Rattle.plan.specs.Lines.{PlacementLine, PlanLine, startLine, placementLine, spell, fits, lineCode, rises, planOf}
+use Rattle.plan.specs.Lines.{PlacementLine, placementLine, fits, lineCode, rises}
 use Rattle.plan.specs.Text.{isSome, hasFigure, lineFor, planLines, planTexts}
-use Rattle.plan.specs.Test.{Listing, listedSetting, Test, lineOn, figureOn, opensOn, plusOn, byLines, byTables}
+use Rattle.plan.specs.Test.{listedSetting, Test, lineOn, figureOn, opensOn, plusOn, byLines, byTables}
 use Rattle.plan.specs.Checked.{Form, Passing}
 use Rattle.plan.proofs.Tested.{SameListing, test-same}
 use Rattle.plan.proofs.Forms.{codeAfter, rises-snoc, code-after-snoc}

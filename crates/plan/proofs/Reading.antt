@@ -2,10 +2,10 @@
 -- so its text is cut into them again, and each field gives back what it was written for; what is read is spelled again and compared.
 -- Assumes nothing.
 use mathlib.Core.Path.{_≡_, refl, sym, _∙_, ap}
-use mathlib.Core.Logic.{_⊎_, inl, inr, _↔_}
-use mathlib.Core.Bool.{Bool, true, false, cond, not, _&&_}
+use mathlib.Core.Logic.{_↔_}
+use mathlib.Core.Bool.{Bool, true, false, cond, _&&_}
 use mathlib.Core.List.{List, [], _∷_, _++_, map}
-use mathlib.Core.Option.{Option, none, some}
+use mathlib.Core.Option.{none, some}
 use Prim.Native.Nat.{ℕ, zero, suc, _+_, _-_, _<_}
 use native.Mathlib.Omega.{arith}
 use lib.ListN.{length, getD, take, length-map}
@@ -14,7 +14,7 @@ use lib.Dec.{eqb, ltb}
 use borrow.Author.Tests.{ltb-true, eqb-true, eq-eqb, ne-eqb}
 use Rattle.laws.specs.Below.{anyBelow, whichBelow, listBelow}
 use Rattle.laws.specs.Lists.{any, all}
-use Rattle.laws.proofs.Bools.{bool?, clash, some-none, same-bool, and-true, and-both}
+use Rattle.laws.proofs.Bools.{clash, some-none, same-bool, and-true, and-both}
 use Rattle.laws.proofs.Below.{any-at, any-of, list-length, list-get}
 use Rattle.laws.proofs.Lists.{all-append}
 use Rattle.laws.proofs.Which.{any-which}
@@ -24,7 +24,7 @@ use Rattle.text.proofs.Decimal.{digit-is, digits-are, decimal-plain, value-deci
 use Rattle.text.proofs.Lines.{same-is, same-self, cut-line}
 use Rattle.railway.specs.declared.Railway.{Railway}
 use Rattle.tables.specs.Tables.{noFigure}
-use Rattle.plan.specs.Lines.{PlacementLine, PlanLine, startLine, placementLine, orByte, openField, sign, pointField, sectionField, planWord, lineFields, spell, fits}
+use Rattle.plan.specs.Lines.{PlacementLine, PlanLine, startLine, placementLine, orByte, openField, sign, pointField, sectionField, planWord, spell, fits}
 use Rattle.plan.specs.Reading.{guessPlacement, guess, readIf, readLine}
 
 -- WHAT FITS, part by part

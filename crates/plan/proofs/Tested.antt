@@ -1,21 +1,19 @@
 -- The test of a plan. Computed it is true exactly if the plan passes; plans that list the same pass together; and whoever follows one that passes is home
 -- in time, for every turn ends in a listed placement of smaller figure. Assumes nothing.
 use mathlib.Core.Path.{_≡_, refl, sym, _∙_, ap, subst}
-use mathlib.Core.Logic.{_⊎_, inl, inr, _↔_}
+use mathlib.Core.Logic.{inl, inr, _↔_}
 use mathlib.Core.Bool.{Bool, true, false, not, _&&_, _||_}
-use mathlib.Core.List.{List, []}
 use mathlib.Core.Option.{Option, none, some}
-use Prim.Native.Nat.{ℕ, _<_, _≤_}
+use Prim.Native.Nat.{ℕ, _<_}
 use native.Mathlib.Omega.{arith}
 use lib.Dec.{eqb}
 use borrow.Author.Tests.{eqb-true, eq-eqb, not-true}
-use Rattle.laws.specs.Below.{allBelow, anyBelow}
-use Rattle.laws.proofs.Bools.{bool?, option?, clash, some-none, either, or-left, or-right, and-true, and-both}
+use Rattle.laws.specs.Below.{allBelow}
+use Rattle.laws.proofs.Bools.{bool?, option?, clash, either, or-left, or-right, and-true, and-both}
 use Rattle.laws.proofs.Below.{all-at, all-of, any-same}
 use Rattle.railway.specs.declared.Railway.{Railway}
 use Rattle.railway.specs.Ends.{endIndex}
-use Rattle.railway.specs.Rows.{recordRefusal}
-use Rattle.game.specs.Game.{Outcome, Game, Choice, following, may, home, over, play, homeAt, HomeWithin}
+use Rattle.game.specs.Game.{Outcome, Game, Choice, following, may, home, over, play, HomeWithin}
 use Rattle.game.specs.Claim.{Below, figureOf, Keeps, Alike}
 use Rattle.game.specs.Local.{keepsTest}
 use Rattle.game.specs.Placement.{placements, startCode, atHome, shared}

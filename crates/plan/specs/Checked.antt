@@ -2,7 +2,7 @@
 -- Assumes nothing.
 use mathlib.Core.Path.{_≡_}
 use mathlib.Core.Logic.{_⊎_, _↔_}
-use mathlib.Core.Bool.{Bool, true}
+use mathlib.Core.Bool.{true}
 use mathlib.Core.List.{List, [], _∷_, _++_, map, List·Memᴰ}
 use mathlib.Core.Option.{none}
 use Prim.Native.Nat.{ℕ, _≤_}
@@ -18,7 +18,7 @@ use Rattle.game.specs.Moves.{gameOf}
 use Rattle.plan.specs.declared.LineAnswer.{LineAnswer}
 use Rattle.plan.specs.declared.LineAnswer.the-variants.{Taken, Refused as LineRefused}
 use Rattle.plan.specs.declared.TestAnswer.the-variants.{Pass, Refused as TestRefused}
-use Rattle.plan.specs.Lines.{PlacementLine, PlanLine, spell, fits, lineCode, rises, planOf}
+use Rattle.plan.specs.Lines.{PlacementLine, spell, fits, lineCode, rises, planOf}
 use Rattle.plan.specs.Test.{Listing, listedSetting, Test, byLines}
 use Rattle.plan.specs.Checker.{Checking, freshChecking, takeLine, testPlan, Run, run, isTaken, takenTexts}
 

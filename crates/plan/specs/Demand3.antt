@@ -3,7 +3,7 @@
 use mathlib.Core.Path.{_≡_}
 use mathlib.Core.Bool.{Bool, true, cond, not, _&&_, _||_}
 use mathlib.Core.List.{List, [], _∷_, map}
-use mathlib.Core.Option.{Option, none, some}
+use mathlib.Core.Option.{none, some}
 use Prim.Native.Nat.{ℕ, _≤_, _<_}
 use lib.ListN.{length, getD}
 use Rattle.railway.specs.declared.Railway.{Railway}
@@ -21,7 +21,7 @@ use Rattle.plan.specs.declared.Emitted.the-variants.{End, NoPlan}
 use Rattle.plan.specs.declared.LineAnswer.{LineAnswer}
 use Rattle.plan.specs.declared.TestAnswer.the-variants.{Pass}
 use Rattle.plan.specs.Text.{planTexts}
-use Rattle.plan.specs.Emitter.{Wrote, unwritten, emitLine, Emission, emission, emissionInto, longEnough}
+use Rattle.plan.specs.Emitter.{unwritten, emitLine, emission, emissionInto, longEnough}
 use Rattle.plan.specs.Checker.{freshChecking, testPlan, Run, run, isTaken}
 
 -- A text handed to the checker: a line of the plan, or another one.

@@ -17,7 +17,7 @@ use Rattle.plan.specs.declared.PlanPlace.{PlanPlace}
 use Rattle.plan.specs.declared.PlanPlace.the-variants.{Top, From}
 use Rattle.plan.specs.declared.Emitted.{Emitted}
 use Rattle.plan.specs.declared.Emitted.the-variants.{Line, End, NoPlan, Refused}
-use Rattle.plan.specs.Lines.{PlanLine, startLine, placementLine, spell}
+use Rattle.plan.specs.Lines.{startLine, placementLine, spell}
 use Rattle.plan.specs.Text.{hasFigure, lineFor}
 
 -- THE ANSWERS. The refusal that an answer gives, if it does, and its number in the table.

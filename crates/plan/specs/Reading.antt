@@ -1,7 +1,7 @@
 -- Reading a plan line, as a program may do it. Nothing of document 01 rests on this file: `reads-line`, in proofs/, says that a line is read
 -- exactly if it fits the case and the text is its spelling. Assumes nothing.
-use mathlib.Core.Bool.{Bool, cond, _&&_}
-use mathlib.Core.List.{List, [], _∷_, map}
+use mathlib.Core.Bool.{cond, _&&_}
+use mathlib.Core.List.{List, [], map}
 use mathlib.Core.Option.{Option, none, some}
 use Prim.Native.Nat.{ℕ, _+_, _-_}
 use lib.ListN.{getD, take}
