@@ -33,13 +33,13 @@ use Rattle.plan.specs.declared.LineAnswer.{LineAnswer}
 use Rattle.plan.specs.declared.LineAnswer.the-variants.{Taken, Refused as LineRefused}
 use Rattle.plan.specs.declared.TestAnswer.{TestAnswer}
 use Rattle.plan.specs.declared.TestAnswer.the-variants.{Pass, Refused as TestRefused}
-use Rattle.plan.specs.Lines.{PlacementLine, PlanLine, startLine, placementLine, spell, fits, lineCode, rises}
+use Rattle.plan.specs.Lines.{PlacementLine, PlanLine, startLine, placementLine, spell, fits, Spells, lineCode, rises}
 use Rattle.plan.specs.Reading.{readLine}
 use Rattle.plan.specs.Test.{Test, lineOn, figureOn, opensOn, plusOn, byLines, byTables}
 use Rattle.plan.specs.Computed.{testHolds}
 use Rattle.plan.specs.Checker.{Checking, Left, left, freshChecking, lineEntry, enter, refuse, takes, takesIf, takeLine, tests, testPlan, Run, onward, run, isTaken, takenTexts}
 use Rattle.plan.specs.Checked.{Form, InForm, Passing, Failing, Checked, CheckedHolds}
-use Rattle.plan.proofs.Reading.{fits-parts, Spells, reads-line, reads}
+use Rattle.plan.proofs.Reading.{fits-parts, reads-line, reads}
 use Rattle.plan.proofs.Emits.{none-refused}
 use Rattle.plan.proofs.Tested.{SameListing, listing-back, test-same, tested}
 use Rattle.plan.proofs.Forms.{codeAfter, code-after, code-after-snoc, codes, form-start, form-snoc, Last, only, more, form-last, form-front, no-form, form-one}
@@ -151,7 +151,7 @@ module _ (r : Railway) (a : recordRefusal r ≡ none) where
   fresh-takes taken text c e t (some (startLine n)) q =
       let s = spells text (startLine n) q in
       let f : Form r (taken ++ (text ∷ [])) n [] = subst (λ (ls : List (List ℕ)). Form r ls n []) (ap (λ (l : List ℕ). l ∷ []) (s .spelled) ∙ ap (λ (ls : List (List ℕ)). ls ++ (text ∷ [])) (sym e)) (form-start r n (s .fit)) in
-      took refl (record { start = n; lines = []; form = f }) (begun n [] f refl (record { figs = t .figs; sets = t .sets }))
+      took refl (record { start = n; lines = []; form = f; holds = tt }) (begun n [] f refl (record { figs = t .figs; sets = t .sets }))
 
   begun-takes : (taken : List (List ℕ)) (text : List ℕ) (c : Checking) (m : ℕ) (ds : List PlacementLine) → Form r taken m ds → Tables ds c
       → (o : Option PlanLine) → readLine r text ≡ o → Call taken text c (takes r c (Begun m (codeAfter 0 (codes r ds))) o)
@@ -182,7 +182,7 @@ module _ (r : Railway) (a : recordRefusal r ≡ none) where
           let s = spells text (placementLine d) q in
           let l : codeAfter 0 (codes r ds) ≤ lineCode r d = ltb-false (lineCode r d) (codeAfter 0 (codes r ds)) y in
           let g : Form r (taken ++ (text ∷ [])) m (ds ++ (d ∷ [])) = subst (λ (x : List ℕ). Form r (taken ++ (x ∷ [])) m (ds ++ (d ∷ []))) (s .spelled) (form-snoc r taken m ds d f (s .fit) l) in
-          took refl (record { start = m; lines = ds ++ (d ∷ []); form = g })
+          took refl (record { start = m; lines = ds ++ (d ∷ []); form = g; holds = tt })
           (begun m (ds ++ (d ∷ [])) g (ap (Begun m) (sym (ap (codeAfter 0) (map-append (lineCode r) ds (d ∷ [])) ∙ code-after-snoc 0 (codes r ds) (lineCode r d))))
           (record { figs = cells-more r noFigure (λ d. d .figure) ds d (c .figs) (t .figs) (f .rising) l (code-in d (s .fit)); sets = cells-more r 0 (lineEntry r) ds d (c .sets) (t .sets) (f .rising) l (code-in d (s .fit)) }))
 
@@ -294,14 +294,14 @@ module _ (r : Railway) (a : recordRefusal r ≡ none) where
   answers-begun : (taken : List (List ℕ)) (m : ℕ) (ds : List PlacementLine) → Form r taken m ds → (b : Bool) → ((b ≡ true) ↔ Test r m (byLines r ds)) → Answers taken (cond b Pass (TestRefused PlanFault))
   answers-begun taken m ds f true i =
       record {
-        passes = (λ q. record { start = m; lines = ds; form = f; test = i .0 refl }, λ q. refl);
-        faulty = (λ q. (let z : _≡_ {A = ℕ} 0 1 = cc in absurd (omega arith)), λ q. absurd (q .test (same-test taken m (q .start) ds (q .lines) f (q .form) (i .0 refl))));
+        passes = (λ q. record { start = m; lines = ds; form = f; holds = i .0 refl }, λ q. refl);
+        faulty = (λ q. (let z : _≡_ {A = ℕ} 0 1 = cc in absurd (omega arith)), λ q. absurd (q .holds (same-test taken m (q .start) ds (q .lines) f (q .form) (i .0 refl))));
         early = (λ q. (let z : _≡_ {A = ℕ} 0 1 = cc in absurd (omega arith)), λ q. no-form r m ds (subst (λ (ls : List (List ℕ)). Form r ls m ds) q f));
       }
   answers-begun taken m ds f false i =
       record {
-        passes = (λ q. (let z : _≡_ {A = ℕ} 0 1 = cc in absurd (omega arith)), λ q. clash (i .1 (same-test taken (q .start) m (q .lines) ds (q .form) f (q .test))) refl);
-        faulty = (λ q. record { start = m; lines = ds; form = f; test = λ t. clash (i .1 t) refl }, λ q. refl);
+        passes = (λ q. (let z : _≡_ {A = ℕ} 0 1 = cc in absurd (omega arith)), λ q. clash (i .1 (same-test taken (q .start) m (q .lines) ds (q .form) f (q .holds))) refl);
+        faulty = (λ q. record { start = m; lines = ds; form = f; holds = λ t. clash (i .1 t) refl }, λ q. refl);
         early = (λ q. (let z : _≡_ {A = ℕ} 0 1 = cc in absurd (omega arith)), λ q. no-form r m ds (subst (λ (ls : List (List ℕ)). Form r ls m ds) q f));
       }
 

@@ -80,7 +80,7 @@ module _ (r : Railway) (accepted : recordRefusal r ≡ none) where
   passed : (hs : List Handed) (c : Checking) → Holds r accepted [] c → Passing r (ownTexts hs) → othersRefused hs (run r (textsOf hs) c .answers) ≡ true → Passed r hs (run r (textsOf hs) c)
   passed hs c k p e =
       let u : Run = run r (textsOf hs) c in
-      let n = handled hs [] c k (record { start = p .start; lines = p .lines; form = p .form }) e in
+      let n = handled hs [] c k (record { start = p .start; lines = p .lines; form = p .form; holds = tt }) e in
       let h : Holds r accepted (ownTexts hs) (u .end) = subst (λ (ls : List (List ℕ)). Holds r accepted ls (u .end)) (n .texts) (ran r accepted (textsOf hs) [] c k .holds) in
       record { taken = n .marks; passes = answers r accepted (ownTexts hs) (u .end) h .passes .1 p }
 

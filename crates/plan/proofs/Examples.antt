@@ -130,6 +130,8 @@ scripts =
     ∷ script bothHome 4 ("plan\t0\n" gets 0 ∷ "2\t1\t0\t0\t.\n" gets 0 ∷ []) 0
     -- one section: no points, and a point too many
     ∷ script yardOne 1 ("plan\t0\n" gets 0 ∷ "1\t0\t0\t-\n" gets 10 ∷ "1\t0\t0\t.\n" gets 0 ∷ []) 0
+    -- the largest figure
+    ∷ script yardOne 1 ("plan\t4294967294\n" gets 0 ∷ "1\t4294967294\t0\t.\n" gets 0 ∷ []) 0
     -- no line; tables too short; a record that is refused, whatever the tables and the text
     ∷ script yardA 9 [] 10
     ∷ script yardA 8 ("plan\t2\n" gets 9 ∷ "plan" gets 9 ∷ []) 9

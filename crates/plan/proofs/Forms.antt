@@ -100,7 +100,7 @@ module _ (r : Railway) where
     where
       go : Last (xs ++ (x ∷ [])) b → InForm r (xs ++ (x ∷ []))
       go (only m e f g) = snoc-not-empty xs x e
-      go (more m ds d f g h k) = record { start = m; lines = ds; form = f }
+      go (more m ds d f g h k) = record { start = m; lines = ds; form = f; holds = tt }
 
   pub no-form : {A : Type 0} (m : ℕ) (ds : List PlacementLine) → Form r [] m ds → A
   no-form m ds f = let e : [] ≡ map spell (planOf m ds) = f .spelled in let z : _≡_ {A = ℕ} 0 1 = cc in absurd (omega arith)

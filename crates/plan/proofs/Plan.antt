@@ -27,6 +27,7 @@ use Rattle.game.proofs.Moves.{start-below}
 use Rattle.tables.specs.Entries.{opensIn, settingAt}
 use Rattle.tables.specs.Tables.{noFigure, figureEntry, figureIn, IsPlanEntry, Filled}
 use Rattle.tables.proofs.Entries.{entry-opens}
+use Rattle.tables.proofs.Certify.{figure-small}
 use Rattle.tables.proofs.Plays.{filled-solved, filled-apart}
 use Rattle.tables.proofs.Unique.{figs-one, sets-one}
 use Rattle.plan.specs.Lines.{PlacementLine, placementLine, fits, lineCode, rises}
@@ -45,7 +46,7 @@ entry-is x n e = go (eqb x noFigure) e
     go false q = cc
 
 entry-below : (x n : ℕ) → x ≤ noFigure → figureEntry x ≡ some n → x < noFigure
-entry-below x n l e = elim (lt? x noFigure) [ inl m ↦ m | inr m ↦ let z : x ≡ noFigure = omega arith in some-none (rw z at e) refl ]
+entry-below x n l e = omega (arith, entry-is x n e, figure-small x n l e)
 
 some-is : (o : Option ℕ) → isSome o ≡ true → (n : ℕ) × (o ≡ some n)
 some-is none e = clash e refl
@@ -242,7 +243,7 @@ module _ (r : Railway) (accepted : recordRefusal r ≡ none) (figs sets : List �
             start = getD figs (startCode r) noFigure;
             lines = planPlacements;
             form = plan-form;
-            test = test-same r ok (byTables figs sets) (byLines r planPlacements) same-listing (getD figs (startCode r) noFigure)
+            holds = test-same r ok (byTables figs sets) (byLines r planPlacements) same-listing (getD figs (startCode r) noFigure)
                 (rw (entry-is (getD figs (startCode r) noFigure) n start) (tables-pass n start));
           }
 

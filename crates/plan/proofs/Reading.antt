@@ -24,7 +24,7 @@ use Rattle.text.proofs.Decimal.{digit-is, digits-are, decimal-plain, value-deci
 use Rattle.text.proofs.Lines.{same-is, same-self, cut-line}
 use Rattle.railway.specs.declared.Railway.{Railway}
 use Rattle.tables.specs.Tables.{noFigure}
-use Rattle.plan.specs.Lines.{PlacementLine, PlanLine, startLine, placementLine, orByte, openField, sign, pointField, sectionField, planWord, spell, fits}
+use Rattle.plan.specs.Lines.{PlacementLine, PlanLine, startLine, placementLine, orByte, openField, sign, pointField, sectionField, planWord, spell, fits, Spells}
 use Rattle.plan.specs.Reading.{guessPlacement, guess, readIf, readLine}
 
 -- WHAT FITS, part by part
@@ -185,10 +185,6 @@ module _ (r : Railway) (s : r .sections < noFigure) where
   reads l e = rw (guess-right l e, e, same-self (spell l))
 
 -- .. and nothing else is read
-pub record Spells (r : Railway) (text : List ℕ) (l : PlanLine) : Type 0 where
-  pub fit : fits r l ≡ true
-  pub spelled : spell l ≡ text
-
 read-spells : (r : Railway) (text : List ℕ) (g l : PlanLine) → readIf r text g ≡ some l → Spells r text l
 read-spells r text g l e = go (fits r g && sameText (spell g) text) refl e
   where

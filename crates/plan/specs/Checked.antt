@@ -28,23 +28,21 @@ pub record Form (r : Railway) (texts : List (List ℕ)) (m : ℕ) (ds : List Pla
   pub fit : all (fits r) (planOf m ds) ≡ true
   pub rising : rises 0 (map (lineCode r) ds) ≡ true
 
--- They are so for some lines; and those lines pass the test of a plan, or fail it.
-pub record InForm (r : Railway) (texts : List (List ℕ)) : Type 0 where
+-- They are so for a plan of which something holds: anything; that it passes the test of a plan; that it fails.
+pub record PlanWith (r : Railway) (P : ℕ → List PlacementLine → Type 0) (texts : List (List ℕ)) : Type 0 where
   pub start : ℕ
   pub lines : List PlacementLine
   pub form : Form r texts start lines
+  pub holds : P start lines
 
-pub record Passing (r : Railway) (texts : List (List ℕ)) : Type 0 where
-  pub start : ℕ
-  pub lines : List PlacementLine
-  pub form : Form r texts start lines
-  pub test : Test r start (byLines r lines)
+abbrev pub InForm : Railway → List (List ℕ) → Type 0
+InForm r = PlanWith r (λ m ds. Unit {0})
 
-pub record Failing (r : Railway) (texts : List (List ℕ)) : Type 0 where
-  pub start : ℕ
-  pub lines : List PlacementLine
-  pub form : Form r texts start lines
-  pub test : ¬ (Test r start (byLines r lines))
+abbrev pub Passing : Railway → List (List ℕ) → Type 0
+Passing r = PlanWith r (λ m ds. Test r m (byLines r ds))
+
+abbrev pub Failing : Railway → List (List ℕ) → Type 0
+Failing r = PlanWith r (λ m ds. ¬ (Test r m (byLines r ds)))
 
 -- What any texts handed in, one after the other, are answered; `taken` are those of them that the checker took, `end` is what the calls leave.
 pub record Checked (r : Railway) (texts : List (List ℕ)) (answers : List LineAnswer) (taken : List (List ℕ)) (end : Checking) : Type 0 where
@@ -61,13 +59,13 @@ pub record Checked (r : Railway) (texts : List (List ℕ)) (answers : List LineA
   pub answered : length answers ≡ length texts
   pub others : (a : LineAnswer) → List·Memᴰ a answers → (a ≡ Taken) ⊎ (a ≡ LineRefused PlanForm)
 
--- In an accepted case, from a checker that has taken no line and fresh tables long enough.
+-- In an accepted case, from the state before the first line and fresh tables that are long enough.
 abbrev pub CheckedHolds : Type 0
 CheckedHolds =
     (r : Railway) → recordRefusal r ≡ none → (n m : ℕ) → placements r ≤ n → placements r ≤ m → (texts : List (List ℕ))
     → (let u : Run = run r texts (freshChecking n m) in Checked r texts (u .answers) (takenTexts (u .answers) texts) (u .end))
 
--- Whoever follows a plan that passes is home from the start within the first line's figure, whatever trains are chosen to move.
+-- A plan that passes can be followed: from the start its settings lead home within the figure of its first line, against every choice of trains.
 abbrev pub PlanWorks : Type 0
 PlanWorks =
     (r : Railway) → recordRefusal r ≡ none → (m : ℕ) (L : Listing) → Test r m L

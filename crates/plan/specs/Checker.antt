@@ -1,6 +1,6 @@
 -- The checker: a call for each line, into two lent tables, and a call for the test (document 01, "The two tables and the plan": the checker).
--- Each call is total: any record, state, tables and text. `readLine` gives the line of the case that a text spells (Reading, in proofs/), and
--- `testHolds` the test of a plan (Tested, in proofs/). Assumes nothing.
+-- Each call is total: any record, state, tables and text. `readLine` gives the line that a text spells (`reads-line`, in proofs/), and `testHolds`
+-- says whether the lines taken pass the test of a plan (`tested`, in proofs/). Assumes nothing.
 use mathlib.Core.Bool.{Bool, true, false, cond}
 use mathlib.Core.List.{List, [], _∷_}
 use mathlib.Core.Option.{Option, none, some}
@@ -52,7 +52,7 @@ pub record Left (Answer : Type 0) : Type 0 where
 abbrev pub left : {A : Type 0} → A → Checking → Left A
 left a c = record { answer = a; checking = c }
 
--- A checker that has taken no line, and fresh tables of so many entries: filled with none and with zero.
+-- The state before the first line, with fresh tables of so many entries, which list nothing: none at every code, and zero.
 abbrev pub freshChecking : ℕ → ℕ → Checking
 freshChecking n m = record { state = Fresh; figs = replicate n noFigure; sets = replicate m 0 }
 

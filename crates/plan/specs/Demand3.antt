@@ -50,11 +50,11 @@ pub record Demand3 (r : Railway) (a : SolverAnswer) (figs sets : List ℕ) : Typ
   -- the solver refused nothing, and answered the start's figure or that there is none
   pub solved : refusalGiven a ≡ none
   pub answer : figureGiven a ≡ figureIn figs (startCode r)
-  -- the tables have at every code the placement's figure and the plan's setting
+  -- code by code, the tables have the figure of the placement and the plan's setting for it
   pub figures : (p : ℕ) → p < placements r → IsFigure (gameOf r) p (figureIn figs p)
   pub settings : (p : ℕ) → p < placements r → IsPlanEntry r (figureIn figs) p (figureIn figs p) (getD sets p 0)
-  -- whole plays: who follows the settings is home within the figure; no way of working is home sooner against every choice of trains;
-  -- none stands exactly where no way comes home against all; one choice beats every way from there
+  -- of whole plays: the settings lead home within the figure, no way of working does better against all choices of trains, a figure is
+  -- missing just where no way comes home against them all, and one choice of trains wins from all those placements
   pub plays : Whole (gameOf r) (figureIn figs) (settingIn r sets)
   -- the emitter's calls write the plan, byte for byte, and end: into buffers long enough, and into one of 45 bytes or more
   pub emits : (n : ℕ) → figureIn figs (startCode r) ≡ some n → (buffers : List (List ℕ)) → longEnough (planTexts r figs sets) buffers ≡ true
@@ -64,8 +64,8 @@ pub record Demand3 (r : Railway) (a : SolverAnswer) (figs sets : List ℕ) : Typ
       → emissionInto r figs sets calls buffer Top ≡ record { lines = planTexts r figs sets; last = some End }
   -- where the start has no figure every call answers that there is no plan
   pub emits-none : figureIn figs (startCode r) ≡ none → (place : PlanPlace) (buffer : List ℕ) → emitLine r figs sets place buffer ≡ unwritten NoPlan buffer
-  -- the checker, from fresh tables long enough, handed the plan's lines in order, with any number of lines among them that it refuses:
-  -- it takes each line of the plan and passes the plan at the test
+  -- the checker's calls for the lines of the plan, first to last, and for any others that it refuses, before, between and behind them, from
+  -- fresh tables that are long enough: it takes those of the plan and no others, and then answers pass to the call for the test
   pub checks : (n : ℕ) → figureIn figs (startCode r) ≡ some n → (k l : ℕ) → placements r ≤ k → placements r ≤ l → (hs : List Handed)
       → (let u : Run = run r (map (λ h. h .text) hs) (freshChecking k l) in
       ownTexts hs ≡ planTexts r figs sets → othersRefused hs (u .answers) ≡ true → Passed r hs u)

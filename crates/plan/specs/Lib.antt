@@ -3,6 +3,7 @@ pub mod Text
 pub mod Emitter
 pub mod Test
 pub mod Checker
+pub mod Promises
 pub mod Rules
 pub mod Checked
 pub mod Demand3

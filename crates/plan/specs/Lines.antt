@@ -1,5 +1,6 @@
 -- The lines of a plan: what they say, how they are written, which fit a case (document 01, "The two tables and the plan": plan text).
 -- Sections, trains and points count from 0 here: the document's numbers less one. Assumes nothing.
+use mathlib.Core.Path.{_≡_}
 use mathlib.Core.Bool.{Bool, true, false, cond, _&&_}
 use mathlib.Core.List.{List, [], _∷_, _++_, map}
 use Prim.Native.Nat.{ℕ, suc, _+_}
@@ -63,6 +64,11 @@ fits r (placementLine d) =
     && ltb (d .figure) noFigure
     && eqb (length (d .opens)) (r .trains)
     && eqb (length (d .plus)) (r .points)
+
+-- A text is the spelling of a line that fits the case. (Reading, in proofs/: of one line at most.)
+pub record Spells (r : Railway) (text : List ℕ) (l : PlanLine) : Type 0 where
+  pub fit : fits r l ≡ true
+  pub spelled : spell l ≡ text
 
 -- The code of a line's placement.
 abbrev pub lineCode : Railway → PlacementLine → ℕ

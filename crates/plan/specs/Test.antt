@@ -34,13 +34,13 @@ listedSetting r L p = record { plus = L .plus p; isOpen = λ i. anyBelow (opensL
 
 -- A plan with figure m in its first line passes the test.
 pub record Test (r : Railway) (m : ℕ) (L : Listing) : Type 0 where
-  -- the start is listed, and the first line has its figure
+  -- the first line has the figure with which the start is listed
   pub start : L .figure (startCode r) ≡ some m
-  -- where a placement is listed no two trains share a section
+  -- in a listed placement every train has its section to itself
   pub apart : (p n : ℕ) → p < placements r → L .figure p ≡ some n → shared r p ≡ false
-  -- .. and a train that is open has a signal at the end that it heads for
+  -- .. and a train that is opened stands before a signal
   pub signalled : (p n t : ℕ) → p < placements r → L .figure p ≡ some n → t < r .trains → L .opens p t ≡ true → held r p t ≡ true
-  -- where it is not home some train may move, and every move that is allowed ends in a listed placement of smaller figure
+  -- .. and, but at home, somebody may move, and nobody can but to a placement that is listed with a smaller figure
   pub kept : (p n : ℕ) → p < placements r → L .figure p ≡ some n → atHome r p ≡ false → Keeps (gameOf r) (L .figure) p (listedSetting r L p) n
 
 -- WHAT LINES LIST. The line for placement p.

@@ -31,7 +31,7 @@ lineFor r figs sets p =
       plus = listBelow (bit (getD sets p 0)) (r .points);
     }
 
--- The plan: the start's figure, then by rising code a line for each placement with a figure.
+-- The plan: a first line with the figure of the start and behind it, lowest code first, one for every placement that has a figure.
 unfoldable pub planLines : Railway → List ℕ → List ℕ → List PlanLine
 planLines r figs sets = planOf (getD figs (startCode r) noFigure) (map (lineFor r figs sets) (whichBelow (hasFigure figs) (placements r)))
 
