@@ -76,6 +76,10 @@ and-true false b e = clash e refl
 pub and-both : (a b : Bool) → a ≡ true → b ≡ true → (a && b) ≡ true
 and-both a b p q = rw (p, q)
 
+pub and-off : (a : Bool) → (a && false) ≡ false
+and-off true = refl
+and-off false = refl
+
 pub not-is : (a : Bool) → not a ≡ false → a ≡ true
 not-is true e = refl
 not-is false e = clash refl e

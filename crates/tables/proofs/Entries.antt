@@ -11,7 +11,7 @@ use lib.Dec.{eqb}
 use borrow.Author.Tests.{eqb-true, eq-eqb}
 use Rattle.laws.specs.Below.{anyBelow}
 use Rattle.laws.specs.Bits.{bit, fromBits}
-use Rattle.laws.proofs.Bools.{bool?, lt?, clash, and-both}
+use Rattle.laws.proofs.Bools.{bool?, lt?, clash, and-both, and-off}
 use Rattle.laws.proofs.Below.{any-of, any-same, none-any}
 use Rattle.laws.proofs.Bits.{bits-same, bits-plain, bits-below, low-bit, high-bit}
 use Rattle.railway.specs.declared.End.{End}
@@ -109,13 +109,9 @@ module _ (r : Railway) (p : ℕ) where
         | inl y ↦ any-of (opensAt r p opens (endIndex (headsFor r p t))) (r .trains) t l (and-both (opens t) _ y (eq-eqb (endIndex (headsFor r p t)) (endIndex (headsFor r p t)) refl)) ∙ sym y
         | inr y ↦ none-any (opensAt r p opens (endIndex (headsFor r p t))) (r .trains) (λ u lu. elim (bool? (eqb (endIndex (headsFor r p t)) (endIndex (headsFor r p u)))) [
           | inl z ↦ let e : t ≡ u = own-end t u l lu h (eqb-true (endIndex (headsFor r p t)) (endIndex (headsFor r p u)) z) in rw (← e, y)
-          | inr z ↦ rw z (off (opens u))
+          | inr z ↦ rw z (and-off (opens u))
         ]) ∙ sym y
       ]
-        where
-          off : (b : Bool) → (b && false) ≡ false
-          off true = refl
-          off false = refl
 
       -- who may move: the free trains and the open ones
       pub setting-may : (t : ℕ) → t < r .trains → mayMove r p (settingAt r p (entryFrom r plus opens)) t ≡ (free r p t || opens t)

@@ -15,3 +15,5 @@ pub mod Examples
 pub mod Exists
 pub mod Rounds
 pub mod Promise
+pub mod Steps
+pub mod Inhabited

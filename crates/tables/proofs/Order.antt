@@ -8,7 +8,7 @@ use native.Mathlib.Omega.{arith}
 use lib.Dec.{ltb, leb, eqb}
 use borrow.Author.Tests.{ltb-true, lt-ltb, eqb-true, eq-eqb, leb-true, le-leb}
 use Rattle.laws.specs.Bits.{bit}
-use Rattle.laws.proofs.Bools.{bool?, lt?, clash, either, or-left, or-right, and-true, and-both}
+use Rattle.laws.proofs.Bools.{bool?, lt?, clash, either, or-left, or-right, and-true, and-both, and-off}
 use Rattle.laws.proofs.Below.{lowest-cases, lowest-least, count-one, count-none, count-at-most-one}
 use Rattle.laws.proofs.Bits.{bits-of, bits-same}
 use Rattle.railway.specs.declared.Railway.{Railway}
@@ -105,11 +105,7 @@ module _ (r : Railway) (p : ℕ) where
   module _ (few : r .points ≤ trainBits) where
     pub closed-counted : (plus : ℕ → Bool) → openSignals r (settingAt r p (entryFrom r plus (λ t. false))) ≡ 0
     unfolding openSignals
-    closed-counted plus = count-none (opensSignal r (settingAt r p (entryFrom r plus (λ t. false)))) sectionEnds (λ i l. rw (closed-open r few plus p i) (off (flagAt r i)))
-      where
-        off : (b : Bool) → (b && false) ≡ false
-        off true = refl
-        off false = refl
+    closed-counted plus = count-none (opensSignal r (settingAt r p (entryFrom r plus (λ t. false)))) sectionEnds (λ i l. rw (closed-open r few plus p i) (and-off (flagAt r i)))
 
     pub opened-counted : (plus : ℕ → Bool) (t : ℕ) → t < r .trains → openSignals r (settingAt r p (entryFrom r plus (eqb t))) ≤ 1
     unfolding openSignals

@@ -3,7 +3,7 @@
 use mathlib.Core.Path.{_≡_, refl}
 use mathlib.Core.Bool.{true}
 use mathlib.Core.List.{List, [], _∷_}
-use mathlib.Core.Option.{none, some}
+use mathlib.Core.Option.{none}
 use Prim.Native.Nat.{ℕ, _<_}
 use native.Mathlib.Omega.{arith}
 use Rattle.laws.specs.Below.{allBelow, anyBelow, sumBelow, listBelow, lowest}
@@ -22,7 +22,7 @@ use Rattle.game.specs.Yards.{yardA, yardALess, yardOne, upOneTwo, upTwoOne, upT
 use Rattle.tables.specs.Entries.{settingAt, entryFrom}
 use Rattle.tables.specs.Tables.{noFigure, figureIn, Filled}
 use Rattle.tables.specs.Find.{tryOpen, firstFound, find}
-use Rattle.tables.specs.Starred.{Star, placed, started, starCode, Holds, StarredHolds}
+use Rattle.tables.specs.Starred.{Star, starCode, Holds, StarredHolds}
 use Rattle.tables.proofs.Certify.{certified, certify}
 
 -- what is computed of a yard: it is accepted, and its tables pass
@@ -76,8 +76,8 @@ pub yardA-filled : Filled yardA figsA setsA
 yardA-filled = filled (sure .0)
 
 -- a star, from the tables of its yard
-star : (x : Star) {figs sets : List ℕ} → Sure (x .yard) figs sets → (x .ofStart ≡ true → startCode (x .yard) ≡ starCode x) → starCode x < placements (x .yard) → figureIn figs (starCode x) ≡ x .figure → Holds x
-star x {figs} s start l e = record { accepted = s .accepted; start = start; figure = rw (← e) (filled s .figures (starCode x) l) }
+star : {x : Star} {figs sets : List ℕ} → Sure (x .yard) figs sets → (x .ofStart ≡ true → startCode (x .yard) ≡ starCode x) → starCode x < placements (x .yard) → figureIn figs (starCode x) ≡ x .figure → Holds x
+star {x} {figs} s start l e = record { accepted = s .accepted; start = start; figure = rw (← e) (filled s .figures (starCode x) l) }
 
 infixr 4 _also_
 _also_ : {A B : Type 0} → A → B → A × B
@@ -87,16 +87,16 @@ h also hs = (h, hs)
 pub starred : StarredHolds
 unfolding codeOf startCode sumBelow listBelow runOf withJoin withSignal withLegs withTrain
 starred =
-    star (placed yardA (2 ∷ 3 ∷ []) (some 2)) (sure .0) (λ e. clash e refl) (omega arith) refl
-    also star (placed yardA (2 ∷ 1 ∷ []) (some 1)) (sure .0) (λ e. clash e refl) (omega arith) refl
-    also star (placed yardA (3 ∷ 1 ∷ []) (some 0)) (sure .0) (λ e. clash e refl) (omega arith) refl
-    also star (placed yardA (1 ∷ 3 ∷ []) none) (sure .0) (λ e. clash e refl) (omega arith) refl
-    also star (placed yardA (3 ∷ 2 ∷ []) none) (sure .0) (λ e. clash e refl) (omega arith) refl
-    also star (placed yardA (1 ∷ 1 ∷ []) none) (sure .0) (λ e. clash e refl) (omega arith) refl
-    also star (started yardALess (2 ∷ 3 ∷ []) none) (sure .1) (λ e. refl) (omega arith) refl
-    also star (started yardOne (1 ∷ []) (some 0)) (sure .2) (λ e. refl) (omega arith) refl
-    also star (started upOneTwo (1 ∷ []) (some 1)) (sure .3) (λ e. refl) (omega arith) refl
-    also star (started upTwoOne (2 ∷ []) none) (sure .4) (λ e. refl) (omega arith) refl
-    also star (started upTwoOneHeld (2 ∷ []) none) (sure .5) (λ e. refl) (omega arith) refl
-    also star (started headOn (1 ∷ 2 ∷ []) none) (sure .6) (λ e. refl) (omega arith) refl
+    star (sure .0) (λ e. clash e refl) (omega arith) refl
+    also star (sure .0) (λ e. clash e refl) (omega arith) refl
+    also star (sure .0) (λ e. clash e refl) (omega arith) refl
+    also star (sure .0) (λ e. clash e refl) (omega arith) refl
+    also star (sure .0) (λ e. clash e refl) (omega arith) refl
+    also star (sure .0) (λ e. clash e refl) (omega arith) refl
+    also star (sure .1) (λ e. refl) (omega arith) refl
+    also star (sure .2) (λ e. refl) (omega arith) refl
+    also star (sure .3) (λ e. refl) (omega arith) refl
+    also star (sure .4) (λ e. refl) (omega arith) refl
+    also star (sure .5) (λ e. refl) (omega arith) refl
+    also star (sure .6) (λ e. refl) (omega arith) refl
     also tt
