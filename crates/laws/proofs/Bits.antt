@@ -4,7 +4,7 @@ use mathlib.Core.Path.{_≡_, refl, sym, _∙_, fun-ext}
 use mathlib.Core.Bool.{Bool, true, false, cond}
 use Prim.Native.Nat.{ℕ, zero, suc, _+_, _*_, _/_, _%_, _^_, _≤_, _<_}
 use native.Mathlib.Omega.{arith}
-use native.Mathlib.Nat.{pow-succ', mul-assoc, div-div-eq-div-mul}
+use native.Mathlib.Nat.{pow-succ', mul-assoc, div-div-eq-div-mul, zero-div}
 use lib.Dec.{eqb}
 use borrow.Author.Tests.{eqb-true, eqb-false}
 use Rattle.laws.specs.Bits.{bit, fromBits}
@@ -106,3 +106,7 @@ bits-mono f g (suc k) h = go (f 0) (g 0) (h 0 (omega arith)) (bits-mono (λ n. f
     go true false i l = clash (i refl) refl
     go false true i l = omega arith
     go false false i l = omega arith
+
+-- zero has no bit
+pub bit-none : (n : ℕ) → bit 0 n ≡ false
+bit-none n = let e : 0 / (2 ^ n) ≡ 0 = zero-div (2 ^ n) in rw e

@@ -1,0 +1,103 @@
+-- DEMAND 3, for whatever a solver leaves that keeps its promise. The tables are filled, so they are right for whole plays; the emitter writes their plan; that
+-- plan is in form and passes, and lines that the checker refuses leave no trace. Assumes nothing.
+use mathlib.Core.Path.{_≡_, refl, sym, _∙_, ap, subst}
+use mathlib.Core.Bool.{Bool, true, false, not, cond, _&&_, _||_}
+use mathlib.Core.List.{List, [], _∷_, _++_, map, append-assoc}
+use mathlib.Core.Option.{none}
+use Prim.Native.Nat.{ℕ, _≤_}
+use native.Mathlib.Omega.{arith}
+use lib.ListN.{length}
+use lib.Dec.{leb}
+use borrow.Author.Tests.{le-leb}
+use Rattle.laws.specs.Lists.{all}
+use Rattle.laws.proofs.Bools.{clash, and-true, and-both}
+use Rattle.railway.specs.declared.Railway.{Railway}
+use Rattle.railway.specs.Rows.{recordRefusal}
+use Rattle.game.proofs.Accepted.{facts}
+use Rattle.tables.specs.Tables.{caseRefusal}
+use Rattle.tables.specs.Solver.{SolverLeaves}
+use Rattle.tables.proofs.Plays.{filled-whole}
+use Rattle.plan.specs.declared.LineAnswer.{LineAnswer}
+use Rattle.plan.specs.Lines.{PlanLine, spell, fits}
+use Rattle.plan.specs.Text.{planLines, planTexts}
+use Rattle.plan.specs.Checker.{Checking, Left, freshChecking, takeLine, Run, onward, run, isTaken, takenTexts}
+use Rattle.plan.specs.Checked.{InForm, Passing}
+use Rattle.plan.specs.Demand3.{Handed, ownTexts, othersRefused, Passed, Demand3Holds}
+use Rattle.plan.proofs.Lengths.{at-most-45}
+use Rattle.plan.proofs.Emits.{none-refused, emits, emits-into, emits-none}
+use Rattle.plan.proofs.Forms.{form-front}
+use Rattle.plan.proofs.Checks.{Holds, Call, took, refused, call, ran, answers, fresh-holds}
+use Rattle.plan.proofs.Plan.{plan-fits, plan-passes}
+
+module _ (r : Railway) (accepted : recordRefusal r ≡ none) where
+  -- every line of the plan fits into 45 bytes
+  short : (b : List ℕ) → 45 ≤ length b → (ls : List PlanLine) → all (fits r) ls ≡ true → all (λ l. leb (length l) (length b)) (map spell ls) ≡ true
+  unfolding all
+  short b h [] e = refl
+  short b h (l ∷ ls) e =
+      let f = and-true (fits r l) (all (fits r) ls) e in
+      and-both (leb (length (spell l)) (length b)) (all (λ l. leb (length l) (length b)) (map spell ls)) (le-leb (length (spell l)) (length b) (omega (arith, at-most-45 r (facts r accepted) l (f .0)))) (short b h ls (f .1))
+
+  short-plan : (figs sets b : List ℕ) → 45 ≤ length b → all (fits r) (planLines r figs sets) ≡ true → all (λ l. leb (length l) (length b)) (planTexts r figs sets) ≡ true
+  unfolding planTexts
+  short-plan figs sets b h e = short b h (planLines r figs sets) e
+
+  -- THE CALLS WITH OTHER LINES AMONG THEM: taken are the lines of the plan, and they alone
+  record Handled (hs : List Handed) (u : Run) : Type 0 where
+    marks : map isTaken (u .answers) ≡ map (λ h. h .own) hs
+    texts : takenTexts (u .answers) (map (λ h. h .text) hs) ≡ ownTexts hs
+
+  abbrev textsOf : List Handed → List (List ℕ)
+  textsOf hs = map (λ h. h .text) hs
+
+  module _ (l : List ℕ) (hs : List Handed) (taken : List (List ℕ)) (c : Checking) (k : Holds r accepted taken c) (x : Left LineAnswer)
+      (rest : (before : List (List ℕ)) → Holds r accepted before (x .checking) → InForm r (before ++ ownTexts hs) → othersRefused hs (run r (textsOf hs) (x .checking) .answers) ≡ true
+      → Handled hs (run r (textsOf hs) (x .checking))) where
+    abbrev after : Run
+    after = run r (textsOf hs) (x .checking)
+
+    handled-step : (own : Bool) → Call r accepted taken l c x → InForm r (taken ++ cond own (l ∷ ownTexts hs) (ownTexts hs)) → ((own || not (isTaken (x .answer))) && othersRefused hs (after .answers)) ≡ true
+        → Handled (record { own = own; text = l } ∷ hs) (onward (x .answer) after)
+    unfolding ownTexts takenTexts
+    handled-step true (took e i h) f o =
+        let n = rest (taken ++ (l ∷ [])) h (subst (InForm r) (sym (append-assoc taken (l ∷ []) (ownTexts hs))) f) (and-true true (othersRefused hs (after .answers)) o .1) in
+        record { marks = rw e (ap (λ (bs : List Bool). true ∷ bs) (n .marks)); texts = rw e (ap (λ (ls : List (List ℕ)). l ∷ ls) (n .texts)) }
+    handled-step true (refused e i h) f o = absurd (i (form-front r (ownTexts hs) taken l (subst (InForm r) (sym (append-assoc taken (l ∷ []) (ownTexts hs))) f)))
+    handled-step false (took e i h) f o =
+        let n = and-true (not (isTaken (x .answer))) (othersRefused hs (after .answers)) o .0 in
+        clash (rw e at n) refl
+    handled-step false (refused e i h) f o =
+        let n = rest taken (subst (Holds r accepted taken) (sym h) k) f (and-true (not (isTaken (x .answer))) (othersRefused hs (after .answers)) o .1) in
+        record { marks = rw e (ap (λ (bs : List Bool). false ∷ bs) (n .marks)); texts = rw e (n .texts) }
+
+  handled : (hs : List Handed) (taken : List (List ℕ)) (c : Checking) → Holds r accepted taken c → InForm r (taken ++ ownTexts hs) → othersRefused hs (run r (textsOf hs) c .answers) ≡ true → Handled hs (run r (textsOf hs) c)
+  unfolding run ownTexts othersRefused takenTexts
+  handled [] taken c k i e = record { marks = refl; texts = refl }
+  handled (h ∷ hs) taken c k i e =
+      handled-step (h .text) hs taken c k (takeLine r c (h .text)) (λ before k i e. handled hs before (takeLine r c (h .text) .checking) k i e) (h .own) (call r accepted taken (h .text) c k) i e
+
+  -- any texts in form that pass, with any refused texts among them
+  passed : (hs : List Handed) (c : Checking) → Holds r accepted [] c → Passing r (ownTexts hs) → othersRefused hs (run r (textsOf hs) c .answers) ≡ true → Passed r hs (run r (textsOf hs) c)
+  passed hs c k p e =
+      let u : Run = run r (textsOf hs) c in
+      let n = handled hs [] c k (record { start = p .start; lines = p .lines; form = p .form; holds = tt }) e in
+      let h : Holds r accepted (ownTexts hs) (u .end) = subst (λ (ls : List (List ℕ)). Holds r accepted ls (u .end)) (n .texts) (ran r accepted (textsOf hs) [] c k .holds) in
+      record { taken = n .marks; passes = answers r accepted (ownTexts hs) (u .end) h .passes .1 p }
+
+pub demand3-holds : Demand3Holds
+demand3-holds r a figs sets figs′ sets′ accepted lf ls post =
+    let fine : caseRefusal r figs sets ≡ none = none-refused r figs sets accepted lf ls in
+    let leaves : SolverLeaves r a figs sets figs′ sets′ none = subst (SolverLeaves r a figs sets figs′ sets′) fine (post .leaves) in
+    let filled = leaves .0 .filled in
+    let still : caseRefusal r figs′ sets′ ≡ none = none-refused r figs′ sets′ accepted (rw (leaves .0 .kept-figs .as-long) lf) (rw (leaves .0 .kept-sets .as-long) ls) in
+    record {
+      solved = post .refusal ∙ fine;
+      answer = leaves .1;
+      figures = filled .figures;
+      settings = filled .settings;
+      plays = filled-whole r accepted figs′ sets′ filled;
+      emits = λ n start buffers e. emits r figs′ sets′ still n start buffers e;
+      emits-into = λ n start buffer h calls l. emits-into r figs′ sets′ still n start calls buffer l (short-plan r accepted figs′ sets′ buffer h (plan-fits r accepted figs′ sets′ filled n start));
+      emits-none = emits-none r figs′ sets′ still;
+      checks = λ n start k l i j hs own e. passed r accepted hs (freshChecking k l) (fresh-holds r accepted k l i j) (subst (Passing r) (sym own) (plan-passes r accepted figs′ sets′ filled n start)) e;
+    }
