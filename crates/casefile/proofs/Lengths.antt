@@ -21,6 +21,7 @@ use Rattle.railway.specs.Ends.{endIndex, endAt}
 use Rattle.railway.specs.Record.{linkAt, flagAt}
 use Rattle.railway.proofs.Accepted.{Accepted, accepted-facts}
 use Rattle.casefile.specs.Form.{EndField, section, port, JoinLine, SignalLine, TrainLine, endField, pointLine, joinLine, signalLine, trainLine, each, rising, spell, WritableEnd, WritableJoin, WritableSignal, WritableTrain}
+use Rattle.casefile.specs.Rows.{mostBytes}
 use Rattle.casefile.specs.Recording.{fieldOf, signalOf}
 use Rattle.casefile.specs.Writing.{joinFrom, joinAt, signalAt, descriptionOf, writtenText}
 use Rattle.casefile.specs.Claims.{WrittenFits}
@@ -88,7 +89,7 @@ module _ (r : Railway) (w : Accepted r) where
   unfolding descriptionOf
   counts = (refl, refl)
 
-  pub short : length (spell (descriptionOf r)) ≤ 4096
+  pub short : length (spell (descriptionOf r)) ≤ mostBytes
   unfolding spell line
   short =
       let b = w .bounds in
