@@ -11,7 +11,7 @@ use lib.ListN.{getD, drop}
 use borrow.Author.Tests.{eqb-true}
 use Rattle.text.specs.Text.{decimal}
 use Rattle.text.specs.Reading.{Got, bad, got, then, isDigit}
-use Rattle.text.proofs.Cursor.{bad-got, carry, Lies, Reads, Steps, steps, go-on, here, past, stands, Written, number-sound, number-complete}
+use Rattle.text.proofs.Walking.{bad-got, carry, Lies, Reads, Steps, steps, go-on, here, past, stands, Written, number-sound, number-complete}
 use Rattle.railway.specs.declared.Side.{Side}
 use Rattle.railway.specs.declared.Side.the-variants.{Up, Down}
 use Rattle.railway.specs.declared.Leg.{Leg}

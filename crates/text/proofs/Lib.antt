@@ -1,4 +1,5 @@
-pub mod Examples
 pub mod Decimal
-pub mod Cursor
+pub mod Walking
 pub mod Lines
+pub mod Examples
+pub mod Numbers
