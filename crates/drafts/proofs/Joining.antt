@@ -70,7 +70,7 @@ ports-same (section m s) (port n l) = refl
 ports-same (port m l) (section n s) = refl
 ports-same (port m l) (port n k) = refl
 
-less-one : (m n : ℕ) → 1 ≤ m → 1 ≤ n → eqb (m - 1) (n - 1) ≡ eqb m n
+pub less-one : (m n : ℕ) → 1 ≤ m → 1 ≤ n → eqb (m - 1) (n - 1) ≡ eqb m n
 less-one m n a b = elim (bool? (eqb m n)) [
   | inl e ↦ let p = eqb-true m n e in rw e (eq-eqb (m - 1) (n - 1) (omega arith))
   | inr e ↦ let p = eqb-false m n e in rw e (ne-eqb (m - 1) (n - 1) (λ q. p (omega arith)))

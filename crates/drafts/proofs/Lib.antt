@@ -6,3 +6,5 @@ pub mod Built
 pub mod Joining
 pub mod Signalling
 pub mod Record
+pub mod Answering
+pub mod Whole

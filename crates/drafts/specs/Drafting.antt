@@ -5,7 +5,7 @@ use mathlib.Core.Bool.{Bool, true, false, cond, not, _&&_, _||_}
 use mathlib.Core.List.{List, [], _∷_}
 use mathlib.Core.Option.{Option, none, some}
 use Prim.Native.Nat.{ℕ, zero, suc, _-_, _≤_}
-use lib.Dec.{ltb, eqb}
+use lib.Dec.{ltb, leb, eqb}
 use lib.ListN.{length, getD}
 use Rattle.text.specs.declared.Cursor.{Cursor}
 use Rattle.text.specs.Reading.{Got, bad, got, then}
@@ -34,6 +34,10 @@ use Rattle.drafts.specs.declared.Lines.{Lines}
 pub record Tested (n count : ℕ) (b : Bool) : Type 0 where
   pub is : b ≡ within n count
   pub small : b ≡ true → (1 ≤ n) × (n ≤ 255)
+
+-- A number as far as a byte goes.
+abbrev pub cap : ℕ → ℕ
+cap n = cond (leb n 255) n 255
 
 -- AN END that a line names, if it is there by the record's counts.
 abbrev pub isThere : Railway → EndField → Bool

@@ -2,12 +2,12 @@
 // line. The record is built on the way, beside three flags for what it cannot show: a name that is not there, a join that may not be, a signal
 // named twice. Any bytes may come in, of any length.
 ghost use mathlib.Core.Path.{_≡_};
-ghost use mathlib.Core.Bool.{true, false, _||_};
+ghost use mathlib.Core.Bool.{true, false, _&&_, _||_};
 ghost use Rattle.railway.specs.Rows.{unjoined};
 ghost use Rattle.casefile.specs.Given.{refused};
 ghost use Rattle.casefile.specs.Reading.{pointLineAt, joinLineAt, signalLineAt, trainLineAt, caseAnswer};
 ghost use Rattle.lines.specs.Answers.{endNamed, joinNamed};
-ghost use Rattle.drafts.specs.Drafting.{Tested, endIn, unknownIn, opened, putPoint, faulty, putJoin, putSignal, putTrain, lineInto, letter, countedInto, manyInto, draftOf, linesGot, draftAnswer};
+ghost use Rattle.drafts.specs.Drafting.{Tested, cap, endIn, unknownIn, opened, putPoint, faulty, putJoin, putSignal, putTrain, lineInto, letter, countedInto, manyInto, draftOf, linesGot, draftAnswer};
 use acceptance::Flaw;
 use casefile::CaseAnswer;
 use casefile::CaseRead;
@@ -89,9 +89,9 @@ fn read_lines(text: &[u8]) -> Lines
     ensures { λ r. ⌜ linesGot r ≡ draftOf (now (text .entry)) ⌝ }
 {
     let HeaderRead::CountsAre(s, p, k, c) = lines::header_line(text, Cursor { at: 0 }) else {
-        return not_in_form(open(0, 0, 0));
+        return not_in_form(begin(0, 0, 0));
     };
-    let points = counted_lines(text, c, Kind::P, p, open(s, p, k));
+    let points = counted_lines(text, c, Kind::P, p, begin(s, p, k));
     if points.good {
         let joins = many_lines(text, points.next, Kind::J, points.draft);
         if joins.good {
@@ -239,21 +239,27 @@ fn in_form(d: Draft, next: Cursor) -> Lines
 }
 
 // The draft with nothing but the counts; with none where they are out of bounds.
-fn open(s: u64, p: u64, k: u64) -> Draft
+fn begin(s: u64, p: u64, k: u64) -> Draft
     ensures { λ d. ⌜ d ≡ opened s p k ⌝ }
 {
-    if within(s, Railway::SECTIONS) {
-        if p <= Railway::POINTS as u64 {
-            if within(k, Railway::TRAINS) {
-                let mut r = Railway::empty();
-                r.sections = s as u8;
-                r.points = p as u8;
-                r.trains = k as u8;
-                return fresh(r);
-            }
-        }
+    let sections = capped(s);
+    let points = capped(p);
+    let trains = capped(k);
+    if acceptance::counts_outside(sections, points, trains) {
+        return fresh(Railway::empty());
     }
-    fresh(Railway::empty())
+    let mut r = Railway::empty();
+    r.sections = sections;
+    r.points = points;
+    r.trains = trains;
+    fresh(r)
+}
+
+// A number as far as a byte goes, which is past every bound.
+fn capped(n: u64) -> u8
+    ensures { λ b. ⌜ b ≡ cap n ⌝ }
+{
+    if n <= 255 { n as u8 } else { 255 }
 }
 
 // A record, and nothing noted.
@@ -367,25 +373,33 @@ fn put_train(d: Draft, n: u64, heading: Side, start: u64, destination: u64) -> D
     ensures { λ e. ⌜ e ≡ putTrain d n (record { heading = heading; start = start; destination = destination }) ⌝ }
 {
     let r = d.railway;
-    if within(n, r.trains) {
-        if within(start, r.sections) {
-            if within(destination, r.sections) {
-                let t = (n - 1) as u8;
-                let run = Train {
-                    heading: heading,
-                    start: SectionNo((start - 1) as u8),
-                    destination: SectionNo((destination - 1) as u8),
-                };
-                return Draft {
-                    railway: r.with_train(t, run),
-                    unknown: d.unknown,
-                    wrong: d.wrong,
-                    double: d.double,
-                };
-            }
-        }
+    let numbered = within(n, r.trains);
+    let starts = within(start, r.sections);
+    let ends = within(destination, r.sections);
+    if both(numbered, both(starts, ends)) {
+        let t = (n - 1) as u8;
+        let from = (start - 1) as u8;
+        let to = (destination - 1) as u8;
+        let run = Train {
+            heading: heading,
+            start: SectionNo(from),
+            destination: SectionNo(to),
+        };
+        let next = r.with_train(t, run);
+        return Draft {
+            railway: next,
+            unknown: d.unknown,
+            wrong: d.wrong,
+            double: d.double,
+        };
     }
     noted(d)
+}
+
+fn both(a: bool, b: bool) -> bool
+    ensures { λ x. ⌜ x ≡ (a && b) ⌝ }
+{
+    if a { b } else { false }
 }
 
 // The end that a line names, counted from 0, if it is there by the record's counts.
