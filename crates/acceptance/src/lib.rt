@@ -1,7 +1,8 @@
 // The test of a record: accepted, or refused with the first of rows 3 to 8 that applies. Any record may come in, crooked
-// ones too; each row looks at every place that it concerns.
+// ones too; each row looks at every place that it concerns. Besides the test, some of its parts are public for the reader of
+// case texts: they judge one row, pair or place of a record by itself, and are no entries.
 ghost use mathlib.Core.Path.{_≡_};
-ghost use mathlib.Core.Bool.{_||_};
+ghost use mathlib.Core.Bool.{_||_, _&&_};
 ghost use Prim.Native.Nat.{ℕ};
 ghost use Rattle.laws.specs.Below.{anyBelow};
 ghost use Rattle.railway.specs.Ends.{sameSide};
@@ -55,7 +56,7 @@ pub fn test_record(r: Railway) -> Tested
 }
 
 // Row 3.
-fn counts_outside(s: u8, p: u8, k: u8) -> bool
+pub fn counts_outside(s: u8, p: u8, k: u8) -> bool
     ensures { λ b. ⌜ b ≡ outside s p k ⌝ }
 {
     if s < 1 {
@@ -97,7 +98,7 @@ fn joined_wrongly(r: Railway) -> bool
 }
 
 // Row 8.
-fn places_shared(r: Railway) -> bool
+pub fn places_shared(r: Railway) -> bool
     ensures { λ b. ⌜ b ≡ placeRow r ⌝ }
 {
     let k = r.trains;
@@ -112,7 +113,7 @@ fn places_shared(r: Railway) -> bool
 }
 
 // Whether a flaw shows at one of the first n places.
-fn any_flaw(r: Railway, f: Flaw, n: u8) -> bool
+pub fn any_flaw(r: Railway, f: Flaw, n: u8) -> bool
     ensures { λ b. ⌜ b ≡ anyBelow (flawAt r f) n ⌝ }
 {
     let mut i: u8 = 0;
@@ -145,8 +146,8 @@ fn unknown_link(r: Railway, i: u8) -> bool
     match link_at(r, i) {
         Joined::Nothing => false,
         Joined::With(f) => {
-            if is_known(r, railway::end_at(i)) {
-                if is_known(r, f) { false } else { true }
+            if both_known(r, railway::end_at(i), f) {
+                false
             } else {
                 true
             }
@@ -238,8 +239,18 @@ fn is_known(r: Railway, e: End) -> bool
     }
 }
 
+fn both_known(r: Railway, e: End, f: End) -> bool
+    ensures { λ b. ⌜ b ≡ (known r e && known r f) ⌝ }
+{
+    if is_known(r, e) {
+        is_known(r, f)
+    } else {
+        false
+    }
+}
+
 // Two ends that no join may tie.
-fn wrong_pair(r: Railway, e: End, f: End) -> bool
+pub fn wrong_pair(r: Railway, e: End, f: End) -> bool
     ensures { λ b. ⌜ b ≡ wrongPair (tied r e) (tied r f) ⌝ }
 {
     if both_or_one(e, f) {
@@ -288,7 +299,7 @@ fn leads_to(j: Joined, e: End) -> bool
     }
 }
 
-fn is_unjoined(j: Joined) -> bool
+pub fn is_unjoined(j: Joined) -> bool
     ensures { λ b. ⌜ b ≡ unjoined j ⌝ }
 {
     match j {
