@@ -11,7 +11,7 @@ use lib.ListN.{replicate}
 use Rattle.laws.specs.Below.{allBelow, anyBelow, sumBelow, whichBelow, listBelow, lowest}
 use Rattle.laws.specs.Bits.{fromBits}
 use Rattle.laws.specs.Lists.{any, all}
-use Rattle.text.specs.Text.{digits, line}
+use Rattle.text.specs.Text.{digits, line, bytes}
 use Rattle.text.specs.Reading.{fields, valueOf, sameText}
 use Rattle.railway.specs.declared.Side.the-variants.{Up, Down}
 use Rattle.railway.specs.declared.Railway.{Railway}
@@ -24,7 +24,7 @@ use Rattle.game.specs.Local.{keepsTest}
 use Rattle.game.specs.Placement.{codeOf, sectionsIn, standsOn, startCode, atHome, shared}
 use Rattle.game.specs.Setting.{headsFor, held, mayMove}
 use Rattle.game.specs.Moves.{passes, occupied, moveOf}
-use Rattle.game.specs.Yards.{yardH, lineJ, lineG, lineT, sec, yardA, yardOne, yardTwo}
+use Rattle.railway.specs.Yards.{yardH, lineJ, lineG, lineT, sec, yardA, yardOne, yardTwo}
 use Rattle.tables.specs.Entries.{entryFrom}
 use Rattle.tables.specs.Tables.{tablesShort, caseRefusal}
 use Rattle.tables.proofs.Starred.{figsA, setsA}
@@ -38,7 +38,6 @@ use Rattle.plan.specs.Test.{listedSetting}
 use Rattle.plan.specs.Reading.{guess, readLine}
 use Rattle.plan.specs.Computed.{placementFine, testHolds}
 use Rattle.plan.specs.Checker.{freshChecking, lineNumber, testNumber, takeLine, testPlan, Run, run}
-use Rattle.plan.specs.Outputs.{bytes}
 
 -- A text and the number that its call is to get; 0: it is taken.
 record Said : Type 0 where

@@ -18,7 +18,7 @@ use Rattle.railway.specs.Record.{joined, hasSignal, legsOf, runOf, withJoin, wi
 use Rattle.railway.specs.Rows.{unknownRow, joinRow, looseRow, placeRow}
 use Rattle.game.specs.Placement.{sectionsIn, standsOn}
 use Rattle.game.specs.Setting.{Setting, headsFor, held, signalOpen}
-use Rattle.game.specs.Yards.{yardH, lineJ, lineT, sec, yardA}
+use Rattle.railway.specs.Yards.{yardH, lineJ, lineT, sec, yardA}
 use Rattle.tables.specs.declared.SolverAnswer.the-variants.{Refused, Unsolvable, Figure}
 use Rattle.tables.specs.Entries.{settingAt, entryFrom, entryOf}
 use Rattle.tables.specs.Tables.{figureIn, tablesShort, caseRefusal, openSignals, lowestOpen, noLater}
