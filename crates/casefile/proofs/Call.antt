@@ -66,10 +66,12 @@ module _ (r : Railway) (buffer : List ℕ) where
     | inr s ↦ let z : writerRefusal r buffer ≡ some (s .0) = rows-then ∙ rw (s .1) in rw z (by-record (s .0) (s .1))
     | inl n ↦ elim (lt? (length buffer) (length (writtenText r))) [
       | inl l ↦
-          let z : writerRefusal r buffer ≡ some Space = rows-then ∙ rw (n, lt-ltb (length buffer) (length (writtenText r)) l) in
+          let b : spaceRow r buffer ≡ true = lt-ltb (length buffer) (length (writtenText r)) l in
+          let z : writerRefusal r buffer ≡ some Space = rows-then ∙ rw (n, b) in
           rw z (no-room (record { accepted = n; longer = l }))
       | inr l ↦
-          let z : writerRefusal r buffer ≡ none = rows-then ∙ rw (n, le-ltb (length buffer) (length (writtenText r)) l) in
+          let b : spaceRow r buffer ≡ false = le-ltb (length buffer) (length (writtenText r)) l in
+          let z : writerRefusal r buffer ≡ none = rows-then ∙ rw (n, b) in
           rw z (done (record { accepted = n; fits = l; count = refl }))
     ]
   ]
