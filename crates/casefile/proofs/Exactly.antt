@@ -1,6 +1,7 @@
 -- A case text is answered with a refusal exactly where its row applies and none before it, and accepted exactly where no row applies.
 -- The rows that the reading computes apply exactly where those of the table do, since what is read is what the text says, and it says one thing
--- at most. Of two rows that are first in one table, neither stands before the other, so they are one.
+-- at most. Of two rows that are first in one table, neither stands before the other, so they are one. An answer is made up of its refusal and its
+-- railway, so these two tell it.
 -- Assumes nothing.
 use Prim.Native.Nat.{ℕ}
 use mathlib.Core.Path.{_≡_, refl, sym, _∙_, ap}
@@ -13,39 +14,28 @@ use lib.Dec.{ltb}
 use lib.ListN.{length}
 use borrow.Author.Tests.{ltb-true, ltb-false, le-ltb}
 use Rattle.laws.specs.Lists.{Every}
-use Rattle.laws.proofs.Bools.{clash}
+use Rattle.laws.proofs.Bools.{clash, some-none, some-one, not-true}
 use Rattle.laws.proofs.Lists.{every-none, every-more, map-in, map-append, parted}
 use Rattle.railway.specs.declared.Railway.{Railway}
 use Rattle.railway.specs.declared.Refusal.{Refusal}
 use Rattle.railway.specs.declared.Refusal.the-variants.{Length, Form, Count, Unknown, Join, Loose, Double, Place}
-use Rattle.railway.specs.Refusals.{Row, row, first}
-use Rattle.railway.proofs.Refusals as R
-use Rattle.railway.proofs.Refusals.{first-is, first-none, none-first}
+use Rattle.railway.specs.Refusals.{number, Row, row, first, FirstOf}
+use Rattle.railway.specs.Record.{emptyRailway}
+use Rattle.railway.proofs.Refusals.{FirstRow, first-is, first-none, none-first}
 use Rattle.casefile.specs.declared.CaseRead.{CaseRead}
+use Rattle.casefile.specs.declared.CaseAnswer.{CaseAnswer}
 use Rattle.casefile.specs.declared.CaseAnswer.the-variants.{Accepted, Refused}
 use Rattle.casefile.specs.Form.{Description, Describes}
 use Rattle.casefile.specs.Rows.{mostBytes, countRow, unknownRow, joinRow, looseRow, doubleRow, placeRow, descriptionRows}
 use Rattle.casefile.specs.Recording.{railwayOf}
-use Rattle.casefile.specs.Given.{accepted, refused, Says, Applies, caseTable, FirstOf, RefusedWith, AcceptedWith}
+use Rattle.casefile.specs.Given.{accepted, refused, refusalOf, railwayUnless, readRefusal, readNumber, readRailway, Says, Applies, caseTable, RefusedWith, NumberedWith, AcceptedWith, ReaderPost}
 use Rattle.casefile.specs.Reading.{read, caseRows, judged, caseAnswer}
-use Rattle.casefile.specs.Claims.{RefusedExactly, AcceptedExactly, AlwaysAnswered}
+use Rattle.casefile.specs.Claims.{RefusedExactly, AcceptedExactly, NumberedExactly, ReaderAnswers, AlwaysAnswered}
 use Rattle.casefile.proofs.Whole.{read-sound, read-complete, describes-one, form-decided}
 
--- a row that does not apply; and the row that is given, with those before it and those behind
+-- a row that does not apply
 abbrev pub Off : Row → Type 0
 Off x = x .applies ≡ false
-
-record Chosen (rows : List Row) (f : Refusal) : Type 0 where
-  before : List Row
-  after : List Row
-  order : rows ≡ before ++ (row f true ∷ after)
-  not-before : Every Off before
-
-chosen : (rows : List Row) (f : Refusal) → R.FirstOf rows f → Chosen rows f
-chosen (x ∷ xs) f (R.FirstOf.at-once h) = record { before = []; after = xs; order = rw (← h); not-before = every-none Off }
-chosen (x ∷ xs) f (R.FirstOf.after h w) =
-    let t = chosen xs f w in
-    record { before = x ∷ t .before; after = t .after; order = ap (λ (l : List Row). x ∷ l) (t .order); not-before = every-more Off x (t .before) h (t .not-before) }
 
 -- a computed row applies exactly where the table's does
 pub record Agrees (text : List ℕ) (x : Row) : Type 0 where
@@ -98,7 +88,7 @@ module _ (text : List ℕ) where
       p ∙ rw (q, map-append (λ x. x .refusal) before (row f true ∷ after)) (append-assoc (map (λ x. x .refusal) before) (f ∷ map (λ x. x .refusal) after) rest)
 
   -- the row that is computed is first in the table
-  chosen-first : (o : Option Description) (f : Refusal) → read text ≡ o → Chosen (caseRows text o) f → RefusedWith text f
+  chosen-first : (o : Option Description) (f : Refusal) → read text ≡ o → FirstRow (caseRows text o) f → RefusedWith text f
   chosen-first o f e c =
       let a = rows-agree o e in
       record {
@@ -108,7 +98,7 @@ module _ (text : List ℕ) where
         here = a (row f true) (rw (c .order) (Memᴰ·append-right (c .before) (List·Memᴰ·head refl))) .on refl;
         not-before = λ g m.
             let t = map-in (λ x. x .refusal) (c .before) g m in
-            rw (t .is) (a (t .element) (rw (c .order) (Memᴰ·append-left (row f true ∷ c .after) (t .member))) .off (c .not-before (t .element) (t .member)));
+            rw (t .is) (a (t .element) (rw (c .order) (Memᴰ·append-left (row f true ∷ c .after) (t .member))) .off (not-true (t .element .applies) (c .not-before (t .element) (t .member))));
       }
 
   -- two rows that are first in a table are one
@@ -130,7 +120,7 @@ module _ (text : List ℕ) where
     accepting : (d : Description) → caseAnswer text ≡ accepted (railwayOf d) → read text ≡ some d → Every Off (caseRows text (some d)) → Answered
 
   by-first : (o : Option Description) (g : Option Refusal) → read text ≡ o → first (caseRows text o) ≡ g → caseAnswer text ≡ judged o g → Answered
-  by-first o (some f) e h a = refusing f a (chosen-first o f e (chosen (caseRows text o) f (first-is (caseRows text o) f h)))
+  by-first o (some f) e h a = refusing f a (chosen-first o f e (first-is (caseRows text o) f h))
   by-first none none e h a = clash refl (first-none (caseRows text none) h (row Form true) (List·Memᴰ·tail (List·Memᴰ·head refl)))
   by-first (some d) none e h a = accepting d a e (first-none (caseRows text (some d)) h)
 
@@ -188,3 +178,57 @@ accepted-exactly text r = (accepted-is text r (answered text), is-accepted text 
 
 pub always-answered : AlwaysAnswered
 always-answered text = elim (answered text) [ refusing f a w ↦ inr (f, a) | accepting d a e h ↦ inl (railwayOf d, a) ]
+
+-- THE ANSWER READ OFF
+refusal-in : (x : CaseAnswer) (f : Refusal) → refusalOf x ≡ some f → x ≡ Refused f
+refusal-in Accepted f e = some-none e refl
+refusal-in (Refused g) f e = let z : g ≡ f = cc in rw z
+
+railway-in : (x : CaseAnswer) (q r : Railway) → railwayUnless q (refusalOf x) ≡ some r → (x ≡ Accepted) × (q ≡ r)
+railway-in Accepted q r e = (refl, cc)
+railway-in (Refused f) q r e = some-none e refl
+
+built : (a : CaseRead) (x : CaseAnswer) (r : Railway) → a .answer ≡ x → a .railway ≡ r → a ≡ record { answer = x; railway = r }
+built a x r p q = rw (← p, ← q)
+
+module _ (text : List ℕ) where
+  number-is : (n : ℕ) → Answered text → readNumber (caseAnswer text) ≡ some n → NumberedWith text n
+  number-is n (refusing f a w) e = record { refusal = f; given = w; numbered = some-one (sym (ap readNumber a) ∙ e) }
+  number-is n (accepting d a e′ h) e = some-none e (ap readNumber a)
+
+  is-number : (n : ℕ) → NumberedWith text n → readNumber (caseAnswer text) ≡ some n
+  is-number n w = ap readNumber (is-refused text (w .refusal) (answered text) (w .given)) ∙ ap (λ (m : ℕ). some m) (w .numbered)
+
+  read-refused : (a : CaseRead) (f : Refusal) → readRefusal a ≡ some f → a .railway ≡ emptyRailway → a ≡ refused f
+  read-refused a f e h = built a (Refused f) emptyRailway (refusal-in (a .answer) f e) h
+
+  read-accepted : (a : CaseRead) (r : Railway) → readRailway a ≡ some r → a ≡ accepted r
+  read-accepted a r e = let z = railway-in (a .answer) (a .railway) r e in built a Accepted r (z .0) (z .1)
+
+  empty-beside : (f : Refusal) → Answered text → readRefusal (caseAnswer text) ≡ some f → caseAnswer text .railway ≡ emptyRailway
+  empty-beside f (refusing g a w) e = ap (λ (x : CaseRead). x .railway) a
+  empty-beside f (accepting d a e′ h) e = some-none e (ap readRefusal a)
+
+  -- the answer keeps a reader's promise, and what keeps it is the answer
+  promised : ReaderPost text (caseAnswer text)
+  promised =
+      record {
+        refusal = λ f. (
+          λ e. refused-is text f (answered text) (read-refused (caseAnswer text) f e (empty-beside f (answered text) e)),
+          λ w. ap readRefusal (is-refused text f (answered text) w),
+        );
+        numbered = λ n. (number-is n (answered text), is-number n);
+        railway = λ r.
+            (λ e. accepted-is text r (answered text) (read-accepted (caseAnswer text) r e), λ w. ap readRailway (is-accepted text r w));
+        nothing-beside = λ f. empty-beside f (answered text);
+      }
+
+  kept : (a : CaseRead) → Answered text → ReaderPost text a → a ≡ caseAnswer text
+  kept a (refusing f e w) p = let z = p .refusal f .1 w in read-refused a f z (p .nothing-beside f z) ∙ sym e
+  kept a (accepting d e e′ h) p = read-accepted a (railwayOf d) (p .railway (railwayOf d) .1 (accepted-is text (railwayOf d) (answered text) e)) ∙ sym e
+
+pub numbered-exactly : NumberedExactly
+numbered-exactly text n = (number-is text n (answered text), is-number text n)
+
+pub reader-answers : ReaderAnswers
+reader-answers text a = (λ e. rw e (promised text), kept text a (answered text))

@@ -6,13 +6,11 @@ use mathlib.Core.Bool.{true, false}
 use mathlib.Core.List.{List, [], _∷_, _++_, map}
 use mathlib.Core.Option.{none}
 use Prim.Native.Nat.{ℕ}
-use Prim.Native.String as Str
 use Prim.Native.String.{String}
-use Prim.Native.Char.{code}
 use lib.ListN.{replicate}
 use Rattle.laws.specs.Below.{anyBelow, listBelow, gatherBelow}
 use Rattle.laws.specs.Lists.{any, repeats}
-use Rattle.text.specs.Text.{digits, line}
+use Rattle.text.specs.Text.{digits, line, bytes}
 use Rattle.text.specs.Reading.{isDigit, byteAt, digitsAt, numberAt}
 use Rattle.railway.specs.declared.Side.the-variants.{Up, Down}
 use Rattle.railway.specs.declared.Leg.the-variants.{Stem, Plus, Minus}
@@ -34,10 +32,6 @@ use Rattle.casefile.specs.Rows.{joinEnds, unknownRow, joinRow, looseRow,
 use Rattle.casefile.specs.Recording.{partner, railwayOf}
 use Rattle.casefile.specs.Writing.{descriptionOf, writtenText, writerRefusal, written, bufferAfter}
 use Rattle.casefile.specs.Reading.{counted, while, sideFieldAt, legFieldAt, endFieldAt, headerAt, pointLineAt, joinLineAt, signalLineAt, trainLineAt, walk, read, caseAnswer}
-
-bytes : String → List ℕ
-bytes Str.[] = []
-bytes (Str._∷_ c s) = code c ∷ bytes s
 
 -- The number that a text is refused with; 0: it is accepted.
 given : CaseAnswer → ℕ
@@ -241,7 +235,8 @@ return : bytes "\r" ≡ 13 ∷ []
 unfolding bytes
 return = refl
 
--- THE WRITER. Yard A has 68 bytes: it fits into 68, leaves what stands behind, and is refused 67; rows 3 to 8 come before 9.
+-- THE WRITER. Yard A's text has 68 bytes: a buffer of 68 takes it, the end of one of 70 is kept, and 67 bytes are too few. A record that is refused is
+-- so for its own fault, however short the buffer.
 writes : (written recordA (replicate 68 7) ≡ W.Bytes 68) × (bufferAfter recordA (replicate 68 7) ≡ bytes yardA)
     × (written recordA (replicate 70 7) ≡ W.Bytes 68) × (bufferAfter recordA (replicate 70 7) ≡ bytes yardA ++ (7 ∷ 7 ∷ []))
     × (written recordA (replicate 67 7) ≡ W.Refused Space) × (bufferAfter recordA (replicate 67 7) ≡ replicate 67 7)
@@ -249,7 +244,7 @@ writes : (written recordA (replicate 68 7) ≡ W.Bytes 68) × (bufferAfter recor
 unfolding bytes yardA recordA first digits line isDigit byteAt digitsAt numberAt counted while sideFieldAt legFieldAt endFieldAt headerAt pointLineAt joinLineAt signalLineAt trainLineAt walk read caseAnswer anyBelow listBelow gatherBelow any repeats joinEnds unknownRow joinRow looseRow doubleRow placeRow partner railwayOf endAt joined hasSignal legsOf runOf R.unknownRow R.joinRow R.looseRow R.placeRow recordRefusal each rising spell descriptionOf writtenText writerRefusal written bufferAfter
 writes = (refl, refl, refl, refl, refl, refl, refl, refl)
 
--- It puts the section end first, of two section ends the earlier, and sorts by first end, down before up.
+-- Lines that come in disorder and turned round are written in the one order that the writer knows.
 sorts : writtenText (caseAnswer (bytes "H\t3\t1\t1\nP\t1\tu\nJ\t1s\t3u\nJ\t1-\t1d\nJ\t2d\t1u\nJ\t3d\t1+\nG\t2u\nG\t1u\nG\t1d\nT\t1\td\t3\t2\n") .railway)
     ≡ bytes "H\t3\t1\t1\nP\t1\tu\nJ\t1d\t1-\nJ\t1u\t2d\nJ\t3d\t1+\nJ\t3u\t1s\nG\t1d\nG\t1u\nG\t2u\nT\t1\td\t3\t2\n"
 unfolding bytes first digits line isDigit byteAt digitsAt numberAt counted while sideFieldAt legFieldAt endFieldAt headerAt pointLineAt joinLineAt signalLineAt trainLineAt walk read caseAnswer anyBelow listBelow gatherBelow any repeats joinEnds unknownRow joinRow looseRow doubleRow placeRow partner railwayOf endAt joined hasSignal legsOf runOf each rising spell descriptionOf writtenText

@@ -12,3 +12,5 @@ pub mod Writer
 pub mod Lengths
 pub mod RoundTrip
 pub mod Order
+pub mod Call
+pub mod YardTexts

@@ -29,13 +29,13 @@ use Rattle.railway.specs.Same.{SameRailway}
 use Rattle.railway.proofs.Ends.{Numbered, side-small, end-index, index-end, section-index, section-below, port-behind, numbered-of}
 use Rattle.railway.proofs.Lookups.{joined-there, signal-there}
 use Rattle.railway.proofs.Accepted.{Accepted, accepted-facts, known-numbered, joined-known, joined-right, joined-back}
-use Rattle.railway.proofs.Same.{same-sym, same-trans}
+use Rattle.railway.proofs.Same.{refusal-same, same-sym, same-trans}
 use Rattle.casefile.specs.Form.{EndField, section, TrainLine, Description, spell, Describes}
 use Rattle.casefile.specs.Recording.{fieldOf, signalOf, noTrainLine, railwayOf}
 use Rattle.casefile.specs.Writing.{joinAt, signalAt, trainFrom, descriptionOf, writtenText}
 use Rattle.casefile.specs.Given.{accepted}
 use Rattle.casefile.specs.Reading.{caseAnswer}
-use Rattle.casefile.specs.Claims.{Names, Joins, Signals, Runs, Told, WrittenAsTold, RoundTrip, ReadAgain, SameText, TextSame}
+use Rattle.casefile.specs.Claims.{Names, Joins, Signals, Runs, Told, WrittenAsTold, RoundTrip, ReadAgain, SameRefusal, SameText, TextSame}
 use Rattle.casefile.proofs.Exactly.{accepted-exactly, accepted-one}
 use Rattle.casefile.proofs.Clean.{facts-clean}
 use Rattle.casefile.proofs.Ends.{field-one}
@@ -211,6 +211,9 @@ description-same r q h =
     let e : listBelow (λ t. trainFrom (runOf r t)) (r .trains) ≡ listBelow (λ t. trainFrom (runOf q t)) (r .trains)
     = list-same (λ t. trainFrom (runOf r t)) (λ t. trainFrom (runOf q t)) (r .trains) (λ t l. ap trainFrom (h .runs t l)) in
     rw (a, b, c, e, h .sections, h .points, h .trains)
+
+pub same-refusal : SameRefusal
+same-refusal r q h = refusal-same r q h
 
 pub same-text : SameText
 unfolding writtenText

@@ -1,5 +1,6 @@
--- What is claimed of the case file, a sentence to each; proofs/ has the proofs.
--- Assumes nothing.
+-- What is claimed of the case file, a sentence to each: of the lines, the writer's order and the same railway (document 01, "The case file"), of
+-- which number is given (there, "Numbers that a desk can get") and of the writer's buffer (there, row 9 and the rule on refusals). proofs/ has the
+-- proofs. Assumes nothing.
 use mathlib.Core.Path.{_≡_}
 use mathlib.Core.Bool.{Bool, true, _&&_}
 use mathlib.Core.Logic.{_↔_, _⊎_}
@@ -19,11 +20,13 @@ use Rattle.railway.specs.declared.Refusal.{Refusal}
 use Rattle.railway.specs.Record.{joined, hasSignal, legsOf, runOf}
 use Rattle.railway.specs.Rows.{recordRefusal}
 use Rattle.railway.specs.Same.{SameRailway}
+use Rattle.casefile.specs.declared.CaseRead.{CaseRead}
+use Rattle.casefile.specs.declared.Written.{Written}
 use Rattle.casefile.specs.Form.{EndField, section, port, JoinLine, SignalLine, TrainLine, Description, Describes}
 use Rattle.casefile.specs.Rows.{mostBytes, FormRow}
 use Rattle.casefile.specs.Recording.{noTrainLine}
-use Rattle.casefile.specs.Writing.{writtenText}
-use Rattle.casefile.specs.Given.{accepted, refused, RefusedWith, AcceptedWith}
+use Rattle.casefile.specs.Writing.{writtenText, written, bufferAfter, WriterPost}
+use Rattle.casefile.specs.Given.{accepted, refused, readNumber, RefusedWith, NumberedWith, AcceptedWith, ReaderPost}
 use Rattle.casefile.specs.Reading.{read, caseAnswer}
 
 -- READING IS SPELLING. Reading gives a description exactly where it is well formed and spells the text.
@@ -43,6 +46,13 @@ RefusedExactly = (text : List ℕ) (f : Refusal) → (caseAnswer text ≡ refuse
 
 abbrev pub AcceptedExactly : Type 0
 AcceptedExactly = (text : List ℕ) (r : Railway) → (caseAnswer text ≡ accepted r) ↔ AcceptedWith text r
+
+-- The same for the numbers; and the answer is the only one that keeps a reader's promise, which any program that answers so keeps.
+abbrev pub NumberedExactly : Type 0
+NumberedExactly = (text : List ℕ) (n : ℕ) → (readNumber (caseAnswer text) ≡ some n) ↔ NumberedWith text n
+
+abbrev pub ReaderAnswers : Type 0
+ReaderAnswers = (text : List ℕ) (a : CaseRead) → (a ≡ caseAnswer text) ↔ ReaderPost text a
 
 -- Every text gets one of the two.
 abbrev pub AlwaysAnswered : Type 0
@@ -106,6 +116,12 @@ ReadAgain =
     (text : List ℕ) (r : Railway) → caseAnswer text ≡ accepted r
     → (q : Railway) × (caseAnswer (writtenText r) ≡ accepted q) × SameRailway r q × (writtenText q ≡ writtenText r)
 
+-- THE WRITER'S CALL. Its answer and the buffer afterwards keep a writer's promise, and are the only ones that do.
+abbrev pub WriterAnswers : Type 0
+WriterAnswers =
+    (r : Railway) (buffer : List ℕ) (w : Written) (after : List ℕ)
+    → ((w ≡ written r buffer) × (after ≡ bufferAfter r buffer)) ↔ WriterPost r buffer w after
+
 -- THE WRITER'S ORDER. Where an end stands in it: section ends by number, down before up, and ports behind them all.
 abbrev pub rank : EndField → ℕ
 rank (section n Down) = 2 * n
@@ -126,7 +142,11 @@ pub record Sorted (d : Description) : Type 0 where
 abbrev pub WriterSorts : Type 0
 WriterSorts = (r : Railway) → recordRefusal r ≡ none → (d : Description) → Describes (writtenText r) d → Sorted d
 
--- THE SAME RAILWAY has the same text, and accepted records with the same text are the same railway.
+-- THE SAME RAILWAY gets the same answer from the test of records.
+abbrev pub SameRefusal : Type 0
+SameRefusal = (r q : Railway) → SameRailway r q → recordRefusal r ≡ recordRefusal q
+
+-- It has the same text, and accepted records with the same text are the same railway.
 abbrev pub SameText : Type 0
 SameText = (r q : Railway) → SameRailway r q → writtenText r ≡ writtenText q
 

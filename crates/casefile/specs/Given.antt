@@ -3,15 +3,19 @@
 -- they say, not through any reading. Assumes nothing.
 use mathlib.Core.Path.{_≡_}
 use mathlib.Core.Bool.{Bool, true, false}
-use mathlib.Core.List.{List, [], _∷_, _++_}
+use mathlib.Core.List.{List, [], _∷_}
+use mathlib.Core.Logic.{_↔_}
+use mathlib.Core.Option.{Option, none, some}
 use Prim.Native.Nat.{ℕ, _≤_}
 use lib.ListN.{length}
 use Rattle.laws.specs.Lists.{Every}
 use Rattle.railway.specs.declared.Railway.{Railway}
 use Rattle.railway.specs.declared.Refusal.{Refusal}
 use Rattle.railway.specs.declared.Refusal.the-variants.{Length, Form, Count, Unknown, Join, Loose, Double, Place, Space, PlanForm, PlanFault}
+use Rattle.railway.specs.Refusals.{number, numberOf, FirstOf}
 use Rattle.railway.specs.Record.{emptyRailway}
 use Rattle.casefile.specs.declared.CaseRead.{CaseRead}
+use Rattle.casefile.specs.declared.CaseAnswer.{CaseAnswer}
 use Rattle.casefile.specs.declared.CaseAnswer.the-variants.{Accepted, Refused}
 use Rattle.casefile.specs.Form.{Description, Describes}
 use Rattle.casefile.specs.Rows.{mostBytes, LengthRow, FormRow, countRow, unknownRow, joinRow, looseRow, doubleRow, placeRow, descriptionRows}
@@ -23,6 +27,24 @@ accepted r = record { answer = Accepted; railway = r }
 
 abbrev pub refused : Refusal → CaseRead
 refused f = record { answer = Refused f; railway = emptyRailway }
+
+-- What an answer stands for: the refusal given, if one is, its number in the table, and the railway read, if one is.
+abbrev pub refusalOf : CaseAnswer → Option Refusal
+refusalOf Accepted = none
+refusalOf (Refused f) = some f
+
+abbrev pub readRefusal : CaseRead → Option Refusal
+readRefusal a = refusalOf (a .answer)
+
+abbrev pub readNumber : CaseRead → Option ℕ
+readNumber a = numberOf (readRefusal a)
+
+abbrev pub railwayUnless : Railway → Option Refusal → Option Railway
+railwayUnless r none = some r
+railwayUnless r (some f) = none
+
+abbrev pub readRailway : CaseRead → Option Railway
+readRailway a = railwayUnless (a .railway) (readRefusal a)
 
 -- What the text says passes a test.
 pub record Says (text : List ℕ) (test : Description → Bool) : Type 0 where
@@ -48,16 +70,15 @@ Applies text PlanFault = ⊥
 abbrev pub caseTable : List Refusal
 caseTable = Length ∷ Form ∷ Count ∷ Unknown ∷ Join ∷ Loose ∷ Double ∷ Place ∷ []
 
--- Of the rows of a table, this one applies and none that stands before it.
-pub record FirstOf (applies : Refusal → Type 0) (table : List Refusal) (f : Refusal) : Type 0 where
-  pub before : List Refusal
-  pub after : List Refusal
-  pub order : table ≡ before ++ (f ∷ after)
-  pub here : applies f
-  pub not-before : Every (λ g. applies g → ⊥) before
-
+-- A refusal is given: its row applies and none that stands before it.
 abbrev pub RefusedWith : List ℕ → Refusal → Type 0
 RefusedWith text f = FirstOf (Applies text) caseTable f
+
+-- A number is given: it is that of a refusal that is.
+pub record NumberedWith (text : List ℕ) (n : ℕ) : Type 0 where
+  pub refusal : Refusal
+  pub given : RefusedWith text refusal
+  pub numbered : number refusal ≡ n
 
 -- The text is not too long, says something to which none of rows 3 to 8 applies, and the railway is that of what it says.
 pub record AcceptedWith (text : List ℕ) (r : Railway) : Type 0 where
@@ -66,3 +87,10 @@ pub record AcceptedWith (text : List ℕ) (r : Railway) : Type 0 where
   pub described : Describes text description
   pub no-row : Every (λ x. x .applies ≡ false) (descriptionRows description)
   pub railway : r ≡ railwayOf description
+
+-- WHAT A READER PROMISES of its answer: refusal, number and railway exactly as above, and the empty record beside a refusal.
+pub record ReaderPost (text : List ℕ) (a : CaseRead) : Type 0 where
+  pub refusal : (f : Refusal) → (readRefusal a ≡ some f) ↔ RefusedWith text f
+  pub numbered : (n : ℕ) → (readNumber a ≡ some n) ↔ NumberedWith text n
+  pub railway : (r : Railway) → (readRailway a ≡ some r) ↔ AcceptedWith text r
+  pub nothing-beside : (f : Refusal) → readRefusal a ≡ some f → a .railway ≡ emptyRailway

@@ -5,3 +5,4 @@ pub mod Writing
 pub mod Given
 pub mod Reading
 pub mod Claims
+pub mod YardTexts

@@ -1,5 +1,6 @@
--- The railway of a description: the record that a case text is read into. It counts from 0. `Claims` has what it answers, field by field, in
--- words of its own. Assumes nothing.
+-- The railway of a description (document 01, "The railway" and "The case file"): the record that a case text is read into, with its legs, joins,
+-- signals and trains from the P, J, G and T lines. It counts from 0. `Claims` has what it answers, field by field, in words of its own.
+-- Assumes nothing.
 use mathlib.Core.Bool.{cond}
 use mathlib.Core.List.{List, [], _∷_}
 use Prim.Native.Nat.{ℕ, suc, _-_, _/_, _%_}

@@ -1,11 +1,13 @@
 -- The writer (document 01, "The case file", last paragraph; row 9 of the table of numbers): the text that it makes of a railway, and what it
 -- answers and leaves when it is handed a record and a lent buffer. Assumes nothing.
+use mathlib.Core.Path.{_≡_}
+use mathlib.Core.Logic.{_↔_, _⊎_}
 use mathlib.Core.Bool.{Bool, cond}
 use mathlib.Core.List.{List, [], _∷_, _++_}
 use mathlib.Core.Option.{Option, none, some}
-use Prim.Native.Nat.{ℕ, suc}
+use Prim.Native.Nat.{ℕ, suc, _<_, _≤_}
 use lib.Dec.{ltb}
-use lib.ListN.{length, drop}
+use lib.ListN.{length, take, drop}
 use Rattle.laws.specs.Below.{listBelow, gatherBelow}
 use Rattle.railway.specs.declared.Joined.{Joined}
 use Rattle.railway.specs.declared.Joined.the-variants.{Nothing, With}
@@ -15,9 +17,9 @@ use Rattle.railway.specs.declared.Refusal.{Refusal}
 use Rattle.railway.specs.declared.Refusal.the-variants.{Space}
 use Rattle.railway.specs.Bounds.{sectionEnds}
 use Rattle.railway.specs.Ends.{endIndex, endAt}
-use Rattle.railway.specs.Refusals.{Row, row, first}
+use Rattle.railway.specs.Refusals.{Row, row, first, numberOf}
 use Rattle.railway.specs.Record.{linkAt, flagAt, legsOf, runOf}
-use Rattle.railway.specs.Rows.{recordRows}
+use Rattle.railway.specs.Rows.{recordRows, recordRefusal}
 use Rattle.casefile.specs.declared.Written.{Written}
 use Rattle.casefile.specs.declared.Written.the-variants.{Bytes, Refused}
 use Rattle.casefile.specs.Form.{JoinLine, SignalLine, TrainLine, Description, spell}
@@ -78,3 +80,39 @@ written r buffer = writerAnswer (writtenText r) (writerRefusal r buffer)
 
 unfoldable pub bufferAfter : Railway → List ℕ → List ℕ
 bufferAfter r buffer = writerBuffer (writtenText r) buffer (writerRefusal r buffer)
+
+-- What an answer stands for: the refusal given, if one is, its number in the table, and the count of bytes written, if some are.
+abbrev pub writtenRefusal : Written → Option Refusal
+writtenRefusal (Bytes n) = none
+writtenRefusal (Refused f) = some f
+
+abbrev pub writtenNumber : Written → Option ℕ
+writtenNumber w = numberOf (writtenRefusal w)
+
+abbrev pub writtenCount : Written → Option ℕ
+writtenCount (Bytes n) = some n
+writtenCount (Refused f) = none
+
+-- WHAT A WRITER PROMISES of its answer and of the buffer that it leaves, in words that go round the rows above. Space is given for an accepted
+-- record whose text is longer than the buffer.
+pub record NoRoom (r : Railway) (buffer : List ℕ) : Type 0 where
+  pub accepted : recordRefusal r ≡ none
+  pub longer : length buffer < length (writtenText r)
+
+-- The text is written: an accepted record, whose text fits, and its length is the count.
+pub record Room (r : Railway) (buffer : List ℕ) (n : ℕ) : Type 0 where
+  pub accepted : recordRefusal r ≡ none
+  pub fits : length (writtenText r) ≤ length buffer
+  pub count : n ≡ length (writtenText r)
+
+-- The first of rows 3 to 8; then 9, exactly where there is no room; else the count. A refusal keeps every byte; a text stands in front and all behind
+-- it is kept; the buffer's length is kept.
+pub record WriterPost (r : Railway) (buffer : List ℕ) (w : Written) (after : List ℕ) : Type 0 where
+  pub refusal : (f : Refusal) → (writtenRefusal w ≡ some f) ↔ ((recordRefusal r ≡ some f) ⊎ (NoRoom r buffer × (f ≡ Space)))
+  pub record-number : (f : Refusal) → recordRefusal r ≡ some f → writtenNumber w ≡ numberOf (some f)
+  pub space : (writtenNumber w ≡ some 9) ↔ NoRoom r buffer
+  pub count : (n : ℕ) → (writtenCount w ≡ some n) ↔ Room r buffer n
+  pub kept : (n : ℕ) → writtenNumber w ≡ some n → after ≡ buffer
+  pub front : (n : ℕ) → writtenCount w ≡ some n → take n after ≡ writtenText r
+  pub behind : (n : ℕ) → writtenCount w ≡ some n → drop n after ≡ drop n buffer
+  pub same-length : length after ≡ length buffer

@@ -19,7 +19,7 @@ use Rattle.game.specs.Game.{at, Game}
 use Rattle.game.specs.Claim.{Keeps, Whole}
 use Rattle.game.specs.Local.{keepsTest, Inside}
 use Rattle.game.specs.Setting.{Setting, SameSetting}
-use Rattle.game.specs.Yards.{yardA}
+use Rattle.railway.specs.Yards.{yardA}
 use Rattle.game.proofs.Turns.{may-allowed, keeps-test, test-keeps}
 use Rattle.game.proofs.Whole.{whole}
 use Rattle.game.proofs.Settle.{Searches, figures, table, settle, rounds-solved}

@@ -19,7 +19,7 @@ use Rattle.game.specs.Game.{derailment, collision, lost, at, Turn, Way, 
 use Rattle.game.specs.Placement.{codeOf, sectionsIn, standsOn, sectionsOf, startCode, atHome, shared}
 use Rattle.game.specs.Setting.{Setting, headsFor, held, mayMove}
 use Rattle.game.specs.Moves.{passes, occupied, moveOf, gameOf}
-use Rattle.game.specs.Yards.{yardH, lineP, lineJ, lineG, lineT, sec, port, yardA}
+use Rattle.railway.specs.Yards.{yardH, lineP, lineJ, lineG, lineT, sec, port, yardA}
 
 -- THE YARDS. A loop: a train up from 1 by the plus leg comes round into its own section, by the minus leg to 2.
 abbrev loop : Railway

@@ -4,4 +4,3 @@ pub mod Setting
 pub mod Moves
 pub mod Claim
 pub mod Local
-pub mod Yards

@@ -25,7 +25,7 @@ use Rattle.game.specs.Local.{keepsTest}
 use Rattle.game.specs.Placement.{codeOf, sectionsIn, standsOn, startCode, atHome, shared}
 use Rattle.game.specs.Setting.{headsFor, held, mayMove}
 use Rattle.game.specs.Moves.{passes, occupied, moveOf}
-use Rattle.game.specs.Yards.{yardH, lineJ, lineG, lineT, sec, yardA, yardOne, yardTwo}
+use Rattle.railway.specs.Yards.{yardH, lineJ, lineG, lineT, sec, yardA, yardOne, yardTwo}
 use Rattle.tables.specs.Entries.{entryFrom}
 use Rattle.tables.specs.Tables.{tablesShort, caseRefusal}
 use Rattle.tables.proofs.Starred.{figsA, setsA}

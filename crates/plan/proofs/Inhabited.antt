@@ -22,7 +22,7 @@ use Rattle.game.specs.Local.{keepsTest}
 use Rattle.game.specs.Placement.{codeOf, sectionsIn, placements, standsOn, startCode, atHome, shared}
 use Rattle.game.specs.Setting.{headsFor, held, mayMove}
 use Rattle.game.specs.Moves.{passes, occupied, moveOf}
-use Rattle.game.specs.Yards.{yardA}
+use Rattle.railway.specs.Yards.{yardA}
 use Rattle.tables.specs.declared.SolverAnswer.the-variants.{Figure}
 use Rattle.tables.specs.Entries.{entryFrom}
 use Rattle.tables.specs.Tables.{figureIn, tablesShort, caseRefusal}

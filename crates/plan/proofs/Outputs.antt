@@ -6,7 +6,7 @@ use mathlib.Core.Option.{none}
 use Prim.Native.Nat.{ℕ}
 use Rattle.laws.specs.Below.{allBelow, anyBelow, sumBelow, whichBelow, listBelow, lowest}
 use Rattle.laws.specs.Bits.{fromBits}
-use Rattle.text.specs.Text.{digits, line}
+use Rattle.text.specs.Text.{digits, line, bytes}
 use Rattle.railway.specs.Ends.{endAt}
 use Rattle.railway.specs.Refusals.{first}
 use Rattle.railway.specs.Record.{joined, hasSignal, legsOf, runOf, withJoin, withSignal, withLegs, withTrain}
@@ -15,7 +15,7 @@ use Rattle.game.specs.Local.{keepsTest}
 use Rattle.game.specs.Placement.{codeOf, sectionsIn, standsOn, startCode, atHome, shared}
 use Rattle.game.specs.Setting.{headsFor, held, mayMove}
 use Rattle.game.specs.Moves.{passes, occupied, moveOf}
-use Rattle.game.specs.Yards.{yardA, yardOne}
+use Rattle.railway.specs.Yards.{yardA, yardOne}
 use Rattle.tables.specs.Entries.{settingAt, entryFrom}
 use Rattle.tables.specs.Tables.{Filled}
 use Rattle.tables.specs.Find.{tryOpen, firstFound, find}
@@ -23,7 +23,7 @@ use Rattle.tables.proofs.Certify.{certified, certify}
 use Rattle.tables.proofs.Starred.{Sure, figsA, setsA, yardA-accepted, yardA-filled}
 use Rattle.plan.specs.Lines.{spell}
 use Rattle.plan.specs.Text.{lineFor, planLines, planTexts, planText}
-use Rattle.plan.specs.Outputs.{bytes, Output, outputA, outputOne, Writes, OutputsHold}
+use Rattle.plan.specs.Outputs.{Output, outputA, outputOne, Writes, OutputsHold}
 use Rattle.plan.proofs.Plan.{texts-one}
 
 one-sure : Sure yardOne (0 ∷ []) (0 ∷ [])

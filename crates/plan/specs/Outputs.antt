@@ -4,19 +4,13 @@ use mathlib.Core.Path.{_≡_}
 use mathlib.Core.List.{List, [], _∷_}
 use mathlib.Core.Option.{none}
 use Prim.Native.Nat.{ℕ}
-use Prim.Native.String as Str
 use Prim.Native.String.{String}
-use Prim.Native.Char.{code}
+use Rattle.text.specs.Text.{bytes}
 use Rattle.railway.specs.declared.Railway.{Railway}
 use Rattle.railway.specs.Rows.{recordRefusal}
-use Rattle.game.specs.Yards.{yardA, yardOne}
+use Rattle.railway.specs.Yards.{yardA, yardOne}
 use Rattle.tables.specs.Tables.{Filled}
 use Rattle.plan.specs.Text.{planText}
-
--- The bytes of a text.
-unfoldable pub bytes : String → List ℕ
-bytes Str.[] = []
-bytes (Str._∷_ c s) = code c ∷ bytes s
 
 pub record Output : Type 0 where
   pub yard : Railway

@@ -1,6 +1,7 @@
--- Which row of several is given: the first that applies, and none exactly where no row applies. And a number is one refusal's alone.
+-- Which row of several is given: the first that applies, and none exactly where no row applies. Of two lists of rows, one behind the other, the first
+-- of the one or else of the other is given. And a number is one refusal's alone.
 -- Assumes nothing.
-use mathlib.Core.Path.{_≡_, refl, sym, _∙_}
+use mathlib.Core.Path.{_≡_, refl, sym, _∙_, ap}
 use mathlib.Core.Logic.{_↔_}
 use mathlib.Core.Bool.{Bool, true, false, cond}
 use lib.Dec.{eqb}
@@ -8,33 +9,52 @@ use mathlib.Core.List.{List, [], _∷_, _++_, List·Memᴰ, List·Memᴰ·head, 
 use mathlib.Core.Option.{Option, none, some}
 use Prim.Native.Nat.{ℕ}
 use native.Mathlib.Omega.{arith}
-use Rattle.laws.proofs.Bools.{clash, some-none}
+use Rattle.laws.specs.Below.{orElse}
+use Rattle.laws.specs.Lists.{Every}
+use Rattle.laws.proofs.Bools.{clash, some-none, not-true}
+use Rattle.laws.proofs.Lists.{every-none, every-more}
 use Rattle.railway.specs.declared.Refusal.{Refusal}
 use Rattle.railway.specs.declared.Refusal.the-variants.{Length, Form, Count, Unknown, Join, Loose, Double, Place, Space, PlanForm, PlanFault}
-use Rattle.railway.specs.Refusals.{number, Row, row, refuseIf, first, numberOf}
+use Rattle.railway.specs.Refusals.{number, Row, row, refuseIf, first, numberOf, FirstOf}
 
--- the row of f applies, and none before it in the list
-pub data FirstOf : List Row → Refusal → Type 0 where
-  at-once : {x : Row} {xs : List Row} → x .applies ≡ true → FirstOf (x ∷ xs) (x .refusal)
-  after : {x : Row} {xs : List Row} {f : Refusal} → x .applies ≡ false → FirstOf xs f → FirstOf (x ∷ xs) f
+-- a row applies; the row of f applies, and none before it in the list
+abbrev pub On : Row → Type 0
+On x = x .applies ≡ true
+
+abbrev pub FirstRow : List Row → Refusal → Type 0
+FirstRow xs f = FirstOf On xs (row f true)
 
 first-step : (b : Bool) (x : Row) (xs : List Row) (f : Refusal) → x .applies ≡ b → refuseIf b (x .refusal) (first xs) ≡ some f
-    → (first xs ≡ some f → FirstOf xs f) → FirstOf (x ∷ xs) f
-first-step true x xs f h e ih = let z : x .refusal ≡ f = cc in rw (← z) (at-once h)
-first-step false x xs f h e ih = after h (ih e)
+    → (first xs ≡ some f → FirstRow xs f) → FirstRow (x ∷ xs) f
+first-step true x xs f h e ih =
+    let z : x .refusal ≡ f = cc in
+    record { before = []; after = xs; order = rw (← z, ← h); here = refl; not-before = every-none (λ y. On y → ⊥) }
+first-step false x xs f h e ih =
+    let t = ih e in
+    record {
+      before = x ∷ t .before;
+      after = t .after;
+      order = ap (λ (l : List Row). x ∷ l) (t .order);
+      here = refl;
+      not-before = every-more (λ y. On y → ⊥) x (t .before) (λ p. clash p h) (t .not-before);
+    }
 
-pub first-is : (xs : List Row) (f : Refusal) → first xs ≡ some f → FirstOf xs f
+pub first-is : (xs : List Row) (f : Refusal) → first xs ≡ some f → FirstRow xs f
 unfolding first
 first-is [] f e = some-none e refl
 first-is (x ∷ xs) f e = first-step (x .applies) x xs f refl e (first-is xs f)
 
-pub is-first : (xs : List Row) (f : Refusal) → FirstOf xs f → first xs ≡ some f
+passed : (before after : List Row) (f : Refusal) → Every (λ y. On y → ⊥) before → first (before ++ (row f true ∷ after)) ≡ some f
 unfolding first
-is-first (x ∷ xs) f (at-once h) = rw h
-is-first (x ∷ xs) f (after h w) = rw h (is-first xs f w)
+passed [] after f h = refl
+passed (x ∷ xs) after f h =
+    rw (not-true (x .applies) (h x (List·Memᴰ·head refl))) (passed xs after f (λ y m. h y (List·Memᴰ·tail m)))
+
+pub is-first : (xs : List Row) (f : Refusal) → FirstRow xs f → first xs ≡ some f
+is-first xs f w = rw (w .order) (passed (w .before) (w .after) f (w .not-before))
 
 -- given exactly if
-pub given-exactly : (xs : List Row) (f : Refusal) → (first xs ≡ some f) ↔ FirstOf xs f
+pub given-exactly : (xs : List Row) (f : Refusal) → (first xs ≡ some f) ↔ FirstRow xs f
 given-exactly xs f = (first-is xs f, is-first xs f)
 
 -- nothing is given exactly where no row applies
@@ -52,6 +72,16 @@ pub none-first : (xs : List Row) → ((x : Row) → List·Memᴰ x xs → x .app
 unfolding first
 none-first [] h = refl
 none-first (x ∷ xs) h = rw (h x (List·Memᴰ·head refl)) (none-first xs (λ y m. h y (List·Memᴰ·tail m)))
+
+-- rows behind others: the first of the one list, or else of the other
+pub first-append : (xs ys : List Row) → first (xs ++ ys) ≡ orElse (first xs) (first ys)
+unfolding first
+first-append [] ys = refl
+first-append (x ∷ xs) ys = go (x .applies) (x .refusal) (first-append xs ys)
+  where
+    go : (b : Bool) (f : Refusal) → first (xs ++ ys) ≡ orElse (first xs) (first ys) → refuseIf b f (first (xs ++ ys)) ≡ orElse (refuseIf b f (first xs)) (first ys)
+    go true f h = refl
+    go false f h = h
 
 -- one row at the head of a list
 pub first-same : (f : Refusal) (a b : Bool) (xs ys : List Row) → a ≡ b → first xs ≡ first ys → first (row f a ∷ xs) ≡ first (row f b ∷ ys)

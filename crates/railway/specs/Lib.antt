@@ -4,3 +4,4 @@ pub mod Refusals
 pub mod Record
 pub mod Rows
 pub mod Same
+pub mod Yards

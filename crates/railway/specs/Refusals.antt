@@ -1,9 +1,11 @@
 -- The table of numbers (document 01, "Numbers that a desk can get"): the number of each refusal, and which row of several is given.
 -- Assumes nothing.
+use mathlib.Core.Path.{_≡_}
 use mathlib.Core.Bool.{Bool, true, false}
-use mathlib.Core.List.{List, [], _∷_}
+use mathlib.Core.List.{List, [], _∷_, _++_}
 use mathlib.Core.Option.{Option, none, some}
 use Prim.Native.Nat.{ℕ}
+use Rattle.laws.specs.Lists.{Every}
 use Rattle.railway.specs.declared.Refusal.{Refusal}
 use Rattle.railway.specs.declared.Refusal.the-variants.{Length, Form, Count, Unknown, Join, Loose, Double, Place, Space, PlanForm, PlanFault}
 
@@ -44,3 +46,11 @@ first (x ∷ xs) = refuseIf (x .applies) (x .refusal) (first xs)
 abbrev pub numberOf : Option Refusal → Option ℕ
 numberOf none = none
 numberOf (some f) = some (number f)
+
+-- What "first" means: of a table, this entry applies and none that stands before it. Entries are rows, or refusals by themselves.
+pub record FirstOf {A : Type 0} (applies : A → Type 0) (table : List A) (x : A) : Type 0 where
+  pub before : List A
+  pub after : List A
+  pub order : table ≡ before ++ (x ∷ after)
+  pub here : applies x
+  pub not-before : Every (λ y. applies y → ⊥) before

@@ -22,7 +22,7 @@ use Rattle.game.specs.Game.{Outcome, lost, derailment, at as reaches}
 use Rattle.game.specs.Placement.{codeOf, sectionsIn, standsOn}
 use Rattle.game.specs.Setting.{Setting, headsFor, held, signalOpen}
 use Rattle.game.specs.Moves.{passes, occupied, moveOf}
-use Rattle.game.specs.Yards.{yardH, lineP, lineJ, lineG, lineT, sec, port, yardA}
+use Rattle.railway.specs.Yards.{yardH, lineP, lineJ, lineG, lineT, sec, port, yardA}
 use Rattle.tables.specs.declared.SolverAnswer.the-variants.{Refused, Unsolvable, Figure}
 use Rattle.tables.specs.Entries.{settingAt, entryFrom, entryOf}
 use Rattle.tables.specs.Tables.{figureIn, tablesShort, caseRefusal, openSignals, lowestOpen, pointBits, noLater}

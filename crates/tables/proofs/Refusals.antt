@@ -1,9 +1,9 @@
 -- When a record with two lent tables is refused: the rows of the record come first and row 9 last, so nothing is refused exactly if the record is accepted and both
--- tables are long enough. The first of two lists of rows, one behind the other, is the first of the one or else of the other. Assumes nothing.
+-- tables are long enough. Assumes nothing.
 use mathlib.Core.Path.{_≡_, refl, _∙_}
 use mathlib.Core.Logic.{_↔_, inl, inr}
 use mathlib.Core.Bool.{Bool, true, false}
-use mathlib.Core.List.{List, [], _∷_, _++_}
+use mathlib.Core.List.{List, [], _∷_}
 use mathlib.Core.Option.{none, some}
 use Prim.Native.Nat.{ℕ, _≤_}
 use lib.ListN.{length}
@@ -14,20 +14,11 @@ use Rattle.laws.proofs.Bools.{bool?, option?, some-none, or-false, or-none}
 use Rattle.railway.specs.declared.Railway.{Railway}
 use Rattle.railway.specs.declared.Refusal.{Refusal}
 use Rattle.railway.specs.declared.Refusal.the-variants.{Space}
-use Rattle.railway.specs.Refusals.{Row, row, refuseIf, first}
+use Rattle.railway.specs.Refusals.{row, refuseIf, first}
 use Rattle.railway.specs.Rows.{recordRows, recordRefusal}
+use Rattle.railway.proofs.Refusals.{first-append}
 use Rattle.game.specs.Placement.{placements}
 use Rattle.tables.specs.Tables.{tablesShort, caseRefusal}
-
--- rows behind others
-pub first-append : (xs ys : List Row) → first (xs ++ ys) ≡ orElse (first xs) (first ys)
-unfolding first
-first-append [] ys = refl
-first-append (x ∷ xs) ys = go (x .applies) (x .refusal) (first-append xs ys)
-  where
-    go : (b : Bool) (f : Refusal) → first (xs ++ ys) ≡ orElse (first xs) (first ys) → refuseIf b f (first (xs ++ ys)) ≡ orElse (refuseIf b f (first xs)) (first ys)
-    go true f h = refl
-    go false f h = h
 
 module _ (r : Railway) (figs sets : List ℕ) where
   -- the record's rows, else row 9

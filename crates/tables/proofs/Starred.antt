@@ -21,7 +21,7 @@ use Rattle.game.specs.Local.{keepsTest}
 use Rattle.game.specs.Placement.{codeOf, sectionsIn, placements, standsOn, startCode, atHome, shared}
 use Rattle.game.specs.Setting.{headsFor, held, mayMove}
 use Rattle.game.specs.Moves.{passes, occupied, moveOf}
-use Rattle.game.specs.Yards.{yardA, yardALess, yardOne, upOneTwo, upTwoOne, upTwoOneHeld, headOn}
+use Rattle.railway.specs.Yards.{yardA, yardALess, yardOne, upOneTwo, upTwoOne, upTwoOneHeld, headOn}
 use Rattle.tables.specs.Entries.{settingAt, entryFrom}
 use Rattle.tables.specs.Tables.{noFigure, figureIn, Filled}
 use Rattle.tables.specs.Find.{tryOpen, firstFound, find}

@@ -13,7 +13,7 @@ use Rattle.railway.specs.Rows.{recordRefusal}
 use Rattle.game.specs.Game.{IsFigure}
 use Rattle.game.specs.Placement.{codeOf, placements, startCode}
 use Rattle.game.specs.Moves.{gameOf}
-use Rattle.game.specs.Yards.{yardA, yardALess, yardOne, upOneTwo, upTwoOne, upTwoOneHeld, headOn}
+use Rattle.railway.specs.Yards.{yardA, yardALess, yardOne, upOneTwo, upTwoOne, upTwoOneHeld, headOn}
 
 -- A starred fact: in this yard the placement, with the document's section numbers, has this figure; it is said of the start or of any placement.
 pub record Star : Type 0 where

@@ -3,6 +3,9 @@
 use mathlib.Core.Bool.{cond}
 use mathlib.Core.List.{List, [], _∷_, _++_}
 use Prim.Native.Nat.{ℕ, zero, suc, _+_, _/_, _%_}
+use Prim.Native.String as Str
+use Prim.Native.String.{String}
+use Prim.Native.Char.{code}
 use lib.Dec.{ltb}
 
 -- The decimal digits of a number, none in front that is zero; `0` is zero. At most as many as the first number says.
@@ -25,3 +28,8 @@ unfoldable pub line : List (List ℕ) → List ℕ
 line [] = lineEnd ∷ []
 line (f ∷ []) = f ++ (lineEnd ∷ [])
 line (f ∷ g ∷ fs) = f ++ (tab ∷ line (g ∷ fs))
+
+-- The bytes of a text that is written out in a table.
+unfoldable pub bytes : String → List ℕ
+bytes Str.[] = []
+bytes (Str._∷_ c s) = code c ∷ bytes s
