@@ -37,6 +37,9 @@ clash p q = let z : _≡_ {A = ℕ} 0 1 = cc in absurd (omega arith)
 pub some-none : {A B : Type 0} {o : Option B} {x : B} → o ≡ some x → o ≡ none → A
 some-none p q = let z : _≡_ {A = ℕ} 0 1 = cc in absurd (omega arith)
 
+pub some-one : {A : Type 0} {x y : A} → some x ≡ some y → x ≡ y
+some-one e = cc
+
 pub not-true : (b : Bool) → (b ≡ true → ⊥) → b ≡ false
 not-true true f = absurd (f refl)
 not-true false f = refl

@@ -11,7 +11,7 @@ use lib.ListN.{length, getD, set, drop, length-append, length-drop, length-set}
 use lib.Seq.{drop-append-seam, getD-set-same, getD-set-other}
 use lib.Dec.{ltb}
 use borrow.Author.Tests.{ltb-true, ltb-false}
-use Rattle.laws.proofs.Bools.{clash, some-none}
+use Rattle.laws.proofs.Bools.{clash, some-none, some-one}
 use Rattle.railway.specs.declared.Railway.{Railway}
 use Rattle.railway.specs.declared.Refusal.{Refusal}
 use Rattle.railway.specs.declared.Refusal.the-variants.{Space, PlanForm, PlanFault}
@@ -41,9 +41,6 @@ use Rattle.plan.specs.Reading.{readLine}
 use Rattle.plan.specs.Rules.{TooShort, EmitRule, EmitRuleHolds, LineChanges, CheckRuleHolds}
 use Rattle.plan.proofs.Reading.{reads-line}
 use Rattle.plan.proofs.Checks.{code-in}
-
-some-one : {A : Type 0} {a b : A} → some a ≡ some b → a ≡ b
-some-one e = cc
 
 -- things that differ, told apart by a number
 abbrev emittedKind : Emitted → ℕ
