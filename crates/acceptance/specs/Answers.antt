@@ -18,6 +18,7 @@ abbrev pub refusalGiven : Tested → Option Refusal
 refusalGiven Accepted = none
 refusalGiven (Refused f) = some f
 
+-- .. its number.
 abbrev pub numberGiven : Tested → Option ℕ
 numberGiven t = numberOf (refusalGiven t)
 

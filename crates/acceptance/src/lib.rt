@@ -2,7 +2,7 @@
 // ones too; each row looks at every place that it concerns. Besides the test, some of its parts are public for the reader of
 // case texts: they judge one row, pair or place of a record by itself, and are no entries.
 ghost use mathlib.Core.Path.{_≡_};
-ghost use mathlib.Core.Bool.{_||_};
+ghost use mathlib.Core.Bool.{_||_, _&&_};
 ghost use Prim.Native.Nat.{ℕ};
 ghost use Rattle.laws.specs.Below.{anyBelow};
 ghost use Rattle.railway.specs.Ends.{sameSide};
@@ -146,8 +146,8 @@ fn unknown_link(r: Railway, i: u8) -> bool
     match link_at(r, i) {
         Joined::Nothing => false,
         Joined::With(f) => {
-            if is_known(r, railway::end_at(i)) {
-                if is_known(r, f) { false } else { true }
+            if both_known(r, railway::end_at(i), f) {
+                false
             } else {
                 true
             }
@@ -236,6 +236,16 @@ fn is_known(r: Railway, e: End) -> bool
     match e {
         End::Section(n, _) => n.0 < r.sections,
         End::Port(n, _) => n.0 < r.points,
+    }
+}
+
+fn both_known(r: Railway, e: End, f: End) -> bool
+    ensures { λ b. ⌜ b ≡ (known r e && known r f) ⌝ }
+{
+    if is_known(r, e) {
+        is_known(r, f)
+    } else {
+        false
     }
 }
 

@@ -3,41 +3,38 @@
 -- Assumes nothing.
 use Prim.Native.Nat.{ℕ, suc, _-_, _/_, _<_, _≤_}
 use mathlib.Core.Path.{_≡_, refl, sym, _∙_, ap}
-use mathlib.Core.Bool.{Bool, true, false, _&&_}
-use mathlib.Core.List.{List, map, List·Memᴰ}
+use mathlib.Core.Bool.{true, false}
+use mathlib.Core.List.{map}
 use mathlib.Core.Option.{Option, none, some}
 use native.Mathlib.Omega.{arith}
-use lib.Dec.{ltb, eqb}
-use lib.ListN.{length, getD, length-map, List·getD-map}
-use borrow.Author.Tests.{eqb-true, eqb-false, eq-eqb, ne-eqb, lt-ltb}
-use Rattle.laws.specs.Lists.{any, repeats}
+use lib.Dec.{eqb}
+use lib.ListN.{getD, length-map, List·getD-map}
+use borrow.Author.Tests.{eqb-false, eq-eqb, ne-eqb, lt-ltb}
+use Rattle.laws.specs.Lists.{repeats}
 use Rattle.laws.proofs.Bools.{clash}
-use Rattle.laws.proofs.Lists.{Found, any-found, repeats-apart}
+use Rattle.laws.proofs.Lists.{any-found, repeats-apart}
 use Rattle.railway.specs.declared.Side.{Side}
 use Rattle.railway.specs.declared.Side.the-variants.{Up, Down}
 use Rattle.railway.specs.declared.Leg.{Leg}
-use Rattle.railway.specs.declared.SectionNo.{SectionNo}
-use Rattle.railway.specs.declared.PointNo.{PointNo}
 use Rattle.railway.specs.declared.End.{End}
-use Rattle.railway.specs.declared.End.the-variants.{Section, Port}
-use Rattle.railway.specs.declared.Joined.{Joined}
+use Rattle.railway.specs.declared.End.the-variants.{Port}
 use Rattle.railway.specs.declared.Joined.the-variants.{Nothing, With}
 use Rattle.railway.specs.declared.Train.{Train}
 use Rattle.railway.specs.declared.Railway.{Railway}
-use Rattle.railway.specs.Bounds.{mostPoints, sectionEnds, allEnds}
+use Rattle.railway.specs.Bounds.{sectionEnds, allEnds}
 use Rattle.railway.specs.Ends.{sameSide, portSide, endIndex, endAt}
 use Rattle.railway.specs.Record.{linkAt, flagAt, joined, runOf}
 use Rattle.railway.specs.Record as R
-use Rattle.railway.specs.Rows.{bothPorts, oneSection, leadsTo, recordRefusal}
+use Rattle.railway.specs.Rows.{bothPorts, oneSection, recordRefusal}
 use Rattle.railway.specs.Rows as RR
-use Rattle.railway.proofs.Ends.{Numbered, end-section}
-use Rattle.railway.proofs.Accepted.{Bounded, Right, Accepted, facts-accepted}
-use Rattle.casefile.specs.Form.{EndField, section, port, JoinLine, SignalLine, TrainLine, Description, WellFormed}
+use Rattle.railway.proofs.Ends.{end-section}
+use Rattle.railway.proofs.Accepted.{Right, Accepted, facts-accepted}
+use Rattle.casefile.specs.Form.{EndField, section, port, SignalLine, TrainLine, Description, WellFormed}
 use Rattle.casefile.specs.Rows.{known, sectionOf, sideOf, sameSignal}
 use Rattle.casefile.specs.Recording.{endOf, fieldOf, partner, signalOf, trainOf, noTrainLine, railwayOf}
 use Rattle.casefile.specs.Claims.{AcceptedAgain}
 use Rattle.casefile.proofs.Exactly.{accepted-exactly}
-use Rattle.casefile.proofs.Clean.{Clean, RightJoin, clean-facts, within-is}
+use Rattle.casefile.proofs.Clean.{Clean, clean-facts, within-is}
 use Rattle.casefile.proofs.Ends.{signal-is, end-field, Counted, field-end, Ties, forth, back, partner-ties, partner-one, partner-other, partner-nothing}
 use Rattle.casefile.proofs.Told.{link-at, flag-at, legs-at, run-at, joined-at, counted-end, numbered-end, run-known}
 

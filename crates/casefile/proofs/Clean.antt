@@ -3,11 +3,10 @@
 -- Assumes nothing.
 use Prim.Native.Nat.{ℕ, suc, _<_, _≤_}
 use mathlib.Core.Path.{_≡_, refl}
-use mathlib.Core.Bool.{Bool, true, false, not, _&&_, _||_}
-use mathlib.Core.List.{List, [], _∷_, map, List·Memᴰ, List·Memᴰ·head, List·Memᴰ·tail}
+use mathlib.Core.Bool.{true, false, _||_}
+use mathlib.Core.List.{map, List·Memᴰ·head, List·Memᴰ·tail}
 use lib.Dec.{leb, eqb}
 use borrow.Author.Tests.{leb-true, le-leb}
-use Rattle.laws.specs.Below.{anyBelow}
 use Rattle.laws.specs.Lists.{any, repeats, Every}
 use Rattle.laws.proofs.Bools.{or-false, or-none, and-true, and-both, not-and, not-is}
 use Rattle.laws.proofs.Below as Below
@@ -16,10 +15,10 @@ use Rattle.railway.specs.declared.Leg.{Leg}
 use Rattle.railway.specs.declared.Leg.the-variants.{Stem, Plus, Minus}
 use Rattle.railway.specs.declared.Refusal.the-variants.{Count, Unknown, Join, Loose, Double, Place}
 use Rattle.railway.specs.Ends.{sameSide}
-use Rattle.railway.specs.Refusals.{Row, row}
+use Rattle.railway.specs.Refusals.{row}
 use Rattle.railway.specs.Rows.{bothPorts, oneSection}
 use Rattle.railway.proofs.Accepted.{Bounded, bounded, within-bounds}
-use Rattle.casefile.specs.Form.{EndField, section, port, JoinLine, SignalLine, TrainLine, Description}
+use Rattle.casefile.specs.Form.{port, JoinLine, Description}
 use Rattle.casefile.specs.Rows.{countRow, within, known, unknownJoin, unknownSignal, unknownTrain, unknownRow, sectionOf, sideOf, wrongJoin, sameEnd, joinEnds, joinRow, looseEnd, looseAt, looseRow, sameSignal, doubleRow, placeRow, descriptionRows}
 use Rattle.casefile.proofs.Exactly.{Off}
 

@@ -2,33 +2,32 @@
 -- The rows that the reading computes apply exactly where those of the table do, since what is read is what the text says, and it says one thing
 -- at most. Of two rows that are first in one table, neither stands before the other, so they are one.
 -- Assumes nothing.
-use Prim.Native.Nat.{ℕ, _<_, _≤_}
+use Prim.Native.Nat.{ℕ}
 use mathlib.Core.Path.{_≡_, refl, sym, _∙_, ap}
-use mathlib.Core.Logic.{_⊎_, inl, inr}
+use mathlib.Core.Logic.{inl, inr}
 use mathlib.Core.Bool.{Bool, true, false}
-use mathlib.Core.List.{List, [], _∷_, _++_, map, append-assoc, append-nil, List·Memᴰ, List·Memᴰ·head, List·Memᴰ·tail, Memᴰ·append-left, Memᴰ·append-right}
+use mathlib.Core.List.{List, [], _∷_, _++_, map, append-assoc, List·Memᴰ·head, List·Memᴰ·tail, Memᴰ·append-left, Memᴰ·append-right}
 use mathlib.Core.Option.{Option, none, some}
 use native.Mathlib.Omega.{arith}
 use lib.Dec.{ltb}
 use lib.ListN.{length}
-use borrow.Author.Tests.{ltb-true, ltb-false, lt-ltb, le-ltb}
+use borrow.Author.Tests.{ltb-true, ltb-false, le-ltb}
 use Rattle.laws.specs.Lists.{Every}
-use Rattle.laws.proofs.Bools.{clash, some-none, option?}
-use Rattle.laws.proofs.Lists.{every-none, every-more, Mapped, map-in, map-append, parted}
+use Rattle.laws.proofs.Bools.{clash}
+use Rattle.laws.proofs.Lists.{every-none, every-more, map-in, map-append, parted}
 use Rattle.railway.specs.declared.Railway.{Railway}
 use Rattle.railway.specs.declared.Refusal.{Refusal}
 use Rattle.railway.specs.declared.Refusal.the-variants.{Length, Form, Count, Unknown, Join, Loose, Double, Place}
-use Rattle.railway.specs.Refusals.{Row, row, refuseIf, first}
+use Rattle.railway.specs.Refusals.{Row, row, first}
 use Rattle.railway.proofs.Refusals as R
 use Rattle.railway.proofs.Refusals.{first-is, first-none, none-first}
 use Rattle.casefile.specs.declared.CaseRead.{CaseRead}
-use Rattle.casefile.specs.declared.CaseAnswer.{CaseAnswer}
 use Rattle.casefile.specs.declared.CaseAnswer.the-variants.{Accepted, Refused}
 use Rattle.casefile.specs.Form.{Description, Describes}
-use Rattle.casefile.specs.Rows.{mostBytes, countRow, unknownRow, joinRow, looseRow, doubleRow, placeRow, descriptionRows, descriptionRefusal}
+use Rattle.casefile.specs.Rows.{mostBytes, countRow, unknownRow, joinRow, looseRow, doubleRow, placeRow, descriptionRows}
 use Rattle.casefile.specs.Recording.{railwayOf}
 use Rattle.casefile.specs.Given.{accepted, refused, Says, Applies, caseTable, FirstOf, RefusedWith, AcceptedWith}
-use Rattle.casefile.specs.Reading.{read, formRows, caseRows, judged, caseAnswer}
+use Rattle.casefile.specs.Reading.{read, caseRows, judged, caseAnswer}
 use Rattle.casefile.specs.Claims.{RefusedExactly, AcceptedExactly, AlwaysAnswered}
 use Rattle.casefile.proofs.Whole.{read-sound, read-complete, describes-one, form-decided}
 

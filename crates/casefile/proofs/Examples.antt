@@ -2,44 +2,37 @@
 -- writer with its buffer.
 -- Assumes nothing.
 use mathlib.Core.Path.{_≡_, refl}
-use mathlib.Core.Bool.{Bool, true, false}
+use mathlib.Core.Bool.{true, false}
 use mathlib.Core.List.{List, [], _∷_, _++_, map}
-use mathlib.Core.Option.{Option, none, some}
-use Prim.Native.Nat.{ℕ, zero, suc}
+use mathlib.Core.Option.{none}
+use Prim.Native.Nat.{ℕ}
 use Prim.Native.String as Str
 use Prim.Native.String.{String}
 use Prim.Native.Char.{code}
-use lib.ListN.{length, replicate}
+use lib.ListN.{replicate}
 use Rattle.laws.specs.Below.{anyBelow, listBelow, gatherBelow}
 use Rattle.laws.specs.Lists.{any, repeats}
 use Rattle.text.specs.Text.{digits, line}
-use Rattle.text.specs.Reading.{isDigit, byteAt, digitsAt, numberAt, sameText}
-use Rattle.railway.specs.declared.Side.{Side}
+use Rattle.text.specs.Reading.{isDigit, byteAt, digitsAt, numberAt}
 use Rattle.railway.specs.declared.Side.the-variants.{Up, Down}
 use Rattle.railway.specs.declared.Leg.the-variants.{Stem, Plus, Minus}
 use Rattle.railway.specs.declared.End.{End}
 use Rattle.railway.specs.declared.End.the-variants.{Section, Port}
-use Rattle.railway.specs.declared.Joined.{Joined}
 use Rattle.railway.specs.declared.Joined.the-variants.{Nothing, With}
-use Rattle.railway.specs.declared.Train.{Train}
 use Rattle.railway.specs.declared.Railway.{Railway}
-use Rattle.railway.specs.declared.Refusal.{Refusal}
-use Rattle.railway.specs.declared.Refusal.the-variants.{Length, Form, Count, Unknown, Join, Loose, Double, Place, Space}
+use Rattle.railway.specs.declared.Refusal.the-variants.{Count, Space}
 use Rattle.railway.specs.Ends.{endAt}
 use Rattle.railway.specs.Refusals.{number, first}
 use Rattle.railway.specs.Record.{emptyRailway, joined, hasSignal, legsOf, runOf}
 use Rattle.railway.specs.Rows as R
 use Rattle.railway.specs.Rows.{recordRefusal}
-use Rattle.casefile.specs.declared.CaseRead.{CaseRead}
 use Rattle.casefile.specs.declared.CaseAnswer.{CaseAnswer}
 use Rattle.casefile.specs.declared.CaseAnswer.the-variants.{Accepted, Refused}
-use Rattle.casefile.specs.declared.Written.{Written}
 use Rattle.casefile.specs.declared.Written.the-variants as W
 use Rattle.casefile.specs.Form.{each, rising, spell}
 use Rattle.casefile.specs.Rows.{joinEnds, unknownRow, joinRow, looseRow, doubleRow, placeRow}
 use Rattle.casefile.specs.Recording.{partner, railwayOf}
 use Rattle.casefile.specs.Writing.{descriptionOf, writtenText, writerRefusal, written, bufferAfter}
-use Rattle.casefile.specs.Given.{accepted, refused}
 use Rattle.casefile.specs.Reading.{counted, while, sideFieldAt, legFieldAt, endFieldAt, headerAt, pointLineAt, joinLineAt, signalLineAt, trainLineAt, walk, read, caseAnswer}
 
 bytes : String → List ℕ
@@ -65,15 +58,15 @@ up n = Section (record { 0 = n }) Up
 abbrev down : ℕ → End
 down n = Section (record { 0 = n }) Down
 
-yard-a : (given (caseAnswer (bytes yardA) .answer) ≡ 0)
+yard-a : (given (caseAnswer (bytes yardA) .answer) ≡ 0) × (recordRefusal recordA ≡ none)
     × ((recordA .sections ≡ 3) × (recordA .points ≡ 1) × (recordA .trains ≡ 2) × (legsOf recordA 0 ≡ Down))
     × (map (joined recordA) (down 0 ∷ up 0 ∷ down 1 ∷ up 1 ∷ down 2 ∷ up 2 ∷ Port (record { 0 = 0 }) Stem ∷ Port (record { 0 = 0 }) Plus ∷ Port (record { 0 = 0 }) Minus ∷ [])
     ≡ Nothing ∷ With (Port (record { 0 = 0 }) Plus) ∷ Nothing ∷ With (Port (record { 0 = 0 }) Minus) ∷ With (Port (record { 0 = 0 }) Stem) ∷ Nothing ∷ With (down 2) ∷ With (up 0) ∷ With (up 1) ∷ [])
     × (map (hasSignal recordA) (down 0 ∷ up 0 ∷ down 1 ∷ up 1 ∷ down 2 ∷ up 2 ∷ []) ≡ true ∷ false ∷ false ∷ true ∷ false ∷ false ∷ [])
     × (runOf recordA 0 ≡ record { heading = Up; start = record { 0 = 1 }; destination = record { 0 = 2 } })
     × (runOf recordA 1 ≡ record { heading = Down; start = record { 0 = 2 }; destination = record { 0 = 0 } })
-unfolding bytes yardA recordA given first digits line isDigit byteAt digitsAt numberAt counted while sideFieldAt legFieldAt endFieldAt headerAt pointLineAt joinLineAt signalLineAt trainLineAt walk read caseAnswer anyBelow listBelow any repeats joinEnds unknownRow joinRow looseRow doubleRow placeRow partner railwayOf endAt joined hasSignal legsOf runOf
-yard-a = (refl, (refl, refl, refl, refl), refl, refl, refl, refl)
+unfolding bytes yardA recordA given first digits line isDigit byteAt digitsAt numberAt counted while sideFieldAt legFieldAt endFieldAt headerAt pointLineAt joinLineAt signalLineAt trainLineAt walk read caseAnswer anyBelow listBelow any repeats joinEnds unknownRow joinRow looseRow doubleRow placeRow partner railwayOf endAt joined hasSignal legsOf runOf R.unknownRow R.joinRow R.looseRow R.placeRow recordRefusal
+yard-a = (refl, refl, (refl, refl, refl, refl), refl, refl, refl, refl)
 
 -- THE TABLE of texts, each with the number that it is refused with; 0: it is accepted.
 record Case : Type 0 where

@@ -1,17 +1,16 @@
 -- Fields of a case text: sides, legs and ends. Each is read where it is written and written where it is read, since the letters differ from
 -- each other and from digits.
 -- Assumes nothing.
-use Prim.Native.Nat.{ℕ, _+_, _<_}
+use Prim.Native.Nat.{ℕ, _+_}
 use mathlib.Core.Path.{_≡_, refl, _∙_}
-use mathlib.Core.Bool.{Bool, true, false, cond, _&&_}
+use mathlib.Core.Bool.{Bool, true, false, cond}
 use mathlib.Core.List.{List, [], _∷_, _++_, append-assoc}
 use native.Mathlib.Omega.{arith}
 use lib.Dec.{eqb}
 use lib.ListN.{getD, drop}
 use borrow.Author.Tests.{eqb-true}
-use Rattle.text.specs.Text.{decimal}
-use Rattle.text.specs.Reading.{Got, bad, got, then, isDigit}
-use Rattle.text.proofs.Walking.{bad-got, carry, Lies, Reads, Steps, steps, go-on, here, past, stands, Written, number-sound, number-complete}
+use Rattle.text.specs.Reading.{Got, bad, got, isDigit}
+use Rattle.text.proofs.Walking.{bad-got, carry, Lies, Reads, steps, go-on, here, past, stands, Written, number-sound, number-complete}
 use Rattle.railway.specs.declared.Side.{Side}
 use Rattle.railway.specs.declared.Side.the-variants.{Up, Down}
 use Rattle.railway.specs.declared.Leg.{Leg}

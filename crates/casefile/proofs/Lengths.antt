@@ -1,17 +1,16 @@
 -- What is written of an accepted railway is at most 4,096 bytes long: it has one H line, at most 16 P, 96 J, 96 G and 4 T lines, and no line has
 -- more than 16 bytes, since a number below 1,000 has three digits at most.
 -- Assumes nothing.
-use Prim.Native.Nat.{ℕ, zero, suc, _+_, _*_, _^_, _<_, _≤_}
+use Prim.Native.Nat.{ℕ, zero, suc, _+_, _*_, _<_, _≤_}
 use mathlib.Core.Path.{_≡_, refl}
 use mathlib.Core.Bool.{Bool, true, false, cond}
-use mathlib.Core.List.{List, [], _∷_, _++_, List·Memᴰ, List·Memᴰ·head, List·Memᴰ·tail}
-use mathlib.Core.Option.{none}
+use mathlib.Core.List.{List, [], _∷_, List·Memᴰ·head, List·Memᴰ·tail}
 use native.Mathlib.Omega.{arith}
 use lib.Dec.{ltb}
 use lib.ListN.{length, length-append}
 use Rattle.laws.specs.Below.{gatherBelow}
 use Rattle.laws.specs.Lists.{Every}
-use Rattle.text.specs.Text.{digits, decimal, line}
+use Rattle.text.specs.Text.{decimal, line}
 use Rattle.text.proofs.Decimal.{digits-short}
 use Rattle.railway.specs.declared.Side.{Side}
 use Rattle.railway.specs.declared.Joined.{Joined}
@@ -20,8 +19,9 @@ use Rattle.railway.specs.declared.Railway.{Railway}
 use Rattle.railway.specs.Bounds.{sectionEnds}
 use Rattle.railway.specs.Ends.{endIndex, endAt}
 use Rattle.railway.specs.Record.{linkAt, flagAt}
-use Rattle.railway.proofs.Accepted.{Bounded, Accepted, accepted-facts}
-use Rattle.casefile.specs.Form.{EndField, section, port, JoinLine, SignalLine, TrainLine, Description, endField, pointLine, joinLine, signalLine, trainLine, each, rising, spell, WritableEnd, WritableJoin, WritableSignal, WritableTrain, WellFormed}
+use Rattle.railway.proofs.Accepted.{Accepted, accepted-facts}
+use Rattle.casefile.specs.Form.{EndField, section, port, JoinLine, SignalLine, TrainLine, endField, pointLine, joinLine, signalLine, trainLine, each, rising, spell, WritableEnd, WritableJoin, WritableSignal, WritableTrain}
+use Rattle.casefile.specs.Rows.{mostBytes}
 use Rattle.casefile.specs.Recording.{fieldOf, signalOf}
 use Rattle.casefile.specs.Writing.{joinFrom, joinAt, signalAt, descriptionOf, writtenText}
 use Rattle.casefile.specs.Claims.{WrittenFits}
@@ -68,11 +68,11 @@ unfolding gatherBelow
 gather-short f h zero = omega arith
 gather-short f h (suc k) = simp length-append (omega (arith, h k, gather-short f h k))
 
-one-at-most : {A : Type 0} (x : A) (p : Bool) → length (cond p (x ∷ []) []) ≤ 1
+pub one-at-most : {A : Type 0} (x : A) (p : Bool) → length (cond p (x ∷ []) []) ≤ 1
 one-at-most x true = omega arith
 one-at-most x false = omega arith
 
-one-join : (i : ℕ) (x : Joined) → length (joinFrom i x) ≤ 1
+pub one-join : (i : ℕ) (x : Joined) → length (joinFrom i x) ≤ 1
 one-join i Nothing = omega arith
 one-join i (With f) = one-at-most (record { one = fieldOf (endAt i); other = fieldOf f }) (ltb i (endIndex f))
 
@@ -89,7 +89,7 @@ module _ (r : Railway) (w : Accepted r) where
   unfolding descriptionOf
   counts = (refl, refl)
 
-  pub short : length (spell (descriptionOf r)) ≤ 4096
+  pub short : length (spell (descriptionOf r)) ≤ mostBytes
   unfolding spell line
   short =
       let b = w .bounds in

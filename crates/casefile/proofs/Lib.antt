@@ -1,7 +1,9 @@
+pub mod Examples
 pub mod Fields
 pub mod Lines
 pub mod Whole
 pub mod Exactly
+pub mod Longest
 pub mod Ends
 pub mod Clean
 pub mod Told
@@ -9,5 +11,4 @@ pub mod Again
 pub mod Writer
 pub mod Lengths
 pub mod RoundTrip
-pub mod Examples
-pub mod Longest
+pub mod Order

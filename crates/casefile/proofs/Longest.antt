@@ -1,7 +1,6 @@
 -- The longest case texts. A text is made of a description, so what it says is known without reading it, and its length and rows are computed.
 -- Assumes nothing.
 use mathlib.Core.Path.{_≡_, refl}
-use mathlib.Core.Bool.{Bool, true, false}
 use mathlib.Core.List.{List, [], _∷_}
 use Prim.Native.Nat.{ℕ, zero, suc}
 use native.Mathlib.Omega.{arith}
@@ -14,7 +13,7 @@ use Rattle.text.specs.Reading.{isDigit, byteAt, digitsAt, numberAt}
 use Rattle.railway.specs.declared.Side.the-variants.{Up}
 use Rattle.railway.specs.declared.Refusal.the-variants.{Length, Form, Double}
 use Rattle.railway.specs.Refusals.{first}
-use Rattle.casefile.specs.Form.{Description, each, rising, spell, WritableJoin, WritableSignal, WritableTrain, WellFormed, Describes}
+use Rattle.casefile.specs.Form.{Description, each, rising, spell, WritableJoin, WritableSignal, WritableTrain, Describes}
 use Rattle.casefile.specs.Rows.{joinEnds, unknownRow, joinRow, looseRow, doubleRow, placeRow}
 use Rattle.casefile.specs.Given.{refused}
 use Rattle.casefile.specs.Reading.{headerAt, walk, read, caseAnswer}

@@ -1,23 +1,19 @@
 -- The round trip. An accepted record has what its own written lines say, field by field, as has the railway read from them; and two records that
 -- have what the same lines say are the same railway.
 -- Assumes nothing.
-use Prim.Native.Nat.{ℕ, suc, _+_, _*_, _<_, _≤_}
+use Prim.Native.Nat.{ℕ, _+_, _*_, _<_}
 use mathlib.Core.Path.{_≡_, refl, sym, _∙_, ap}
-use mathlib.Core.Logic.{_⊎_, inl, inr, _↔_}
-use mathlib.Core.Bool.{Bool, true, false, _&&_}
-use mathlib.Core.List.{List, List·Memᴰ}
-use mathlib.Core.Option.{Option, none, some}
+use mathlib.Core.Logic.{_⊎_, inl, inr}
+use mathlib.Core.Bool.{Bool, true, false}
 use native.Mathlib.Omega.{arith}
-use lib.Dec.{ltb, eqb}
-use lib.ListN.{length, getD}
-use borrow.Author.Tests.{eqb-false, ltb-true}
+use lib.ListN.{getD}
+use borrow.Author.Tests.{eqb-false}
 use Rattle.laws.specs.Below.{listBelow, gatherBelow}
-use Rattle.laws.proofs.Bools.{clash, lt?, bool?}
-use Rattle.laws.proofs.Below.{list-same, gather-same, list-get, Gathered, gathered}
+use Rattle.laws.proofs.Bools.{clash, lt?}
+use Rattle.laws.proofs.Below.{list-same, gather-same, list-get}
 use Rattle.railway.specs.declared.Side.{Side}
-use Rattle.railway.specs.declared.Side.the-variants.{Up, Down}
+use Rattle.railway.specs.declared.Side.the-variants.{Up}
 use Rattle.railway.specs.declared.SectionNo.{SectionNo}
-use Rattle.railway.specs.declared.PointNo.{PointNo}
 use Rattle.railway.specs.declared.End.{End}
 use Rattle.railway.specs.declared.End.the-variants.{Section, Port}
 use Rattle.railway.specs.declared.Joined.{Joined}
@@ -26,27 +22,26 @@ use Rattle.railway.specs.declared.Train.{Train}
 use Rattle.railway.specs.declared.Railway.{Railway}
 use Rattle.railway.specs.Bounds.{mostSections, sectionEnds, allEnds}
 use Rattle.railway.specs.Ends.{sideIndex, endIndex, endAt}
-use Rattle.railway.specs.Record.{linkAt, flagAt, joined, hasSignal, legsOf, runOf}
-use Rattle.railway.specs.Rows.{bothPorts, oneSection, recordRefusal}
+use Rattle.railway.specs.Record.{joined, hasSignal, legsOf, runOf}
+use Rattle.railway.specs.Rows.{bothPorts, oneSection}
 use Rattle.railway.specs.Rows as RR
 use Rattle.railway.specs.Same.{SameRailway}
-use Rattle.railway.proofs.Ends.{Numbered, side-small, end-index, index-below, index-end, section-index, section-below, port-behind, numbered-of}
+use Rattle.railway.proofs.Ends.{Numbered, side-small, end-index, index-end, section-index, section-below, port-behind, numbered-of}
 use Rattle.railway.proofs.Lookups.{joined-there, signal-there}
-use Rattle.railway.proofs.Accepted.{Bounded, Right, Accepted, accepted-facts, known-numbered, joined-known, joined-right, joined-back}
+use Rattle.railway.proofs.Accepted.{Accepted, accepted-facts, known-numbered, joined-known, joined-right, joined-back}
 use Rattle.railway.proofs.Same.{same-sym, same-trans}
-use Rattle.casefile.specs.Form.{EndField, section, JoinLine, SignalLine, TrainLine, Description, spell, Describes}
-use Rattle.casefile.specs.Rows.{mostBytes}
+use Rattle.casefile.specs.Form.{EndField, section, TrainLine, Description, spell, Describes}
 use Rattle.casefile.specs.Recording.{fieldOf, signalOf, noTrainLine, railwayOf}
 use Rattle.casefile.specs.Writing.{joinAt, signalAt, trainFrom, descriptionOf, writtenText}
-use Rattle.casefile.specs.Given.{accepted, AcceptedWith}
+use Rattle.casefile.specs.Given.{accepted}
 use Rattle.casefile.specs.Reading.{caseAnswer}
 use Rattle.casefile.specs.Claims.{Names, Joins, Signals, Runs, Told, WrittenAsTold, RoundTrip, ReadAgain, SameText, TextSame}
 use Rattle.casefile.proofs.Exactly.{accepted-exactly, accepted-one}
 use Rattle.casefile.proofs.Clean.{facts-clean}
 use Rattle.casefile.proofs.Ends.{field-one}
-use Rattle.casefile.proofs.Told.{names-field, names-is, signal-names, Flagged, flagged, joined-numbered, told}
+use Rattle.casefile.proofs.Told.{names-field, names-is, signal-names, Flagged, flagged, told}
 use Rattle.casefile.proofs.Again.{accepted-again}
-use Rattle.casefile.proofs.Writer.{Origin, FromLink, from-link, from-flag, join-written, FlagOf, signal-origin, signal-written, joined-link, link-joined, link-back, clean, well-formed}
+use Rattle.casefile.proofs.Writer.{from-link, from-flag, join-written, signal-written, joined-link, link-joined, link-back, clean, well-formed}
 use Rattle.casefile.proofs.Lengths.{short}
 
 -- THE SAME LINES, THE SAME RAILWAY
@@ -184,7 +179,7 @@ module _ (r : Railway) (w : Accepted r) where
         runs = runs-said;
       }
 
-  described : Describes (writtenText r) (descriptionOf r)
+  pub described : Describes (writtenText r) (descriptionOf r)
   unfolding writtenText
   described = record { well-formed = well-formed r w; spelling = refl }
 

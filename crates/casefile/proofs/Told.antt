@@ -1,45 +1,38 @@
 -- The railway of an accepted description has what its lines say, field by field. Each table of the record is looked up where it was made: the link of
 -- an end is what the J lines join it to, its flag says whether a G line names it. Ends that no railway can have are named by no line.
 -- Assumes nothing.
-use Prim.Native.Nat.{ℕ, suc, _+_, _-_, _*_, _/_, _%_, _<_, _≤_}
+use Prim.Native.Nat.{ℕ, suc, _/_, _%_, _<_, _≤_}
 use mathlib.Core.Path.{_≡_, refl, sym, _∙_, ap}
-use mathlib.Core.Logic.{_⊎_, inl, inr, _↔_}
-use mathlib.Core.Bool.{Bool, true, false, cond, _&&_}
-use mathlib.Core.List.{List, [], _∷_, List·Memᴰ}
+use mathlib.Core.Logic.{inl, inr}
+use mathlib.Core.Bool.{Bool, true, false, cond}
 use native.Mathlib.Omega.{arith}
 use lib.Dec.{ltb}
-use lib.ListN.{length, getD}
-use borrow.Author.Tests.{ltb-true, ltb-false, lt-ltb, le-ltb}
-use Rattle.laws.specs.Below.{listBelow}
-use Rattle.laws.specs.Lists.{any, Every}
+use lib.ListN.{getD}
+use borrow.Author.Tests.{ltb-true, lt-ltb}
+use Rattle.laws.specs.Lists.{any}
 use Rattle.laws.proofs.Bools.{clash}
 use Rattle.laws.proofs.Below.{list-get}
-use Rattle.laws.proofs.Lists.{Found, any-found, any-true, getD-member}
+use Rattle.laws.proofs.Lists.{any-found, any-true, getD-member}
 use Rattle.railway.specs.declared.Side.{Side}
 use Rattle.railway.specs.declared.Side.the-variants.{Up}
 use Rattle.railway.specs.declared.SectionNo.{SectionNo}
-use Rattle.railway.specs.declared.PointNo.{PointNo}
-use Rattle.railway.specs.declared.Leg.{Leg}
 use Rattle.railway.specs.declared.End.{End}
 use Rattle.railway.specs.declared.End.the-variants.{Section, Port}
-use Rattle.railway.specs.declared.Joined.{Joined}
 use Rattle.railway.specs.declared.Joined.the-variants.{Nothing, With}
 use Rattle.railway.specs.declared.Link.{Link}
 use Rattle.railway.specs.declared.Legs.{Legs}
-use Rattle.railway.specs.declared.Train.{Train}
 use Rattle.railway.specs.declared.Railway.{Railway}
-use Rattle.railway.specs.Bounds.{mostSections, mostPoints, mostTrains, sectionEnds, allEnds}
+use Rattle.railway.specs.Bounds.{mostPoints, mostTrains, sectionEnds, allEnds}
 use Rattle.railway.specs.Ends.{sideAt, endIndex, endAt}
 use Rattle.railway.specs.Record.{noLegs, noLink, noTrain, linkAt, flagAt, joined, hasSignal, legsOf, runOf}
-use Rattle.railway.proofs.Ends.{Numbered, end-index, index-below, numbered-of, end-section, section-below, port-behind}
-use Rattle.casefile.specs.Form.{EndField, section, port, JoinLine, SignalLine, TrainLine, Description, WellFormed, Describes}
+use Rattle.railway.proofs.Ends.{Numbered, end-index, index-below, numbered-of, end-section, section-below}
+use Rattle.casefile.specs.Form.{EndField, section, port, SignalLine, Description, WellFormed}
 use Rattle.casefile.specs.Rows.{known, sameSignal}
 use Rattle.casefile.specs.Recording.{endOf, fieldOf, partner, signalOf, trainOf, noTrainLine, railwayOf}
-use Rattle.casefile.specs.Given.{AcceptedWith}
 use Rattle.casefile.specs.Claims.{Names, Joins, Signals, Runs, Told, ReadAsTold}
 use Rattle.casefile.proofs.Exactly.{accepted-exactly}
 use Rattle.casefile.proofs.Clean.{Clean, clean-facts, within-is}
-use Rattle.casefile.proofs.Ends.{signal-is, signal-self, end-field, Counted, field-end, Ties, forth, back, partner-ties, partner-one, partner-other}
+use Rattle.casefile.proofs.Ends.{signal-is, signal-self, end-field, Counted, Ties, forth, back, partner-ties, partner-one, partner-other}
 
 -- NAMES. The written end of a record's end names it, and no other does.
 pub names-field : (e : End) → Names (fieldOf e) e

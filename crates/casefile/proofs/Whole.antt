@@ -1,26 +1,26 @@
 -- The whole text: reading gives a description exactly where it is well formed and spells the text. The lines come one after the other, and the
 -- byte that a line begins with tells J, G and T lines apart, so each list of lines ends where the next begins.
 -- Assumes nothing.
-use Prim.Native.Nat.{ℕ, zero, suc, _+_, _-_, _<_, _≤_}
+use Prim.Native.Nat.{ℕ, zero, suc, _+_, _<_, _≤_}
 use mathlib.Core.Path.{_≡_, refl, sym, _∙_, ap}
 use mathlib.Core.Bool.{Bool, true, false, cond}
-use mathlib.Core.List.{List, [], _∷_, _++_, append-assoc, append-nil, List·Memᴰ, List·Memᴰ·head, List·Memᴰ·tail}
+use mathlib.Core.List.{List, [], _∷_, _++_, append-assoc, append-nil, List·Memᴰ·head, List·Memᴰ·tail}
 use mathlib.Core.Option.{Option, none, some}
 use native.Mathlib.Omega.{arith}
 use lib.Dec.{ltb, eqb}
 use lib.ListN.{length, getD, drop, length-append, length-drop, drop-of-length-le}
-use borrow.Author.Tests.{ltb-true, ltb-false, le-ltb, eq-eqb}
+use borrow.Author.Tests.{ltb-false, le-ltb}
 use Rattle.laws.specs.Lists.{Every}
 use Rattle.laws.proofs.Lists.{every-none, every-more}
 use Rattle.text.specs.Text.{line}
 use Rattle.text.specs.Reading.{Got, bad, got, then, value}
-use Rattle.text.proofs.Walking.{bad-got, carry, Lies, Reads, Steps, steps, on, go-on, stop-here, here}
+use Rattle.text.proofs.Walking.{bad-got, carry, Lies, Reads, steps, on, go-on, stop-here, here}
 use Rattle.railway.specs.declared.Side.{Side}
-use Rattle.casefile.specs.Form.{JoinLine, SignalLine, TrainLine, Description, pointLine, joinLine, signalLine, trainLine, headerLine, each, rising, spell, WritableJoin, WritableSignal, WritableTrain, WellFormed, Describes}
+use Rattle.casefile.specs.Form.{JoinLine, SignalLine, TrainLine, Description, pointLine, joinLine, signalLine, trainLine, each, rising, spell, WritableJoin, WritableSignal, WritableTrain, Describes}
 use Rattle.casefile.specs.Rows.{FormRow}
-use Rattle.casefile.specs.Reading.{Counts, counted, while, headerAt, pointLineAt, joinLineAt, signalLineAt, trainLineAt, walk, read}
+use Rattle.casefile.specs.Reading.{counted, while, headerAt, pointLineAt, joinLineAt, signalLineAt, trainLineAt, walk, read}
 use Rattle.casefile.specs.Claims.{ReadIsSpelling, DescribesOne, FormDecided}
-use Rattle.casefile.proofs.Lines.{WrittenLine, WritableCounts, countsLine, join-sound, join-complete, signal-sound, signal-complete, header-sound, header-complete, point-sound, point-complete, train-sound, train-complete}
+use Rattle.casefile.proofs.Lines.{WrittenLine, join-sound, join-complete, signal-sound, signal-complete, header-sound, header-complete, point-sound, point-complete, train-sound, train-complete}
 
 -- LINES BY COUNT
 module _ {A : Type 0} (good : A → Type 0) (spelling : ℕ → A → List ℕ) (s : List ℕ) (line : ℕ → ℕ → Got A) where

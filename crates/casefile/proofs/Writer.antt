@@ -2,47 +2,41 @@
 -- the earlier of its two ends, and links are returned, so no end stands in two J lines; every port's link leads back to a section end, which has the
 -- J line.
 -- Assumes nothing.
-use Prim.Native.Nat.{ℕ, zero, suc, _+_, _-_, _*_, _/_, _%_, _<_, _≤_}
+use Prim.Native.Nat.{ℕ, zero, suc, _-_, _/_, _%_, _<_, _≤_}
 use mathlib.Core.Path.{_≡_, refl, sym, _∙_, ap}
-use mathlib.Core.Logic.{_⊎_, inl, inr}
-use mathlib.Core.Bool.{Bool, true, false, cond, _&&_, _||_}
-use mathlib.Core.List.{List, [], _∷_, _++_, map, append-assoc, map-map, List·Memᴰ, List·Memᴰ·head, List·Memᴰ·tail}
-use mathlib.Core.Option.{Option, none, some}
+use mathlib.Core.Bool.{Bool, true, false, cond}
+use mathlib.Core.List.{List, [], _∷_, _++_, map, List·Memᴰ, List·Memᴰ·head, List·Memᴰ·tail}
 use native.Mathlib.Omega.{arith}
 use lib.Dec.{ltb, eqb}
-use lib.ListN.{length, getD}
-use borrow.Author.Tests.{eqb-true, eqb-false, ne-eqb, lt-ltb, ltb-true, ltb-false}
+use borrow.Author.Tests.{eqb-false, ne-eqb, lt-ltb, ltb-true}
 use Rattle.laws.specs.Below.{listBelow, gatherBelow}
 use Rattle.laws.specs.Lists.{any, repeats, Every}
-use Rattle.laws.proofs.Bools.{clash, lt?, not-true}
-use Rattle.laws.proofs.Below.{list-length, list-get, Listed, listed, Gathered, gathered, in-gathered}
-use Rattle.laws.proofs.Lists.{any-true, repeats-none, repeats-gather, repeats-list, map-append}
-use Rattle.railway.specs.declared.Side.{Side}
-use Rattle.railway.specs.declared.Side.the-variants.{Up, Down}
+use Rattle.laws.proofs.Bools.{clash, not-true}
+use Rattle.laws.proofs.Below.{list-length, list-get, listed, gathered, in-gathered}
+use Rattle.laws.proofs.Lists.{any-true, repeats-gather, repeats-list, map-append}
+use Rattle.railway.specs.declared.Side.the-variants.{Up}
 use Rattle.railway.specs.declared.Leg.{Leg}
-use Rattle.railway.specs.declared.SectionNo.{SectionNo}
-use Rattle.railway.specs.declared.PointNo.{PointNo}
 use Rattle.railway.specs.declared.End.{End}
 use Rattle.railway.specs.declared.End.the-variants.{Section, Port}
 use Rattle.railway.specs.declared.Joined.{Joined}
 use Rattle.railway.specs.declared.Joined.the-variants.{Nothing, With}
 use Rattle.railway.specs.declared.Train.{Train}
 use Rattle.railway.specs.declared.Railway.{Railway}
-use Rattle.railway.specs.Bounds.{mostSections, mostPoints, sectionEnds, allEnds}
-use Rattle.railway.specs.Ends.{sameSide, portSide, sideAt, endIndex, endAt}
+use Rattle.railway.specs.Bounds.{sectionEnds, allEnds}
+use Rattle.railway.specs.Ends.{sideAt, endIndex, endAt}
 use Rattle.railway.specs.Record.{linkAt, flagAt, joined, legsOf, runOf}
 use Rattle.railway.specs.Record as R
 use Rattle.railway.specs.Rows.{bothPorts, oneSection}
 use Rattle.railway.specs.Rows as RR
-use Rattle.railway.proofs.Ends.{Numbered, end-index, index-below, index-end, end-numbered, end-section, section-below, port-behind}
+use Rattle.railway.proofs.Ends.{Numbered, index-below, index-end, end-section, section-below, port-behind}
 use Rattle.railway.proofs.Lookups.{joined-there}
-use Rattle.railway.proofs.Accepted.{Bounded, Right, Accepted, known-numbered, joined-known, joined-right, joined-back}
-use Rattle.casefile.specs.Form.{EndField, section, port, JoinLine, SignalLine, TrainLine, Description, WritableEnd, WritableJoin, WritableSignal, WritableTrain, WellFormed}
+use Rattle.railway.proofs.Accepted.{Right, Accepted, joined-known, joined-right, joined-back}
+use Rattle.casefile.specs.Form.{EndField, section, port, JoinLine, SignalLine, TrainLine, WritableEnd, WritableSignal, WritableTrain, WellFormed}
 use Rattle.casefile.specs.Rows.{within, known, sectionOf, sideOf, sameEnd, joinEnds, sameSignal}
 use Rattle.casefile.specs.Recording.{fieldOf, signalOf}
 use Rattle.casefile.specs.Writing.{joinFrom, joinAt, signalAt, trainFrom, descriptionOf}
 use Rattle.casefile.proofs.Clean.{Clean, RightJoin, is-within}
-use Rattle.casefile.proofs.Ends.{same-self, not-same, signal-is, end-field, field-one, one-end, other-end}
+use Rattle.casefile.proofs.Ends.{same-self, not-same, signal-is, field-one, other-end}
 
 -- the tests of row 5, of the record's ends and of ends as written
 ports-same : (e f : End) → bothPorts (sectionOf (fieldOf e)) (sectionOf (fieldOf f)) ≡ bothPorts (RR.sectionOf e) (RR.sectionOf f)

@@ -1,13 +1,15 @@
 -- What is claimed of the case file, a sentence to each; proofs/ has the proofs.
 -- Assumes nothing.
 use mathlib.Core.Path.{_≡_}
-use mathlib.Core.Bool.{true}
+use mathlib.Core.Bool.{Bool, true, _&&_}
 use mathlib.Core.Logic.{_↔_, _⊎_}
-use mathlib.Core.List.{List, List·Memᴰ}
-use mathlib.Core.Option.{Option, none, some}
-use Prim.Native.Nat.{ℕ, suc, _<_, _≤_}
+use mathlib.Core.List.{List, [], _∷_, map, List·Memᴰ}
+use mathlib.Core.Option.{none, some}
+use Prim.Native.Nat.{ℕ, suc, _*_, _<_, _≤_}
+use lib.Dec.{ltb}
 use lib.ListN.{length, getD}
-use Rattle.railway.specs.declared.Side.the-variants.{Up}
+use Rattle.laws.specs.Lists.{all, Every}
+use Rattle.railway.specs.declared.Side.the-variants.{Up, Down}
 use Rattle.railway.specs.declared.End.{End}
 use Rattle.railway.specs.declared.End.the-variants.{Section, Port}
 use Rattle.railway.specs.declared.Joined.the-variants.{With}
@@ -103,6 +105,26 @@ abbrev pub ReadAgain : Type 0
 ReadAgain =
     (text : List ℕ) (r : Railway) → caseAnswer text ≡ accepted r
     → (q : Railway) × (caseAnswer (writtenText r) ≡ accepted q) × SameRailway r q × (writtenText q ≡ writtenText r)
+
+-- THE WRITER'S ORDER. Where an end stands in it: section ends by number, down before up, and ports behind them all.
+abbrev pub rank : EndField → ℕ
+rank (section n Down) = 2 * n
+rank (section n Up) = suc (2 * n)
+rank (port n l) = 2000
+
+-- Numbers that strictly rise.
+unfoldable pub rises : List ℕ → Bool
+rises [] = true
+rises (x ∷ xs) = all (ltb x) xs && rises xs
+
+-- Of a J line the earlier end comes first, which so is a section's; J and G lines rise by the end that they begin with.
+pub record Sorted (d : Description) : Type 0 where
+  pub first : Every (λ j. rank (j .one) < rank (j .other)) (d .joins)
+  pub joins : rises (map (λ j. rank (j .one)) (d .joins)) ≡ true
+  pub signals : rises (map (λ g. rank (section (g .number) (g .side))) (d .signals)) ≡ true
+
+abbrev pub WriterSorts : Type 0
+WriterSorts = (r : Railway) → recordRefusal r ≡ none → (d : Description) → Describes (writtenText r) d → Sorted d
 
 -- THE SAME RAILWAY has the same text, and accepted records with the same text are the same railway.
 abbrev pub SameText : Type 0

@@ -1,6 +1,6 @@
 -- Rows 1 to 8 of the table of numbers, for a case text: one definition a row, in the table's order. Rows 3 to 8 judge what the text says.
 -- Assumes nothing.
-use mathlib.Core.Bool.{Bool, true, false, not, _&&_, _||_}
+use mathlib.Core.Bool.{Bool, false, not, _&&_, _||_}
 use mathlib.Core.List.{List, [], _∷_, map}
 use mathlib.Core.Option.{Option, none, some}
 use Prim.Native.Nat.{ℕ, suc, _-_, _<_}
@@ -11,10 +11,9 @@ use Rattle.laws.specs.Lists.{any, repeats}
 use Rattle.railway.specs.declared.Side.{Side}
 use Rattle.railway.specs.declared.Side.the-variants.{Up}
 use Rattle.railway.specs.declared.Leg.the-variants.{Stem, Plus, Minus}
-use Rattle.railway.specs.declared.Refusal.{Refusal}
 use Rattle.railway.specs.declared.Refusal.the-variants.{Count, Unknown, Join, Loose, Double, Place}
 use Rattle.railway.specs.Ends.{sameSide, portSide, legIndex}
-use Rattle.railway.specs.Refusals.{Row, row, first}
+use Rattle.railway.specs.Refusals.{Row, row}
 use Rattle.railway.specs.Rows.{outside, Tied, wrongPair}
 use Rattle.casefile.specs.Form.{EndField, section, port, JoinLine, SignalLine, TrainLine, Description, Describes}
 
@@ -29,7 +28,7 @@ LengthRow text = mostBytes < length text
 abbrev pub FormRow : List ℕ → Type 0
 FormRow text = (d : Description) → Describes text d → ⊥
 
--- 3, count: the number of sections, points or trains lies outside its bounds.
+-- 3, count: the H line has a number of sections, points or trains that no railway may have.
 abbrev pub countRow : Description → Bool
 countRow d = outside (d .sections) (d .points) (d .trains)
 
@@ -41,7 +40,7 @@ abbrev pub known : Description → EndField → Bool
 known d (section n s) = within n (d .sections)
 known d (port n l) = within n (d .points)
 
--- 4, unknown: a J, G or T line names a section or a point that is not there.
+-- 4, unknown: some section or point that a J, G or T line names has number 0, or one above the H line's.
 abbrev pub unknownJoin : Description → JoinLine → Bool
 unknownJoin d j = not (known d (j .one) && known d (j .other))
 
@@ -54,7 +53,7 @@ unknownTrain d t = not (within (t .start) (d .sections) && within (t .destinatio
 unfoldable pub unknownRow : Description → Bool
 unknownRow d = any (unknownJoin d) (d .joins) || any (unknownSignal d) (d .signals) || any (unknownTrain d) (d .runs)
 
--- 5, join: of a J line's ends both are ports, both belong to one section, or both are of one side; or an end is in two joins.
+-- 5, join: the ends of a J line are two ports, or two of one section, or lie on the same side; or an end stands in the J lines twice.
 -- An end's side is a section's own, a port's by the P line of its point.
 abbrev pub sectionOf : EndField → Option ℕ
 sectionOf (section n s) = some n
@@ -84,7 +83,7 @@ joinEnds (j ∷ js) = j .one ∷ j .other ∷ joinEnds js
 unfoldable pub joinRow : Description → Bool
 joinRow d = any (wrongJoin d) (d .joins) || repeats sameEnd (joinEnds (d .joins))
 
--- 6, loose: a point's port is in no join.
+-- 6, loose: no J line names some port of some point.
 abbrev pub looseEnd : Description → EndField → Bool
 looseEnd d e = not (any (sameEnd e) (joinEnds (d .joins)))
 
@@ -94,18 +93,18 @@ looseAt d i = looseEnd d (port (suc i) Stem) || looseEnd d (port (suc i) Plus) |
 unfoldable pub looseRow : Description → Bool
 looseRow d = anyBelow (looseAt d) (d .points)
 
--- 7, double: a signal is named twice.
+-- 7, double: two G lines name one section end.
 abbrev pub sameSignal : SignalLine → SignalLine → Bool
 sameSignal g h = eqb (g .number) (h .number) && sameSide (g .side) (h .side)
 
 unfoldable pub doubleRow : Description → Bool
 doubleRow d = repeats sameSignal (d .signals)
 
--- 8, place: two trains share a start, or two share a destination.
+-- 8, place: a section is the start of two trains, or the destination of two.
 unfoldable pub placeRow : Description → Bool
 placeRow d = repeats eqb (map (λ t. t .start) (d .runs)) || repeats eqb (map (λ t. t .destination) (d .runs))
 
--- Rows 3 to 8 in the table's order, and the first that applies to what a text says.
+-- Rows 3 to 8 of what a text says, in the table's order.
 abbrev pub descriptionRows : Description → List Row
 descriptionRows d =
     row Count (countRow d)
@@ -115,6 +114,3 @@ descriptionRows d =
     ∷ row Double (doubleRow d)
     ∷ row Place (placeRow d)
     ∷ []
-
-unfoldable pub descriptionRefusal : Description → Option Refusal
-descriptionRefusal d = first (descriptionRows d)

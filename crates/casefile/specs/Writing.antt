@@ -1,6 +1,6 @@
 -- The writer (document 01, "The case file", last paragraph; row 9 of the table of numbers): the text that it makes of a railway, and what it
 -- answers and leaves when it is handed a record and a lent buffer. Assumes nothing.
-use mathlib.Core.Bool.{Bool, true, false, cond}
+use mathlib.Core.Bool.{Bool, cond}
 use mathlib.Core.List.{List, [], _∷_, _++_}
 use mathlib.Core.Option.{Option, none, some}
 use Prim.Native.Nat.{ℕ, suc}

@@ -24,6 +24,12 @@ lt? m n = elim (bool? (ltb m n)) [ inl e ↦ inl (ltb-true m n e) | inr e ↦ in
 pub eq? : (m n : ℕ) → (m ≡ n) ⊎ (m ≡ n → ⊥)
 eq? m n = elim (bool? (eqb m n)) [ inl e ↦ inl (eqb-true m n e) | inr e ↦ inr (eqb-false m n e) ]
 
+-- two that are true together are the same
+pub same-bool : (a b : Bool) → (a ≡ true → b ≡ true) → (b ≡ true → a ≡ true) → a ≡ b
+same-bool true b f g = rw (f refl)
+same-bool false true f g = g refl
+same-bool false false f g = refl
+
 -- contradictions
 pub clash : {A : Type 0} {b : Bool} → b ≡ true → b ≡ false → A
 clash p q = let z : _≡_ {A = ℕ} 0 1 = cc in absurd (omega arith)
@@ -47,6 +53,10 @@ or-false false b e = (refl, e)
 pub or-none : (a b : Bool) → a ≡ false → b ≡ false → (a || b) ≡ false
 or-none a b p q = rw (p, q)
 
+pub or-assoc : (a b c : Bool) → (a || (b || c)) ≡ ((a || b) || c)
+or-assoc true b c = refl
+or-assoc false b c = refl
+
 pub or-left : (a b : Bool) → a ≡ true → (a || b) ≡ true
 or-left a b p = rw p
 
@@ -65,6 +75,10 @@ and-true false b e = clash e refl
 
 pub and-both : (a b : Bool) → a ≡ true → b ≡ true → (a && b) ≡ true
 and-both a b p q = rw (p, q)
+
+pub and-off : (a : Bool) → (a && false) ≡ false
+and-off true = refl
+and-off false = refl
 
 pub not-is : (a : Bool) → not a ≡ false → a ≡ true
 not-is true e = refl

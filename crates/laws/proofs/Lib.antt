@@ -2,3 +2,5 @@ pub mod Bools
 pub mod Below
 pub mod Lists
 pub mod Bits
+pub mod Which
+pub mod Snoc

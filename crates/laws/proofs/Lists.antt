@@ -11,7 +11,7 @@ use lib.ListN.{length, getD}
 use borrow.Author.Tests.{eqb-false, ne-eqb}
 use Rattle.laws.specs.Below.{listBelow, gatherBelow}
 use Rattle.laws.specs.Lists.{any, all, repeats, Every}
-use Rattle.laws.proofs.Bools.{clash, not-false, or-false, or-none, and-true, and-both}
+use Rattle.laws.proofs.Bools.{clash, not-false, or-false, or-none, or-assoc, and-true, and-both}
 use Rattle.laws.proofs.Below.{Listed, listed, Gathered, gathered}
 
 module _ {A : Type 0} where
@@ -27,6 +27,11 @@ module _ {A : Type 0} where
 
   pub any-true : (f : A → Bool) (l : List A) (x : A) → List·Memᴰ x l → f x ≡ true → any f l ≡ true
   any-true f l x m h = not-false (any f l) (λ e. clash h (any-false f l x e m))
+
+  pub any-append : (f : A → Bool) (s t : List A) → any f (s ++ t) ≡ (any f s || any f t)
+  unfolding any
+  any-append f [] t = refl
+  any-append f (x ∷ s) t = rw (any-append f s t) (or-assoc (f x) (any f s) (any f t))
 
   pub record Found (f : A → Bool) (l : List A) : Type 0 where
     pub element : A

@@ -2,12 +2,15 @@
 -- `Railway::empty` promises that the associated constants of the type are these numbers. Assumes nothing.
 use Prim.Native.Nat.{ℕ, _+_, _*_}
 
+-- Sections.
 abbrev pub mostSections : ℕ
 mostSections = 48
 
+-- Points.
 abbrev pub mostPoints : ℕ
 mostPoints = 16
 
+-- Trains.
 abbrev pub mostTrains : ℕ
 mostTrains = 4
 
@@ -15,5 +18,6 @@ mostTrains = 4
 abbrev pub sectionEnds : ℕ
 sectionEnds = 2 * mostSections
 
+-- All ends.
 abbrev pub allEnds : ℕ
 allEnds = sectionEnds + 3 * mostPoints

@@ -13,10 +13,12 @@ use Rattle.railway.specs.declared.End.{End}
 use Rattle.railway.specs.declared.End.the-variants.{Section, Port}
 use Rattle.railway.specs.Bounds.{mostSections, mostPoints, sectionEnds, allEnds}
 
+-- The other side.
 abbrev pub opposite : Side → Side
 opposite Up = Down
 opposite Down = Up
 
+-- Two sides are one.
 abbrev pub sameSide : Side → Side → Bool
 sameSide Up Up = true
 sameSide Up Down = false
@@ -35,11 +37,13 @@ abbrev pub sideIndex : Side → ℕ
 sideIndex Down = 0
 sideIndex Up = 1
 
+-- .. and of a port among its point's.
 abbrev pub legIndex : Leg → ℕ
 legIndex Stem = 0
 legIndex Plus = 1
 legIndex Minus = 2
 
+-- The index of an end.
 abbrev pub endIndex : End → ℕ
 endIndex (Section n s) = cond (ltb (n .0) mostSections) (2 * n .0 + sideIndex s) allEnds
 endIndex (Port n l) = cond (ltb (n .0) mostPoints) (sectionEnds + 3 * n .0 + legIndex l) allEnds
@@ -48,9 +52,11 @@ endIndex (Port n l) = cond (ltb (n .0) mostPoints) (sectionEnds + 3 * n .0 + leg
 abbrev pub sideAt : ℕ → Side
 sideAt i = cond (eqb i 0) Down Up
 
+-- .. and the port.
 abbrev pub legAt : ℕ → Leg
 legAt i = cond (eqb i 0) Stem (cond (eqb i 1) Plus Minus)
 
+-- A section end below, a port from there on.
 unfoldable pub endAt : ℕ → End
 endAt i =
     cond (ltb i sectionEnds) (Section (record { 0 = i / 2 }) (sideAt (i % 2)))

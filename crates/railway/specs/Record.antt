@@ -21,12 +21,15 @@ use Rattle.railway.specs.declared.Railway.{Railway}
 use Rattle.railway.specs.Bounds.{mostSections, mostPoints, mostTrains, sectionEnds, allEnds}
 use Rattle.railway.specs.Ends.{portSide, endIndex}
 
+-- What stands for legs, a link and a train that are not there.
 abbrev pub noLegs : Legs
 noLegs = record { side = Up }
 
+-- Joined to nothing.
 abbrev pub noLink : Link
 noLink = record { to = Nothing }
 
+-- Up, from section 1 to 1.
 abbrev pub noTrain : Train
 noTrain = record { heading = Up; start = record { 0 = 0 }; destination = record { 0 = 0 } }
 
@@ -47,10 +50,11 @@ emptyRailway =
 abbrev pub linkAt : Railway → ℕ → Joined
 linkAt r i = getD (r .links) i noLink .to
 
+-- Whether a signal stands at the section end with this index.
 abbrev pub flagAt : Railway → ℕ → Bool
 flagAt r i = getD (r .signals) i false
 
--- ASKED BY NAME. What an end is joined to (a join ties two ends; a section end in no join is the end of the track).
+-- ASKED BY NAME. What an end is joined to; nothing at a section end is where the track ends.
 unfoldable pub joined : Railway → End → Joined
 joined r e = cond (ltb (endIndex e) allEnds) (linkAt r (endIndex e)) Nothing
 
@@ -71,7 +75,7 @@ abbrev pub sideOf : Railway → End → Side
 sideOf r (Section n s) = s
 sideOf r (Port n l) = portSide (legsOf r (n .0)) l
 
--- UPDATES. A join added, both ways.
+-- UPDATES. The record with other links.
 abbrev pub withLinks : Railway → List Link → Railway
 withLinks r links =
     record {
@@ -84,9 +88,11 @@ withLinks r links =
       runs = r .runs;
     }
 
+-- One direction of a join.
 abbrev pub setLink : End → End → List Link → List Link
 setLink a b links = set links (endIndex a) (record { to = With b })
 
+-- Both directions, where both ends are ends that a railway can have.
 unfoldable pub withJoin : Railway → End → End → Railway
 withJoin r a b = cond (ltb (endIndex a) allEnds && ltb (endIndex b) allEnds) (withLinks r (setLink b a (setLink a b (r .links)))) r
 
@@ -118,6 +124,7 @@ withLegs r n side =
       runs = r .runs;
     }) r
 
+-- A train, by its number.
 unfoldable pub withTrain : Railway → ℕ → Train → Railway
 withTrain r t run =
     cond (ltb t mostTrains)

@@ -26,6 +26,7 @@ pub record Row : Type 0 where
   pub refusal : Refusal
   pub applies : Bool
 
+-- A row by its parts.
 abbrev pub row : Refusal → Bool → Row
 row f b = record { refusal = f; applies = b }
 
@@ -34,6 +35,7 @@ abbrev pub refuseIf : Bool → Refusal → Option Refusal → Option Refusal
 refuseIf true f later = some f
 refuseIf false f later = later
 
+-- The first that applies.
 unfoldable pub first : List Row → Option Refusal
 first [] = none
 first (x ∷ xs) = refuseIf (x .applies) (x .refusal) (first xs)

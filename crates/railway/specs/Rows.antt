@@ -23,10 +23,11 @@ use Rattle.railway.specs.Ends.{sameSide, endIndex, endAt}
 use Rattle.railway.specs.Refusals.{Row, row, first}
 use Rattle.railway.specs.Record.{linkAt, flagAt, joined, runOf, sideOf}
 
--- 3, count: the number of sections, points or trains lies outside its bounds.
+-- 3, count: too few or too many sections, points or trains.
 abbrev pub outside : ℕ → ℕ → ℕ → Bool
 outside s p k = ltb s 1 || ltb mostSections s || ltb mostPoints p || ltb k 1 || ltb mostTrains k
 
+-- Row 3.
 abbrev pub countRow : Railway → Bool
 countRow r = outside (r .sections) (r .points) (r .trains)
 
@@ -35,58 +36,69 @@ abbrev pub known : Railway → End → Bool
 known r (Section n s) = ltb (n .0) (r .sections)
 known r (Port n l) = ltb (n .0) (r .points)
 
--- 4, unknown: a join, a signal or a train names a section or a point that is not there.
+-- 4, unknown: something in the record refers to a section or a point beyond the counts.
 -- A link at an end beyond the counts, and a link to one, is a join that names it; a flag beyond the sections is a signal that does.
 -- Legs of points and runs of trains beyond the counts name nothing, and are not looked at.
 abbrev pub unknownLink : Railway → End → Joined → Bool
 unknownLink r e Nothing = false
 unknownLink r e (With f) = not (known r e && known r f)
 
+-- .. the link of an index.
 abbrev pub unknownLinkAt : Railway → ℕ → Bool
 unknownLinkAt r i = unknownLink r (endAt i) (linkAt r i)
 
+-- A signal at a section end that is not there.
 abbrev pub unknownSignalAt : Railway → ℕ → Bool
 unknownSignalAt r i = flagAt r i && not (known r (endAt i))
 
+-- A train whose start or destination is not there.
 abbrev pub unknownTrainAt : Railway → ℕ → Bool
 unknownTrainAt r t = not (ltb (runOf r t .start .0) (r .sections) && ltb (runOf r t .destination .0) (r .sections))
 
+-- Row 4.
 unfoldable pub unknownRow : Railway → Bool
 unknownRow r =
     anyBelow (unknownLinkAt r) allEnds
     || anyBelow (unknownSignalAt r) sectionEnds
     || anyBelow (unknownTrainAt r) (r .trains)
 
--- 5, join: of the two ends both are ports, both belong to one section, or both are of one side; or an end is in two joins.
--- What the first three ask of an end: the section that it belongs to (none: it is a port) and its side. Records and case texts are judged by these.
+-- 5, join: a pair of ends that no join may tie, or a second join at one end.
+-- The pair is judged by what is asked of each end: the section it belongs to (none for a port) and its side. Records and case texts share this.
 pub record Tied : Type 0 where
   pub section : Option ℕ
   pub side : Side
 
+-- Both are ports.
 abbrev pub bothPorts : Option ℕ → Option ℕ → Bool
 bothPorts none none = true
 bothPorts none (some n) = false
 bothPorts (some m) b = false
 
+-- Both belong to one section.
 abbrev pub oneSection : Option ℕ → Option ℕ → Bool
 oneSection (some m) (some n) = eqb m n
 oneSection (some m) none = false
 oneSection none b = false
 
+-- Two ends that no join may tie.
 abbrev pub wrongPair : Tied → Tied → Bool
 wrongPair a b = bothPorts (a .section) (b .section) || oneSection (a .section) (b .section) || sameSide (a .side) (b .side)
 
+-- The section of an end of the record.
 abbrev pub sectionOf : End → Option ℕ
 sectionOf (Section n s) = some (n .0)
 sectionOf (Port n l) = none
 
+-- What row 5 asks of an end of the record.
 abbrev pub tied : Railway → End → Tied
 tied r e = record { section = sectionOf e; side = sideOf r e }
 
+-- A link between two such ends.
 abbrev pub wrongLink : Railway → End → Joined → Bool
 wrongLink r e Nothing = false
 wrongLink r e (With f) = wrongPair (tied r e) (tied r f)
 
+-- .. the link of an index.
 abbrev pub wrongLinkAt : Railway → ℕ → Bool
 wrongLinkAt r i = wrongLink r (endAt i) (linkAt r i)
 
@@ -95,41 +107,48 @@ abbrev pub leadsTo : Joined → End → Bool
 leadsTo Nothing e = false
 leadsTo (With f) e = eqb (endIndex f) (endIndex e)
 
+-- The other end is joined to something else, or to nothing.
 abbrev pub unreturned : Railway → End → Joined → Bool
 unreturned r e Nothing = false
 unreturned r e (With f) = not (leadsTo (joined r f) e)
 
+-- .. the link of an index.
 abbrev pub unreturnedAt : Railway → ℕ → Bool
 unreturnedAt r i = unreturned r (endAt i) (linkAt r i)
 
+-- Row 5.
 unfoldable pub joinRow : Railway → Bool
 joinRow r = anyBelow (wrongLinkAt r) allEnds || anyBelow (unreturnedAt r) allEnds
 
--- 6, loose: a point's port is in no join.
+-- 6, loose: some port of a point has nothing joined to it.
 abbrev pub unjoined : Joined → Bool
 unjoined Nothing = true
 unjoined (With e) = false
 
+-- One of a point's three ports.
 abbrev pub looseAt : Railway → ℕ → Bool
 looseAt r n =
     unjoined (joined r (Port (record { 0 = n }) Stem))
     || unjoined (joined r (Port (record { 0 = n }) Plus))
     || unjoined (joined r (Port (record { 0 = n }) Minus))
 
+-- Row 6.
 unfoldable pub looseRow : Railway → Bool
 looseRow r = anyBelow (looseAt r) (r .points)
 
--- 7, double: a signal is named twice. A record has one flag an end, so none is.
+-- 7, double: never so in a record, which has one flag for each end.
 abbrev pub doubleRow : Railway → Bool
 doubleRow r = false
 
--- 8, place: two trains share a start, or two share a destination.
+-- 8, place: two trains would begin, or would end, on one section.
 abbrev pub sharesWith : Railway → ℕ → ℕ → Bool
 sharesWith r t u = eqb (runOf r u .start .0) (runOf r t .start .0) || eqb (runOf r u .destination .0) (runOf r t .destination .0)
 
+-- A train shares a place with one before it.
 abbrev pub sharesAt : Railway → ℕ → Bool
 sharesAt r t = anyBelow (sharesWith r t) t
 
+-- Row 8.
 unfoldable pub placeRow : Railway → Bool
 placeRow r = anyBelow (sharesAt r) (r .trains)
 
@@ -144,5 +163,6 @@ recordRows r =
     ∷ row Place (placeRow r)
     ∷ []
 
+-- What the test of a record gives.
 unfoldable pub recordRefusal : Railway → Option Refusal
 recordRefusal r = first (recordRows r)

@@ -1,4 +1,4 @@
--- When two records are the same railway (document 01, end of "The case file"): counts, legs, joins, signals and trains agree.
+-- When two records stand for one railway (document 01, end of "The case file").
 -- Joins and signals are compared at every end a railway can have, for row 4 looks at all of them; legs and trains within the counts. Assumes nothing.
 use mathlib.Core.Path.{_≡_}
 use Prim.Native.Nat.{ℕ, _<_}
@@ -6,6 +6,7 @@ use Rattle.railway.specs.declared.Railway.{Railway}
 use Rattle.railway.specs.Bounds.{sectionEnds, allEnds}
 use Rattle.railway.specs.Record.{linkAt, flagAt, legsOf, runOf}
 
+-- The same railway.
 pub record SameRailway (r q : Railway) : Type 0 where
   pub sections : r .sections ≡ q .sections
   pub points : r .points ≡ q .points

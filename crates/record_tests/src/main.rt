@@ -1,5 +1,6 @@
 // Records and what their test answers: each row 3 to 8, its edges, and rows that apply together. A line each: what the record is,
-// a tab, and `accepted` or `refused` with the number. Sections, points and trains are counted from 0 in the code, from 1 in the text.
+// a tab, and `accepted` or `refused` with the number. A record is given by its counts and by pieces of five bytes: `P1d..` legs,
+// `J1u2d` a join, `G1u..` a signal, `T123.` train 1 up from section 2 to 3, with the case file's numbers, letters and signs.
 // Row 7 has no line of its own: a record has one flag a signal, and a signal set twice is set.
 use acceptance::Tested;
 use libc::STDOUT_FILENO;
@@ -11,9 +12,75 @@ use railway::SectionNo;
 use railway::Side;
 use railway::Train;
 
-fn show(label: &[u8], r: Railway) {
+fn byte(s: &[u8], i: usize) -> u8 {
+    if i < s.len() { s[i] } else { 0 }
+}
+
+// The number of a digit, less one: section `1` is 0.
+fn number(b: u8) -> u8 {
+    if b < b'1' { 0 } else { b - b'1' }
+}
+
+fn side(b: u8) -> Side {
+    if b == b'u' { Side::Up } else { Side::Down }
+}
+
+fn end(n: u8, mark: u8) -> End {
+    match mark {
+        b's' => End::Port(PointNo(n), Leg::Stem),
+        b'+' => End::Port(PointNo(n), Leg::Plus),
+        b'-' => End::Port(PointNo(n), Leg::Minus),
+        _ => End::Section(SectionNo(n), side(mark)),
+    }
+}
+
+// The record with one piece added: a letter and four bytes.
+fn with_piece(r: Railway, letter: u8, a: u8, b: u8, c: u8, d: u8) -> Railway {
+    match letter {
+        b'P' => r.with_legs(PointNo(number(a)), side(b)),
+        b'J' => r.with_join(end(number(a), b), end(number(c), d)),
+        b'G' => r.with_signal(end(number(a), b)),
+        b'T' => r.with_train(
+            number(a),
+            Train {
+                heading: Side::Up,
+                start: SectionNo(number(b)),
+                destination: SectionNo(number(c)),
+            },
+        ),
+        _ => r,
+    }
+}
+
+fn piece_at(r: Railway, pieces: &[u8], i: usize) -> Railway {
+    if i < 1000 {
+        with_piece(
+            r,
+            byte(pieces, i),
+            byte(pieces, i + 1),
+            byte(pieces, i + 2),
+            byte(pieces, i + 3),
+            byte(pieces, i + 4),
+        )
+    } else {
+        r
+    }
+}
+
+fn built(s: u8, p: u8, k: u8, pieces: &[u8]) -> Railway {
+    let mut r = Railway::empty();
+    r.sections = s;
+    r.points = p;
+    r.trains = k;
+    for i in 0..20usize {
+        r = piece_at(r, pieces, 5 * i);
+    }
+    r
+}
+
+fn show(label: &[u8], s: u8, p: u8, k: u8, pieces: &[u8]) {
     io::write_all(STDOUT_FILENO, label);
-    match acceptance::test_record(r) {
+    match acceptance::test_record(built(s, p, k, pieces)) {
         Tested::Accepted => {
             io::write_all(STDOUT_FILENO, b"\taccepted\n");
         }
@@ -26,154 +93,66 @@ fn show(label: &[u8], r: Railway) {
     }
 }
 
-fn counts(s: u8, p: u8, k: u8) -> Railway {
-    let mut r = Railway::empty();
-    r.sections = s;
-    r.points = p;
-    r.trains = k;
-    r
-}
-
-fn up(n: u8) -> End {
-    End::Section(SectionNo(n), Side::Up)
-}
-
-fn down(n: u8) -> End {
-    End::Section(SectionNo(n), Side::Down)
-}
-
-fn port(n: u8, l: Leg) -> End {
-    End::Port(PointNo(n), l)
-}
-
-fn train(r: Railway, t: u8, from: u8, to: u8) -> Railway {
-    r.with_train(
-        t,
-        Train {
-            heading: Side::Up,
-            start: SectionNo(from),
-            destination: SectionNo(to),
-        },
-    )
-}
-
-// Three sections and a point whose stem, plus and minus meet these ends.
-fn fork(side: Side, stem: End, plus: End, minus: End) -> Railway {
-    let r = counts(3, 1, 1).with_legs(PointNo(0), side);
-    let a = r.with_join(port(0, Leg::Stem), stem);
-    let b = a.with_join(plus, port(0, Leg::Plus));
-    b.with_join(port(0, Leg::Minus), minus)
-}
-
 fn accepted() {
-    show(b"one section", counts(1, 0, 1));
-    show(b"48 sections", counts(48, 0, 1));
-    show(
-        b"a join, a signal set twice",
-        counts(2, 0, 1)
-            .with_join(up(0), down(1))
-            .with_signal(up(1))
-            .with_signal(up(1)),
-    );
-    show(b"legs down", fork(Side::Down, down(2), up(0), up(1)));
-    show(b"legs up", fork(Side::Up, up(0), down(1), down(2)));
-    show(
-        b"4 trains",
-        train(train(train(counts(4, 0, 4), 1, 1, 1), 2, 2, 2), 3, 3, 3),
-    );
+    show(b"one section", 1, 0, 1, b"");
+    show(b"48 sections", 48, 0, 1, b"");
+    show(b"a join, a signal set twice", 2, 0, 1, b"J1u2dG2u..G2u..");
+    show(b"legs down", 3, 1, 1, b"P1d..J1s3dJ1u1+J1-2u");
+    show(b"legs up", 3, 1, 1, b"P1u..J1s1uJ2d1+J1-3d");
+    show(b"4 trains", 4, 0, 4, b"T222.T333.T444.");
 }
 
 fn row3() {
-    show(b"nothing", Railway::empty());
-    show(b"49 sections", counts(49, 0, 1));
-    show(b"17 points", counts(2, 17, 1));
-    show(b"no train", counts(2, 0, 0));
-    show(b"5 trains", counts(2, 0, 5));
+    show(b"nothing", 0, 0, 0, b"");
+    show(b"49 sections", 49, 0, 1, b"");
+    show(b"17 points", 2, 17, 1, b"");
+    show(b"no train", 2, 0, 0, b"");
+    show(b"5 trains", 2, 0, 5, b"");
 }
 
 fn row4() {
-    show(
-        b"a join to section 3 of 2",
-        counts(2, 0, 1).with_join(up(0), down(2)),
-    );
-    show(
-        b"a join to a point of none",
-        counts(2, 0, 1).with_join(up(0), port(0, Leg::Stem)),
-    );
-    show(
-        b"a signal at section 3 of 2",
-        counts(2, 0, 1).with_signal(down(2)),
-    );
-    show(
-        b"a start on section 3 of 2",
-        train(counts(2, 0, 1), 0, 2, 0),
-    );
-    show(
-        b"a destination on section 3 of 2",
-        train(counts(2, 0, 1), 0, 0, 2),
-    );
+    show(b"a join to section 3 of 2", 2, 0, 1, b"J1u3d");
+    show(b"a join to a point of none", 2, 0, 1, b"J1u1s");
+    show(b"a signal at section 3 of 2", 2, 0, 1, b"G3d..");
+    show(b"a start on section 3 of 2", 2, 0, 1, b"T131.");
+    show(b"a destination on section 3 of 2", 2, 0, 1, b"T113.");
 }
 
 fn row5() {
-    show(
-        b"two ports",
-        counts(2, 1, 1).with_join(port(0, Leg::Plus), port(0, Leg::Stem)),
-    );
-    show(b"one section", counts(2, 0, 1).with_join(up(0), down(0)));
-    show(
-        b"an end with itself",
-        counts(2, 0, 1).with_join(up(0), up(0)),
-    );
-    show(b"one side", counts(2, 0, 1).with_join(up(0), up(1)));
-    show(
-        b"one side, legs down",
-        fork(Side::Down, up(0), down(1), down(2)),
-    );
-    show(b"one side, legs up", fork(Side::Up, down(2), up(0), up(1)));
-    show(
-        b"an end in two joins",
-        counts(3, 0, 1)
-            .with_join(up(0), down(1))
-            .with_join(up(2), down(1)),
-    );
+    show(b"two ports", 2, 1, 1, b"J1+1s");
+    show(b"one section", 2, 0, 1, b"J1u1d");
+    show(b"an end with itself", 2, 0, 1, b"J1u1u");
+    show(b"one side", 2, 0, 1, b"J1u2u");
+    show(b"one side, legs down", 3, 1, 1, b"P1d..J1s1uJ2d1+J1-3d");
+    show(b"one side, legs up", 3, 1, 1, b"P1u..J1s3dJ1u1+J1-2u");
+    show(b"an end in two joins", 3, 0, 1, b"J1u2dJ3u2d");
 }
 
 fn row6() {
-    show(b"16 points, no join", counts(2, 16, 1));
-    show(
-        b"a stem in no join",
-        counts(2, 1, 1)
-            .with_join(down(0), port(0, Leg::Plus))
-            .with_join(down(1), port(0, Leg::Minus)),
-    );
+    show(b"16 points, no join", 2, 16, 1, b"");
+    show(b"a stem in no join", 2, 1, 1, b"P1u..J1d1+J2d1-");
 }
 
 fn row8() {
-    show(b"a start shared", train(counts(2, 0, 2), 1, 0, 1));
-    show(b"a destination shared", train(counts(2, 0, 2), 1, 1, 0));
+    show(b"a start shared", 2, 0, 2, b"T111.T212.");
+    show(b"a destination shared", 2, 0, 2, b"T111.T221.");
     show(
         b"a start shared by 1 and 4",
-        train(train(train(counts(4, 0, 4), 1, 1, 1), 2, 2, 2), 3, 0, 3),
+        4,
+        0,
+        4,
+        b"T111.T222.T333.T414.",
     );
 }
 
 fn together() {
-    show(
-        b"3 and 4",
-        counts(49, 0, 1).with_join(up(0), port(0, Leg::Stem)),
-    );
-    show(
-        b"4 and 5",
-        counts(2, 0, 1).with_join(up(0), up(1)).with_signal(down(2)),
-    );
-    show(b"4 and 6", train(counts(2, 1, 1), 0, 2, 0));
-    show(b"5 and 6", counts(2, 1, 1).with_join(up(0), up(1)));
-    show(
-        b"5 and 8",
-        train(counts(2, 0, 2), 1, 0, 1).with_join(up(0), up(1)),
-    );
-    show(b"6 and 8", train(counts(2, 1, 2), 1, 0, 1));
-    show(b"3 and 8", train(counts(2, 17, 2), 1, 0, 1));
+    show(b"3 and 4", 49, 0, 1, b"J1u1s");
+    show(b"4 and 5", 2, 0, 1, b"J1u2uG3d..");
+    show(b"4 and 6", 2, 1, 1, b"T131.");
+    show(b"5 and 6", 2, 1, 1, b"J1u2u");
+    show(b"5 and 8", 2, 0, 2, b"T212.J1u2u");
+    show(b"6 and 8", 2, 1, 2, b"T212.");
+    show(b"3 and 8", 2, 17, 2, b"T212.");
 }
 
 fn main() {

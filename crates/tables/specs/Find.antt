@@ -1,6 +1,6 @@
 -- A search for the plan's setting: what a solver may compute at a placement. Nothing of document 01 rests on this file:
 -- the laws in proofs/ say that what is found is the plan's setting, and where nothing is found no setting keeps the figure. Assumes nothing.
-use mathlib.Core.Bool.{Bool, true, false, cond, not, _&&_, _||_}
+use mathlib.Core.Bool.{Bool, false, cond, not, _&&_, _||_}
 use mathlib.Core.Option.{Option, none, some, Option·map}
 use Prim.Native.Nat.{ℕ, zero, suc, _^_}
 use lib.Dec.{eqb}

@@ -3,3 +3,4 @@ pub mod Tables
 pub mod Solver
 pub mod Starred
 pub mod Find
+pub mod Rounds

@@ -2,20 +2,41 @@
 -- are digits, are no more than its size asks for, begin with none that is zero, have the number as their value, and no two numbers share them.
 -- Assumes nothing.
 use mathlib.Core.Path.{_≡_, refl, sym, _∙_, ap}
-use mathlib.Core.Logic.{_⊎_, inl, inr}
-use mathlib.Core.Bool.{Bool, true, false, cond, not, _&&_}
+use mathlib.Core.Logic.{inl, inr}
+use mathlib.Core.Bool.{true}
 use mathlib.Core.List.{List, [], _∷_, _++_}
 use Prim.Native.Nat.{ℕ, zero, suc, _+_, _-_, _*_, _/_, _%_, _^_, _≤_, _<_}
 use native.Mathlib.Omega.{arith}
 use native.Mathlib.Nat.{pow-succ'}
 use lib.ListN.{length, length-append}
-use lib.Dec.{eqb, ltb}
+use lib.Dec.{ltb}
 use borrow.Author.Tests.{ltb-true, ltb-false, lt-ltb, le-ltb, ne-eqb}
 use Rattle.laws.specs.Lists.{all}
-use Rattle.laws.proofs.Bools.{bool?, lt?, and-true, and-both}
+use Rattle.laws.proofs.Bools.{bool?, and-true, and-both}
 use Rattle.laws.proofs.Lists.{all-append, all-weaken}
 use Rattle.text.specs.Text.{digits, decimal}
 use Rattle.text.specs.Reading.{isDigit, isPlain, valueOf}
+
+-- LENGTH, by what is allowed and by the number's size
+pub digits-length : (left n : ℕ) → length (digits left n) ≤ left
+unfolding digits
+digits-length zero n = omega arith
+digits-length (suc left) n = elim (bool? (ltb n 10)) [
+  | inl y ↦ rw y (omega arith)
+  | inr y ↦ rw (y, length-append (digits left (n / 10)) ((48 + n % 10) ∷ [])) (omega (arith, digits-length left (n / 10)))
+]
+
+pub digits-short : (left k n : ℕ) → n < 10 ^ suc k → length (digits left n) ≤ suc k
+unfolding digits
+digits-short zero k n l = omega arith
+digits-short (suc left) zero n l = let z : ltb n 10 ≡ true = lt-ltb n 10 (omega arith) in rw z (omega arith)
+digits-short (suc left) (suc k) n l = elim (bool? (ltb n 10)) [
+  | inl y ↦ rw y (omega arith)
+  | inr y ↦
+      let e : 10 ^ suc (suc k) ≡ 10 * 10 ^ suc k = pow-succ' 10 (suc k) in
+      let h : length (digits left (n / 10)) ≤ suc k = digits-short left k (n / 10) (omega arith) in
+      rw (y, length-append (digits left (n / 10)) ((48 + n % 10) ∷ [])) (omega arith)
+]
 
 -- DIGITS are digits, and plain
 pub digit-of : (n : ℕ) → n < 10 → isDigit (48 + n) ≡ true
@@ -39,28 +60,7 @@ digits-are (suc left) n = elim (bool? (ltb n 10)) [
 ]
 
 pub decimal-plain : (n : ℕ) → all isPlain (decimal n) ≡ true
-decimal-plain n = all-weaken isDigit isPlain digit-plain (decimal n) (digits-are 10 n)
-
--- LENGTH, by what is allowed and by the number's size
-pub digits-length : (left n : ℕ) → length (digits left n) ≤ left
-unfolding digits
-digits-length zero n = omega arith
-digits-length (suc left) n = elim (bool? (ltb n 10)) [
-  | inl y ↦ rw y (omega arith)
-  | inr y ↦ rw (y, length-append (digits left (n / 10)) ((48 + n % 10) ∷ [])) (omega (arith, digits-length left (n / 10)))
-]
-
-pub digits-short : (left k n : ℕ) → n < 10 ^ suc k → length (digits left n) ≤ suc k
-unfolding digits
-digits-short zero k n l = omega arith
-digits-short (suc left) zero n l = let z : ltb n 10 ≡ true = lt-ltb n 10 (omega arith) in rw z (omega arith)
-digits-short (suc left) (suc k) n l = elim (bool? (ltb n 10)) [
-  | inl y ↦ rw y (omega arith)
-  | inr y ↦
-      let e : 10 ^ suc (suc k) ≡ 10 * 10 ^ suc k = pow-succ' 10 (suc k) in
-      let h : length (digits left (n / 10)) ≤ suc k = digits-short left k (n / 10) (omega arith) in
-      rw (y, length-append (digits left (n / 10)) ((48 + n % 10) ∷ [])) (omega arith)
-]
+decimal-plain n = all-weaken isDigit isPlain digit-plain (decimal n) (digits-are _ n)
 
 -- VALUE
 value-behind : (a : ℕ) (s : List ℕ) (d : ℕ) → valueOf a (s ++ (d ∷ [])) ≡ valueOf a s * 10 + (d - 48)
@@ -80,7 +80,7 @@ value-digits (suc left) n l = elim (bool? (ltb n 10)) [
 ]
 
 pub value-decimal : (n : ℕ) → n < 10000000000 → valueOf 0 (decimal n) ≡ n
-value-decimal n l = value-digits 10 n (omega arith)
+value-decimal n l = value-digits _ n (omega arith)
 
 -- NO TWO NUMBERS are written alike
 pub decimal-one : (m n : ℕ) → m < 10000000000 → n < 10000000000 → decimal m ≡ decimal n → m ≡ n

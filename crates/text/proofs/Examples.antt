@@ -2,11 +2,11 @@
 -- Assumes nothing.
 use Prim.Native.Nat.{ℕ}
 use mathlib.Core.Path.{_≡_, refl}
-use mathlib.Core.Bool.{Bool, true, false, cond, _&&_}
-use mathlib.Core.List.{List, [], _∷_, _++_}
+use mathlib.Core.Bool.{true}
+use mathlib.Core.List.{List, [], _∷_}
 use Rattle.laws.specs.Lists.{all}
 use Rattle.text.specs.Text.{digits, decimal, line}
-use Rattle.text.specs.Reading.{isDigit, Got, bad, got, digitsAt, numberAt, sameText}
+use Rattle.text.specs.Reading.{isDigit, bad, got, digitsAt, numberAt, sameText}
 
 record Wrote : Type 0 where
   text : List ℕ

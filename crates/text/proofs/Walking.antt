@@ -3,18 +3,18 @@
 -- Assumes nothing.
 use Prim.Native.Nat.{ℕ, zero, suc, _+_, _-_, _*_, _^_, _<_, _≤_}
 use mathlib.Core.Path.{_≡_, refl, sym, _∙_, ap}
-use mathlib.Core.Logic.{_⊎_, inl, inr}
-use mathlib.Core.Bool.{Bool, true, false, cond, _&&_}
+use mathlib.Core.Logic.{inl, inr}
+use mathlib.Core.Bool.{Bool, true, false, cond}
 use mathlib.Core.List.{List, [], _∷_, _++_, append-assoc}
 use native.Mathlib.Omega.{arith}
 use native.Mathlib.Nat.{pow-succ'}
 use native.Mathlib.Numerals.{add-one}
-use lib.Dec.{ltb, eqb}
+use lib.Dec.{eqb}
 use lib.ListN.{length, getD, drop, List·getD-eq-default}
 use lib.Seq.{drop-cons, drop-drop, drop-append-seam, getD-drop}
 use borrow.Author.Tests.{lt-ltb, eqb-true, eqb-false, eq-eqb, ne-eqb}
 use Rattle.laws.specs.Lists.{all}
-use Rattle.laws.proofs.Bools.{bool?, lt?, and-true}
+use Rattle.laws.proofs.Bools.{lt?, and-true}
 use Rattle.text.specs.Text.{digits, decimal}
 use Rattle.text.specs.Reading.{isDigit, Got, bad, got, then, byteAt, digitsAt, numberAt, valueOf}
 use Rattle.text.proofs.Decimal.{Begins, digit-is, digits-are, digits-length, digits-behind, digits-enough, digits-decimal, digits-begin, value-digits}

@@ -1,9 +1,12 @@
 // Bytes and number fields at a cursor, for the case file and the plan alike. A cursor goes in by value, and the next one comes back with what
-// was read. Past the end of a text stands byte 0, which begins no field, so any cursor may come in. specs/ has the definitions, proofs/ the laws.
+// was read. Past the end of a text stands byte 0, which begins no field, so any cursor may come in. Writing is in `append`. specs/ has the
+// definitions, proofs/ the laws.
 ghost use mathlib.Core.Path.{_≡_};
 ghost use lib.ListN.{getD};
 ghost use Rattle.text.specs.Reading.{isDigit, numberAt};
 ghost use Rattle.text.specs.Answers.{moreDigits, numberGot, byteGot, byteInside};
+
+pub mod append; // append.rt: bytes and numbers put into a lent buffer, one behind the other
 
 pub struct Cursor {
     pub at: usize,

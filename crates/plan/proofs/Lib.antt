@@ -1,0 +1,13 @@
+pub mod Reading
+pub mod Lengths
+pub mod Calls
+pub mod Emits
+pub mod Tested
+pub mod Forms
+pub mod Checks
+pub mod Plan
+pub mod Demand
+pub mod Outputs
+pub mod Examples
+pub mod Inhabited
+pub mod Rules

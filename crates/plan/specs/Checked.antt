@@ -1,0 +1,72 @@
+-- What the checker's calls say of a plan by any maker, over its lines (document 01, "The two tables and the plan": the form of a plan, its test).
+-- Assumes nothing.
+use mathlib.Core.Path.{_≡_}
+use mathlib.Core.Logic.{_⊎_, _↔_}
+use mathlib.Core.Bool.{true}
+use mathlib.Core.List.{List, [], _∷_, _++_, map, List·Memᴰ}
+use mathlib.Core.Option.{none}
+use Prim.Native.Nat.{ℕ, _≤_}
+use lib.ListN.{length}
+use Rattle.laws.specs.Lists.{all}
+use Rattle.railway.specs.declared.Railway.{Railway}
+use Rattle.railway.specs.declared.Refusal.the-variants.{PlanForm, PlanFault}
+use Rattle.railway.specs.Rows.{recordRefusal}
+use Rattle.game.specs.Placement.{placements, startCode}
+use Rattle.game.specs.Game.{Choice, following, HomeWithin}
+use Rattle.game.specs.Setting.{Setting}
+use Rattle.game.specs.Moves.{gameOf}
+use Rattle.plan.specs.declared.LineAnswer.{LineAnswer}
+use Rattle.plan.specs.declared.LineAnswer.the-variants.{Taken, Refused as LineRefused}
+use Rattle.plan.specs.declared.TestAnswer.the-variants.{Pass, Refused as TestRefused}
+use Rattle.plan.specs.Lines.{PlacementLine, spell, fits, lineCode, rises, planOf}
+use Rattle.plan.specs.Test.{Listing, listedSetting, Test, byLines}
+use Rattle.plan.specs.Checker.{Checking, freshChecking, takeLine, testPlan, Run, run, isTaken, takenTexts}
+
+-- Texts in the form of a plan: they spell a first line with figure m and lines ds for placements, which fit the case, their codes strictly rising.
+pub record Form (r : Railway) (texts : List (List ℕ)) (m : ℕ) (ds : List PlacementLine) : Type 0 where
+  pub spelled : texts ≡ map spell (planOf m ds)
+  pub fit : all (fits r) (planOf m ds) ≡ true
+  pub rising : rises 0 (map (lineCode r) ds) ≡ true
+
+-- They are so for a plan of which something holds: anything; that it passes the test of a plan; that it fails.
+pub record PlanWith (r : Railway) (P : ℕ → List PlacementLine → Type 0) (texts : List (List ℕ)) : Type 0 where
+  pub start : ℕ
+  pub lines : List PlacementLine
+  pub form : Form r texts start lines
+  pub holds : P start lines
+
+abbrev pub InForm : Railway → List (List ℕ) → Type 0
+InForm r = PlanWith r (λ m ds. Unit {0})
+
+abbrev pub Passing : Railway → List (List ℕ) → Type 0
+Passing r = PlanWith r (λ m ds. Test r m (byLines r ds))
+
+abbrev pub Failing : Railway → List (List ℕ) → Type 0
+Failing r = PlanWith r (λ m ds. ¬ (Test r m (byLines r ds)))
+
+-- What any texts handed in, one after the other, are answered; `taken` are those of them that the checker took, `end` is what the calls leave.
+pub record Checked (r : Railway) (texts : List (List ℕ)) (answers : List LineAnswer) (taken : List (List ℕ)) (end : Checking) : Type 0 where
+  -- the test passes exactly if the lines taken are in form and pass, is a plan fault exactly if they are in form and fail,
+  -- and plan form exactly if none was taken
+  pub passes : (testPlan r end .answer ≡ Pass) ↔ Passing r taken
+  pub faulty : (testPlan r end .answer ≡ TestRefused PlanFault) ↔ Failing r taken
+  pub early : (testPlan r end .answer ≡ TestRefused PlanForm) ↔ (taken ≡ [])
+  -- one more line is taken exactly if with it the lines taken are in form
+  pub more : (text : List ℕ) → (isTaken (takeLine r end text .answer) ≡ true) ↔ InForm r (taken ++ (text ∷ []))
+  -- texts in form are taken, all of them
+  pub whole : InForm r texts → taken ≡ texts
+  -- each text has its answer, and one that is not taken is refused as plan form
+  pub answered : length answers ≡ length texts
+  pub others : (a : LineAnswer) → List·Memᴰ a answers → (a ≡ Taken) ⊎ (a ≡ LineRefused PlanForm)
+
+-- In an accepted case, from the state before the first line and fresh tables that are long enough.
+abbrev pub CheckedHolds : Type 0
+CheckedHolds =
+    (r : Railway) → recordRefusal r ≡ none → (n m : ℕ) → placements r ≤ n → placements r ≤ m → (texts : List (List ℕ))
+    → (let u : Run = run r texts (freshChecking n m) in Checked r texts (u .answers) (takenTexts (u .answers) texts) (u .end))
+
+-- A plan that passes can be followed: from the start its settings lead home within the figure of its first line, against every choice of trains.
+abbrev pub PlanWorks : Type 0
+PlanWorks =
+    (r : Railway) → recordRefusal r ≡ none → (m : ℕ) (L : Listing) → Test r m L
+    → (c : Choice Setting) → HomeWithin (gameOf r) (following (listedSetting r L)) c (startCode r) m

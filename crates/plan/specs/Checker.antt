@@ -1,0 +1,127 @@
+-- The checker: a call for each line, into two lent tables, and a call for the test (document 01, "The two tables and the plan": the checker).
+-- Each call is total: any record, state, tables and text. `readLine` gives the line that a text spells (`reads-line`, in proofs/), and `testHolds`
+-- says whether the lines taken pass the test of a plan (`tested`, in proofs/). Assumes nothing.
+use mathlib.Core.Bool.{Bool, true, false, cond}
+use mathlib.Core.List.{List, [], _∷_}
+use mathlib.Core.Option.{Option, none, some}
+use Prim.Native.Nat.{ℕ, suc}
+use lib.ListN.{getD, set, replicate}
+use lib.Dec.{ltb}
+use Rattle.railway.specs.declared.Railway.{Railway}
+use Rattle.railway.specs.declared.Refusal.{Refusal}
+use Rattle.railway.specs.declared.Refusal.the-variants.{PlanForm, PlanFault}
+use Rattle.railway.specs.Refusals.{numberOf}
+use Rattle.tables.specs.Entries.{entryFrom}
+use Rattle.tables.specs.Tables.{noFigure, caseRefusal}
+use Rattle.plan.specs.declared.Checker.{Checker}
+use Rattle.plan.specs.declared.Checker.the-variants.{Fresh, Begun}
+use Rattle.plan.specs.declared.LineAnswer.{LineAnswer}
+use Rattle.plan.specs.declared.LineAnswer.the-variants.{Taken, Refused as LineRefused}
+use Rattle.plan.specs.declared.TestAnswer.{TestAnswer}
+use Rattle.plan.specs.declared.TestAnswer.the-variants.{Pass, Refused as TestRefused}
+use Rattle.plan.specs.Lines.{PlacementLine, PlanLine, startLine, placementLine, lineCode}
+use Rattle.plan.specs.Test.{byTables}
+use Rattle.plan.specs.Reading.{readLine}
+use Rattle.plan.specs.Computed.{testHolds}
+
+-- THE ANSWERS. The refusal that an answer gives, if it does, and its number in the table.
+abbrev pub lineRefusal : LineAnswer → Option Refusal
+lineRefusal Taken = none
+lineRefusal (LineRefused f) = some f
+
+abbrev pub testRefusal : TestAnswer → Option Refusal
+testRefusal Pass = none
+testRefusal (TestRefused f) = some f
+
+abbrev pub lineNumber : LineAnswer → Option ℕ
+lineNumber a = numberOf (lineRefusal a)
+
+abbrev pub testNumber : TestAnswer → Option ℕ
+testNumber a = numberOf (testRefusal a)
+
+-- THE STATE with the two lent tables; what a call leaves, and its answer.
+pub record Checking : Type 0 where
+  pub state : Checker
+  pub figs : List ℕ
+  pub sets : List ℕ
+
+pub record Left (Answer : Type 0) : Type 0 where
+  pub answer : Answer
+  pub checking : Checking
+
+abbrev pub left : {A : Type 0} → A → Checking → Left A
+left a c = record { answer = a; checking = c }
+
+-- The state before the first line, with fresh tables of so many entries, which list nothing: none at every code, and zero.
+abbrev pub freshChecking : ℕ → ℕ → Checking
+freshChecking n m = record { state = Fresh; figs = replicate n noFigure; sets = replicate m 0 }
+
+-- A LINE. The entry of the setting table for its open trains and points.
+abbrev pub lineEntry : Railway → PlacementLine → ℕ
+lineEntry r d = entryFrom r (λ n. getD (d .plus) n false) (λ t. getD (d .opens) t false)
+
+-- The first line taken: no code is too low for what follows.
+abbrev pub begin : Checking → ℕ → Checking
+begin c m = record { state = Begun m 0; figs = c .figs; sets = c .sets }
+
+-- A line for a placement taken: it is entered at its code, and only higher codes may follow.
+abbrev pub enter : Railway → Checking → ℕ → PlacementLine → Checking
+enter r c m d =
+    record {
+      state = Begun m (suc (lineCode r d));
+      figs = set (c .figs) (lineCode r d) (d .figure);
+      sets = set (c .sets) (lineCode r d) (lineEntry r d);
+    }
+
+-- A refused line leaves all as it was.
+abbrev pub refuse : Checking → Refusal → Left LineAnswer
+refuse c f = left (LineRefused f) c
+
+-- The first line comes once and before the others, whose codes strictly rise; every other text is refused as plan form (10).
+abbrev pub takes : Railway → Checking → Checker → Option PlanLine → Left LineAnswer
+takes r c state none = refuse c PlanForm
+takes r c Fresh (some (startLine n)) = left Taken (begin c n)
+takes r c Fresh (some (placementLine d)) = refuse c PlanForm
+takes r c (Begun m from) (some (startLine n)) = refuse c PlanForm
+takes r c (Begun m from) (some (placementLine d)) = cond (ltb (lineCode r d) from) (refuse c PlanForm) (left Taken (enter r c m d))
+
+-- Rows 3 to 9 come first.
+abbrev pub takesIf : Railway → Checking → List ℕ → Option Refusal → Left LineAnswer
+takesIf r c text (some f) = refuse c f
+takesIf r c text none = takes r c (c .state) (readLine r text)
+
+unfoldable pub takeLine : Railway → Checking → List ℕ → Left LineAnswer
+takeLine r c text = takesIf r c text (caseRefusal r (c .figs) (c .sets))
+
+-- THE TEST: rows 3 to 9; then plan form (10) before the first line; then plan fault (11) where the lines taken fail.
+abbrev pub tests : Railway → Checking → Option Refusal → Checker → TestAnswer
+tests r c (some f) state = TestRefused f
+tests r c none Fresh = TestRefused PlanForm
+tests r c none (Begun m from) = cond (testHolds r m (byTables (c .figs) (c .sets))) Pass (TestRefused PlanFault)
+
+-- Whatever it answers, it leaves state and tables as they were.
+unfoldable pub testPlan : Railway → Checking → Left TestAnswer
+testPlan r c = left (tests r c (caseRefusal r (c .figs) (c .sets)) (c .state)) c
+
+-- CALLS FOR LINES, one after the other, each with what the last one left: the answers, and what is left in the end.
+pub record Run : Type 0 where
+  pub answers : List LineAnswer
+  pub end : Checking
+
+abbrev pub onward : LineAnswer → Run → Run
+onward a u = record { answers = a ∷ u .answers; end = u .end }
+
+unfoldable pub run : Railway → List (List ℕ) → Checking → Run
+run r [] c = record { answers = []; end = c }
+run r (l ∷ ls) c = onward (takeLine r c l .answer) (run r ls (takeLine r c l .checking))
+
+abbrev pub isTaken : LineAnswer → Bool
+isTaken Taken = true
+isTaken (LineRefused f) = false
+
+-- The texts that were taken, by the answers that they got.
+unfoldable pub takenTexts : List LineAnswer → List (List ℕ) → List (List ℕ)
+takenTexts [] ls = []
+takenTexts (a ∷ answers) [] = []
+takenTexts (Taken ∷ answers) (l ∷ ls) = l ∷ takenTexts answers ls
+takenTexts (LineRefused f ∷ answers) (l ∷ ls) = takenTexts answers ls

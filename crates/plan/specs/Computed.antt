@@ -1,0 +1,38 @@
+-- The test of a plan, computed. Nothing of document 01 rests on this file: `tested`, in proofs/, says that it is true exactly if the plan passes.
+-- Assumes nothing.
+use mathlib.Core.Bool.{Bool, true, false, not, _&&_, _||_}
+use mathlib.Core.Option.{Option, none, some}
+use Prim.Native.Nat.{ℕ}
+use lib.Dec.{eqb}
+use Rattle.laws.specs.Below.{allBelow}
+use Rattle.railway.specs.declared.Railway.{Railway}
+use Rattle.game.specs.Placement.{placements, startCode, atHome, shared}
+use Rattle.game.specs.Setting.{held}
+use Rattle.game.specs.Moves.{gameOf}
+use Rattle.game.specs.Local.{keepsTest}
+use Rattle.plan.specs.Test.{Listing, listedSetting}
+
+-- The first line's figure is that of the start.
+abbrev pub isFigure : ℕ → Option ℕ → Bool
+isFigure m none = false
+isFigure m (some n) = eqb n m
+
+-- The other three sentences, at placement p: an open train has its signal; a setting keeps the figure unless the trains are home.
+abbrev pub trainFine : Railway → Listing → ℕ → ℕ → Bool
+trainFine r L p t = not (L .opens p t) || held r p t
+
+abbrev pub listedFine : Railway → Listing → ℕ → ℕ → Bool
+listedFine r L p n =
+    not (shared r p)
+    && (allBelow (trainFine r L p) (r .trains)
+    && (atHome r p || keepsTest (gameOf r) (L .figure) p (listedSetting r L p) n))
+
+abbrev pub fineIf : Railway → Listing → ℕ → Option ℕ → Bool
+fineIf r L p none = true
+fineIf r L p (some n) = listedFine r L p n
+
+unfoldable pub placementFine : Railway → Listing → ℕ → Bool
+placementFine r L p = fineIf r L p (L .figure p)
+
+unfoldable pub testHolds : Railway → ℕ → Listing → Bool
+testHolds r m L = isFigure m (L .figure (startCode r)) && allBelow (placementFine r L) (placements r)

@@ -1,0 +1,73 @@
+-- The emitter: a line of the plan a call, from two tables into a lent text buffer (document 01, "The two tables and the plan": plan text; rows 3 to 9 and what
+-- stands under the table of numbers). Each call is total: any record, tables, place and buffer. Assumes nothing.
+use mathlib.Core.Bool.{Bool, cond, _&&_}
+use mathlib.Core.List.{List, _++_}
+use mathlib.Core.Option.{Option, none, some}
+use Prim.Native.Nat.{ℕ, suc}
+use lib.ListN.{length, getD, drop}
+use lib.Dec.{ltb, leb}
+use Rattle.laws.specs.Below.{lowest}
+use Rattle.railway.specs.declared.Railway.{Railway}
+use Rattle.railway.specs.declared.Refusal.{Refusal}
+use Rattle.railway.specs.declared.Refusal.the-variants.{Space}
+use Rattle.railway.specs.Refusals.{numberOf}
+use Rattle.game.specs.Placement.{placements, startCode}
+use Rattle.tables.specs.Tables.{noFigure, figureIn, caseRefusal}
+use Rattle.plan.specs.declared.PlanPlace.{PlanPlace}
+use Rattle.plan.specs.declared.PlanPlace.the-variants.{Top, From}
+use Rattle.plan.specs.declared.Emitted.{Emitted}
+use Rattle.plan.specs.declared.Emitted.the-variants.{Line, End, NoPlan, Refused}
+use Rattle.plan.specs.Lines.{startLine, placementLine, spell}
+use Rattle.plan.specs.Text.{hasFigure, lineFor}
+
+-- THE ANSWERS. The refusal that an answer gives, if it does, and its number in the table.
+abbrev pub refusalGiven : Emitted → Option Refusal
+refusalGiven (Line n next) = none
+refusalGiven End = none
+refusalGiven NoPlan = none
+refusalGiven (Refused f) = some f
+
+abbrev pub numberGiven : Emitted → Option ℕ
+numberGiven a = numberOf (refusalGiven a)
+
+-- What a call leaves: its answer, and the lent text buffer.
+pub record Wrote : Type 0 where
+  pub answer : Emitted
+  pub buffer : List ℕ
+
+-- Every answer but a line leaves the buffer as it was.
+abbrev pub unwritten : Emitted → List ℕ → Wrote
+unwritten a buffer = record { answer = a; buffer = buffer }
+
+-- A line is written into the buffer, whose bytes past it stay; space (9) where the buffer is too short for it.
+abbrev pub written : List ℕ → PlanPlace → List ℕ → Wrote
+written l next buffer =
+    cond (ltb (length buffer) (length l))
+    (unwritten (Refused Space) buffer)
+    (record { answer = Line (length l) next; buffer = l ++ drop (length l) buffer })
+
+-- The lowest code from c on whose placement has a figure.
+abbrev pub figureFrom : List ℕ → ℕ → ℕ → Bool
+figureFrom figs c p = leb c p && hasFigure figs p
+
+abbrev pub nextCode : Railway → List ℕ → ℕ → Option ℕ
+nextCode r figs c = lowest (figureFrom figs c) (placements r)
+
+-- The line at a place: the first line; else that of the next placement with a figure; the end where there is no such placement.
+abbrev pub lineOf : Railway → List ℕ → List ℕ → List ℕ → Option ℕ → Wrote
+lineOf r figs sets buffer none = unwritten End buffer
+lineOf r figs sets buffer (some p) = written (spell (placementLine (lineFor r figs sets p))) (From (suc p)) buffer
+
+abbrev pub lineAt : Railway → List ℕ → List ℕ → List ℕ → PlanPlace → Wrote
+lineAt r figs sets buffer Top = written (spell (startLine (getD figs (startCode r) noFigure))) (From 0) buffer
+lineAt r figs sets buffer (From c) = lineOf r figs sets buffer (nextCode r figs c)
+
+-- A refusal by the record or the tables comes first, then none where the start has no figure, then the line.
+abbrev pub emitted : Railway → List ℕ → List ℕ → PlanPlace → List ℕ → Option Refusal → Option ℕ → Wrote
+emitted r figs sets place buffer (some f) start = unwritten (Refused f) buffer
+emitted r figs sets place buffer none none = unwritten NoPlan buffer
+emitted r figs sets place buffer none (some n) = lineAt r figs sets buffer place
+
+-- A CALL of the emitter.
+unfoldable pub emitLine : Railway → List ℕ → List ℕ → PlanPlace → List ℕ → Wrote
+emitLine r figs sets place buffer = emitted r figs sets place buffer (caseRefusal r figs sets) (figureIn figs (startCode r))

@@ -1,0 +1,13 @@
+pub mod Lines
+pub mod Text
+pub mod Emitter
+pub mod Test
+pub mod Checker
+pub mod Promises
+pub mod Calls
+pub mod Rules
+pub mod Checked
+pub mod Demand3
+pub mod Outputs
+pub mod Reading
+pub mod Computed

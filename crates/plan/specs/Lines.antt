@@ -1,0 +1,93 @@
+-- The lines of a plan: what they say, how they are written, which fit a case (document 01, "The two tables and the plan": plan text).
+-- Sections, trains and points count from 0 here: the document's numbers less one. Assumes nothing.
+use mathlib.Core.Path.{_≡_}
+use mathlib.Core.Bool.{Bool, true, false, cond, _&&_}
+use mathlib.Core.List.{List, [], _∷_, _++_, map}
+use mathlib.Core.Option.{none}
+use Prim.Native.Nat.{ℕ, suc, _+_, _≤_}
+use lib.ListN.{length, getD}
+use lib.Dec.{eqb, ltb, leb}
+use Rattle.laws.specs.Below.{whichBelow}
+use Rattle.laws.specs.Lists.{all}
+use Rattle.text.specs.Text.{decimal, line}
+use Rattle.railway.specs.declared.Railway.{Railway}
+use Rattle.railway.specs.Rows.{recordRefusal}
+use Rattle.game.specs.Placement.{codeOf}
+use Rattle.tables.specs.Tables.{noFigure}
+
+-- What a line for a placement says: the section of each train, the figure, which trains are open, which points lie at plus.
+pub record PlacementLine : Type 0 where
+  pub sections : List ℕ
+  pub figure : ℕ
+  pub opens : List Bool
+  pub plus : List Bool
+
+-- A line: the first, with the start's figure, or one for a placement.
+pub data PlanLine : Type 0 where
+  startLine : ℕ → PlanLine
+  placementLine : PlacementLine → PlanLine
+
+-- HOW A LINE IS WRITTEN. What stands for an empty field.
+abbrev pub orByte : ℕ → List ℕ → List ℕ
+orByte b [] = b ∷ []
+orByte b (x ∷ xs) = x ∷ xs
+
+-- Open trains: the digits of their numbers, rising; `0` if there are none.
+abbrev pub openField : List Bool → List ℕ
+openField os = orByte 48 (map (λ t. 49 + t) (whichBelow (λ t. getD os t false) (length os)))
+
+-- Points: `+` or `-` for each, in their order; `.` if there are none.
+abbrev pub sign : Bool → ℕ
+sign plus = cond plus 43 45
+
+abbrev pub pointField : List Bool → List ℕ
+pointField ps = orByte 46 (map sign ps)
+
+abbrev pub sectionField : ℕ → List ℕ
+sectionField x = decimal (suc x)
+
+-- The word `plan`.
+abbrev pub planWord : List ℕ
+planWord = 112 ∷ 108 ∷ 97 ∷ 110 ∷ []
+
+abbrev pub lineFields : PlanLine → List (List ℕ)
+lineFields (startLine n) = planWord ∷ decimal n ∷ []
+lineFields (placementLine d) = map sectionField (d .sections) ++ (decimal (d .figure) ∷ openField (d .opens) ∷ pointField (d .plus) ∷ [])
+
+unfoldable pub spell : PlanLine → List ℕ
+spell l = line (lineFields l)
+
+-- WHICH LINES FIT A CASE: a section that is there for each train, a figure that is not none, the case's trains and points.
+unfoldable pub fits : Railway → PlanLine → Bool
+fits r (startLine n) = ltb n noFigure
+fits r (placementLine d) =
+    eqb (length (d .sections)) (r .trains)
+    && all (λ x. ltb x (r .sections)) (d .sections)
+    && ltb (d .figure) noFigure
+    && eqb (length (d .opens)) (r .trains)
+    && eqb (length (d .plus)) (r .points)
+
+-- A text is the spelling of a line that fits the case. (Reading, in proofs/: of one line at most.)
+pub record Spells (r : Railway) (text : List ℕ) (l : PlanLine) : Type 0 where
+  pub fit : fits r l ≡ true
+  pub spelled : spell l ≡ text
+
+-- The most bytes of a line, its end included: no line that fits an accepted case has more, so a longer text is refused by its form alone.
+abbrev pub mostLineBytes : ℕ
+mostLineBytes = 45
+
+abbrev pub LinesShort : Type 0
+LinesShort = (r : Railway) → recordRefusal r ≡ none → (l : PlanLine) → fits r l ≡ true → length (spell l) ≤ mostLineBytes
+
+-- The code of a line's placement.
+abbrev pub lineCode : Railway → PlacementLine → ℕ
+lineCode r d = codeOf (r .sections) (d .sections)
+
+-- Codes that strictly rise, the first of them at least c.
+unfoldable pub rises : ℕ → List ℕ → Bool
+rises c [] = true
+rises c (x ∷ xs) = leb c x && rises (suc x) xs
+
+-- The lines of a plan: the first line, and those for placements.
+abbrev pub planOf : ℕ → List PlacementLine → List PlanLine
+planOf m ds = startLine m ∷ map placementLine ds

@@ -1,0 +1,41 @@
+-- The plan texts that document 01, "Yards to try", writes out, as one table with one statement. The one of the yard with one section is starred.
+-- Assumes nothing.
+use mathlib.Core.Path.{_≡_}
+use mathlib.Core.List.{List, [], _∷_}
+use mathlib.Core.Option.{none}
+use Prim.Native.Nat.{ℕ}
+use Prim.Native.String as Str
+use Prim.Native.String.{String}
+use Prim.Native.Char.{code}
+use Rattle.railway.specs.declared.Railway.{Railway}
+use Rattle.railway.specs.Rows.{recordRefusal}
+use Rattle.game.specs.Yards.{yardA, yardOne}
+use Rattle.tables.specs.Tables.{Filled}
+use Rattle.plan.specs.Text.{planText}
+
+-- The bytes of a text.
+unfoldable pub bytes : String → List ℕ
+bytes Str.[] = []
+bytes (Str._∷_ c s) = code c ∷ bytes s
+
+pub record Output : Type 0 where
+  pub yard : Railway
+  pub text : String
+
+abbrev pub outputA : Output
+outputA = record { yard = yardA; text = "plan\t2\n2\t1\t1\t1\t-\n3\t1\t0\t0\t-\n2\t3\t2\t0\t+\n" }
+
+abbrev pub outputOne : Output
+outputOne = record { yard = yardOne; text = "plan\t0\n1\t0\t0\t.\n" }
+
+-- The yard is accepted, and this is the plan's text by any two tables that have every placement's figure and the plan's setting.
+pub record Writes (x : Output) : Type 0 where
+  pub accepted : recordRefusal (x .yard) ≡ none
+  pub text : (figs sets : List ℕ) → Filled (x .yard) figs sets → planText (x .yard) figs sets ≡ bytes (x .text)
+
+abbrev pub AllWrite : List Output → Type 0
+AllWrite [] = Unit {0}
+AllWrite (x ∷ xs) = Writes x × AllWrite xs
+
+abbrev pub OutputsHold : Type 0
+OutputsHold = AllWrite (outputA ∷ outputOne ∷ [])

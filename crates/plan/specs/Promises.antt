@@ -1,0 +1,39 @@
+-- What each call of emitter and checker promises: the answer, its number, and what is left, as Emitter and Checker define them. The contracts of the calls cite
+-- these records, and Demand3 speaks of any calls of which they hold: part of what is to be believed. Assumes nothing.
+use mathlib.Core.Path.{_≡_}
+use mathlib.Core.List.{List}
+use Prim.Native.Nat.{ℕ}
+use lib.ListN.{length, replicate}
+use Rattle.railway.specs.declared.Railway.{Railway}
+use Rattle.tables.specs.Tables.{noFigure}
+use Rattle.plan.specs.declared.PlanPlace.{PlanPlace}
+use Rattle.plan.specs.declared.Emitted.{Emitted}
+use Rattle.plan.specs.declared.Checker.the-variants.{Fresh}
+use Rattle.plan.specs.declared.LineAnswer.{LineAnswer}
+use Rattle.plan.specs.declared.TestAnswer.{TestAnswer}
+use Rattle.plan.specs.Emitter.{numberGiven, emitLine}
+use Rattle.plan.specs.Checker.{lineNumber, testNumber, Checking, takeLine, testPlan}
+
+-- The emitter, handed a buffer that comes back as `new`.
+pub record EmitterPost (r : Railway) (figs sets : List ℕ) (place : PlanPlace) (old : List ℕ) (a : Emitted) (new : List ℕ) : Type 0 where
+  pub answer : a ≡ emitLine r figs sets place old .answer
+  pub numbered : numberGiven a ≡ numberGiven (emitLine r figs sets place old .answer)
+  pub buffer : new ≡ emitLine r figs sets place old .buffer
+
+-- The checker, handed state and tables that come back as `new`: a line, and the test.
+pub record LinePost (r : Railway) (old : Checking) (text : List ℕ) (a : LineAnswer) (new : Checking) : Type 0 where
+  pub answer : a ≡ takeLine r old text .answer
+  pub numbered : lineNumber a ≡ lineNumber (takeLine r old text .answer)
+  pub checking : new ≡ takeLine r old text .checking
+
+pub record TestPost (r : Railway) (old : Checking) (a : TestAnswer) (new : Checking) : Type 0 where
+  pub answer : a ≡ testPlan r old .answer
+  pub numbered : testNumber a ≡ testNumber (testPlan r old .answer)
+  pub checking : new ≡ testPlan r old .checking
+
+-- The call that makes two lent tables fresh, whatever stands in them, and hands out the state that has taken no line: it refuses nothing, and every entry is
+-- written, none in the one table and zero in the other.
+pub record FreshPost (figs sets : List ℕ) (new : Checking) : Type 0 where
+  pub state : new .state ≡ Fresh
+  pub figures : new .figs ≡ replicate (length figs) noFigure
+  pub settings : new .sets ≡ replicate (length sets) 0

@@ -1,0 +1,220 @@
+-- A solver's rounds: cleared tables are those of round 0, round n + 1 makes those of n + 1 from those of n, and where it gives no figure the tables are filled.
+-- The figures that a round sees are the case's up to n. Where a setting moves only below n + 1 by these the figure is n + 1 at most, so what is found is new and
+-- right; and a placement of figure n + 1 has such a setting. With no figure n + 1 there is none above it: its setting would move below n + 1 too. Assumes nothing.
+use mathlib.Core.Path.{_≡_, refl, sym, _∙_, ap}
+use mathlib.Core.Logic.{inl, inr}
+use mathlib.Core.Bool.{Bool, true, false, cond}
+use mathlib.Core.List.{List}
+use mathlib.Core.Option.{Option, none, some}
+use Prim.Native.Nat.{ℕ, zero, suc, _≤_, _<_}
+use native.Mathlib.Omega.{arith}
+use lib.ListN.{getD}
+use lib.Dec.{eqb}
+use borrow.Author.Tests.{ne-eqb, lt-leb}
+use Rattle.laws.proofs.Bools.{option?, lt?, some-none, not-true, or-false}
+use Rattle.railway.specs.declared.Railway.{Railway}
+use Rattle.railway.specs.Rows.{recordRefusal}
+use Rattle.game.specs.Game.{home, over, IsFigure}
+use Rattle.game.specs.Claim.{Keeps}
+use Rattle.game.specs.Local.{Solved}
+use Rattle.game.specs.Placement.{placements, atHome, shared}
+use Rattle.game.specs.Moves.{gameOf}
+use Rattle.game.proofs.Turns.{no-keeps-zero, keeps-map, not-over}
+use Rattle.game.proofs.Accepted.{Facts, facts}
+use Rattle.game.proofs.Moves.{inside}
+use Rattle.game.proofs.Figures.{figure-one, figures-solved}
+use Rattle.tables.specs.Entries.{settingAt}
+use Rattle.tables.specs.Tables.{noFigure, figureEntry, figureIn, IsPlanEntry, Filled}
+use Rattle.tables.specs.Solver.{upTo, RoundTables}
+use Rattle.tables.specs.Find.{find}
+use Rattle.tables.specs.Rounds.{firstFigure, Cleared, Step, stays, gains, Stepped}
+use Rattle.tables.proofs.Find.{find-sound, find-none}
+use Rattle.tables.proofs.Best.{Best, find-best}
+use Rattle.tables.proofs.Carry.{Carries, keeps-carry, entry-carry}
+use Rattle.tables.proofs.Exists.{solution}
+use Rattle.tables.proofs.Rounds.{up-to, of-up-to, round-filled}
+
+pub above : (n : ℕ) (f : Option ℕ) (j : ℕ) → f ≡ some j → n < j → upTo n f ≡ none
+above n f j e l = rw (e, lt-leb j n l)
+
+module _ (r : Railway) (accepted : recordRefusal r ≡ none) where
+  abbrev ok : Facts r
+  ok = facts r accepted
+
+  -- the case's figures, and that they agree with every single turn
+  G : ℕ → Option ℕ
+  G = solution r accepted .figure
+
+  has : (p : ℕ) → p < placements r → IsFigure (gameOf r) p (G p)
+  unfolding G
+  has = solution r accepted .figures
+
+  agrees : Solved (gameOf r) G (λ p. settingAt r p (solution r accepted .entry p))
+  unfolding G
+  agrees =
+      figures-solved (gameOf r) G (λ p. settingAt r p (solution r accepted .entry p)) (inside r ok) has
+      (λ p n l e. (let x : IsPlanEntry r G p (some (suc n)) (solution r accepted .entry p) = rw e at (solution r accepted .entries p l) in x) .0 .keeps)
+
+  -- a placement of some figure but 0 is neither home nor lost, and a setting keeps the figure
+  record Going (p n : ℕ) : Type 0 where
+    going : over (gameOf r) p ≡ false
+    keeps : Keeps (gameOf r) G p (settingAt r p (solution r accepted .entry p)) (suc n)
+
+  is-going : (p n : ℕ) → p < placements r → G p ≡ some (suc n) → Going p n
+  is-going p n l e =
+      let away : home (gameOf r) p ≡ false = not-true (home (gameOf r) p) (λ y. let z : _≡_ {A = Option ℕ} (some (suc n)) (some 0) = sym e ∙ agrees .home-zero p l y in let w : suc n ≡ 0 = cc in omega arith) in
+      let apart : shared r p ≡ false = not-true (shared r p) (λ y. some-none e (agrees .lost-none p l y)) in
+      record { going = not-over (shared r p) (atHome r p) apart away; keeps = agrees .kept p (suc n) l e away }
+
+  -- THE FIGURES THAT A ROUND SEES
+  module _ (n : ℕ) (F : ℕ → Option ℕ) (upto : (q : ℕ) → q < placements r → F q ≡ upTo n (G q)) where
+    down : (q j : ℕ) → q < placements r → F q ≡ some j → (G q ≡ some j) × (j ≤ n)
+    down q j l e = of-up-to n (G q) j (sym (upto q l) ∙ e)
+
+    back : (q j : ℕ) → q < placements r → j ≤ n → G q ≡ some j → F q ≡ some j
+    back q j l b e = upto q l ∙ up-to n (G q) j e b
+
+    none-yet : (q j : ℕ) → q < placements r → n < j → G q ≡ some j → F q ≡ none
+    none-yet q j l b e = upto q l ∙ above n (G q) j e b
+
+    sees : (m : ℕ) → Carries r F G m
+    sees m q j l b e = down q j l e .0
+
+    seen : (m : ℕ) → m ≤ suc n → Carries r G F m
+    seen m lm q j l b e = back q j l (omega arith) e
+
+  -- ONE PLACEMENT in round n + 1
+  module _ (n : ℕ) (F : ℕ → Option ℕ) (upto : (q : ℕ) → q < placements r → F q ≡ upTo n (G q)) (p : ℕ) (l : p < placements r) where
+    -- where nothing is found there is no figure n + 1
+    missed : (over (gameOf r) p ≡ false → find r F p (suc n) ≡ none) → G p ≡ some (suc n) → ⊥
+    missed h e =
+        let g : Going p n = is-going p n l e in
+        let k = keeps-carry r ok G F p l (suc n) (seen n F upto (suc n) (omega arith)) (settingAt r p (solution r accepted .entry p)) (g .keeps) in
+        find-none r F p (suc n) ok (h (g .going)) (settingAt r p (solution r accepted .entry p)) k
+
+    same : (F p ≡ none → over (gameOf r) p ≡ false → find r F p (suc n) ≡ none) → F p ≡ upTo (suc n) (G p)
+    same h = elim (option? (G p)) [
+      | inl e ↦ upto p l ∙ rw e
+      | inr e ↦ elim (lt? n (e .0)) [
+        | inr b ↦ back n F upto p (e .0) l b (e .1) ∙ sym (up-to (suc n) (G p) (e .0) (e .1) (omega arith))
+        | inl b ↦ elim (lt? (suc n) (e .0)) [
+          | inl c ↦ none-yet n F upto p (e .0) l b (e .1) ∙ sym (above (suc n) (G p) (e .0) (e .1) c)
+          | inr c ↦ let z : e .0 ≡ suc n = omega arith in absurd (missed (h (none-yet n F upto p (e .0) l b (e .1))) (rw z at (e .1)))
+        ]
+      ]
+    ]
+
+    -- where something is found the figure is n + 1
+    found : (v : ℕ) → F p ≡ none → over (gameOf r) p ≡ false → find r F p (suc n) ≡ some v → G p ≡ some (suc n)
+    found v e o f =
+        let k = keeps-carry r ok F G p l (suc n) (sees n F upto (suc n)) (settingAt r p v) (find-sound r F p (suc n) v f) in
+        let x : (j : ℕ) × (G p ≡ some j) × (j ≤ suc n) = agrees .least p (settingAt r p v) (suc n) l o k in
+        elim (lt? n (x .0)) [
+          | inl b ↦ let z : x .0 ≡ suc n = omega (arith, x .2) in rw z at (x .1)
+          | inr b ↦ some-none (back n F upto p (x .0) l b (x .1)) e
+        ]
+
+  -- ROUND 0
+  pub cleared-round : (figs sets : List ℕ) → Cleared r figs sets → RoundTables r 0 figs sets
+  cleared-round figs sets c =
+      record {
+        entries = λ p l. rw (c .first p l) (most (home (gameOf r) p));
+        figures = λ p l f i. value p l ∙ ap (upTo 0) (figure-one (gameOf r) p (G p) f (has p l) i);
+        settings = λ p l. settled p l (home (gameOf r) p) (shown p l);
+      }
+    where
+      most : (b : Bool) → cond b 0 noFigure ≤ noFigure
+      most true = omega arith
+      most false = omega arith
+
+      shown : (p : ℕ) → p < placements r → figureIn figs p ≡ figureEntry (firstFigure r p)
+      shown p l = ap figureEntry (c .first p l)
+
+      settled : (p : ℕ) → p < placements r → (b : Bool) → figureIn figs p ≡ figureEntry (cond b 0 noFigure) → IsPlanEntry r (figureIn figs) p (figureIn figs p) (getD sets p 0)
+      settled p l true e = rw e (c .unset p l)
+      settled p l false e = rw e (c .unset p l)
+
+      at-first : (p : ℕ) → p < placements r → (b : Bool) → home (gameOf r) p ≡ b → figureEntry (cond b 0 noFigure) ≡ upTo 0 (G p)
+      at-first p l true h = sym (up-to 0 (G p) 0 (agrees .home-zero p l h) (omega arith))
+      at-first p l false h = elim (option? (G p)) [
+        | inl e ↦ rw e
+        | inr e ↦ elim (lt? 0 (e .0)) [
+          | inl b ↦ sym (above 0 (G p) (e .0) (e .1) b)
+          | inr b ↦ let z : e .0 ≡ 0 = omega arith in absurd (no-keeps-zero (gameOf r) G p (settingAt r p (solution r accepted .entry p)) (agrees .kept p 0 l (rw z at (e .1)) h))
+        ]
+      ]
+
+      value : (p : ℕ) → p < placements r → figureIn figs p ≡ upTo 0 (G p)
+      value p l = shown p l ∙ at-first p l (home (gameOf r) p) refl
+
+  -- ROUND n + 1
+  module _ (n : ℕ) (figs sets : List ℕ) (t : RoundTables r n figs sets) (figs′ sets′ : List ℕ) (stepped : Stepped r (suc n) figs sets figs′ sets′) (room : suc n < noFigure) where
+    before : (q : ℕ) → q < placements r → figureIn figs q ≡ upTo n (G q)
+    before q l = t .figures q l (G q) (has q l)
+
+    new-figure : figureEntry (suc n) ≡ some (suc n)
+    new-figure = let e : eqb (suc n) noFigure ≡ false = ne-eqb (suc n) noFigure (λ q. omega arith) in rw e
+
+    after-step : (p f v f′ v′ : ℕ) (b : Bool) → p < placements r → figureIn figs p ≡ figureEntry f → Step r (figureIn figs) (suc n) p f v f′ v′ b → figureEntry f′ ≡ upTo (suc n) (G p)
+    after-step p f v f′ v′ b l e (stays ef ev h) = ap figureEntry ef ∙ sym e ∙ same n (figureIn figs) before p l (λ y. h (sym e ∙ y))
+    after-step p f v f′ v′ b l e (gains none-there o ef h) =
+        ap figureEntry ef ∙ new-figure ∙ sym (up-to (suc n) (G p) (suc n) (found n (figureIn figs) before p l v′ (e ∙ none-there) o h) (omega arith))
+
+    after : (q : ℕ) → q < placements r → figureIn figs′ q ≡ upTo (suc n) (G q)
+    after q l = after-step q (getD figs q noFigure) (getD sets q 0) (getD figs′ q noFigure) (getD sets′ q 0) (stepped q l .0) l refl (stepped q l .1)
+
+    -- the two tables have the same figures up to n
+    onward : (m : ℕ) → Carries r (figureIn figs) (figureIn figs′) m
+    onward m q j l b e = let d = down n (figureIn figs) before q j l e in back (suc n) (figureIn figs′) after q j l (omega (arith, d .1)) (d .0)
+
+    backward : (m : ℕ) → m ≤ suc n → Carries r (figureIn figs′) (figureIn figs) m
+    backward m lm q j l b e = let d = down (suc n) (figureIn figs′) after q j l e in back n (figureIn figs) before q j l (omega arith) (d .0)
+
+    plan-step : (p f v f′ v′ : ℕ) (b : Bool) → p < placements r → figureIn figs p ≡ figureEntry f → IsPlanEntry r (figureIn figs) p (figureEntry f) v
+        → Step r (figureIn figs) (suc n) p f v f′ v′ b → IsPlanEntry r (figureIn figs′) p (figureEntry f′) v′
+    plan-step p f v f′ v′ b l e x (stays ef ev h) =
+        rw (ef, ev) (entry-carry r ok (figureIn figs) (figureIn figs′) p l (figureEntry f) v (λ m em. onward m) (λ m em. backward m (let d = down n (figureIn figs) before p m l (e ∙ em) in omega (arith, d .1))) x)
+    plan-step p f v f′ v′ b l e x (gains none-there o ef h) =
+        let best : Best r ok p (figureIn figs) (suc n) v′ = find-best r ok p (figureIn figs) (suc n) v′ h in
+        let y : IsPlanEntry r (figureIn figs) p (some (suc n)) v′ = (best .plans, best .itself (or-false (shared r p) (atHome r p) o .0)) in
+        rw (ef, new-figure) (entry-carry r ok (figureIn figs) (figureIn figs′) p l (some (suc n)) v′ (λ m em. onward m) (λ m em. backward m (let z : suc n ≡ m = cc in omega arith)) y)
+
+    fits-step : (p f v f′ v′ : ℕ) (b : Bool) → f ≤ noFigure → Step r (figureIn figs) (suc n) p f v f′ v′ b → f′ ≤ noFigure
+    fits-step p f v f′ v′ b l (stays ef ev h) = omega arith
+    fits-step p f v f′ v′ b l (gains none-there o ef h) = omega arith
+
+    pub next-round : RoundTables r (suc n) figs′ sets′
+    next-round =
+        record {
+          entries = λ p l. fits-step p (getD figs p noFigure) (getD sets p 0) (getD figs′ p noFigure) (getD sets′ p 0) (stepped p l .0) (t .entries p l) (stepped p l .1);
+          figures = λ p l f i. after p l ∙ ap (upTo (suc n)) (figure-one (gameOf r) p (G p) f (has p l) i);
+          settings = λ p l. plan-step p (getD figs p noFigure) (getD sets p 0) (getD figs′ p noFigure) (getD sets′ p 0) (stepped p l .0) l refl (t .settings p l) (stepped p l .1);
+        }
+
+    -- THE LAST ROUND gives no figure: then none is larger than n
+    module _ (quiet : (p : ℕ) → p < placements r → figureIn figs′ p ≡ figureIn figs p) where
+      not-next : (p : ℕ) → p < placements r → G p ≡ some (suc n) → ⊥
+      not-next p l e = some-none (after p l ∙ up-to (suc n) (G p) (suc n) e (omega arith)) (quiet p l ∙ none-yet n (figureIn figs) before p (suc n) l (omega arith) e)
+
+      none-above : (m p j : ℕ) → p < placements r → j ≤ m → G p ≡ some j → j ≤ n
+      none-above zero p j l b e = omega arith
+      none-above (suc m) p j l b e = elim (lt? n j) [
+        | inr c ↦ c
+        | inl c ↦ elim (lt? j (suc m)) [
+          | inl d ↦ none-above m p j l (omega arith) e
+          | inr d ↦
+              let z : j ≡ suc m = omega arith in
+              let g : Going p m = is-going p m l (rw z at e) in
+              let k : Keeps (gameOf r) G p (settingAt r p (solution r accepted .entry p)) (suc n) =
+              keeps-map (gameOf r) G G p (settingAt r p (solution r accepted .entry p)) (suc m) (suc n)
+              (λ u q i a eq h d. (h, (let s : i ≤ n = none-above m q i (inside r ok p (settingAt r p (solution r accepted .entry p)) u q l a eq) (omega arith) h in omega arith))) (g .keeps) in
+              let x : (i : ℕ) × (G p ≡ some i) × (i ≤ suc n) = agrees .least p (settingAt r p (solution r accepted .entry p)) (suc n) l (g .going) k in
+              let w : _≡_ {A = Option ℕ} (some j) (some (x .0)) = sym e ∙ x .1 in
+              let y : j ≡ x .0 = cc in
+              let s : j ≡ suc n = omega (arith, x .2) in
+              absurd (not-next p l (rw s at e))
+        ]
+      ]
+
+      pub last-round : Filled r figs sets
+      last-round = round-filled r accepted n (λ p j l i. none-above j p j l (omega arith) (figure-one (gameOf r) p (G p) (some j) (has p l) i)) figs sets t
