@@ -5,12 +5,12 @@ use mathlib.Core.Logic.{_⊎_, inl, inr}
 use mathlib.Core.Bool.{Bool, true, false, cond, not, _&&_, _||_}
 use mathlib.Core.List.{List, [], _∷_, _++_, map, List·Memᴰ, List·Memᴰ·head, List·Memᴰ·append-cases, Memᴰ·append-left, Memᴰ·append-right}
 use mathlib.Core.Option.{Option, none, some}
-use Prim.Native.Nat.{ℕ, zero, suc, _+_, _*_, _≤_, _<_}
+use Prim.Native.Nat.{ℕ, zero, suc, _+_, _-_, _*_, _≤_, _<_}
 use native.Mathlib.Omega.{arith}
 use native.Mathlib.Nat.{mul-add}
 use native.Mathlib.Numerals.{add-one}
-use lib.ListN.{length, getD, length-append, length-map, List·getD-append, List·getD-map}
-use lib.Seq.{getD-at, ext-getD}
+use lib.ListN.{length, getD, drop, length-append, length-drop, length-map, List·getD-append, List·getD-map}
+use lib.Seq.{getD-at, ext-getD, getD-append-add, getD-drop}
 use Rattle.laws.specs.Below.{allBelow, anyBelow, countBelow, sumBelow, listBelow, gatherBelow, lowest, orElse}
 use Rattle.laws.proofs.Bools.{bool?, lt?, clash, and-true, and-both, either, or-left, or-right, or-false}
 
@@ -255,3 +255,26 @@ list-places f l d =
     (λ i h.
     let b : i < length l = rw (list-length (λ i. f (getD l i d)) (length l)) at h in
     list-get (λ i. f (getD l i d)) (length l) i (f d) b ∙ sym (List·getD-map f l i d))
+
+-- a list whose first k elements are a function's values, the rest as it was
+module _ {A : Type 0} where
+  abbrev pub overwritten : (ℕ → A) → ℕ → List A → List A
+  overwritten f k old = listBelow f k ++ drop k old
+
+  module _ (f : ℕ → A) (k : ℕ) (old : List A) (l : k ≤ length old) where
+    pub overwritten-length : length (overwritten f k old) ≡ length old
+    overwritten-length =
+        length-append (listBelow f k) (drop k old)
+        ∙ (let a : length (listBelow f k) ≡ k = list-length f k in let b : length (drop k old) ≡ length old - k = length-drop k old in rw (a, b) (omega arith))
+
+    pub overwritten-below : (i : ℕ) (d : A) → i < k → getD (overwritten f k old) i d ≡ f i
+    overwritten-below i d h = List·getD-append (listBelow f k) (drop k old) d i (rw (list-length f k) h) ∙ list-get f k i d h
+
+    pub overwritten-past : (i : ℕ) (d : A) → k ≤ i → getD (overwritten f k old) i d ≡ getD old i d
+    overwritten-past i d h =
+        let j : ℕ = i - k in
+        let a : length (listBelow f k) + j ≡ i = (let n : length (listBelow f k) ≡ k = list-length f k in omega arith) in
+        let b : getD (overwritten f k old) (length (listBelow f k) + j) d ≡ getD (drop k old) j d = getD-append-add (listBelow f k) (drop k old) j d in
+        let c : getD (drop k old) j d ≡ getD old (k + j) d = getD-drop k old j d in
+        let e : k + j ≡ i = omega arith in
+        rw a at b ∙ rw e at c

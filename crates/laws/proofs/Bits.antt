@@ -2,12 +2,13 @@
 -- Each goes by bit 0 and the bits above it. Assumes nothing.
 use mathlib.Core.Path.{_≡_, refl, sym, _∙_, fun-ext}
 use mathlib.Core.Bool.{Bool, true, false, cond}
-use Prim.Native.Nat.{ℕ, zero, suc, _+_, _*_, _/_, _%_, _^_, _<_}
+use Prim.Native.Nat.{ℕ, zero, suc, _+_, _*_, _/_, _%_, _^_, _≤_, _<_}
 use native.Mathlib.Omega.{arith}
 use native.Mathlib.Nat.{pow-succ', mul-assoc, div-div-eq-div-mul}
 use lib.Dec.{eqb}
 use borrow.Author.Tests.{eqb-true, eqb-false}
 use Rattle.laws.specs.Bits.{bit, fromBits}
+use Rattle.laws.proofs.Bools.{clash}
 
 -- bit 0 and the bits above it
 pub bit-zero : (v : ℕ) → bit v 0 ≡ eqb (v % 2) 1
@@ -92,3 +93,16 @@ high-bit (suc k) b t u small =
     let m : suc k + u ≡ suc (k + u) = omega arith in
     let d : (b + 2 ^ suc k * t) / 2 ≡ b / 2 + 2 ^ k * t = rw (double k t) (omega arith) in
     rw (m, bit-suc (b + 2 ^ suc k * t) (k + u), d) (high-bit k (b / 2) t u (omega arith))
+
+-- bit by bit at most is at most
+pub bits-mono : (f g : ℕ → Bool) (k : ℕ) → ((n : ℕ) → n < k → f n ≡ true → g n ≡ true) → fromBits f k ≤ fromBits g k
+unfolding fromBits
+bits-mono f g zero h = omega arith
+bits-mono f g (suc k) h = go (f 0) (g 0) (h 0 (omega arith)) (bits-mono (λ n. f (suc n)) (λ n. g (suc n)) k (λ n l. h (suc n) (omega arith)))
+  where
+    go : (a b : Bool) → (a ≡ true → b ≡ true) → fromBits (λ n. f (suc n)) k ≤ fromBits (λ n. g (suc n)) k
+        → cond a 1 0 + 2 * fromBits (λ n. f (suc n)) k ≤ cond b 1 0 + 2 * fromBits (λ n. g (suc n)) k
+    go true true i l = omega arith
+    go true false i l = clash (i refl) refl
+    go false true i l = omega arith
+    go false false i l = omega arith

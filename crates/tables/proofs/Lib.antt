@@ -1,0 +1,17 @@
+pub mod Entries
+pub mod Fewer
+pub mod Find
+pub mod Order
+pub mod Best
+pub mod Plays
+pub mod Carry
+pub mod Unique
+pub mod Points
+pub mod Exact
+pub mod Certify
+pub mod Starred
+pub mod Refusals
+pub mod Examples
+pub mod Exists
+pub mod Rounds
+pub mod Promise

@@ -1,0 +1,102 @@
+-- The starred figures, proved from the rules for whole plays: the tables of each yard are written out, pass the test of Certify by computation, and so have
+-- the figures. Assumes nothing.
+use mathlib.Core.Path.{_≡_, refl}
+use mathlib.Core.Bool.{true}
+use mathlib.Core.List.{List, [], _∷_}
+use mathlib.Core.Option.{none, some}
+use Prim.Native.Nat.{ℕ, _<_}
+use native.Mathlib.Omega.{arith}
+use Rattle.laws.specs.Below.{allBelow, anyBelow, sumBelow, listBelow, lowest}
+use Rattle.laws.specs.Bits.{fromBits}
+use Rattle.laws.proofs.Bools.{clash}
+use Rattle.railway.specs.declared.Railway.{Railway}
+use Rattle.railway.specs.Ends.{endAt}
+use Rattle.railway.specs.Refusals.{first}
+use Rattle.railway.specs.Record.{joined, hasSignal, legsOf, runOf, withJoin, withSignal, withLegs, withTrain}
+use Rattle.railway.specs.Rows.{unknownRow, joinRow, looseRow, placeRow, recordRefusal}
+use Rattle.game.specs.Local.{keepsTest}
+use Rattle.game.specs.Placement.{codeOf, sectionsIn, placements, standsOn, startCode, atHome, shared}
+use Rattle.game.specs.Setting.{headsFor, held, mayMove}
+use Rattle.game.specs.Moves.{passes, occupied, moveOf}
+use Rattle.game.specs.Yards.{yardA, yardALess, yardOne, upOneTwo, upTwoOne, upTwoOneHeld, headOn}
+use Rattle.tables.specs.Entries.{settingAt, entryFrom}
+use Rattle.tables.specs.Tables.{noFigure, figureIn, Filled}
+use Rattle.tables.specs.Find.{tryOpen, firstFound, find}
+use Rattle.tables.specs.Starred.{Star, placed, started, starCode, Holds, StarredHolds}
+use Rattle.tables.proofs.Certify.{certified, certify}
+
+-- what is computed of a yard: it is accepted, and its tables pass
+pub record Sure (r : Railway) (figs sets : List ℕ) : Type 0 where
+  pub accepted : recordRefusal r ≡ none
+  pub passes : certified r figs sets ≡ true
+
+filled : {r : Railway} {figs sets : List ℕ} → Sure r figs sets → Filled r figs sets
+filled {r} {figs} {sets} s = certify r (s .accepted) figs sets (s .passes)
+
+abbrev N : ℕ
+N = noFigure
+
+-- the tables of Yard A, by code
+abbrev pub figsA : List ℕ
+figsA = N ∷ 1 ∷ 0 ∷ N ∷ N ∷ N ∷ N ∷ 2 ∷ N ∷ []
+
+abbrev pub setsA : List ℕ
+setsA = 0 ∷ 65536 ∷ 0 ∷ 0 ∷ 0 ∷ 0 ∷ 0 ∷ 1 ∷ 0 ∷ []
+
+abbrev figsALess : List ℕ
+figsALess = N ∷ N ∷ 0 ∷ N ∷ N ∷ N ∷ N ∷ N ∷ N ∷ []
+
+-- in the order of the yards in specs/; where no setting is needed, zeros
+abbrev zeros : List ℕ
+zeros = 0 ∷ 0 ∷ 0 ∷ 0 ∷ 0 ∷ 0 ∷ 0 ∷ 0 ∷ 0 ∷ []
+
+sure : Sure yardA figsA setsA
+    × Sure yardALess figsALess zeros
+    × Sure yardOne (0 ∷ []) zeros
+    × Sure upOneTwo (1 ∷ 0 ∷ []) zeros
+    × Sure upTwoOne (0 ∷ N ∷ []) zeros
+    × Sure upTwoOneHeld (0 ∷ N ∷ []) zeros
+    × Sure headOn (N ∷ 0 ∷ N ∷ N ∷ []) zeros
+unfolding recordRefusal first unknownRow joinRow looseRow placeRow endAt joined hasSignal legsOf runOf withJoin withSignal withLegs withTrain allBelow anyBelow sumBelow lowest fromBits certified keepsTest sectionsIn standsOn codeOf atHome shared headsFor held mayMove passes occupied moveOf settingAt entryFrom tryOpen firstFound find
+sure = (
+  record { accepted = refl; passes = refl },
+  record { accepted = refl; passes = refl },
+  record { accepted = refl; passes = refl },
+  record { accepted = refl; passes = refl },
+  record { accepted = refl; passes = refl },
+  record { accepted = refl; passes = refl },
+  record { accepted = refl; passes = refl },
+)
+
+-- Yard A is accepted, and these are its tables
+pub yardA-accepted : recordRefusal yardA ≡ none
+yardA-accepted = sure .0 .accepted
+
+pub yardA-filled : Filled yardA figsA setsA
+yardA-filled = filled (sure .0)
+
+-- a star, from the tables of its yard
+star : (x : Star) {figs sets : List ℕ} → Sure (x .yard) figs sets → (x .ofStart ≡ true → startCode (x .yard) ≡ starCode x) → starCode x < placements (x .yard) → figureIn figs (starCode x) ≡ x .figure → Holds x
+star x {figs} s start l e = record { accepted = s .accepted; start = start; figure = rw (← e) (filled s .figures (starCode x) l) }
+
+infixr 4 _also_
+_also_ : {A B : Type 0} → A → B → A × B
+h also hs = (h, hs)
+
+-- THE STARRED FIGURES HOLD
+pub starred : StarredHolds
+unfolding codeOf startCode sumBelow listBelow runOf withJoin withSignal withLegs withTrain
+starred =
+    star (placed yardA (2 ∷ 3 ∷ []) (some 2)) (sure .0) (λ e. clash e refl) (omega arith) refl
+    also star (placed yardA (2 ∷ 1 ∷ []) (some 1)) (sure .0) (λ e. clash e refl) (omega arith) refl
+    also star (placed yardA (3 ∷ 1 ∷ []) (some 0)) (sure .0) (λ e. clash e refl) (omega arith) refl
+    also star (placed yardA (1 ∷ 3 ∷ []) none) (sure .0) (λ e. clash e refl) (omega arith) refl
+    also star (placed yardA (3 ∷ 2 ∷ []) none) (sure .0) (λ e. clash e refl) (omega arith) refl
+    also star (placed yardA (1 ∷ 1 ∷ []) none) (sure .0) (λ e. clash e refl) (omega arith) refl
+    also star (started yardALess (2 ∷ 3 ∷ []) none) (sure .1) (λ e. refl) (omega arith) refl
+    also star (started yardOne (1 ∷ []) (some 0)) (sure .2) (λ e. refl) (omega arith) refl
+    also star (started upOneTwo (1 ∷ []) (some 1)) (sure .3) (λ e. refl) (omega arith) refl
+    also star (started upTwoOne (2 ∷ []) none) (sure .4) (λ e. refl) (omega arith) refl
+    also star (started upTwoOneHeld (2 ∷ []) none) (sure .5) (λ e. refl) (omega arith) refl
+    also star (started headOn (1 ∷ 2 ∷ []) none) (sure .6) (λ e. refl) (omega arith) refl
+    also tt
