@@ -4,7 +4,7 @@ use mathlib.Core.Path.{_≡_, refl, sym, _∙_, ap}
 use mathlib.Core.Logic.{inl, inr}
 use mathlib.Core.Bool.{Bool, true, false, cond, not, _&&_}
 use mathlib.Core.List.{List, [], _∷_}
-use Prim.Native.Nat.{ℕ, zero, suc, _+_, _*_, _^_, _≤_, _<_}
+use Prim.Native.Nat.{ℕ, _+_, _*_, _^_, _≤_, _<_}
 use native.Mathlib.Omega.{arith}
 use lib.Dec.{ltb, eqb}
 use lib.ListN.{length, length-map, getD, List·getD-eq-default}
@@ -13,6 +13,7 @@ use denote.Laws.{Is}
 use borrow.Author.Tests.{lt-ltb, le-ltb, eq-eqb, ne-eqb}
 use Rattle.laws.specs.Below.{allBelow, anyBelow, listBelow}
 use Rattle.laws.proofs.Bools.{lt?}
+use Rattle.laws.proofs.Lists.{of-four}
 use Rattle.laws.proofs.Below.{any-same, any-none, any-one, all-each, all-but, list-same}
 use Rattle.railway.specs.declared.Railway.{Railway}
 use Rattle.railway.specs.Bounds.{mostTrains}
@@ -33,14 +34,6 @@ placement-length q vs p = sym (length-map (q .sections) _) ∙ p .1 .1 .0 .1 .0 
 
 pub section-past : (q : Placement) (t : ℕ) → length (q .sections) ≤ t → 0 ≡ sectionIn q t
 section-past q t l = sym (List·getD-eq-default (q .sections) 0 l)
-
--- four things by their places
-pub of-four : (a b c d : ℕ) (f : ℕ → ℕ) → a ≡ f 0 → b ≡ f 1 → c ≡ f 2 → d ≡ f 3 → (t : ℕ) → t < 4 → getD (a ∷ b ∷ c ∷ d ∷ []) t 0 ≡ f t
-of-four a b c d f ea eb ec ed zero l = ea
-of-four a b c d f ea eb ec ed (suc zero) l = eb
-of-four a b c d f ea eb ec ed (suc (suc zero)) l = ec
-of-four a b c d f ea eb ec ed (suc (suc (suc zero))) l = ed
-of-four a b c d f ea eb ec ed (suc (suc (suc (suc t)))) l = absurd (omega arith)
 
 -- THE COUNTS
 module _ (r : Railway) (x : ℕ) where
@@ -83,7 +76,7 @@ module _ (r : Railway) (table : List ℕ) (h : Compiled r table) where
       record {
         compiled = h;
         stands = λ t. elim (lt? t 4) [
-          | inl l ↦ of-four a b c d (standsOn r p) ea eb ec ed t l
+          | inl l ↦ of-four (λ u x. x ≡ standsOn r p u) 0 a b c d ea eb ec ed t l
           | inr l ↦ (let m : length (a ∷ b ∷ c ∷ d ∷ []) ≤ t = omega arith in List·getD-eq-default (a ∷ b ∷ c ∷ d ∷ []) 0 m) ∙ past-trains p t (omega (arith, ok .few-trains))
         ];
       }
