@@ -53,6 +53,11 @@ unfolding anyBelow
 any-same f g zero h = refl
 any-same f g (suc k) h = let a : anyBelow f k ≡ anyBelow g k = any-same f g k (λ i l. h i (omega arith)) in let b : f k ≡ g k = h k (omega arith) in rw (a, b)
 
+pub all-same : (f g : ℕ → Bool) (k : ℕ) → ((i : ℕ) → i < k → f i ≡ g i) → allBelow f k ≡ allBelow g k
+unfolding allBelow
+all-same f g zero h = refl
+all-same f g (suc k) h = let a : allBelow f k ≡ allBelow g k = all-same f g k (λ i l. h i (omega arith)) in let b : f k ≡ g k = h k (omega arith) in rw (a, b)
+
 pub none-any : (f : ℕ → Bool) (k : ℕ) → ((i : ℕ) → i < k → f i ≡ false) → anyBelow f k ≡ false
 none-any f k h = elim (bool? (anyBelow f k)) [
   | inl y ↦ let t : (i : ℕ) × (i < k) × (f i ≡ true) = any-at f k y in clash (t .2) (h (t .0) (t .1))

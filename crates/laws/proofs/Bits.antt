@@ -1,14 +1,15 @@
 -- Laws of bits: a number below a power of two is made of its bits, what is made of bits has them, and two numbers can stand in one, the second above the first.
 -- Each goes by bit 0 and the bits above it. Assumes nothing.
 use mathlib.Core.Path.{_≡_, refl, sym, _∙_, fun-ext}
-use mathlib.Core.Bool.{Bool, true, false, cond}
+use mathlib.Core.Logic.{inl, inr}
+use mathlib.Core.Bool.{Bool, true, false, cond, _||_}
 use Prim.Native.Nat.{ℕ, zero, suc, _+_, _*_, _/_, _%_, _^_, _≤_, _<_}
 use native.Mathlib.Omega.{arith}
 use native.Mathlib.Nat.{pow-succ', mul-assoc, div-div-eq-div-mul, zero-div}
-use lib.Dec.{eqb}
-use borrow.Author.Tests.{eqb-true, eqb-false}
+use lib.Dec.{eqb, eqb·suc-suc}
+use borrow.Author.Tests.{eqb-true, eqb-false, ne-eqb}
 use Rattle.laws.specs.Bits.{bit, fromBits}
-use Rattle.laws.proofs.Bools.{clash}
+use Rattle.laws.proofs.Bools.{bool?, clash}
 
 -- bit 0 and the bits above it
 pub bit-zero : (v : ℕ) → bit v 0 ≡ eqb (v % 2) 1
@@ -110,3 +111,38 @@ bits-mono f g (suc k) h = go (f 0) (g 0) (h 0 (omega arith)) (bits-mono (λ n. f
 -- zero has no bit
 pub bit-none : (n : ℕ) → bit 0 n ≡ false
 bit-none n = let e : 0 / (2 ^ n) ≡ 0 = zero-div (2 ^ n) in rw e
+
+-- ONE BIT MORE: no bit set makes zero, and a bit that was not set adds its power
+or-off : (a : Bool) → (a || false) ≡ a
+or-off true = refl
+or-off false = refl
+
+pub bits-none : (k : ℕ) → 0 ≡ fromBits (λ n. false) k
+unfolding fromBits
+bits-none zero = refl
+bits-none (suc k) = let h : 0 ≡ fromBits (λ n. false) k = bits-none k in omega arith
+
+pub bits-add : (f : ℕ → Bool) (k x : ℕ) → x < k → f x ≡ false → fromBits (λ n. f n || eqb x n) k ≡ fromBits f k + 2 ^ x
+unfolding fromBits
+bits-add f zero x l e = absurd (omega arith)
+bits-add f (suc k) zero l e =
+    let b : fromBits (λ n. f (suc n) || eqb 0 (suc n)) k ≡ fromBits (λ n. f (suc n)) k =
+    bits-same (λ n. f (suc n) || eqb 0 (suc n)) (λ n. f (suc n)) k (λ n h. rw (ne-eqb 0 (suc n) (λ z. omega arith)) (or-off (f (suc n)))) in
+    rw (e, b) (omega arith)
+bits-add f (suc k) (suc x) l e =
+    let b : fromBits (λ n. f (suc n) || eqb (suc x) (suc n)) k ≡ fromBits (λ n. f (suc n) || eqb x n) k =
+    bits-same (λ n. f (suc n) || eqb (suc x) (suc n)) (λ n. f (suc n) || eqb x n) k (λ n h. rw (eqb·suc-suc x n)) in
+    let h : fromBits (λ n. f (suc n) || eqb x n) k ≡ fromBits (λ n. f (suc n)) k + 2 ^ x = bits-add (λ n. f (suc n)) k x (omega arith) e in
+    let z : (f 0 || eqb (suc x) 0) ≡ f 0 = rw (ne-eqb (suc x) 0 (λ z. omega arith)) (or-off (f 0)) in
+    let w : 2 ^ suc x ≡ 2 * 2 ^ x = pow-succ' 2 x in
+    rw (z, b, h, w) (omega arith)
+
+-- a bit that was set changes nothing when it is set again, and neither does one past the last
+pub bits-again : (f : ℕ → Bool) (k x : ℕ) → f x ≡ true → fromBits (λ n. f n || eqb x n) k ≡ fromBits f k
+bits-again f k x e = bits-same (λ n. f n || eqb x n) f k (λ n h. elim (bool? (eqb x n)) [
+  | inl y ↦ let z : x ≡ n = eqb-true x n y in let w : f n ≡ true = rw z at e in rw w
+  | inr y ↦ rw y (or-off (f n))
+])
+
+pub bits-past : (f : ℕ → Bool) (k x : ℕ) → k ≤ x → fromBits (λ n. f n || eqb x n) k ≡ fromBits f k
+bits-past f k x l = bits-same (λ n. f n || eqb x n) f k (λ n h. rw (ne-eqb x n (λ z. omega arith)) (or-off (f n)))

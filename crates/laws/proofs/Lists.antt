@@ -162,3 +162,17 @@ module _ {A : Type 0} where
       let k = map-in g l y m in
       ne-eqb (g x) y (λ p. eqb-false (f x) (f (k .element)) (t .0 (f (k .element)) (in-map f l (k .element) (k .member))) (h x (k .element) (List·Memᴰ·head refl) (List·Memᴰ·tail (k .member)) (p ∙ k .is))))
       (repeats-map f g l (λ a b p q. h a b (List·Memᴰ·tail p) (List·Memᴰ·tail q)) (t .1))
+
+-- BY PLACE. Inside a list the default does not matter, and four things have four places
+module _ {A : Type 0} where
+  pub getD-inside : (l : List A) (i : ℕ) (d e : A) → i < length l → getD l i d ≡ getD l i e
+  getD-inside [] i d e h = absurd (omega arith)
+  getD-inside (x ∷ l) zero d e h = refl
+  getD-inside (x ∷ l) (suc i) d e h = getD-inside l i d e (omega arith)
+
+  pub of-four : (P : ℕ → A → Type 0) (z a b c d : A) → P 0 a → P 1 b → P 2 c → P 3 d → (t : ℕ) → t < 4 → P t (getD (a ∷ b ∷ c ∷ d ∷ []) t z)
+  of-four P z a b c d pa pb pc pd zero l = pa
+  of-four P z a b c d pa pb pc pd (suc zero) l = pb
+  of-four P z a b c d pa pb pc pd (suc (suc zero)) l = pc
+  of-four P z a b c d pa pb pc pd (suc (suc (suc zero))) l = pd
+  of-four P z a b c d pa pb pc pd (suc (suc (suc (suc t)))) l = absurd (omega arith)

@@ -1,0 +1,202 @@
+-- The table of a railway: each byte is what the record gives, as code writes it and as code reads it again. Writing goes test by test; reading finds the byte
+-- of a train, a section and a kind by its index, which determines them. Assumes nothing.
+use mathlib.Core.Path.{_≡_, refl, sym, _∙_, ap}
+use mathlib.Core.Bool.{Bool, true, false, cond}
+use mathlib.Core.List.{List}
+use mathlib.Core.Option.{Option, none, some}
+use Prim.Native.Nat.{ℕ, _+_, _-_, _*_, _/_, _%_, _≤_, _<_}
+use native.Mathlib.Omega.{arith}
+use lib.Dec.{ltb, eqb}
+use lib.ListN.{length, getD, set, replicate, length-replicate, length-set}
+use lib.Seq.{getD-set-same, getD-set-other}
+use borrow.Author.Tests.{lt-ltb, le-ltb, eq-eqb, ne-eqb}
+use Rattle.laws.proofs.Bools.{eq?, some-none}
+use mathlib.Core.Logic.{inl, inr}
+use Rattle.railway.specs.declared.Side.{Side}
+use Rattle.railway.specs.declared.Side.the-variants.{Up, Down}
+use Rattle.railway.specs.declared.Leg.{Leg}
+use Rattle.railway.specs.declared.SectionNo.{SectionNo}
+use Rattle.railway.specs.declared.PointNo.{PointNo}
+use Rattle.railway.specs.declared.End.{End}
+use Rattle.railway.specs.declared.End.the-variants.{Section, Port}
+use Rattle.railway.specs.declared.Joined.{Joined}
+use Rattle.railway.specs.declared.Joined.the-variants.{With}
+use Rattle.railway.specs.declared.Train.{Train}
+use Rattle.railway.specs.declared.Railway.{Railway}
+use Rattle.railway.specs.declared.Refusal.{Refusal}
+use Rattle.railway.specs.Bounds.{mostTrains}
+use Rattle.railway.specs.Ends.{sideIndex}
+use Rattle.railway.specs.Record.{noTrain, joined, hasSignal, runOf}
+use Rattle.railway.specs.Rows.{recordRefusal}
+use Rattle.acceptance.specs.declared.Tested.{Tested}
+use Rattle.acceptance.specs.declared.Tested.the-variants.{Accepted, Refused}
+use Rattle.acceptance.specs.Answers.{refusalGiven, Judged}
+use Rattle.game.specs.Moves.{through, behindPort, pastPoint, pastJoin, passes}
+use Rattle.game.proofs.Accepted.{facts}
+use Rattle.compiled.specs.Table.{wayBytes, countBytes, tableBytes, flagByte, pointByte, sectionByte, endOn, wayByte, countByte, runByte, compiledByte, byteIn, Compiled, CompilePost}
+
+-- WRITING. Past a point and past a join
+module _ (r : Railway) where
+  met-here : (n : PointNo) (o : Option Leg) → n .0 ≡ pointByte (pastPoint r n o .met)
+  met-here n none = refl
+  met-here n (some l) = refl
+
+  pub met-port : (j : Joined) (e : End) (n : PointNo) (l : Leg) → j ≡ With e → e ≡ Port n l → n .0 ≡ pointByte (pastJoin r (λ i. false) j .met)
+  met-port j e n l p q = rw (p, q) (met-here n (through l false))
+
+  pub past-leaving : (n : PointNo) (l out : Leg) (b : Bool) (x : ℕ) (j : Joined) (plus : Bool) → l ≡ out → plus ≡ b → {leg : Leg} → through out b ≡ some leg → j ≡ joined r (Port n leg) → x ≡ sectionByte (behindPort j)
+      → x ≡ sectionByte (pastPoint r n (through l plus) .reached)
+  past-leaving n l out b x j plus p q {leg} t hj h = rw (p, q, t, ← hj) h
+
+  pub join-section : (plus : Bool) (j : Joined) (e : End) (n : SectionNo) (s : Side) → j ≡ With e → e ≡ Section n s → n .0 ≡ sectionByte (pastJoin r (λ i. plus) j .reached)
+  join-section plus j e n s p q = rw (p, q)
+
+  pub join-port : (plus : Bool) (j : Joined) (e : End) (n : PointNo) (l : Leg) (x : ℕ) → j ≡ With e → e ≡ Port n l → x ≡ sectionByte (pastPoint r n (through l plus) .reached)
+      → x ≡ sectionByte (pastJoin r (λ i. plus) j .reached)
+  join-port plus j e n l x p q h = rw (p, q) h
+
+  -- the four kinds
+  module _ (e : End) (j : ℕ) where
+    pub way-signal : (b : Bool) {c : Bool} {x : ℕ} → j ≡ 0 → b ≡ hasSignal r e → b ≡ c → x ≡ flagByte c → x ≡ wayByte r e j
+    unfolding wayByte
+    way-signal b {c} {x} p h q k = let s : hasSignal r e ≡ c = sym h ∙ q in rw (eq-eqb j 0 p, s) k
+
+    module _ (not-signal : j ≡ 0 → ⊥) where
+      pub way-point : (x : ℕ) (to : Joined) → j ≡ 1 → to ≡ joined r e → x ≡ pointByte (pastJoin r (λ i. false) to .met) → x ≡ wayByte r e j
+      unfolding wayByte passes
+      way-point x to p t h = rw (ne-eqb j 0 not-signal, eq-eqb j 1 p, ← t) h
+
+      pub way-section : (x : ℕ) (to : Joined) → (j ≡ 1 → ⊥) → to ≡ joined r e → x ≡ sectionByte (pastJoin r (λ i. eqb j 3) to .reached) → x ≡ wayByte r e j
+      unfolding wayByte passes
+      way-section x to p t h = rw (ne-eqb j 0 not-signal, ne-eqb j 1 p, ← t) h
+
+  -- a train's three
+  module _ (i t : ℕ) (run : Train) (is : run ≡ runOf r t) where
+    pub run-heading : (x : ℕ) → i ≡ 0 → x ≡ sideIndex (run .heading) → x ≡ runByte r i t
+    unfolding runByte
+    run-heading x p h = rw (eq-eqb i 0 p, ← is) h
+
+    pub run-start : (i ≡ 0 → ⊥) → i ≡ 1 → run .start .0 ≡ runByte r i t
+    unfolding runByte
+    run-start p q = rw (ne-eqb i 0 p, eq-eqb i 1 q, ← is)
+
+    pub run-destination : (i ≡ 0 → ⊥) → (i ≡ 1 → ⊥) → run .destination .0 ≡ runByte r i t
+    unfolding runByte
+    run-destination p q = rw (ne-eqb i 0 p, ne-eqb i 1 q, ← is)
+
+  -- the byte at an index
+  module _ (i x : ℕ) where
+    pub for-way : (run : Train) → run ≡ runOf r (i / 192) → i < wayBytes → x ≡ wayByte r (Section (record { 0 = i / 4 % 48 }) (run .heading)) (i % 4) → x ≡ compiledByte r i
+    unfolding compiledByte
+    for-way run is l h = rw (lt-ltb i wayBytes l, ← is) h
+
+    pub for-count : wayBytes ≤ i → i < countBytes → x ≡ countByte r (i - wayBytes) → x ≡ compiledByte r i
+    unfolding compiledByte
+    for-count l m h = rw (le-ltb i wayBytes l, lt-ltb i countBytes m) h
+
+    pub for-run : wayBytes ≤ i → countBytes ≤ i → x ≡ runByte r ((i - countBytes) / 4) ((i - countBytes) % 4) → x ≡ compiledByte r i
+    unfolding compiledByte
+    for-run l m h = rw (le-ltb i wayBytes l, le-ltb i countBytes m) h
+
+-- READING
+module _ (r : Railway) (table : List ℕ) where
+  byte-there : (i x : ℕ) → Compiled r table → i < tableBytes → x ≡ byteIn table i → x ≡ compiledByte r i
+  byte-there i x h l e = e ∙ (rw (lt-ltb i tableBytes l) (h .bytes i l))
+
+  pub count-there : (i x : ℕ) → Compiled r table → i < 3 → x ≡ byteIn table (768 + i) → x ≡ countByte r i
+  unfolding compiledByte
+  count-there i x h l e = byte-there (768 + i) x h (omega arith) e ∙ is
+    where
+      is : compiledByte r (768 + i) ≡ countByte r i
+      is = let d : 768 + i - wayBytes ≡ i = omega arith in rw (le-ltb (768 + i) wayBytes (omega arith), lt-ltb (768 + i) countBytes (omega arith), d)
+
+  pub run-there : (i t x : ℕ) → Compiled r table → i < 3 → t < 4 → x ≡ byteIn table (771 + 4 * i + t) → x ≡ runByte r i t
+  unfolding compiledByte
+  run-there i t x h l m e = byte-there (771 + 4 * i + t) x h (omega arith) e ∙ is
+    where
+      is : compiledByte r (771 + 4 * i + t) ≡ runByte r i t
+      is =
+          let d : (771 + 4 * i + t - countBytes) / mostTrains ≡ i = omega arith in
+          let n : (771 + 4 * i + t - countBytes) % mostTrains ≡ t = omega arith in
+          rw (le-ltb (771 + 4 * i + t) wayBytes (omega arith), le-ltb (771 + 4 * i + t) countBytes (omega arith), d, n)
+
+  pub way-there : (t x j y : ℕ) → Compiled r table → t < 4 → x < 48 → j < 4 → y ≡ byteIn table (4 * (48 * t + x) + j) → y ≡ wayByte r (endOn r t x) j
+  unfolding compiledByte
+  way-there t x j y h lt lx lj e = byte-there (4 * (48 * t + x) + j) y h (omega arith) e ∙ is
+    where
+      is : compiledByte r (4 * (48 * t + x) + j) ≡ wayByte r (endOn r t x) j
+      is =
+          let a : (4 * (48 * t + x) + j) / 192 ≡ t = omega arith in
+          let b : (4 * (48 * t + x) + j) / 4 % 48 ≡ x = omega arith in
+          let d : (4 * (48 * t + x) + j) % 4 ≡ j = omega arith in
+          rw (lt-ltb (4 * (48 * t + x) + j) wayBytes (omega arith), a, b, d)
+
+-- a train that is not there
+module _ (r : Railway) (table : List ℕ) (i t : ℕ) (h : Compiled r table) (past : mostTrains ≤ t) where
+  no-train : runOf r t ≡ noTrain
+  unfolding runOf
+  no-train = rw (le-ltb t (r .trains) (omega (arith, facts r (h .accepted) .few-trains)))
+
+  pub no-heading : i ≡ 0 → 1 ≡ runByte r i t
+  unfolding runByte
+  no-heading e = rw (eq-eqb i 0 e, no-train)
+
+  pub no-section : (i ≡ 0 → ⊥) → 0 ≡ runByte r i t
+  unfolding runByte
+  no-section e = rw (ne-eqb i 0 e, no-train) (go (eqb i 1))
+    where
+      go : (b : Bool) → _≡_ {A = ℕ} 0 (cond b 0 0)
+      go true = refl
+      go false = refl
+
+-- the side of a number
+module _ (r : Railway) (t x : ℕ) where
+  pub heading-down : x ≡ runByte r 0 t → x ≡ 0 → Down ≡ runOf r t .heading
+  unfolding runByte
+  heading-down h e = go (runOf r t .heading) (sym h ∙ e)
+    where
+      go : (s : Side) → sideIndex s ≡ 0 → Down ≡ s
+      go Down z = refl
+      go Up z = absurd (omega arith)
+
+  pub heading-up : x ≡ runByte r 0 t → (x ≡ 0 → ⊥) → Up ≡ runOf r t .heading
+  unfolding runByte
+  heading-up h e = go (runOf r t .heading) (λ z. e (h ∙ z))
+    where
+      go : (s : Side) → (sideIndex s ≡ 0 → ⊥) → Up ≡ s
+      go Down z = absurd (z refl)
+      go Up z = refl
+
+-- FILLING, byte after byte
+pub record FilledTo (r : Railway) (table : List ℕ) (i : ℕ) : Type 0 where
+  pub within : i ≤ tableBytes
+  pub sized : length table ≡ tableBytes
+  pub below : (j : ℕ) → j < i → getD table j 0 ≡ compiledByte r j
+
+module _ (r : Railway) where
+  pub fill-start : FilledTo r (replicate tableBytes 0) 0
+  fill-start = record { within = omega arith; sized = length-replicate {A = ℕ} tableBytes 0; below = λ j l. absurd (omega arith) }
+
+  pub fill-next : (table : List ℕ) (i x : ℕ) → FilledTo r table i → i < tableBytes → x ≡ compiledByte r i → FilledTo r (set table i x) (i + 1)
+  fill-next table i x h l e =
+      record {
+        within = omega arith;
+        sized = length-set table i x ∙ h .sized;
+        below = λ j m. elim (eq? j i) [
+          | inl z ↦ rw z (getD-set-same table i x 0 (rw (h .sized) l) ∙ e)
+          | inr z ↦ getD-set-other table i j x 0 z ∙ h .below j (omega arith)
+        ];
+      }
+
+  module _ (t : Tested) (judged : Judged r t) where
+    pub post-refused : (f : Refusal) → t ≡ Refused f → CompilePost r (record { tested = t; table = replicate tableBytes 0 })
+    post-refused f e = record { judged = judged; accepted = λ a. some-none (sym (judged .refusal) ∙ ap refusalGiven e) a; refused = λ g x. refl }
+
+    pub post-accepted : (table : List ℕ) (i : ℕ) → t ≡ Accepted → FilledTo r table i → tableBytes ≤ i → CompilePost r (record { tested = t; table = table })
+    post-accepted table i e h l =
+        let a : recordRefusal r ≡ none = sym (judged .refusal) ∙ ap refusalGiven e in
+        record {
+          judged = judged;
+          accepted = λ x. record { accepted = x; bytes = λ j m. h .below j (omega arith) };
+          refused = λ f x. some-none x a;
+        }

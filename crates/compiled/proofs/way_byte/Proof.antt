@@ -1,0 +1,48 @@
+-- `compiled::way_byte` meets its contract, kind by kind.
+-- Assumes nothing.
+use borrow.Author.Needs.{needs}
+use Rattle.compiled.proofs.Table.{way-signal, way-point, way-section}
+use mathlib.Core.Path.{refl}
+use Rattle.compiled.proofs.way_byte.Statement.{statement}
+use Rattle.compiled.proofs.way_byte.Tie as tie
+
+has-signal-requires : tie.Need-has-signal-requires
+has-signal-requires c κs = search needs
+
+joined-requires : tie.Need-joined-requires
+joined-requires c κs = search needs
+
+point-met-requires : tie.Need-point-met-requires
+point-met-requires c κs = search needs
+
+joined-requires-2 : tie.Need-joined-requires-2
+joined-requires-2 c κs = search needs
+
+past-join-requires : tie.Need-past-join-requires
+past-join-requires c κs = search needs
+
+returns : tie.Need-returns
+returns c = way-signal (c .before .before .before .args .r) _ _ _ (c .before .before .if1 .taken) (c .before .has-signal .ensures) (c .if2 .taken) refl
+
+returns-2 : tie.Need-returns-2
+returns-2 c = way-signal (c .before .before .before .args .r) _ _ _ (c .before .before .if1 .taken) (c .before .has-signal .ensures) (c .if2 .left) refl
+
+returns-3 : tie.Need-returns-3
+returns-3 c = way-point (c .before .before .before .before .args .r) _ _ (c .before .before .before .if1 .left) _ _ (c .before .before .if3 .taken) (c .before .joined .ensures) (c .point-met .ensures)
+
+returns-4 : tie.Need-returns-4
+returns-4 c = way-section (c .before .before .before .before .args .r) _ _ (c .before .before .before .if1 .left) _ _ (c .before .before .if3 .left) (c .before .joined2 .ensures) (c .past-join .ensures)
+
+pub way-byte-spec : {M : Type 1} → statement M
+way-byte-spec =
+    tie.close
+    (tie.spec
+    has-signal-requires
+    joined-requires
+    point-met-requires
+    joined-requires-2
+    past-join-requires
+    returns
+    returns-2
+    returns-3
+    returns-4)

@@ -1,0 +1,86 @@
+-- A railway compiled into bytes, for loops that ask the same things of it many times. Nothing of document 01 rests on this file:
+-- contracts cite it, and the laws in proofs/Table say that the bytes give what the record gives. Assumes nothing.
+use mathlib.Core.Path.{_≡_}
+use mathlib.Core.Bool.{Bool, true, false, cond}
+use mathlib.Core.List.{List, [], _∷_}
+use mathlib.Core.Option.{Option, none, some}
+use Prim.Native.Nat.{ℕ, _+_, _-_, _*_, _/_, _%_, _<_}
+use lib.Dec.{ltb, eqb}
+use lib.ListN.{getD, replicate}
+use Rattle.railway.specs.declared.End.{End}
+use Rattle.railway.specs.declared.End.the-variants.{Section}
+use Rattle.railway.specs.declared.Railway.{Railway}
+use Rattle.railway.specs.declared.Refusal.{Refusal}
+use Rattle.railway.specs.Bounds.{mostSections, mostTrains}
+use Rattle.railway.specs.Ends.{sideIndex}
+use Rattle.railway.specs.Record.{hasSignal, runOf}
+use Rattle.railway.specs.Rows.{recordRefusal}
+use Rattle.game.specs.Moves.{passes}
+use Rattle.acceptance.specs.Answers.{Judged}
+use Rattle.compiled.specs.declared.Compilation.{Compilation}
+
+-- Four bytes for each train and section, then three counts, then three bytes for each train.
+abbrev pub wayBytes : ℕ
+wayBytes = 4 * (mostTrains * mostSections)
+
+abbrev pub countBytes : ℕ
+countBytes = wayBytes + 3
+
+abbrev pub tableBytes : ℕ
+tableBytes = countBytes + 3 * mostTrains
+
+-- What stands for no point and for no section.
+abbrev pub noByte : ℕ
+noByte = 255
+
+abbrev pub flagByte : Bool → ℕ
+flagByte true = 1
+flagByte false = 0
+
+abbrev pub pointByte : List ℕ → ℕ
+pointByte [] = noByte
+pointByte (n ∷ ns) = n
+
+abbrev pub sectionByte : Option ℕ → ℕ
+sectionByte none = noByte
+sectionByte (some x) = x
+
+-- The end that train t heads for on section x.
+abbrev pub endOn : Railway → ℕ → ℕ → End
+endOn r t x = Section (record { 0 = x }) (runOf r t .heading)
+
+-- Of a train that leaves by end e: whether a signal stands there, the point that it meets, and the section that it enters with the point at minus and at plus.
+unfoldable pub wayByte : Railway → End → ℕ → ℕ
+wayByte r e j =
+    cond (eqb j 0) (flagByte (hasSignal r e))
+    (cond (eqb j 1) (pointByte (passes r (λ n. false) e .met))
+    (sectionByte (passes r (λ n. eqb j 3) e .reached)))
+
+-- The numbers of sections, points and trains.
+unfoldable pub countByte : Railway → ℕ → ℕ
+countByte r i = cond (eqb i 0) (r .sections) (cond (eqb i 1) (r .points) (r .trains))
+
+-- The heading, start and destination of train t.
+unfoldable pub runByte : Railway → ℕ → ℕ → ℕ
+runByte r i t = cond (eqb i 0) (sideIndex (runOf r t .heading)) (cond (eqb i 1) (runOf r t .start .0) (runOf r t .destination .0))
+
+-- The byte at index i.
+unfoldable pub compiledByte : Railway → ℕ → ℕ
+compiledByte r i =
+    cond (ltb i wayBytes) (wayByte r (endOn r (i / (4 * mostSections)) (i / 4 % mostSections)) (i % 4))
+    (cond (ltb i countBytes) (countByte r (i - wayBytes)) (runByte r ((i - countBytes) / mostTrains) ((i - countBytes) % mostTrains)))
+
+-- The byte of a table at index i, and past its end.
+abbrev pub byteIn : List ℕ → ℕ → ℕ
+byteIn table i = cond (ltb i tableBytes) (getD table i 0) noByte
+
+-- The table of an accepted railway.
+pub record Compiled (r : Railway) (table : List ℕ) : Type 0 where
+  pub accepted : recordRefusal r ≡ none
+  pub bytes : (i : ℕ) → i < tableBytes → getD table i 0 ≡ compiledByte r i
+
+-- What compiling a record gives: it is judged by rows 3 to 8; accepted, the table is the railway's; refused, it is all zero.
+pub record CompilePost (r : Railway) (c : Compilation) : Type 0 where
+  pub judged : Judged r (c .tested)
+  pub accepted : recordRefusal r ≡ none → Compiled r (c .table)
+  pub refused : (f : Refusal) → recordRefusal r ≡ some f → c .table ≡ replicate tableBytes 0

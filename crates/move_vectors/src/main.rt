@@ -1,0 +1,141 @@
+// What every move ends in, for case texts: by rising code, each placement with no two trains on a section, and there by rising entry of the
+// setting table: the code, the entry, and of each train `-` it may not move, `x` it derails, `c` it collides, or the section it then stands on.
+// Standard input is records one after the other: a line `@`, tab, the number of bytes, then those bytes.
+use casefile::CaseAnswer;
+use compiled::TABLE;
+use libc::STDIN_FILENO;
+use libc::STDOUT_FILENO;
+use moves::Move;
+use railway::Railway;
+
+// The number of bytes of the next record, or there is none.
+enum Size {
+    None,
+    Bytes(usize),
+}
+
+fn main() {
+    let mut turns: u64 = 0;
+    while turns < 1000000 {
+        if one() {
+            turns += 1;
+        } else {
+            return;
+        }
+    }
+}
+
+// One record; answers whether there was one.
+fn one() -> bool {
+    let Size::Bytes(n) = size() else {
+        return false;
+    };
+    let mut space = io::buffer();
+    if n <= space.len() {
+        io::read_full(STDIN_FILENO, &mut space[..n]);
+        show(&space[..n]);
+        true
+    } else {
+        false
+    }
+}
+
+fn size() -> Size {
+    let mut byte = [0u8; 1];
+    let mut mark = [0u8; 2];
+    if io::read_full(STDIN_FILENO, &mut mark) < 2 {
+        return Size::None;
+    }
+    let mut n: usize = 0;
+    let mut digits: u8 = 0;
+    while digits < 6 {
+        io::read_full(STDIN_FILENO, &mut byte);
+        let b = byte[0];
+        if b == 10 {
+            return Size::Bytes(n);
+        }
+        n = (n * 10 + (b % 16) as usize) % 100000;
+        digits += 1;
+    }
+    Size::None
+}
+
+fn show(text: &[u8]) {
+    let read = reader::read_case(text);
+    let answer = read.answer;
+    if let CaseAnswer::Accepted = answer {
+        io::write_all(STDOUT_FILENO, b"case\n");
+        placements(read.railway);
+    }
+}
+
+fn placements(r: Railway) {
+    let c = compiled::compile(r);
+    let table = c.table;
+    let n = moves::placements(&table);
+    let mut p: u32 = 0;
+    while p < n {
+        if moves::is_lost(&table, p) {
+            p += 1;
+        } else {
+            settings(&table, r.trains, r.points, p);
+            p += 1;
+        }
+    }
+}
+
+// Every set of open trains.
+fn settings(table: &[u8; TABLE], k: u8, q: u8, p: u32) {
+    let n = power(k);
+    let mut open: u32 = 0;
+    while open < n {
+        points(table, k, q, p, open % 16);
+        open += 1;
+    }
+}
+
+// Every way that the points may lie.
+fn points(table: &[u8; TABLE], k: u8, q: u8, p: u32, open: u32) {
+    let n = power(q);
+    let mut bits: u32 = 0;
+    while bits < n {
+        line(table, k, p, (open % 16) * 65536 + bits % 65536);
+        bits += 1;
+    }
+}
+
+// Two to the power n, for the sixteen points at most.
+fn power(n: u8) -> u32 {
+    if n < 17 { 1u32 << n } else { 1 }
+}
+
+fn line(table: &[u8; TABLE], k: u8, p: u32, v: u32) {
+    io::print_decimal(STDOUT_FILENO, p as u64);
+    io::write_all(STDOUT_FILENO, b"\t");
+    io::print_decimal(STDOUT_FILENO, v as u64);
+    let mut t: u8 = 0;
+    while t < k {
+        io::write_all(STDOUT_FILENO, b"\t");
+        outcome(table, p, v, t);
+        t += 1;
+    }
+    io::write_all(STDOUT_FILENO, b"\n");
+}
+
+fn outcome(table: &[u8; TABLE], p: u32, v: u32, t: u8) {
+    match moves::move_of(table, p, v, t) {
+        Move::NotAllowed => {
+            io::write_all(STDOUT_FILENO, b"-");
+        }
+        Move::Derails => {
+            io::write_all(STDOUT_FILENO, b"x");
+        }
+        Move::Collides => {
+            io::write_all(STDOUT_FILENO, b"c");
+        }
+        Move::At(q) => {
+            let x = moves::section_at(moves::placement_of(table, q), t);
+            io::print_decimal(STDOUT_FILENO, x as u64 + 1);
+        }
+    }
+}

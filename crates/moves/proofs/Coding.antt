@@ -1,0 +1,128 @@
+-- The arithmetic of codes, as code works it out for four trains at most: powers by multiplying, a train's section by dividing, and a code from the last train's section to
+-- the first's. Nothing runs over: sections and counts are bytes. Assumes nothing.
+use mathlib.Core.Path.{_≡_, refl, sym, _∙_, ap}
+use mathlib.Core.Logic.{inl, inr}
+use mathlib.Core.Bool.{false, cond}
+use mathlib.Core.List.{List, [], _∷_}
+use Prim.Native.Nat.{ℕ, zero, suc, _+_, _-_, _*_, _/_, _%_, _^_, _≤_, _<_}
+use native.Mathlib.Omega.{arith}
+use native.Mathlib.Nat.{pow-succ', pow-zero, mul-one, mul-assoc, mul-le-mul, mod-lt, pow-le-pow-right, div-eq-of-lt}
+use lib.Dec.{ltb}
+use lib.ListN.{length, getD, List·getD-eq-default}
+use borrow.Author.Tests.{lt-ltb, le-ltb}
+use Rattle.laws.specs.Below.{listBelow}
+use Rattle.laws.specs.Bits.{bit}
+use Rattle.laws.proofs.Bools.{lt?}
+use Rattle.laws.proofs.Below.{list-length, list-get}
+use Rattle.game.specs.Placement.{codeOf, sectionsIn}
+use Rattle.game.proofs.Codes.{code-nil, code-cons}
+
+-- POWERS of a byte, up to the fourth
+pub times-fits : (m n : ℕ) {a b : ℕ} → a ≤ m → b ≤ n → a * b ≤ m * n
+times-fits m n {a} {b} p q = mul-le-mul {n₁ = a} {n₂ = m} p q
+
+module _ (s : ℕ) where
+  one : s ≡ s ^ 1
+  one = sym (pow-succ' s 0 ∙ (let z : s ^ 0 ≡ 1 = pow-zero s in rw z (mul-one s)))
+
+  two : s * s ≡ s ^ 2
+  two = sym (pow-succ' s 1 ∙ (rw (← one)))
+
+  three : s * s * s ≡ s ^ 3
+  three = sym (pow-succ' s 2 ∙ (rw (← two) (sym (mul-assoc s s s))))
+
+  four : s * s * s * s ≡ s ^ 4
+  four = sym (pow-succ' s 3 ∙ (rw (← three) (sym (mul-assoc s (s * s) s ∙ ap (λ (x : ℕ). s * x) refl) ∙ ap (λ (x : ℕ). x * s) (sym (mul-assoc s s s)))))
+
+  module _ (k : ℕ) where
+    pub power-zero : k ≡ 0 → 1 ≡ s ^ k
+    power-zero e = rw e (sym (pow-zero s))
+
+    pub power-one : k ≡ 1 → s ≡ s ^ k
+    power-one e = rw e one
+
+    pub power-two : k ≡ 2 → s * s ≡ s ^ k
+    power-two e = rw e two
+
+    pub power-three : k ≡ 3 → s * s * s ≡ s ^ k
+    power-three e = rw e three
+
+    pub power-four : k ≡ 4 → s * s * s * s ≡ s ^ k
+    power-four e = rw e four
+
+  module _ (l : s < 256) where
+    pub two-fits : s * s ≤ 65025
+    two-fits = times-fits 255 255 (omega arith) (omega arith)
+
+    pub three-fits : s * s * s ≤ 16581375
+    three-fits = times-fits 65025 255 two-fits (omega arith)
+
+    pub four-fits : s * s * s * s ≤ 4228250625
+    four-fits = times-fits 16581375 255 three-fits (omega arith)
+
+    -- a code of four bytes
+    module _ (b c d : ℕ) (lb : b < 256) (lc : c < 256) (ld : d < 256) where
+      pub last-fits : s * d ≤ 65025
+      last-fits = times-fits 255 255 (omega arith) (omega arith)
+
+      pub third-fits : s * (c + s * d) ≤ 16646400
+      third-fits = times-fits 255 65280 (omega arith) (omega (arith, last-fits))
+
+      pub second-fits : s * (b + s * (c + s * d)) ≤ 4244897025
+      second-fits = times-fits 255 16646655 (omega arith) (omega (arith, third-fits))
+
+-- SECTIONS by dividing
+module _ (s k t i rest : ℕ) (lt : t < k) where
+  pub digit-step : i < t → getD (sectionsIn s (k - i) rest) (t - i) 0 ≡ getD (sectionsIn s (k - (i + 1)) (rest / s)) (t - (i + 1)) 0
+  unfolding sectionsIn
+  digit-step l =
+      let a : k - i ≡ suc (k - (i + 1)) = omega arith in
+      let b : t - i ≡ suc (t - (i + 1)) = omega arith in
+      rw (a, b)
+
+  pub digit-end : i ≤ t → t ≤ i → rest % s ≡ getD (sectionsIn s (k - i) rest) (t - i) 0
+  unfolding sectionsIn
+  digit-end h l =
+      let a : k - i ≡ suc (k - (i + 1)) = omega arith in
+      let b : t - i ≡ 0 = omega arith in
+      rw (a, b)
+
+pub digit-start : (s k p t : ℕ) → getD (sectionsIn s (k - 0) p) (t - 0) 0 ≡ getD (sectionsIn s k p) t 0
+digit-start s k p t = let a : k - 0 ≡ k = omega arith in let b : t - 0 ≡ t = omega arith in rw (a, b)
+
+pub rest-small : (s rest : ℕ) → 0 < s → s < 256 → rest % s < 256
+rest-small s rest p l = omega (arith, mod-lt rest p)
+
+-- A CODE, from the last train on
+inDigits : ℕ → ℕ → (ℕ → ℕ) → ℕ
+inDigits s zero f = 0
+inDigits s (suc n) f = f 0 + s * inDigits s n (λ t. f (suc t))
+
+no-digits : (s n : ℕ) → inDigits s n (λ t. 0) ≡ 0
+unfolding inDigits
+no-digits s zero = refl
+no-digits s (suc n) = rw (no-digits s n) (omega arith)
+
+code-digits : (s n : ℕ) (xs : List ℕ) → length xs ≤ n → codeOf s xs ≡ inDigits s n (λ t. getD xs t 0)
+unfolding inDigits
+code-digits s n [] l = code-nil s ∙ sym (no-digits s n)
+code-digits s zero (x ∷ xs) l = absurd (omega arith)
+code-digits s (suc n) (x ∷ xs) l = code-cons s x xs ∙ (rw (code-digits s n xs (omega arith)))
+
+-- what is listed for k trains, with nothing past them
+listed : (f : ℕ → ℕ) (k t : ℕ) → getD (listBelow f k) t 0 ≡ cond (ltb t k) (f t) 0
+listed f k t = elim (lt? t k) [
+  | inl l ↦ rw (lt-ltb t k l) (list-get f k t 0 l)
+  | inr l ↦ rw (le-ltb t k l) (List·getD-eq-default (listBelow f k) 0 (rw (list-length f k) l))
+]
+
+pub code-four : (s k : ℕ) (f : ℕ → ℕ) (a b c d : ℕ) → k ≤ 4 → a ≡ cond (ltb 0 k) (f 0) 0 → b ≡ cond (ltb 1 k) (f 1) 0 → c ≡ cond (ltb 2 k) (f 2) 0 → d ≡ cond (ltb 3 k) (f 3) 0
+    → a + s * (b + s * (c + s * d)) ≡ codeOf s (listBelow f k)
+unfolding inDigits
+code-four s k f a b c d l ea eb ec ed =
+    let z : getD (listBelow f k) 3 0 + s * 0 ≡ d = omega (arith, ed ∙ sym (listed f k 3)) in
+    sym (code-digits s 4 (listBelow f k) (rw (list-length f k) l) ∙ (rw (z, ec ∙ sym (listed f k 2), eb ∙ sym (listed f k 1), ea ∙ sym (listed f k 0))))
+
+-- a bit past the width
+pub bit-high : (v n : ℕ) → v < 4294967296 → 32 ≤ n → false ≡ bit v n
+bit-high v n l h = let e : v / (2 ^ n) ≡ 0 = div-eq-of-lt (omega (arith, pow-le-pow-right {n = 2} (omega arith) {i = 32} {j = n} h)) in rw e

@@ -1,0 +1,150 @@
+-- Placements by value, read from a table: where the table is an accepted railway's, what is read is what the definitions give.
+-- Assumes nothing.
+use mathlib.Core.Path.{_≡_, refl, sym, _∙_, ap}
+use mathlib.Core.Logic.{inl, inr}
+use mathlib.Core.Bool.{Bool, true, false, cond, not, _&&_}
+use mathlib.Core.List.{List, [], _∷_}
+use Prim.Native.Nat.{ℕ, _+_, _*_, _^_, _≤_, _<_}
+use native.Mathlib.Omega.{arith}
+use lib.Dec.{ltb, eqb}
+use lib.ListN.{length, length-map, getD, List·getD-eq-default}
+use mir.Val.{Val}
+use denote.Laws.{Is}
+use borrow.Author.Tests.{lt-ltb, le-ltb, eq-eqb, ne-eqb}
+use Rattle.laws.specs.Below.{allBelow, anyBelow, listBelow}
+use Rattle.laws.proofs.Bools.{lt?}
+use Rattle.laws.proofs.Lists.{of-four}
+use Rattle.laws.proofs.Below.{any-same, any-none, any-one, all-each, all-but, list-same}
+use Rattle.railway.specs.declared.Railway.{Railway}
+use Rattle.railway.specs.Bounds.{mostTrains}
+use Rattle.railway.specs.Record.{runOf}
+use Rattle.game.specs.Placement.{codeOf, sectionsIn, sectionsOf, placements, standsOn, startCode, arrived, atHome, standsWith, sharesLower, shared}
+use Rattle.game.proofs.Codes.{sections-length}
+use Rattle.game.proofs.Accepted.{Facts, facts}
+use Rattle.compiled.specs.Table.{countByte, runByte, Compiled}
+use Rattle.moves.specs.declared.Placement.{Placement}
+use Rattle.moves.specs.Answers.{codeOn, homeCode}
+use Rattle.moves.specs.Steps.{sectionIn, On, movedTo, otherIn}
+use Rattle.moves.proofs.Placement as T
+use Rattle.moves.proofs.Coding.{code-four}
+
+-- what holding a placement tells: it has a place for each train a railway can have
+pub placement-length : (q : Placement) (vs : List Val) → Is T.the-row q vs → length (q .sections) ≡ mostTrains
+placement-length q vs p = sym (length-map (q .sections) _) ∙ p .1 .1 .0 .1 .0 .1
+
+pub section-past : (q : Placement) (t : ℕ) → length (q .sections) ≤ t → 0 ≡ sectionIn q t
+section-past q t l = sym (List·getD-eq-default (q .sections) 0 l)
+
+-- THE COUNTS
+module _ (r : Railway) (x : ℕ) where
+  pub sections-are : x ≡ countByte r 0 → x ≡ r .sections
+  unfolding countByte
+  sections-are e = e
+
+  pub trains-are : x ≡ countByte r 2 → x ≡ r .trains
+  unfolding countByte
+  trains-are e = e
+
+pub placements-are : (r : Railway) (s k w : ℕ) → s ≡ countByte r 0 → k ≡ countByte r 2 → w ≡ s ^ k → w ≡ placements r
+placements-are r s k w es ek h = let a : s ≡ r .sections = sections-are r s es in let b : k ≡ r .trains = trains-are r k ek in rw (a, b) at h
+
+module _ (r : Railway) (table : List ℕ) (h : Compiled r table) where
+  pub ok : Facts r
+  ok = facts r (h .accepted)
+
+  pub few-trains : (k : ℕ) → k ≡ countByte r 2 → k ≤ 4
+  few-trains k e = rw (trains-are r k e) (ok .few-trains)
+
+  -- THE SECTION of a train
+  past-trains : (p t : ℕ) → r .trains ≤ t → 0 ≡ standsOn r p t
+  unfolding standsOn
+  past-trains p t l = sym (List·getD-eq-default (sectionsOf r p) 0 (rw (sections-length (r .sections) (r .trains) p) l))
+
+  module _ (p t s k : ℕ) (es : s ≡ countByte r 0) (ek : k ≡ countByte r 2) where
+    pub no-sections : s ≡ 0 → 0 ≡ standsOn r p t
+    no-sections z = absurd (omega (arith, ok .one-section, sym (sections-are r s es) ∙ z))
+
+    pub no-train : k ≤ t → 0 ≡ standsOn r p t
+    no-train l = past-trains p t (omega (arith, trains-are r k ek))
+
+    pub section-there : (x : ℕ) → x ≡ getD (sectionsIn s k p) t 0 → x ≡ standsOn r p t
+    unfolding standsOn
+    section-there x e = let a : s ≡ r .sections = sections-are r s es in let b : k ≡ r .trains = trains-are r k ek in rw (a, b) at e
+
+  pub placed : (p a b c d : ℕ) → a ≡ standsOn r p 0 → b ≡ standsOn r p 1 → c ≡ standsOn r p 2 → d ≡ standsOn r p 3 → On r p table (record { sections = a ∷ b ∷ c ∷ d ∷ [] })
+  placed p a b c d ea eb ec ed =
+      record {
+        compiled = h;
+        stands = λ t. elim (lt? t 4) [
+          | inl l ↦ of-four (λ u x. x ≡ standsOn r p u) 0 a b c d ea eb ec ed t l
+          | inr l ↦ (let m : length (a ∷ b ∷ c ∷ d ∷ []) ≤ t = omega arith in List·getD-eq-default (a ∷ b ∷ c ∷ d ∷ []) 0 m) ∙ past-trains p t (omega (arith, ok .few-trains))
+        ];
+      }
+
+  -- CODES of the start and of home
+  pub start-is : (q : Placement) (p : ℕ) → ((t : ℕ) → t < 4 → sectionIn q t ≡ runByte r 1 t) → p ≡ codeOn r (sectionIn q) → p ≡ startCode r
+  unfolding startCode runByte
+  start-is q p at e = e ∙ ap (codeOf (r .sections)) (list-same (sectionIn q) (λ t. runOf r t .start .0) (r .trains) (λ t l. at t (omega (arith, ok .few-trains))))
+
+  pub home-is : (q : Placement) (p : ℕ) → ((t : ℕ) → t < 4 → sectionIn q t ≡ runByte r 2 t) → p ≡ codeOn r (sectionIn q) → p ≡ homeCode r
+  unfolding homeCode runByte
+  home-is q p at e = e ∙ ap (codeOf (r .sections)) (list-same (sectionIn q) (λ t. runOf r t .destination .0) (r .trains) (λ t l. at t (omega (arith, ok .few-trains))))
+
+  -- the code with train t put on section x
+  pub code-with-is : (q : Placement) (t x s k a b c d p : ℕ) → s ≡ countByte r 0 → k ≡ countByte r 2
+      → a ≡ cond (ltb 0 k) (movedTo q t x 0) 0 → b ≡ cond (ltb 1 k) (movedTo q t x 1) 0 → c ≡ cond (ltb 2 k) (movedTo q t x 2) 0 → d ≡ cond (ltb 3 k) (movedTo q t x 3) 0
+      → p ≡ a + s * (b + s * (c + s * d)) → p ≡ codeOn r (movedTo q t x)
+  code-with-is q t x s k a b c d p es ek ea eb ec ed e =
+      let u : s ≡ r .sections = sections-are r s es in
+      let v : k ≡ r .trains = trains-are r k ek in
+      let w : p ≡ codeOf s (listBelow (movedTo q t x) k) = e ∙ code-four s k (movedTo q t x) a b c d (few-trains k ek) ea eb ec ed in
+      rw (u, v) at w
+
+  -- with no train put anywhere
+  pub code-same : (q : Placement) (p : ℕ) → p ≡ codeOn r (movedTo q 4 0) → p ≡ codeOn r (sectionIn q)
+  code-same q p e = e ∙ ap (codeOf (r .sections)) (list-same (movedTo q 4 0) (sectionIn q) (r .trains) (λ t l. rw (ne-eqb t 4 (λ z. omega (arith, ok .few-trains)))))
+
+-- one train put elsewhere, by the tests that code makes
+module _ (q : Placement) (k t x u : ℕ) where
+  pub moved-past : k ≤ u → 0 ≡ cond (ltb u k) (movedTo q t x u) 0
+  moved-past l = rw (le-ltb u k l)
+
+  pub moved-itself : u < k → u ≡ t → x ≡ cond (ltb u k) (movedTo q t x u) 0
+  moved-itself l e = rw (lt-ltb u k l, eq-eqb u t e)
+
+  pub moved-other : (y : ℕ) → u < k → (u ≡ t → ⊥) → y ≡ sectionIn q u → y ≡ cond (ltb u k) (movedTo q t x u) 0
+  moved-other y l n e = rw (lt-ltb u k l, ne-eqb u t n) e
+
+module _ (q : Placement) (t x u : ℕ) where
+  pub not-other : u ≡ t → false ≡ otherIn q t x u
+  not-other e = rw (eq-eqb u t e)
+
+  pub other-is : (y : ℕ) → (u ≡ t → ⊥) → y ≡ sectionIn q u → eqb y x ≡ otherIn q t x u
+  other-is y n e = rw (ne-eqb u t n, e)
+
+-- LOST AND HOME, train by train
+module _ (r : Railway) (p : ℕ) (table : List ℕ) (q : Placement) (on : On r p table q) (t : ℕ) where
+  pub shares-is : (x : ℕ) (b : Bool) → x ≡ sectionIn q t → b ≡ anyBelow (otherIn q t x) t → b ≡ sharesLower r p t
+  shares-is x b e h = h ∙ any-same (otherIn q t x) (standsWith r p t) t (λ u l. let a : sectionIn q u ≡ standsOn r p u = on .stands u in let d : x ≡ standsOn r p t = e ∙ on .stands t in rw (ne-eqb u t (λ z. omega arith), a, d))
+
+  pub arrived-is : (x y : ℕ) → x ≡ sectionIn q t → y ≡ runByte r 2 t → eqb x y ≡ arrived r p t
+  unfolding runByte
+  arrived-is x y e f = let d : x ≡ standsOn r p t = e ∙ on .stands t in rw (d, f)
+
+-- .. and the whole loops
+module _ (r : Railway) (p k t : ℕ) (e : k ≡ countByte r 2) where
+  pub is-lost : t < k → sharesLower r p t ≡ true → true ≡ shared r p
+  unfolding shared
+  is-lost l h = any-one (sharesLower r p) (r .trains) t (rw (sym (trains-are r k e)) l) h
+
+  pub not-lost : t ≤ k → k ≤ t → anyBelow (sharesLower r p) t ≡ false → false ≡ shared r p
+  unfolding shared
+  not-lost l m h = any-none (sharesLower r p) (r .trains) t h (rw (sym (trains-are r k e)) l) (rw (sym (trains-are r k e)) m)
+
+  pub not-home : t < k → arrived r p t ≡ false → false ≡ atHome r p
+  unfolding atHome
+  not-home l h = all-but (arrived r p) (r .trains) t (rw (sym (trains-are r k e)) l) h
+
+  pub is-home : t ≤ k → k ≤ t → allBelow (arrived r p) t ≡ true → true ≡ atHome r p
+  unfolding atHome
+  is-home l m h = all-each (arrived r p) (r .trains) t h (rw (sym (trains-are r k e)) l) (rw (sym (trains-are r k e)) m)

@@ -1,0 +1,29 @@
+-- `moves::opens_end` meets its contract, by the bit and the end.
+-- Assumes nothing.
+use borrow.Author.Needs.{needs}
+use Rattle.moves.proofs.Moving.{opens-if, opens-not}
+use Rattle.moves.proofs.opens_end.Statement.{statement}
+use Rattle.moves.proofs.opens_end.Tie as tie
+
+add-bit-at : tie.Need-add-bit-at
+add-bit-at c = search needs
+
+bit-at-requires : tie.Need-bit-at-requires
+bit-at-requires c κs = search needs
+
+end-in-requires : tie.Need-end-in-requires
+end-in-requires c κs = search needs
+
+index-of-requires : tie.Need-index-of-requires
+index-of-requires c κs = search needs
+
+returns : tie.Need-returns
+returns c = λ r p h. opens-if r p _ _ h (c .before .before .before .before .args .v) _ _ _ _ _ (c .before .before .before .bit-at .ensures) (c .before .before .if1 .taken) (c .before .end-in .ensures r p h) (c .index-of .ensures)
+
+returns-2 : tie.Need-returns-2
+returns-2 c = λ r p h. opens-not r p _ _ h (c .before .before .args .v) _ _ _ (c .before .bit-at .ensures) (c .if1 .left)
+
+pub opens-end-spec : {M : Type 1} → statement M
+opens-end-spec =
+    tie.close
+    (tie.spec add-bit-at bit-at-requires end-in-requires index-of-requires returns returns-2)

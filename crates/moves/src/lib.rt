@@ -1,0 +1,366 @@
+// Moves on a compiled railway: codes and placements, who may move, and what a move ends in. All functions are total. What they
+// promise, they promise of every accepted railway whose table is handed in (crate `compiled`). A placement goes by its code, or by
+// value with the section of each train.
+ghost use mathlib.Core.Path.{_≡_};
+ghost use mathlib.Core.Bool.{false, cond};
+ghost use mathlib.Core.Option.{some};
+ghost use Prim.Native.Nat.{ℕ, _+_, _*_, _^_, _≤_, _<_};
+ghost use lib.Dec.{ltb};
+ghost use lib.ListN.{getD};
+ghost use Rattle.laws.specs.Below.{anyBelow};
+ghost use Rattle.laws.specs.Bits.{bit};
+ghost use Rattle.railway.specs.declared.Railway.{Railway};
+ghost use Rattle.game.specs.Game.{may};
+ghost use Rattle.game.specs.Placement.{sectionsIn, placements, standsOn, startCode, atHome, shared};
+ghost use Rattle.game.specs.Setting.{headsFor, held};
+ghost use Rattle.game.specs.Moves.{passes, moveOf, gameOf};
+ghost use Rattle.tables.specs.Entries.{opensEnd, settingAt};
+ghost use Rattle.compiled.specs.Table.{pointByte, sectionByte, runByte, Compiled};
+ghost use Rattle.moves.specs.Answers.{codeOn, homeCode, ended, moveUnder};
+ghost use Rattle.moves.specs.Steps.{sectionIn, On, movedTo, otherIn, allAt};
+use compiled::TABLE;
+use railway::End;
+use railway::Railway;
+use railway::SectionNo;
+
+// The section of each train, the document's number less one; 0 for trains that are not there.
+pub struct Placement {
+    pub sections: [u8; Railway::TRAINS as usize],
+}
+
+// What comes of a move: it is not allowed, loses, or leads to the next placement.
+pub enum Move {
+    NotAllowed,
+    Derails,
+    Collides,
+    At(u32),
+}
+
+// PLACEMENTS. How many there are: s to the power k.
+pub fn placements(table: &[u8; TABLE]) -> u32
+    ensures { λ n. ⌜ ((r : Railway) → Compiled r (now (table .entry)) → n ≡ placements r) ⌝ }
+{
+    power(compiled::count_in(table, 0), compiled::count_in(table, 2))
+}
+
+fn power(s: u8, k: u8) -> u32
+    ensures { λ w. ⌜ (k ≤ 4 → w ≡ s ^ k) ⌝ }
+{
+    let a = s as u32;
+    if k == 0 {
+        1
+    } else if k == 1 {
+        a
+    } else if k == 2 {
+        a * a
+    } else if k == 3 {
+        a * a * a
+    } else {
+        a * a * a * a
+    }
+}
+
+// The placement of a code.
+pub fn placement_of(table: &[u8; TABLE], p: u32) -> Placement
+    ensures { λ q. ⌜ ((r : Railway) → Compiled r (now (table .entry)) → On r p (now (table .entry)) q) ⌝ }
+{
+    let sections = [
+        section_of(table, p, 0),
+        section_of(table, p, 1),
+        section_of(table, p, 2),
+        section_of(table, p, 3),
+    ];
+    Placement { sections: sections }
+}
+
+// The section of train t in the placement of code p; 0 for a train that is not there.
+fn section_of(table: &[u8; TABLE], p: u32, t: u8) -> u8
+    ensures { λ x. ⌜ ((r : Railway) → Compiled r (now (table .entry)) → x ≡ standsOn r p t) ⌝ }
+{
+    let s = compiled::count_in(table, 0);
+    let k = compiled::count_in(table, 2);
+    if s == 0 {
+        return 0;
+    }
+    if k <= t {
+        return 0;
+    }
+    digit(s, k, p, t)
+}
+
+// Section after section, by dividing.
+fn digit(s: u8, k: u8, p: u32, t: u8) -> u8
+    requires { ⌜ (0 < s) × (t < k) ⌝ }
+    ensures { λ x. ⌜ x ≡ getD (sectionsIn s k p) t 0 ⌝ }
+{
+    let d = s as u32;
+    let mut rest = p;
+    let mut i: u8 = 0;
+    while i < t {
+        rest = rest / d;
+        i += 1;
+    }
+    (rest % d) as u8
+}
+
+// The section of a train; 0 past the last.
+pub fn section_at(q: Placement, t: u8) -> u8
+    ensures { λ x. ⌜ x ≡ sectionIn q t ⌝ }
+{
+    let at = t as usize;
+    if t < Railway::TRAINS {
+        q.sections[at]
+    } else {
+        0
+    }
+}
+
+// The code of a placement.
+pub fn code_of(table: &[u8; TABLE], q: Placement) -> u32
+    ensures { λ p. ⌜ ((r : Railway) → Compiled r (now (table .entry)) → p ≡ codeOn r (sectionIn q)) ⌝ }
+{
+    code_with(table, q, Railway::TRAINS, 0)
+}
+
+// The code of a placement with train t put on section x.
+fn code_with(table: &[u8; TABLE], q: Placement, t: u8, x: u8) -> u32
+    ensures { λ p. ⌜ ((r : Railway) → Compiled r (now (table .entry)) → p ≡ codeOn r (movedTo q t x)) ⌝ }
+{
+    let s = compiled::count_in(table, 0);
+    let k = compiled::count_in(table, 2);
+    let a = moved_to(q, k, t, x, 0);
+    let b = moved_to(q, k, t, x, 1);
+    let c = moved_to(q, k, t, x, 2);
+    let d = moved_to(q, k, t, x, 3);
+    four(s, a, b, c, d)
+}
+
+// The section of train u with train t put on section x; 0 for a train that is not there.
+fn moved_to(q: Placement, k: u8, t: u8, x: u8, u: u8) -> u8
+    ensures { λ y. ⌜ y ≡ cond (ltb u k) (movedTo q t x u) 0 ⌝ }
+{
+    if k <= u {
+        return 0;
+    }
+    if u == t {
+        return x;
+    }
+    section_at(q, u)
+}
+
+fn four(s: u8, a: u8, b: u8, c: u8, d: u8) -> u32
+    ensures { λ p. ⌜ p ≡ a + s * (b + s * (c + s * d)) ⌝ }
+{
+    let m = s as u32;
+    (a as u32) + m * ((b as u32) + m * ((c as u32) + m * (d as u32)))
+}
+
+// The start's code, and home's.
+pub fn start_code(table: &[u8; TABLE]) -> u32
+    ensures { λ p. ⌜ ((r : Railway) → Compiled r (now (table .entry)) → p ≡ startCode r) ⌝ }
+{
+    code_of(table, runs_in(table, 1))
+}
+
+pub fn home_code(table: &[u8; TABLE]) -> u32
+    ensures { λ p. ⌜ ((r : Railway) → Compiled r (now (table .entry)) → p ≡ homeCode r) ⌝ }
+{
+    code_of(table, runs_in(table, 2))
+}
+
+// All trains on their starts, or on their destinations.
+fn runs_in(table: &[u8; TABLE], i: u8) -> Placement
+    ensures { λ q. ⌜ ((r : Railway) → Compiled r (now (table .entry)) → i < 3 → (t : ℕ) → t < 4 → sectionIn q t ≡ runByte r i t) ⌝ }
+{
+    let sections = [
+        compiled::run_in(table, i, 0),
+        compiled::run_in(table, i, 1),
+        compiled::run_in(table, i, 2),
+        compiled::run_in(table, i, 3),
+    ];
+    Placement { sections: sections }
+}
+
+// Another train than t, of the first n, stands on section x.
+fn other_in(q: Placement, t: u8, x: u8, n: u8) -> bool
+    ensures { λ b. ⌜ b ≡ anyBelow (otherIn q t x) n ⌝ }
+{
+    let mut u: u8 = 0;
+    while u < n {
+        if is_other(q, t, x, u) {
+            return true;
+        }
+        u += 1;
+    }
+    false
+}
+
+fn is_other(q: Placement, t: u8, x: u8, u: u8) -> bool
+    ensures { λ b. ⌜ b ≡ otherIn q t x u ⌝ }
+{
+    if u == t {
+        return false;
+    }
+    section_at(q, u) == x
+}
+
+// Lost: two trains share a section.
+pub fn is_lost(table: &[u8; TABLE], p: u32) -> bool
+    ensures { λ b. ⌜ ((r : Railway) → Compiled r (now (table .entry)) → b ≡ shared r p) ⌝ }
+{
+    lost_in(table, placement_of(table, p))
+}
+
+pub fn lost_in(table: &[u8; TABLE], q: Placement) -> bool
+    ensures { λ b. ⌜ ((r : Railway) (p : ℕ) → On r p (now (table .entry)) q → b ≡ shared r p) ⌝ }
+{
+    let k = compiled::count_in(table, 2);
+    let mut t: u8 = 0;
+    while t < k {
+        if other_in(q, t, section_at(q, t), t) {
+            return true;
+        }
+        t += 1;
+    }
+    false
+}
+
+// Home: each train stands on its destination.
+pub fn is_home(table: &[u8; TABLE], p: u32) -> bool
+    ensures { λ b. ⌜ ((r : Railway) → Compiled r (now (table .entry)) → b ≡ atHome r p) ⌝ }
+{
+    let q = placement_of(table, p);
+    let k = compiled::count_in(table, 2);
+    let mut t: u8 = 0;
+    while t < k {
+        if section_at(q, t) == compiled::run_in(table, 2, t) {
+            t += 1;
+        } else {
+            return false;
+        }
+    }
+    true
+}
+
+// MOVES. The end that a train heads for.
+pub fn heads_for(table: &[u8; TABLE], p: u32, t: u8) -> End
+    ensures { λ e. ⌜ ((r : Railway) → Compiled r (now (table .entry)) → e ≡ headsFor r p t) ⌝ }
+{
+    end_in(table, placement_of(table, p), t)
+}
+
+fn end_in(table: &[u8; TABLE], q: Placement, t: u8) -> End
+    ensures { λ e. ⌜ ((r : Railway) (p : ℕ) → On r p (now (table .entry)) q → e ≡ headsFor r p t) ⌝ }
+{
+    let x = section_at(q, t);
+    let h = compiled::heading_in(table, t);
+    End::Section(SectionNo(x), h)
+}
+
+// Whether a train is there and may move under an entry of the setting table.
+pub fn may_move(table: &[u8; TABLE], p: u32, v: u32, t: u8) -> bool
+    ensures { λ b. ⌜ ((r : Railway) → Compiled r (now (table .entry)) → b ≡ may (gameOf r) p (settingAt r p v) t) ⌝ }
+{
+    may_in(table, placement_of(table, p), v, t)
+}
+
+fn may_in(table: &[u8; TABLE], q: Placement, v: u32, t: u8) -> bool
+    ensures { λ b. ⌜ ((r : Railway) (p : ℕ) → On r p (now (table .entry)) q → b ≡ may (gameOf r) p (settingAt r p v) t) ⌝ }
+{
+    if compiled::count_in(table, 2) <= t {
+        return false;
+    }
+    if held_in(table, q, t) {
+        open_in(table, q, v, railway::index_of(end_in(table, q, t)))
+    } else {
+        true
+    }
+}
+
+// A signal stands at the end that the train heads for.
+pub fn held_in(table: &[u8; TABLE], q: Placement, t: u8) -> bool
+    ensures { λ b. ⌜ ((r : Railway) (p : ℕ) → On r p (now (table .entry)) q → t < r .trains → b ≡ held r p t) ⌝ }
+{
+    compiled::way_in(table, t, section_at(q, t), 0) == 1
+}
+
+// The signal at the section end of this index is open by entry v.
+fn open_in(table: &[u8; TABLE], q: Placement, v: u32, i: u8) -> bool
+    ensures { λ b. ⌜ ((r : Railway) (p : ℕ) → On r p (now (table .entry)) q → b ≡ settingAt r p v .isOpen i) ⌝ }
+{
+    let k = compiled::count_in(table, 2);
+    let mut u: u8 = 0;
+    while u < k {
+        if opens_end(table, q, v, i, u) {
+            return true;
+        }
+        u += 1;
+    }
+    false
+}
+
+fn opens_end(table: &[u8; TABLE], q: Placement, v: u32, i: u8, u: u8) -> bool
+    ensures { λ b. ⌜ ((r : Railway) (p : ℕ) → On r p (now (table .entry)) q → b ≡ opensEnd r p v i u) ⌝ }
+{
+    if bit_at(v, 16 + (u as u32)) {
+        i == railway::index_of(end_in(table, q, u))
+    } else {
+        false
+    }
+}
+
+// Bit n of a number.
+pub fn bit_at(v: u32, n: u32) -> bool
+    ensures { λ b. ⌜ b ≡ bit v n ⌝ }
+{
+    if 32 <= n {
+        return false;
+    }
+    (v >> n) % 2 == 1
+}
+
+// What moving a train ends in under an entry of the setting table.
+pub fn move_of(table: &[u8; TABLE], p: u32, v: u32, t: u8) -> Move
+    ensures { λ m. ⌜ ((r : Railway) → Compiled r (now (table .entry)) → ended m ≡ moveUnder r p v t) ⌝ }
+{
+    let q = placement_of(table, p);
+    if may_in(table, q, v, t) {
+        let n = point_in(table, q, t);
+        end_of(table, q, t, bit_at(v, n as u32))
+    } else {
+        Move::NotAllowed
+    }
+}
+
+// The point that a train meets; 255: none.
+pub fn point_in(table: &[u8; TABLE], q: Placement, t: u8) -> u8
+    ensures { λ n. ⌜ ((r : Railway) (p : ℕ) → On r p (now (table .entry)) q → t < r .trains → n ≡ pointByte (passes r (λ i. false) (headsFor r p t) .met)) ⌝ }
+{
+    compiled::way_in(table, t, section_at(q, t), 1)
+}
+
+// The section that it enters, that point lying at plus or not; 255: it derails.
+fn leads_to(table: &[u8; TABLE], q: Placement, t: u8, plus: bool) -> u8
+    ensures { λ x. ⌜ ((r : Railway) (p : ℕ) → On r p (now (table .entry)) q → t < r .trains → x ≡ sectionByte (passes r (λ i. plus) (headsFor r p t) .reached)) ⌝ }
+{
+    let x = section_at(q, t);
+    if plus {
+        compiled::way_in(table, t, x, 3)
+    } else {
+        compiled::way_in(table, t, x, 2)
+    }
+}
+
+// What a move ends in, the point that it meets lying at plus or not.
+pub fn end_of(table: &[u8; TABLE], q: Placement, t: u8, plus: bool) -> Move
+    ensures { λ m. ⌜ ((r : Railway) (p : ℕ) → On r p (now (table .entry)) q → t < r .trains → ended m ≡ some (moveOf r p (allAt plus) t)) ⌝ }
+{
+    let x = leads_to(table, q, t, plus);
+    if x == compiled::NO_BYTE {
+        return Move::Derails;
+    }
+    if other_in(q, t, x, compiled::count_in(table, 2)) {
+        return Move::Collides;
+    }
+    Move::At(code_with(table, q, t, x))
+}

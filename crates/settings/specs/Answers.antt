@@ -1,0 +1,20 @@
+-- What a search for a setting answers (document 01, "The two tables and the plan").
+-- Assumes nothing.
+use mathlib.Core.Bool.{cond}
+use mathlib.Core.Option.{Option, none, some}
+use Prim.Native.Nat.{ℕ}
+use Rattle.railway.specs.declared.Railway.{Railway}
+use Rattle.game.specs.Placement.{shared}
+use Rattle.tables.specs.Find.{find}
+use Rattle.settings.specs.declared.Found.{Found}
+use Rattle.settings.specs.declared.Found.the-variants.{Nothing, Entry}
+
+-- The entry that was found, if one was.
+abbrev pub entryFound : Found → Option ℕ
+entryFound Nothing = none
+entryFound (Entry v) = some v
+
+-- The entry of the first setting, in the plan's order, under which every move from placement p ends in a figure below n. (Exactly, in proofs/, says so of all whole settings.)
+-- A placement with two trains on a section is lost: nothing is kept there.
+unfoldable pub firstKeeping : Railway → (ℕ → Option ℕ) → ℕ → ℕ → Option ℕ
+firstKeeping r F p n = cond (shared r p) none (find r F p n)
