@@ -5,12 +5,15 @@ use mathlib.Core.Bool.{Bool, true, false}
 use mathlib.Core.List.{List, [], _∷_}
 use mathlib.Core.Option.{none, some}
 use Prim.Native.Nat.{ℕ}
-use lib.ListN.{length, take}
+use lib.ListN.{length, take, replicate}
 use Rattle.laws.proofs.Bools.{clash}
 use Rattle.railway.specs.declared.Railway.{Railway}
+use Rattle.tables.specs.Tables.{noFigure}
 use Rattle.plan.specs.declared.PlanPlace.{PlanPlace}
 use Rattle.plan.specs.declared.Emitted.{Emitted}
 use Rattle.plan.specs.declared.Emitted.the-variants.{Line, End, NoPlan, Refused}
+use Rattle.plan.specs.declared.Checker.{Checker}
+use Rattle.plan.specs.declared.Checker.the-variants.{Fresh}
 use Rattle.plan.specs.Emitter.{isLine, Wrote, emitLine}
 use Rattle.plan.specs.Checker.{Checking, freshChecking, takeLine, Run, onward, run}
 use Rattle.plan.specs.Promises.{EmitterPost, LinePost, FreshPost}
@@ -67,5 +70,9 @@ taking r (l ∷ ls) c =
     one-more c (takeLine r c l .checking) (takeLine r c l .answer) l ls (run r ls (takeLine r c l .checking)) (record { answer = refl; numbered = refl; checking = refl })
     (taking r ls (takeLine r c l .checking))
 
+-- fresh tables
+by-parts : (c : Checking) (state : Checker) (figs sets : List ℕ) → c .state ≡ state → c .figs ≡ figs → c .sets ≡ sets → c ≡ record { state = state; figs = figs; sets = sets }
+by-parts c state figs sets e f s = rw (← e, ← f, ← s)
+
 pub fresh-one : (figs sets : List ℕ) (c : Checking) → FreshPost figs sets c → c ≡ freshChecking (length figs) (length sets)
-fresh-one figs sets c p = rw (← p .state, ← p .figures, ← p .settings)
+fresh-one figs sets c p = by-parts c Fresh (replicate (length figs) noFigure) (replicate (length sets) 0) (p .state) (p .figures) (p .settings)

@@ -65,8 +65,8 @@ post = record { refusal = refl; numbered = refl; leaves = (record { filled = yar
 demand : Demand3 yardA (Figure 2) figsA setsA
 demand = demand3-holds yardA (Figure 2) lent lent figsA setsA yardA-accepted (omega (arith, nine)) (omega (arith, nine)) post
 
--- What is computed: the start has a figure; buffers are long enough for its plan of four lines; the plan's lines with refused lines before, between and
--- behind them; and the first line alone fails the test.
+-- What is computed: the start has a figure; buffers are long enough for its plan of four lines; the plan's lines with refused lines among
+-- them; and the first line alone fails the test.
 abbrev stray : String → Handed
 stray s = record { own = false; text = bytes s }
 

@@ -263,4 +263,4 @@ check-rule r c =
 
     changed : (text : List ℕ) (o : Option Refusal) → caseRefusal r (c .figs) (c .sets) ≡ o → LineChanges r c text (takesIf r c text o)
     changed text none e = behind text e .changes
-    changed text (some g) e = refused-changes r c text g
+    changed text (some g) e = refused-changes r c text _

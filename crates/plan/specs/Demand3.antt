@@ -71,8 +71,8 @@ pub record Demand3 (r : Railway) (a : SolverAnswer) (figs sets : List ℕ) : Typ
   -- where the start has no figure every call answers that there is no plan, and writes nothing
   pub emits-none : figureIn figs (startCode r) ≡ none → (place : PlanPlace) (b b′ : List ℕ) (e : Emitted) → EmitterPost r figs sets place b e b′
       → (e ≡ NoPlan) × (b′ ≡ b)
-  -- the checker's calls for the lines of the plan, first to last, and for any others that it refuses, before, between and behind them, from
-  -- fresh tables that are long enough: it takes those of the plan and no others, and then answers pass to the call for the test
+  -- the checker's calls for the plan's lines in their order, with any others that it refuses anywhere among them, from fresh tables that are
+  -- long enough: it takes those of the plan and no others, and then answers pass to the call for the test
   pub checks : (n : ℕ) → figureIn figs (startCode r) ≡ some n
       → (lent₁ lent₂ : List ℕ) (c : Checking) → placements r ≤ length lent₁ → placements r ≤ length lent₂ → FreshPost lent₁ lent₂ c
       → (hs : List Handed) (u : Run) → Taking r c (map (λ h. h .text) hs) u → ownTexts hs ≡ planTexts r figs sets → othersRefused hs (u .answers) ≡ true
