@@ -1,5 +1,6 @@
 // The test of a record: accepted, or refused with the first of rows 3 to 8 that applies. Any record may come in, crooked
-// ones too; each row looks at every place that it concerns.
+// ones too; each row looks at every place that it concerns. Besides the test, some of its parts are public for the reader of
+// case texts: they judge one row, pair or place of a record by itself, and are no entries.
 ghost use mathlib.Core.Path.{_≡_};
 ghost use mathlib.Core.Bool.{_||_, _&&_};
 ghost use Prim.Native.Nat.{ℕ};
@@ -55,7 +56,7 @@ pub fn test_record(r: Railway) -> Tested
 }
 
 // Row 3.
-fn counts_outside(s: u8, p: u8, k: u8) -> bool
+pub fn counts_outside(s: u8, p: u8, k: u8) -> bool
     ensures { λ b. ⌜ b ≡ outside s p k ⌝ }
 {
     if s < 1 {
@@ -97,7 +98,7 @@ fn joined_wrongly(r: Railway) -> bool
 }
 
 // Row 8.
-fn places_shared(r: Railway) -> bool
+pub fn places_shared(r: Railway) -> bool
     ensures { λ b. ⌜ b ≡ placeRow r ⌝ }
 {
     let k = r.trains;
@@ -112,7 +113,7 @@ fn places_shared(r: Railway) -> bool
 }
 
 // Whether a flaw shows at one of the first n places.
-fn any_flaw(r: Railway, f: Flaw, n: u8) -> bool
+pub fn any_flaw(r: Railway, f: Flaw, n: u8) -> bool
     ensures { λ b. ⌜ b ≡ anyBelow (flawAt r f) n ⌝ }
 {
     let mut i: u8 = 0;
@@ -249,7 +250,7 @@ fn both_known(r: Railway, e: End, f: End) -> bool
 }
 
 // Two ends that no join may tie.
-fn wrong_pair(r: Railway, e: End, f: End) -> bool
+pub fn wrong_pair(r: Railway, e: End, f: End) -> bool
     ensures { λ b. ⌜ b ≡ wrongPair (tied r e) (tied r f) ⌝ }
 {
     if both_or_one(e, f) {
@@ -298,7 +299,7 @@ fn leads_to(j: Joined, e: End) -> bool
     }
 }
 
-fn is_unjoined(j: Joined) -> bool
+pub fn is_unjoined(j: Joined) -> bool
     ensures { λ b. ⌜ b ≡ unjoined j ⌝ }
 {
     match j {

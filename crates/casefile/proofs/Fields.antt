@@ -10,7 +10,7 @@ use lib.Dec.{eqb}
 use lib.ListN.{getD, drop}
 use borrow.Author.Tests.{eqb-true}
 use Rattle.text.specs.Reading.{Got, bad, got, isDigit}
-use Rattle.text.proofs.Cursor.{bad-got, carry, Lies, Reads, steps, go-on, here, past, stands, Written, number-sound, number-complete}
+use Rattle.text.proofs.Walking.{bad-got, carry, Lies, Reads, steps, go-on, here, past, stands, Written, number-sound, number-complete}
 use Rattle.railway.specs.declared.Side.{Side}
 use Rattle.railway.specs.declared.Side.the-variants.{Up, Down}
 use Rattle.railway.specs.declared.Leg.{Leg}

@@ -10,7 +10,7 @@ use lib.ListN.{drop}
 use borrow.Author.Tests.{eqb-true, eq-eqb}
 use Rattle.text.specs.Text.{decimal, line}
 use Rattle.text.specs.Reading.{Got, bad, got, then, isDigit, byteAt}
-use Rattle.text.proofs.Cursor.{bad-got, carry, Lies, Reads, steps, go-on, stop-here, byte-sound, byte-complete, Written, number-sound, number-complete}
+use Rattle.text.proofs.Walking.{bad-got, carry, Lies, Reads, steps, go-on, stop-here, byte-sound, byte-complete, Written, number-sound, number-complete}
 use Rattle.railway.specs.declared.Side.{Side}
 use Rattle.casefile.specs.Form.{EndField, JoinLine, SignalLine, TrainLine, sideByte, pointLine, joinLine, signalLine, trainLine, WritableJoin, WritableSignal, WritableTrain}
 use Rattle.casefile.specs.Reading.{Counts, caseNumberAt, sideFieldAt, endFieldAt, headerAt, pointLineAt, joinLineAt, signalLineAt, trainLineAt}

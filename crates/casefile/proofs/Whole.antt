@@ -14,7 +14,7 @@ use Rattle.laws.specs.Lists.{Every}
 use Rattle.laws.proofs.Lists.{every-none, every-more}
 use Rattle.text.specs.Text.{line}
 use Rattle.text.specs.Reading.{Got, bad, got, then, value}
-use Rattle.text.proofs.Cursor.{bad-got, carry, Lies, Reads, steps, on, go-on, stop-here, here}
+use Rattle.text.proofs.Walking.{bad-got, carry, Lies, Reads, steps, on, go-on, stop-here, here}
 use Rattle.railway.specs.declared.Side.{Side}
 use Rattle.casefile.specs.Form.{JoinLine, SignalLine, TrainLine, Description, pointLine, joinLine, signalLine, trainLine, each, rising, spell, WritableJoin, WritableSignal, WritableTrain, Describes}
 use Rattle.casefile.specs.Rows.{FormRow}

@@ -1,46 +1,56 @@
--- DEMAND 3, for whatever a solver leaves that keeps its promise. The tables are filled, so they are right for whole plays; the emitter writes their plan; that
--- plan is in form and passes, and lines that the checker refuses leave no trace. Assumes nothing.
+-- DEMAND 3, for any solver, emitter and checker that keep their promises. The tables are filled, so they are right for whole plays; the emitter writes their plan;
+-- that plan is in form and passes, and lines that the checker refuses leave no trace. Assumes nothing.
 use mathlib.Core.Path.{_≡_, refl, sym, _∙_, ap, subst}
 use mathlib.Core.Bool.{Bool, true, false, not, cond, _&&_, _||_}
 use mathlib.Core.List.{List, [], _∷_, _++_, map, append-assoc}
 use mathlib.Core.Option.{none}
-use Prim.Native.Nat.{ℕ, _≤_}
+use Prim.Native.Nat.{ℕ, _≤_, _<_}
 use native.Mathlib.Omega.{arith}
 use lib.ListN.{length}
 use lib.Dec.{leb}
-use borrow.Author.Tests.{le-leb}
+use borrow.Author.Tests.{le-leb, leb-true}
 use Rattle.laws.specs.Lists.{all}
 use Rattle.laws.proofs.Bools.{clash, and-true, and-both}
 use Rattle.railway.specs.declared.Railway.{Railway}
 use Rattle.railway.specs.Rows.{recordRefusal}
-use Rattle.game.proofs.Accepted.{facts}
+use Rattle.game.specs.Placement.{placements}
 use Rattle.tables.specs.Tables.{caseRefusal}
 use Rattle.tables.specs.Solver.{SolverLeaves}
 use Rattle.tables.proofs.Plays.{filled-whole}
+use Rattle.plan.specs.declared.PlanPlace.the-variants.{Top}
 use Rattle.plan.specs.declared.LineAnswer.{LineAnswer}
-use Rattle.plan.specs.Lines.{PlanLine, spell, fits}
+use Rattle.plan.specs.declared.TestAnswer.{TestAnswer}
+use Rattle.plan.specs.Lines.{PlanLine, spell, fits, mostLineBytes}
 use Rattle.plan.specs.Text.{planLines, planTexts}
-use Rattle.plan.specs.Checker.{Checking, Left, freshChecking, takeLine, Run, onward, run, isTaken, takenTexts}
+use Rattle.plan.specs.Emitter.{Wrote}
+use Rattle.plan.specs.Checker.{Checking, Left, takeLine, testPlan, Run, onward, run, isTaken, takenTexts}
+use Rattle.plan.specs.Promises.{TestPost, FreshPost}
+use Rattle.plan.specs.Calls.{longEnough, Taking}
 use Rattle.plan.specs.Checked.{InForm, Passing}
 use Rattle.plan.specs.Demand3.{Handed, ownTexts, othersRefused, Passed, Demand3Holds}
-use Rattle.plan.proofs.Lengths.{at-most-45}
-use Rattle.plan.proofs.Emits.{none-refused, emits, emits-into, emits-none}
+use Rattle.plan.proofs.Lengths.{lines-short}
+use Rattle.plan.proofs.Calls.{emitting-one, taking-one, fresh-one}
+use Rattle.plan.proofs.Emits.{none-refused, emits, emits-none}
 use Rattle.plan.proofs.Forms.{form-front}
 use Rattle.plan.proofs.Checks.{Holds, Call, took, refused, call, ran, answers, fresh-holds}
 use Rattle.plan.proofs.Plan.{plan-fits, plan-passes}
 
 module _ (r : Railway) (accepted : recordRefusal r ≡ none) where
-  -- every line of the plan fits into 45 bytes
-  short : (b : List ℕ) → 45 ≤ length b → (ls : List PlanLine) → all (fits r) ls ≡ true → all (λ l. leb (length l) (length b)) (map spell ls) ≡ true
-  unfolding all
-  short b h [] e = refl
-  short b h (l ∷ ls) e =
+  -- buffers with room for every line are long enough
+  room : (ls : List PlanLine) (bs : List (List ℕ)) → all (fits r) ls ≡ true → all (λ b. leb mostLineBytes (length b)) bs ≡ true → length (map spell ls) < length bs → longEnough (map spell ls) bs ≡ true
+  unfolding all longEnough
+  room [] [] e h m = absurd (omega arith)
+  room (l ∷ ls) [] e h m = absurd (omega arith)
+  room [] (b ∷ bs) e h m = refl
+  room (l ∷ ls) (b ∷ bs) e h m =
       let f = and-true (fits r l) (all (fits r) ls) e in
-      and-both (leb (length (spell l)) (length b)) (all (λ l. leb (length l) (length b)) (map spell ls)) (le-leb (length (spell l)) (length b) (omega (arith, at-most-45 r (facts r accepted) l (f .0)))) (short b h ls (f .1))
+      let g = and-true (leb mostLineBytes (length b)) (all (λ b. leb mostLineBytes (length b)) bs) h in
+      let k : mostLineBytes ≤ length b = leb-true mostLineBytes (length b) (g .0) in
+      and-both (leb (length (spell l)) (length b)) (longEnough (map spell ls) bs) (le-leb (length (spell l)) (length b) (omega (arith, lines-short r accepted l (f .0)))) (room ls bs (f .1) (g .1) (omega arith))
 
-  short-plan : (figs sets b : List ℕ) → 45 ≤ length b → all (fits r) (planLines r figs sets) ≡ true → all (λ l. leb (length l) (length b)) (planTexts r figs sets) ≡ true
+  plan-room : (figs sets : List ℕ) (bs : List (List ℕ)) → all (fits r) (planLines r figs sets) ≡ true → all (λ b. leb mostLineBytes (length b)) bs ≡ true → length (planTexts r figs sets) < length bs → longEnough (planTexts r figs sets) bs ≡ true
   unfolding planTexts
-  short-plan figs sets b h e = short b h (planLines r figs sets) e
+  plan-room figs sets bs e h m = room (planLines r figs sets) bs e h m
 
   -- THE CALLS WITH OTHER LINES AMONG THEM: taken are the lines of the plan, and they alone
   record Handled (hs : List Handed) (u : Run) : Type 0 where
@@ -77,12 +87,23 @@ module _ (r : Railway) (accepted : recordRefusal r ≡ none) where
       handled-step (h .text) hs taken c k (takeLine r c (h .text)) (λ before k i e. handled hs before (takeLine r c (h .text) .checking) k i e) (h .own) (call r accepted taken (h .text) c k) i e
 
   -- any texts in form that pass, with any refused texts among them
-  passed : (hs : List Handed) (c : Checking) → Holds r accepted [] c → Passing r (ownTexts hs) → othersRefused hs (run r (textsOf hs) c .answers) ≡ true → Passed r hs (run r (textsOf hs) c)
+  passed : (hs : List Handed) (c : Checking) → Holds r accepted [] c → Passing r (ownTexts hs) → othersRefused hs (run r (textsOf hs) c .answers) ≡ true
+      → Passed hs (run r (textsOf hs) c .answers) (testPlan r (run r (textsOf hs) c .end) .answer)
   passed hs c k p e =
       let u : Run = run r (textsOf hs) c in
       let n = handled hs [] c k (record { start = p .start; lines = p .lines; form = p .form; holds = tt }) e in
       let h : Holds r accepted (ownTexts hs) (u .end) = subst (λ (ls : List (List ℕ)). Holds r accepted ls (u .end)) (n .texts) (ran r accepted (textsOf hs) [] c k .holds) in
       record { taken = n .marks; passes = answers r accepted (ownTexts hs) (u .end) h .passes .1 p }
+
+  -- the same of any calls that keep their promises
+  passed-calls : (figs sets : List ℕ) (c : Checking) → placements r ≤ length figs → placements r ≤ length sets → FreshPost figs sets c
+      → (hs : List Handed) (u : Run) → Taking r c (textsOf hs) u → Passing r (ownTexts hs) → othersRefused hs (u .answers) ≡ true
+      → (test : TestAnswer) (c′ : Checking) → TestPost r (u .end) test c′ → Passed hs (u .answers) test
+  passed-calls figs sets c lf ls p hs u t y e test c′ q =
+      let s : u ≡ run r (textsOf hs) c = taking-one r c (textsOf hs) u t in
+      let k : Holds r accepted [] c = subst (Holds r accepted []) (sym (fresh-one figs sets c p)) (fresh-holds r accepted (length figs) (length sets) lf ls) in
+      let x = passed hs c k y (rw s at e) in
+      rw s (record { taken = x .taken; passes = q .answer ∙ ap (λ (v : Run). testPlan r (v .end) .answer) s ∙ x .passes })
 
 pub demand3-holds : Demand3Holds
 demand3-holds r a figs sets figs′ sets′ accepted lf ls post =
@@ -96,8 +117,12 @@ demand3-holds r a figs sets figs′ sets′ accepted lf ls post =
       figures = filled .figures;
       settings = filled .settings;
       plays = filled-whole r accepted figs′ sets′ filled;
-      emits = λ n start buffers e. emits r figs′ sets′ still n start buffers e;
-      emits-into = λ n start buffer h calls l. emits-into r figs′ sets′ still n start calls buffer l (short-plan r accepted figs′ sets′ buffer h (plan-fits r accepted figs′ sets′ filled n start));
-      emits-none = emits-none r figs′ sets′ still;
-      checks = λ n start k l i j hs own e. passed r accepted hs (freshChecking k l) (fresh-holds r accepted k l i j) (subst (Passing r) (sym own) (plan-passes r accepted figs′ sets′ filled n start)) e;
+      emits = λ n start buffers e calls long. emitting-one r figs′ sets′ Top buffers e calls ∙ emits r figs′ sets′ still n start buffers long;
+      room = λ n start buffers each more. plan-room r accepted figs′ sets′ buffers (plan-fits r accepted figs′ sets′ filled n start) each more;
+      emits-none = λ start place b b′ e p. (
+          let w = emits-none r figs′ sets′ still start place b in
+          (p .answer ∙ ap (λ (x : Wrote). x .answer) w, p .buffer ∙ ap (λ (x : Wrote). x .buffer) w)
+          );
+      checks = λ n start lent₁ lent₂ c i j fresh hs u calls own e test c′ p.
+          passed-calls r accepted lent₁ lent₂ c i j fresh hs u calls (subst (Passing r) (sym own) (plan-passes r accepted figs′ sets′ filled n start)) e test c′ p;
     }

@@ -25,7 +25,9 @@ use Rattle.plan.specs.declared.PlanPlace.the-variants.{Top, From}
 use Rattle.plan.specs.declared.Emitted.the-variants.{Line, End, NoPlan}
 use Rattle.plan.specs.Lines.{startLine, placementLine, spell}
 use Rattle.plan.specs.Text.{hasFigure, lineFor, planLines, planTexts}
-use Rattle.plan.specs.Emitter.{unwritten, written, nextCode, lineAt, emitLine, Emission, goOn, emission, emissionInto, longEnough}
+use Rattle.plan.specs.Emitter.{unwritten, written, nextCode, lineAt, emitLine}
+use Rattle.plan.specs.Calls.{Emission, longEnough}
+use Rattle.plan.proofs.Calls.{goOn, emission}
 
 -- in an accepted case with tables long enough nothing is refused
 pub none-refused : (r : Railway) (figs sets : List ℕ) → recordRefusal r ≡ none → placements r ≤ length figs → placements r ≤ length sets → caseRefusal r figs sets ≡ none
@@ -36,12 +38,9 @@ unfolding longEnough
 no-buffers [] e = clash e refl
 no-buffers (l ∷ ls) e = clash e refl
 
--- a line that fits into the buffer: what is written, and how long the buffer is then
+-- what is written where a line fits into the buffer
 put-line : (l : List ℕ) (next : PlanPlace) (b : List ℕ) → length l ≤ length b → written l next b ≡ record { answer = Line (length l) next; buffer = l ++ drop (length l) b }
 put-line l next b h = rw (le-ltb (length b) (length l) h)
-
-put-length : (l b : List ℕ) → length l ≤ length b → length (l ++ drop (length l) b) ≡ length b
-put-length l b h = simp (length-append, length-drop) (omega arith)
 
 module _ (r : Railway) (figs sets : List ℕ) (fine : caseRefusal r figs sets ≡ none) where
   -- none is answered where the start has no figure
@@ -101,22 +100,6 @@ module _ (r : Railway) (figs sets : List ℕ) (fine : caseRefusal r figs sets �
             let h = enough l (textsFrom next) b bs e in
             rw (c (h .0), take-append-seam l (drop (length l) b), rest next (h .1))
 
-    -- ALL CALLS into one buffer
-    into-from : (calls : ℕ) (b : List ℕ) (place : PlanPlace) → length (textsFrom place) < calls → all (λ l. leb (length l) (length b)) (textsFrom place) ≡ true
-        → emissionInto r figs sets calls b place ≡ Whole (textsFrom place)
-    unfolding emissionInto all
-    into-from zero b place m e = absurd (omega arith)
-    into-from (suc calls) b place m e = go (textsFrom place) (call place b) m e (into-from calls)
-      where
-        go : (ls : List (List ℕ)) → Call place b ls → length ls < suc calls → all (λ l. leb (length l) (length b)) ls ≡ true
-            → ((b : List ℕ) (next : PlanPlace) → length (textsFrom next) < calls → all (λ l. leb (length l) (length b)) (textsFrom next) ≡ true → emissionInto r figs sets calls b next ≡ Whole (textsFrom next))
-            → goOn (emitLine r figs sets place b .buffer) (emitLine r figs sets place b .answer) (emissionInto r figs sets calls (emitLine r figs sets place b .buffer)) ≡ Whole ls
-        go [] (ends c) m e rest = rw c
-        go (l ∷ ls) (writes k next c) m e rest =
-            let h = and-true (leb (length l) (length b)) (all (λ l. leb (length l) (length b)) (textsFrom next)) e in
-            let i : length l ≤ length b = leb-true (length l) (length b) (h .0) in
-            rw (c i, take-append-seam l (drop (length l) b), rest (l ++ drop (length l) b) next (omega arith) (rw (put-length l b i) (h .1)))
-
     -- THE PLAN'S LINES are those from the top on
     each-text : (xs : List ℕ) → map textFor xs ≡ map spell (map placementLine (map (lineFor r figs sets) xs))
     each-text [] = refl
@@ -130,7 +113,3 @@ module _ (r : Railway) (figs sets : List ℕ) (fine : caseRefusal r figs sets �
 
     pub emits : (bs : List (List ℕ)) → longEnough (planTexts r figs sets) bs ≡ true → emission r figs sets bs Top ≡ Whole (planTexts r figs sets)
     emits bs e = emission-from bs Top (subst (λ (ls : List (List ℕ)). longEnough ls bs ≡ true) (sym from-top) e) ∙ ap Whole from-top
-
-    pub emits-into : (calls : ℕ) (b : List ℕ) → length (planTexts r figs sets) < calls → all (λ l. leb (length l) (length b)) (planTexts r figs sets) ≡ true
-        → emissionInto r figs sets calls b Top ≡ Whole (planTexts r figs sets)
-    emits-into calls b m e = into-from calls b Top (subst (λ (ls : List (List ℕ)). length ls < calls) (sym from-top) m) (subst (λ (ls : List (List ℕ)). all (λ l. leb (length l) (length b)) ls ≡ true) (sym from-top) e) ∙ ap Whole from-top

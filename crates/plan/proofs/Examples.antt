@@ -1,4 +1,5 @@
--- The checker's and the emitter's answers by computation: one table of texts handed in, with the numbers that each line and the test get; one of calls of the emitter.
+-- The checker's and the emitter's answers by computation: one table of texts handed in, with the numbers that each line and the test get; one of calls of the emitter;
+-- the order of several points and open trains in a line.
 -- Assumes nothing.
 use mathlib.Core.Path.{_≡_, refl}
 use mathlib.Core.Bool.{Bool, true, false, _&&_}
@@ -7,7 +8,7 @@ use mathlib.Core.Option.{Option, none, some}
 use Prim.Native.Nat.{ℕ}
 use Prim.Native.String.{String}
 use lib.Dec.{eqb}
-use lib.ListN.{replicate}
+use lib.ListN.{set, replicate}
 use Rattle.laws.specs.Below.{allBelow, anyBelow, sumBelow, whichBelow, listBelow, lowest}
 use Rattle.laws.specs.Bits.{fromBits}
 use Rattle.laws.specs.Lists.{any, all}
@@ -28,16 +29,17 @@ use Rattle.railway.specs.Yards.{yardH, lineJ, lineG, lineT, sec, yardA, yardOne
 use Rattle.tables.specs.Entries.{entryFrom}
 use Rattle.tables.specs.Tables.{tablesShort, caseRefusal}
 use Rattle.tables.proofs.Starred.{figsA, setsA}
+use Rattle.tables.proofs.Examples.{ladder}
 use Rattle.plan.specs.declared.PlanPlace.{PlanPlace}
 use Rattle.plan.specs.declared.PlanPlace.the-variants.{Top, From}
 use Rattle.plan.specs.declared.Emitted.the-variants.{Line, End, NoPlan, Refused}
-use Rattle.plan.specs.Lines.{spell, fits}
+use Rattle.plan.specs.Lines.{PlacementLine, placementLine, spell, fits}
 use Rattle.plan.specs.Text.{lineFor}
 use Rattle.plan.specs.Emitter.{numberGiven, Wrote, unwritten, emitLine}
 use Rattle.plan.specs.Test.{listedSetting}
 use Rattle.plan.specs.Reading.{guess, readLine}
 use Rattle.plan.specs.Computed.{placementFine, testHolds}
-use Rattle.plan.specs.Checker.{freshChecking, lineNumber, testNumber, takeLine, testPlan, Run, run}
+use Rattle.plan.specs.Checker.{freshChecking, lineEntry, lineNumber, testNumber, takeLine, testPlan, Run, run}
 
 -- A text and the number that its call is to get; 0: it is taken.
 record Said : Type 0 where
@@ -131,6 +133,11 @@ scripts =
     ∷ script yardOne 1 ("plan\t0\n" gets 0 ∷ "1\t0\t0\t-\n" gets 10 ∷ "1\t0\t0\t.\n" gets 0 ∷ []) 0
     -- the largest figure
     ∷ script yardOne 1 ("plan\t4294967294\n" gets 0 ∷ "1\t4294967294\t0\t.\n" gets 0 ∷ []) 0
+    -- three points: train 1 goes to 2 by point 1 and on to 4 by point 2, train 2 then to 3 by point 3; the same with the start's signs the other way round
+    ∷ script ladder 49 ("plan\t3\n" gets 0 ∷ "4\t3\t0\t0\t---\n" gets 0 ∷ "1\t7\t3\t1\t+-+\n" gets 0 ∷ "2\t7\t2\t0\t-++\n" gets 0 ∷ "4\t7\t1\t2\t++-\n" gets 0 ∷ []) 0
+    ∷ script ladder 49 ("plan\t3\n" gets 0 ∷ "4\t3\t0\t0\t---\n" gets 0 ∷ "1\t7\t3\t1\t-++\n" gets 0 ∷ "2\t7\t2\t0\t-++\n" gets 0 ∷ "4\t7\t1\t2\t++-\n" gets 0 ∷ []) 11
+    -- a sign too few and too many; two open trains, which fall and which rise
+    ∷ script ladder 49 ("plan\t3\n" gets 0 ∷ "1\t7\t3\t12\t+-\n" gets 10 ∷ "1\t7\t3\t12\t+--+\n" gets 10 ∷ "1\t7\t3\t21\t+--\n" gets 10 ∷ "1\t7\t3\t12\t+--\n" gets 0 ∷ []) 11
     -- no line; tables too short; a record that is refused, whatever the tables and the text
     ∷ script yardA 9 [] 10
     ∷ script yardA 8 ("plan\t2\n" gets 9 ∷ "plan" gets 9 ∷ []) 9
@@ -157,3 +164,19 @@ emitted :
     × (numberGiven (emitLine wrongJoin [] [] Top [] .answer) ≡ some 5)
 unfolding emitLine caseRefusal tablesShort first unknownRow joinRow looseRow placeRow endAt joined hasSignal legsOf runOf withJoin withSignal withLegs withTrain anyBelow sumBelow whichBelow listBelow lowest lineFor spell line digits codeOf sectionsIn startCode
 emitted = (refl, refl, refl, refl, refl, refl, refl, refl)
+
+-- THE ORDER OF SEVERAL POINTS, point 1 first and in bit 0, and of two open trains: a line of the ladder's start spelled, read, entered and emitted again.
+abbrev startLadder : PlacementLine
+startLadder = record { sections = 0 ∷ 6 ∷ []; figure = 3; opens = true ∷ true ∷ []; plus = true ∷ false ∷ false ∷ [] }
+
+abbrev figsLadder : List ℕ
+figsLadder = set (replicate 49 4294967295) 42 3
+
+several-points :
+    (spell (placementLine startLadder) ≡ bytes "1\t7\t3\t12\t+--\n")
+    × (readLine ladder (bytes "1\t7\t3\t12\t+--\n") ≡ some (placementLine startLadder))
+    × (lineEntry ladder startLadder ≡ 196609)
+    × (lineFor ladder figsLadder (set (replicate 49 0) 42 196609) 42 ≡ startLadder)
+    × (emitLine ladder figsLadder (set (replicate 49 0) 42 65540) (From 0) (replicate 12 7) ≡ record { answer = Line 12 (From 43); buffer = bytes "1\t7\t3\t1\t--+\n" })
+unfolding bytes emitLine caseRefusal tablesShort first unknownRow joinRow looseRow placeRow endAt joined hasSignal legsOf runOf withJoin withSignal withLegs withTrain anyBelow sumBelow whichBelow listBelow lowest fromBits any all readLine guess fields valueOf sameText fits lineFor spell line digits codeOf sectionsIn startCode entryFrom
+several-points = (refl, refl, refl, refl, refl)

@@ -1,6 +1,6 @@
 -- The hypotheses can be met: Yard A's tables are what a solver leaves that keeps its promise, its start has a figure, buffers are long enough, and lines that
 -- the checker refuses come among the plan's; there are plans that pass and plans that fail. Assumes nothing.
-use mathlib.Core.Path.{_≡_, refl, sym, _∙_}
+use mathlib.Core.Path.{_≡_, refl, sym, _∙_, ap}
 use mathlib.Core.Bool.{true, false}
 use mathlib.Core.List.{List, [], _∷_, map}
 use mathlib.Core.Option.{some}
@@ -30,16 +30,17 @@ use Rattle.tables.specs.Solver.{Kept, SolverPost}
 use Rattle.tables.proofs.Starred.{figsA, setsA, yardA-accepted, yardA-filled}
 use Rattle.plan.specs.declared.PlanPlace.the-variants.{Top}
 use Rattle.plan.specs.declared.Emitted.the-variants.{End}
-use Rattle.plan.specs.declared.TestAnswer.the-variants.{Refused}
+use Rattle.plan.specs.declared.TestAnswer.the-variants.{Pass, Refused}
 use Rattle.plan.specs.Lines.{spell, fits}
 use Rattle.plan.specs.Text.{lineFor, planLines, planTexts}
-use Rattle.plan.specs.Emitter.{Emission, emission, emissionInto, longEnough}
+use Rattle.plan.specs.Calls.{Emission, longEnough}
 use Rattle.plan.specs.Test.{listedSetting}
 use Rattle.plan.specs.Reading.{guess, readLine}
 use Rattle.plan.specs.Computed.{placementFine, testHolds}
-use Rattle.plan.specs.Checker.{freshChecking, takeLine, testPlan, Run, run, takenTexts}
+use Rattle.plan.specs.Checker.{testNumber, freshChecking, takeLine, testPlan, Run, run, takenTexts}
 use Rattle.plan.specs.Checked.{Passing, Failing}
 use Rattle.plan.specs.Demand3.{Handed, ownTexts, othersRefused, Passed, Demand3}
+use Rattle.plan.proofs.Calls.{emission, emitting, taking}
 use Rattle.plan.proofs.Checks.{checked-holds}
 use Rattle.plan.proofs.Plan.{plan-passes}
 use Rattle.plan.proofs.Demand.{demand3-holds}
@@ -90,21 +91,26 @@ computed :
     × (ownTexts handed ≡ planTexts yardA figsA setsA)
     × (othersRefused handed (handedRun .answers) ≡ true)
     × (testPlan yardA (firstAlone .end) .answer ≡ Refused PlanFault)
+    × (Pass ≡ testPlan yardA (handedRun .end) .answer)
 unfolding longEnough planTexts planLines lineFor ownTexts othersRefused bytes run takeLine testPlan caseRefusal tablesShort first unknownRow joinRow looseRow placeRow endAt joined hasSignal legsOf runOf withJoin withSignal withLegs withTrain allBelow anyBelow sumBelow whichBelow listBelow fromBits any all readLine guess fields valueOf sameText spell line digits fits entryFrom codeOf testHolds placementFine listedSetting keepsTest sectionsIn standsOn startCode atHome shared headsFor held mayMove passes occupied moveOf
-computed = (refl, refl, refl, refl, refl, refl)
+computed = (refl, refl, refl, refl, refl, refl, refl)
 
--- so demand 3 speaks of calls that there are
+-- so demand 3 speaks of calls that there are: those of the functions, with buffers that are long enough and with buffers of the most bytes
 abbrev whole : Emission
 whole = record { lines = planTexts yardA figsA setsA; last = some End }
 
 emits : emission yardA figsA setsA buffers Top ≡ whole
-emits = demand .emits 2 (computed .0) buffers (computed .1)
+emits = demand .emits 2 (computed .0) buffers (emission yardA figsA setsA buffers Top) (emitting yardA figsA setsA buffers Top) (computed .1)
 
-emits-into : emissionInto yardA figsA setsA 5 (replicate 45 7) Top ≡ whole
-emits-into = demand .emits-into 2 (computed .0) (replicate 45 7) (omega arith) 5 (omega (arith, computed .2))
+room : longEnough (planTexts yardA figsA setsA) (replicate 5 (replicate 45 7)) ≡ true
+unfolding all
+room = demand .room 2 (computed .0) (replicate 5 (replicate 45 7)) refl (omega (arith, computed .2))
 
-checks : Passed yardA handed handedRun
-checks = demand .checks 2 (computed .0) 9 12 (omega (arith, nine)) (omega (arith, nine)) handed (computed .3) (computed .4)
+checks : Passed handed (handedRun .answers) Pass
+checks =
+    demand .checks 2 (computed .0) lent (replicate 12 5) (freshChecking 9 12) (omega (arith, nine)) (omega (arith, nine)) (record { state = refl; figures = refl; settings = refl })
+    handed handedRun (taking yardA (map (λ h. h .text) handed) (freshChecking 9 12)) (computed .3) (computed .4)
+    Pass (testPlan yardA (handedRun .end) .checking) (record { answer = computed .6; numbered = ap testNumber (computed .6); checking = refl })
 
 -- and there are plans that pass, and plans that fail
 passing : Passing yardA (planTexts yardA figsA setsA)

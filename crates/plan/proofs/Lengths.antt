@@ -1,4 +1,4 @@
--- A line that fits an accepted case has 45 bytes at most, so a longer text is refused by its form alone. Four sections take three bytes each with their tabs,
+-- A line that fits an accepted case has 45 bytes at most. Four sections take three bytes each with their tabs,
 -- a figure ten and a tab, the open trains four and a tab, the points sixteen and the line end. Assumes nothing.
 use mathlib.Core.Path.{_≡_, _∙_}
 use mathlib.Core.Bool.{true, false}
@@ -15,8 +15,8 @@ use Rattle.laws.proofs.Which.{which-length}
 use Rattle.text.specs.Text.{decimal, line}
 use Rattle.text.proofs.Decimal.{digits-length, digits-short}
 use Rattle.railway.specs.declared.Railway.{Railway}
-use Rattle.game.proofs.Accepted.{Facts}
-use Rattle.plan.specs.Lines.{PlanLine, startLine, placementLine, orByte, openField, sign, pointField, sectionField, planWord, spell, fits}
+use Rattle.game.proofs.Accepted.{Facts, facts}
+use Rattle.plan.specs.Lines.{PlanLine, startLine, placementLine, orByte, openField, sign, pointField, sectionField, planWord, spell, fits, mostLineBytes, LinesShort}
 use Rattle.plan.proofs.Reading.{fits-parts}
 
 -- a line is as long as its fields, with one byte behind each
@@ -54,10 +54,10 @@ unfolding total
 lines-total [] f fs = line-length f fs ∙ omega arith
 lines-total (x ∷ xs) f fs = line-length (decimal (suc x)) (map sectionField xs ++ (f ∷ fs)) ∙ total-append (map sectionField (x ∷ xs)) (f ∷ fs)
 
-pub at-most-45 : (r : Railway) → Facts r → (l : PlanLine) → fits r l ≡ true → length (spell l) ≤ 45
+at-most : (r : Railway) → Facts r → (l : PlanLine) → fits r l ≡ true → length (spell l) ≤ mostLineBytes
 unfolding spell total
-at-most-45 r ok (startLine n) e = rw (line-length planWord (decimal n ∷ [])) (omega (arith, digits-length 10 n))
-at-most-45 r ok (placementLine d) e =
+at-most r ok (startLine n) e = rw (line-length planWord (decimal n ∷ [])) (omega (arith, digits-length 10 n))
+at-most r ok (placementLine d) e =
     let f = fits-parts r d e in
     let s₁ : total (map sectionField (d .sections)) ≤ 3 * length (d .sections) = sections-total (d .sections) (r .sections) (ok .few-sections) (f .there) in
     let s₂ : length (decimal (d .figure)) ≤ 10 = digits-length 10 (d .figure) in
@@ -66,3 +66,6 @@ at-most-45 r ok (placementLine d) e =
     (omega (arith, length-map (whichBelow (λ t. getD (d .opens) t false) (length (d .opens))) (λ t. 49 + t), which-length (λ t. getD (d .opens) t false) (length (d .opens)), ok .few-trains, f .opened)) (omega arith) in
     let s₄ : length (pointField (d .plus)) ≤ 16 = or-length 46 (map sign (d .plus)) 16 (omega (arith, length-map (d .plus) sign, ok .few-points, f .pointed)) (omega arith) in
     rw (lines-total (d .sections) (decimal (d .figure)) (openField (d .opens) ∷ pointField (d .plus) ∷ [])) (omega (arith, ok .few-trains, f .each-train))
+
+pub lines-short : LinesShort
+lines-short r accepted l e = at-most r (facts r accepted) l e

@@ -1,11 +1,13 @@
 -- The one statement about solver, emitter and checker together, over whole plays and all calls (document 01, "Agreement": demand 3).
--- The emitter's and the checker's calls answer what Emitter and Checker define; of the solver only its promise is used. Assumes nothing.
+-- It is about any solver, any emitter and any checker: of each call only its promise is used (tables/Solver; Promises, Calls). Assumes nothing.
 use mathlib.Core.Path.{_≡_}
 use mathlib.Core.Bool.{Bool, true, cond, not, _&&_, _||_}
 use mathlib.Core.List.{List, [], _∷_, map}
 use mathlib.Core.Option.{none, some}
 use Prim.Native.Nat.{ℕ, _≤_, _<_}
 use lib.ListN.{length, getD}
+use lib.Dec.{leb}
+use Rattle.laws.specs.Lists.{all}
 use Rattle.railway.specs.declared.Railway.{Railway}
 use Rattle.railway.specs.Rows.{recordRefusal}
 use Rattle.game.specs.Game.{IsFigure}
@@ -17,12 +19,16 @@ use Rattle.tables.specs.Tables.{figureIn, settingIn, IsPlanEntry}
 use Rattle.tables.specs.Solver.{refusalGiven, figureGiven, SolverPost}
 use Rattle.plan.specs.declared.PlanPlace.{PlanPlace}
 use Rattle.plan.specs.declared.PlanPlace.the-variants.{Top}
+use Rattle.plan.specs.declared.Emitted.{Emitted}
 use Rattle.plan.specs.declared.Emitted.the-variants.{End, NoPlan}
 use Rattle.plan.specs.declared.LineAnswer.{LineAnswer}
+use Rattle.plan.specs.declared.TestAnswer.{TestAnswer}
 use Rattle.plan.specs.declared.TestAnswer.the-variants.{Pass}
+use Rattle.plan.specs.Lines.{mostLineBytes}
 use Rattle.plan.specs.Text.{planTexts}
-use Rattle.plan.specs.Emitter.{unwritten, emitLine, emission, emissionInto, longEnough}
-use Rattle.plan.specs.Checker.{freshChecking, testPlan, Run, run, isTaken}
+use Rattle.plan.specs.Checker.{Checking, Run, isTaken}
+use Rattle.plan.specs.Promises.{EmitterPost, TestPost, FreshPost}
+use Rattle.plan.specs.Calls.{Emission, Emitting, longEnough, Taking}
 
 -- A text handed to the checker: a line of the plan, or another one.
 pub record Handed : Type 0 where
@@ -40,12 +46,12 @@ othersRefused [] answers = true
 othersRefused (h ∷ hs) [] = true
 othersRefused (h ∷ hs) (a ∷ answers) = (h .own || not (isTaken a)) && othersRefused hs answers
 
--- Taken were the lines of the plan, and no other text; the test then passes.
-pub record Passed (r : Railway) (hs : List Handed) (u : Run) : Type 0 where
-  pub taken : map isTaken (u .answers) ≡ map (λ h. h .own) hs
-  pub passes : testPlan r (u .end) .answer ≡ Pass
+-- Taken were the lines of the plan, and no other text; the test was then answered with pass.
+pub record Passed (hs : List Handed) (answers : List LineAnswer) (test : TestAnswer) : Type 0 where
+  pub taken : map isTaken answers ≡ map (λ h. h .own) hs
+  pub passes : test ≡ Pass
 
--- What holds of an accepted case's two tables as the solver left them.
+-- What holds in an accepted case of the solver's answer, of the two tables that it left, and of all calls that are made with them.
 pub record Demand3 (r : Railway) (a : SolverAnswer) (figs sets : List ℕ) : Type 0 where
   -- the solver refused nothing, and answered the start's figure or that there is none
   pub solved : refusalGiven a ≡ none
@@ -56,19 +62,21 @@ pub record Demand3 (r : Railway) (a : SolverAnswer) (figs sets : List ℕ) : Typ
   -- of whole plays: the settings lead home within the figure, no way of working does better against all choices of trains, a figure is
   -- missing just where no way comes home against them all, and one choice of trains wins from all those placements
   pub plays : Whole (gameOf r) (figureIn figs) (settingIn r sets)
-  -- the emitter's calls write the plan, byte for byte, and end: into buffers long enough, and into one of 45 bytes or more
-  pub emits : (n : ℕ) → figureIn figs (startCode r) ≡ some n → (buffers : List (List ℕ)) → longEnough (planTexts r figs sets) buffers ≡ true
-      → emission r figs sets buffers Top ≡ record { lines = planTexts r figs sets; last = some End }
-  pub emits-into : (n : ℕ) → figureIn figs (startCode r) ≡ some n → (buffer : List ℕ) → 45 ≤ length buffer
-      → (calls : ℕ) → length (planTexts r figs sets) < calls
-      → emissionInto r figs sets calls buffer Top ≡ record { lines = planTexts r figs sets; last = some End }
-  -- where the start has no figure every call answers that there is no plan
-  pub emits-none : figureIn figs (startCode r) ≡ none → (place : PlanPlace) (buffer : List ℕ) → emitLine r figs sets place buffer ≡ unwritten NoPlan buffer
+  -- the emitter's calls, with buffers long enough, write the plan, byte for byte, and end
+  pub emits : (n : ℕ) → figureIn figs (startCode r) ≡ some n → (buffers : List (List ℕ)) (e : Emission) → Emitting r figs sets Top buffers e
+      → longEnough (planTexts r figs sets) buffers ≡ true → e ≡ record { lines = planTexts r figs sets; last = some End }
+  -- and buffers that have room for every line are long enough, if there is one for each of the plan's lines and one more
+  pub room : (n : ℕ) → figureIn figs (startCode r) ≡ some n → (buffers : List (List ℕ)) → all (λ b. leb mostLineBytes (length b)) buffers ≡ true
+      → length (planTexts r figs sets) < length buffers → longEnough (planTexts r figs sets) buffers ≡ true
+  -- where the start has no figure every call answers that there is no plan, and writes nothing
+  pub emits-none : figureIn figs (startCode r) ≡ none → (place : PlanPlace) (b b′ : List ℕ) (e : Emitted) → EmitterPost r figs sets place b e b′
+      → (e ≡ NoPlan) × (b′ ≡ b)
   -- the checker's calls for the lines of the plan, first to last, and for any others that it refuses, before, between and behind them, from
   -- fresh tables that are long enough: it takes those of the plan and no others, and then answers pass to the call for the test
-  pub checks : (n : ℕ) → figureIn figs (startCode r) ≡ some n → (k l : ℕ) → placements r ≤ k → placements r ≤ l → (hs : List Handed)
-      → (let u : Run = run r (map (λ h. h .text) hs) (freshChecking k l) in
-      ownTexts hs ≡ planTexts r figs sets → othersRefused hs (u .answers) ≡ true → Passed r hs u)
+  pub checks : (n : ℕ) → figureIn figs (startCode r) ≡ some n
+      → (lent₁ lent₂ : List ℕ) (c : Checking) → placements r ≤ length lent₁ → placements r ≤ length lent₂ → FreshPost lent₁ lent₂ c
+      → (hs : List Handed) (u : Run) → Taking r c (map (λ h. h .text) hs) u → ownTexts hs ≡ planTexts r figs sets → othersRefused hs (u .answers) ≡ true
+      → (test : TestAnswer) (c′ : Checking) → TestPost r (u .end) test c′ → Passed hs (u .answers) test
 
 -- DEMAND 3: in an accepted case with tables long enough it holds of whatever a solver leaves that keeps its promise.
 abbrev pub Demand3Holds : Type 0

@@ -1,10 +1,10 @@
--- The emitter: a line of the plan a call, from two tables into a lent text buffer. Each call is total: any record, tables, place and buffer.
--- Assumes nothing.
-use mathlib.Core.Bool.{Bool, true, false, cond, _&&_}
-use mathlib.Core.List.{List, [], _∷_, _++_}
+-- The emitter: a line of the plan a call, from two tables into a lent text buffer (document 01, "The two tables and the plan": plan text; rows 3 to 9 and what
+-- stands under the table of numbers). Each call is total: any record, tables, place and buffer. Assumes nothing.
+use mathlib.Core.Bool.{Bool, cond, _&&_}
+use mathlib.Core.List.{List, _++_}
 use mathlib.Core.Option.{Option, none, some}
-use Prim.Native.Nat.{ℕ, zero, suc}
-use lib.ListN.{length, getD, take, drop}
+use Prim.Native.Nat.{ℕ, suc}
+use lib.ListN.{length, getD, drop}
 use lib.Dec.{ltb, leb}
 use Rattle.laws.specs.Below.{lowest}
 use Rattle.railway.specs.declared.Railway.{Railway}
@@ -71,31 +71,3 @@ emitted r figs sets place buffer none (some n) = lineAt r figs sets buffer place
 -- A CALL of the emitter.
 unfoldable pub emitLine : Railway → List ℕ → List ℕ → PlanPlace → List ℕ → Wrote
 emitLine r figs sets place buffer = emitted r figs sets place buffer (caseRefusal r figs sets) (figureIn figs (startCode r))
-
--- ALL CALLS, each from the place that the last one answered, until an answer that is no line: the lines written, and that answer.
-pub record Emission : Type 0 where
-  pub lines : List (List ℕ)
-  pub last : Option Emitted
-
--- The calls after one that left this, by the place from which they start.
-abbrev pub goOn : List ℕ → Emitted → (PlanPlace → Emission) → Emission
-goOn buffer (Line n next) rest = record { lines = take n buffer ∷ rest next .lines; last = rest next .last }
-goOn buffer End rest = record { lines = []; last = some End }
-goOn buffer NoPlan rest = record { lines = []; last = some NoPlan }
-goOn buffer (Refused f) rest = record { lines = []; last = some (Refused f) }
-
--- With a buffer for each call; with no buffer left the calls stop before such an answer.
-unfoldable pub emission : Railway → List ℕ → List ℕ → List (List ℕ) → PlanPlace → Emission
-emission r figs sets [] place = record { lines = []; last = none }
-emission r figs sets (b ∷ bs) place = let w = emitLine r figs sets place b in goOn (w .buffer) (w .answer) (emission r figs sets bs)
-
--- With one buffer, handed to each of at most so many calls as the last one left it.
-unfoldable pub emissionInto : Railway → List ℕ → List ℕ → ℕ → List ℕ → PlanPlace → Emission
-emissionInto r figs sets zero b place = record { lines = []; last = none }
-emissionInto r figs sets (suc calls) b place = let w = emitLine r figs sets place b in goOn (w .buffer) (w .answer) (emissionInto r figs sets calls (w .buffer))
-
--- Buffers long enough: for each line one that it fits into, and one more for the call after the last.
-unfoldable pub longEnough : List (List ℕ) → List (List ℕ) → Bool
-longEnough ls [] = false
-longEnough [] (b ∷ bs) = true
-longEnough (l ∷ ls) (b ∷ bs) = leb (length l) (length b) && longEnough ls bs

@@ -4,6 +4,7 @@ pub mod Emitter
 pub mod Test
 pub mod Checker
 pub mod Promises
+pub mod Calls
 pub mod Rules
 pub mod Checked
 pub mod Demand3

@@ -3,13 +3,15 @@
 use mathlib.Core.Path.{_≡_}
 use mathlib.Core.Bool.{Bool, true, false, cond, _&&_}
 use mathlib.Core.List.{List, [], _∷_, _++_, map}
-use Prim.Native.Nat.{ℕ, suc, _+_}
+use mathlib.Core.Option.{none}
+use Prim.Native.Nat.{ℕ, suc, _+_, _≤_}
 use lib.ListN.{length, getD}
 use lib.Dec.{eqb, ltb, leb}
 use Rattle.laws.specs.Below.{whichBelow}
 use Rattle.laws.specs.Lists.{all}
 use Rattle.text.specs.Text.{decimal, line}
 use Rattle.railway.specs.declared.Railway.{Railway}
+use Rattle.railway.specs.Rows.{recordRefusal}
 use Rattle.game.specs.Placement.{codeOf}
 use Rattle.tables.specs.Tables.{noFigure}
 
@@ -69,6 +71,13 @@ fits r (placementLine d) =
 pub record Spells (r : Railway) (text : List ℕ) (l : PlanLine) : Type 0 where
   pub fit : fits r l ≡ true
   pub spelled : spell l ≡ text
+
+-- The most bytes of a line, its end included: no line that fits an accepted case has more, so a longer text is refused by its form alone.
+abbrev pub mostLineBytes : ℕ
+mostLineBytes = 45
+
+abbrev pub LinesShort : Type 0
+LinesShort = (r : Railway) → recordRefusal r ≡ none → (l : PlanLine) → fits r l ≡ true → length (spell l) ≤ mostLineBytes
 
 -- The code of a line's placement.
 abbrev pub lineCode : Railway → PlacementLine → ℕ

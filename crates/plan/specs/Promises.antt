@@ -1,11 +1,14 @@
--- What the calls of emitter and checker promise, for contracts to cite: the answer, its number, and what is left, as Emitter and Checker define them.
--- Assumes nothing.
+-- What each call of emitter and checker promises: the answer, its number, and what is left, as Emitter and Checker define them. The contracts of the calls cite
+-- these records, and Demand3 speaks of any calls of which they hold: part of what is to be believed. Assumes nothing.
 use mathlib.Core.Path.{_≡_}
 use mathlib.Core.List.{List}
 use Prim.Native.Nat.{ℕ}
+use lib.ListN.{length, replicate}
 use Rattle.railway.specs.declared.Railway.{Railway}
+use Rattle.tables.specs.Tables.{noFigure}
 use Rattle.plan.specs.declared.PlanPlace.{PlanPlace}
 use Rattle.plan.specs.declared.Emitted.{Emitted}
+use Rattle.plan.specs.declared.Checker.the-variants.{Fresh}
 use Rattle.plan.specs.declared.LineAnswer.{LineAnswer}
 use Rattle.plan.specs.declared.TestAnswer.{TestAnswer}
 use Rattle.plan.specs.Emitter.{numberGiven, emitLine}
@@ -27,3 +30,10 @@ pub record TestPost (r : Railway) (old : Checking) (a : TestAnswer) (new : Check
   pub answer : a ≡ testPlan r old .answer
   pub numbered : testNumber a ≡ testNumber (testPlan r old .answer)
   pub checking : new ≡ testPlan r old .checking
+
+-- The call that makes two lent tables fresh, whatever stands in them, and hands out the state that has taken no line: it refuses nothing, and every entry is
+-- written, none in the one table and zero in the other.
+pub record FreshPost (figs sets : List ℕ) (new : Checking) : Type 0 where
+  pub state : new .state ≡ Fresh
+  pub figures : new .figs ≡ replicate (length figs) noFigure
+  pub settings : new .sets ≡ replicate (length sets) 0

@@ -80,7 +80,7 @@ gets n r = record { number = n; of = r }
 
 cases : List Case
 cases =
-    -- accepted: a join and a signal; a signal at an end in no join; a point with legs down, and with legs up; the most of each
+    -- accepted: a join and a signal; a signal at an end in no join; a point with legs down, and with legs up; 48 sections; four trains
     gets none (signal (u 2) (join (u 1) (d 2) two))
     ∷ gets none (fork Down (d 3) (u 1) (u 2))
     ∷ gets none (fork Up (u 1) (d 2) (d 3))

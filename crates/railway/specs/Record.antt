@@ -54,7 +54,7 @@ linkAt r i = getD (r .links) i noLink .to
 abbrev pub flagAt : Railway → ℕ → Bool
 flagAt r i = getD (r .signals) i false
 
--- ASKED BY NAME. What an end is joined to (a join ties two ends; a section end in no join is the end of the track).
+-- ASKED BY NAME. What an end is joined to; nothing at a section end is where the track ends.
 unfoldable pub joined : Railway → End → Joined
 joined r e = cond (ltb (endIndex e) allEnds) (linkAt r (endIndex e)) Nothing
 
@@ -75,7 +75,7 @@ abbrev pub sideOf : Railway → End → Side
 sideOf r (Section n s) = s
 sideOf r (Port n l) = portSide (legsOf r (n .0)) l
 
--- UPDATES. A join added, both ways.
+-- UPDATES. The record with other links.
 abbrev pub withLinks : Railway → List Link → Railway
 withLinks r links =
     record {

@@ -23,7 +23,7 @@ use Rattle.railway.specs.Ends.{sameSide, endIndex, endAt}
 use Rattle.railway.specs.Refusals.{Row, row, first}
 use Rattle.railway.specs.Record.{linkAt, flagAt, joined, runOf, sideOf}
 
--- 3, count: the number of sections, points or trains lies outside its bounds.
+-- 3, count: too few or too many sections, points or trains.
 abbrev pub outside : ℕ → ℕ → ℕ → Bool
 outside s p k = ltb s 1 || ltb mostSections s || ltb mostPoints p || ltb k 1 || ltb mostTrains k
 
@@ -36,7 +36,7 @@ abbrev pub known : Railway → End → Bool
 known r (Section n s) = ltb (n .0) (r .sections)
 known r (Port n l) = ltb (n .0) (r .points)
 
--- 4, unknown: a join, a signal or a train names a section or a point that is not there.
+-- 4, unknown: something in the record refers to a section or a point beyond the counts.
 -- A link at an end beyond the counts, and a link to one, is a join that names it; a flag beyond the sections is a signal that does.
 -- Legs of points and runs of trains beyond the counts name nothing, and are not looked at.
 abbrev pub unknownLink : Railway → End → Joined → Bool
@@ -62,8 +62,8 @@ unknownRow r =
     || anyBelow (unknownSignalAt r) sectionEnds
     || anyBelow (unknownTrainAt r) (r .trains)
 
--- 5, join: of the two ends both are ports, both belong to one section, or both are of one side; or an end is in two joins.
--- What the first three ask of an end: the section that it belongs to (none: it is a port) and its side. Records and case texts are judged by these.
+-- 5, join: a pair of ends that no join may tie, or a second join at one end.
+-- The pair is judged by what is asked of each end: the section it belongs to (none for a port) and its side. Records and case texts share this.
 pub record Tied : Type 0 where
   pub section : Option ℕ
   pub side : Side
@@ -120,7 +120,7 @@ unreturnedAt r i = unreturned r (endAt i) (linkAt r i)
 unfoldable pub joinRow : Railway → Bool
 joinRow r = anyBelow (wrongLinkAt r) allEnds || anyBelow (unreturnedAt r) allEnds
 
--- 6, loose: a point's port is in no join.
+-- 6, loose: some port of a point has nothing joined to it.
 abbrev pub unjoined : Joined → Bool
 unjoined Nothing = true
 unjoined (With e) = false
@@ -136,11 +136,11 @@ looseAt r n =
 unfoldable pub looseRow : Railway → Bool
 looseRow r = anyBelow (looseAt r) (r .points)
 
--- 7, double: a signal is named twice. A record has one flag an end, so none is.
+-- 7, double: never so in a record, which has one flag for each end.
 abbrev pub doubleRow : Railway → Bool
 doubleRow r = false
 
--- 8, place: two trains share a start, or two share a destination.
+-- 8, place: two trains would begin, or would end, on one section.
 abbrev pub sharesWith : Railway → ℕ → ℕ → Bool
 sharesWith r t u = eqb (runOf r u .start .0) (runOf r t .start .0) || eqb (runOf r u .destination .0) (runOf r t .destination .0)
 

@@ -1,4 +1,4 @@
--- When two records are the same railway (document 01, end of "The case file"): counts, legs, joins, signals and trains agree.
+-- When two records stand for one railway (document 01, end of "The case file").
 -- Joins and signals are compared at every end a railway can have, for row 4 looks at all of them; legs and trains within the counts. Assumes nothing.
 use mathlib.Core.Path.{_≡_}
 use Prim.Native.Nat.{ℕ, _<_}

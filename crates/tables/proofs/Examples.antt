@@ -1,27 +1,31 @@
--- Small values of the definitions, by computation: which refusal comes first, the bits of an entry, figures past the end of a table, the plan's order key by key.
+-- Small values of the definitions, by computation: which refusal comes first, the bits of an entry, also of several points, figures past the end of a table, the plan's
+-- order key by key.
 -- Assumes nothing.
 use mathlib.Core.Path.{_≡_, refl}
 use mathlib.Core.Bool.{Bool, true, false}
-use mathlib.Core.List.{[], _∷_}
+use mathlib.Core.List.{List, [], _∷_}
 use mathlib.Core.Option.{Option, none, some}
 use Prim.Native.Nat.{ℕ}
 use lib.Dec.{eqb}
 use lib.ListN.{replicate}
-use Rattle.laws.specs.Below.{anyBelow, countBelow, lowest}
+use Rattle.laws.specs.Below.{anyBelow, sumBelow, countBelow, listBelow, lowest}
 use Rattle.laws.specs.Bits.{fromBits}
-use Rattle.railway.specs.declared.Side.the-variants.{Up}
+use Rattle.railway.specs.declared.Side.the-variants.{Up, Down}
+use Rattle.railway.specs.declared.Leg.the-variants.{Stem, Plus, Minus}
 use Rattle.railway.specs.declared.Railway.{Railway}
 use Rattle.railway.specs.declared.Refusal.the-variants.{Space}
 use Rattle.railway.specs.Ends.{endAt}
 use Rattle.railway.specs.Refusals.{first, numberOf}
 use Rattle.railway.specs.Record.{joined, hasSignal, legsOf, runOf, withJoin, withSignal, withLegs, withTrain}
 use Rattle.railway.specs.Rows.{unknownRow, joinRow, looseRow, placeRow}
-use Rattle.game.specs.Placement.{sectionsIn, standsOn}
+use Rattle.game.specs.Game.{Outcome, lost, derailment, at as reaches}
+use Rattle.game.specs.Placement.{codeOf, sectionsIn, standsOn}
 use Rattle.game.specs.Setting.{Setting, headsFor, held, signalOpen}
-use Rattle.railway.specs.Yards.{yardH, lineJ, lineT, sec, yardA}
+use Rattle.game.specs.Moves.{passes, occupied, moveOf}
+use Rattle.railway.specs.Yards.{yardH, lineP, lineJ, lineG, lineT, sec, port, yardA}
 use Rattle.tables.specs.declared.SolverAnswer.the-variants.{Refused, Unsolvable, Figure}
 use Rattle.tables.specs.Entries.{settingAt, entryFrom, entryOf}
-use Rattle.tables.specs.Tables.{figureIn, tablesShort, caseRefusal, openSignals, lowestOpen, noLater}
+use Rattle.tables.specs.Tables.{figureIn, tablesShort, caseRefusal, openSignals, lowestOpen, pointBits, noLater}
 use Rattle.tables.specs.Solver.{numberGiven, figureGiven, upTo}
 
 -- REFUSALS. Sections 1 and 2 joined 1u to 2u: row 5 applies.
@@ -94,3 +98,54 @@ order :
     × (before 65536 65536 ≡ true)
 unfolding noLater settingAt entryFrom openSignals lowestOpen signalOpen held hasSignal headsFor standsOn sectionsIn runOf withJoin withSignal withLegs withTrain anyBelow countBelow lowest fromBits
 order = (refl, refl, refl, refl, refl, refl, refl, refl, refl)
+
+-- SEVERAL POINTS. A ladder of three, all with their legs up: section 1 leads to point 1, whose legs are followed by 2 and 3; section 2 leads to point 2 with 4 and 5
+-- behind it, section 3 to point 3 with 6 and 7. Train 1 heads up from 1 to 4 and train 2 down from 7 to 3, with signals at 1u, 4u and 7d; the start has code 42.
+abbrev pub ladder : Railway
+ladder =
+    lineT 2 Down 7 3
+    (lineT 1 Up 1 4
+    (lineG (sec 7 Down)
+    (lineG (sec 4 Up)
+    (lineG (sec 1 Up)
+    (lineJ (sec 7 Down) (port 3 Minus)
+    (lineJ (sec 6 Down) (port 3 Plus)
+    (lineJ (sec 5 Down) (port 2 Minus)
+    (lineJ (sec 4 Down) (port 2 Plus)
+    (lineJ (sec 3 Down) (port 1 Minus)
+    (lineJ (sec 3 Up) (port 3 Stem)
+    (lineJ (sec 2 Down) (port 1 Plus)
+    (lineJ (sec 2 Up) (port 2 Stem)
+    (lineJ (sec 1 Up) (port 1 Stem)
+    (lineP 3 Up (lineP 2 Up (lineP 1 Up (yardH 7 3 2)))))))))))))))))
+
+-- the points at plus, point 1 first, and the open trains that an entry has at the start
+abbrev plusIn : ℕ → List Bool
+plusIn v = listBelow (settingAt ladder 42 v .plus) 3
+
+abbrev openIn : ℕ → List Bool
+openIn v = listBelow (signalOpen ladder 42 (settingAt ladder 42 v)) 2
+
+-- what moving train t at the start ends in
+abbrev moved : ℕ → ℕ → Outcome
+moved v t = moveOf ladder 42 (settingAt ladder 42 v) t
+
+several-points :
+    (given ladder 49 49 ≡ none)
+    × (plusIn 1 ≡ true ∷ false ∷ false ∷ [])
+    × (plusIn 4 ≡ false ∷ false ∷ true ∷ [])
+    × (plusIn 196611 ≡ true ∷ true ∷ false ∷ [])
+    × (openIn 65540 ≡ true ∷ false ∷ [])
+    × (openIn 131073 ≡ false ∷ true ∷ [])
+    × (entryFrom ladder (eqb 0) (λ t. false) ≡ 1)
+    × (entryFrom ladder (eqb 2) (eqb 0) ≡ 65540)
+    × (entryFrom ladder (λ n. true) (eqb 1) ≡ 131079)
+    × (entryOf ladder 42 (settingAt ladder 42 196611) ≡ 196611)
+    × (pointBits ladder (settingAt ladder 42 6) ≡ 6)
+    -- point 1 sends train 1 on to section 2 or 3; point 3 lets train 2 through at minus
+    × (moved 1 0 ≡ reaches 43)
+    × (moved 6 0 ≡ reaches 44)
+    × (moved 3 1 ≡ reaches 14)
+    × (moved 4 1 ≡ lost derailment)
+unfolding settingAt entryFrom signalOpen held headsFor standsOn sectionsIn codeOf moveOf passes occupied caseRefusal tablesShort first unknownRow joinRow looseRow placeRow endAt joined hasSignal legsOf runOf withJoin withSignal withLegs withTrain anyBelow sumBelow listBelow fromBits
+several-points = (refl, refl, refl, refl, refl, refl, refl, refl, refl, refl, refl, refl, refl, refl, refl)

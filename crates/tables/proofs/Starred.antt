@@ -1,14 +1,17 @@
 -- The starred figures, proved from the rules for whole plays: the tables of each yard are written out, pass the test of Certify by computation, and so have
 -- the figures. Assumes nothing.
 use mathlib.Core.Path.{_≡_, refl}
-use mathlib.Core.Bool.{true}
+use mathlib.Core.Bool.{Bool, true, _&&_}
 use mathlib.Core.List.{List, [], _∷_}
 use mathlib.Core.Option.{none}
 use Prim.Native.Nat.{ℕ, _<_}
-use native.Mathlib.Omega.{arith}
+use lib.ListN.{length}
+use lib.Dec.{eqb, ltb, leb}
+use borrow.Author.Tests.{eqb-true, ltb-true}
 use Rattle.laws.specs.Below.{allBelow, anyBelow, sumBelow, listBelow, lowest}
 use Rattle.laws.specs.Bits.{fromBits}
-use Rattle.laws.proofs.Bools.{clash}
+use Rattle.laws.specs.Lists.{all}
+use Rattle.laws.proofs.Bools.{clash, and-true}
 use Rattle.railway.specs.declared.Railway.{Railway}
 use Rattle.railway.specs.Ends.{endAt}
 use Rattle.railway.specs.Refusals.{first}
@@ -75,9 +78,23 @@ yardA-accepted = sure .0 .accepted
 pub yardA-filled : Filled yardA figsA setsA
 yardA-filled = filled (sure .0)
 
--- a star, from the tables of its yard
-star : {x : Star} {figs sets : List ℕ} → Sure (x .yard) figs sets → (x .ofStart ≡ true → startCode (x .yard) ≡ starCode x) → starCode x < placements (x .yard) → figureIn figs (starCode x) ≡ x .figure → Holds x
-star {x} {figs} s start l e = record { accepted = s .accepted; start = start; figure = rw (← e) (filled s .figures (starCode x) l) }
+-- a star, from the tables of its yard and what is computed of its placement
+abbrev there : Star → Bool
+there x = eqb (length (x .sections)) (x .yard .trains) && (all (λ n. leb 1 n && leb n (x .yard .sections)) (x .sections) && ltb (starCode x) (placements (x .yard)))
+
+star : {x : Star} {figs sets : List ℕ} → Sure (x .yard) figs sets → (x .ofStart ≡ true → startCode (x .yard) ≡ starCode x) → there x ≡ true → figureIn figs (starCode x) ≡ x .figure → Holds x
+star {x} {figs} s start t e =
+    let h = and-true (eqb (length (x .sections)) (x .yard .trains)) (all (λ n. leb 1 n && leb n (x .yard .sections)) (x .sections) && ltb (starCode x) (placements (x .yard))) t in
+    let k = and-true (all (λ n. leb 1 n && leb n (x .yard .sections)) (x .sections)) (ltb (starCode x) (placements (x .yard))) (h .1) in
+    let l : starCode x < placements (x .yard) = ltb-true (starCode x) (placements (x .yard)) (k .1) in
+    record {
+      accepted = s .accepted;
+      each-train = eqb-true (length (x .sections)) (x .yard .trains) (h .0);
+      there = k .0;
+      coded = l;
+      start = start;
+      figure = rw (← e) (filled s .figures (starCode x) l);
+    }
 
 infixr 4 _also_
 _also_ : {A B : Type 0} → A → B → A × B
@@ -85,18 +102,18 @@ h also hs = (h, hs)
 
 -- THE STARRED FIGURES HOLD
 pub starred : StarredHolds
-unfolding codeOf startCode sumBelow listBelow runOf withJoin withSignal withLegs withTrain
+unfolding all codeOf startCode sumBelow listBelow runOf withJoin withSignal withLegs withTrain
 starred =
-    star (sure .0) (λ e. clash e refl) (omega arith) refl
-    also star (sure .0) (λ e. clash e refl) (omega arith) refl
-    also star (sure .0) (λ e. clash e refl) (omega arith) refl
-    also star (sure .0) (λ e. clash e refl) (omega arith) refl
-    also star (sure .0) (λ e. clash e refl) (omega arith) refl
-    also star (sure .0) (λ e. clash e refl) (omega arith) refl
-    also star (sure .1) (λ e. refl) (omega arith) refl
-    also star (sure .2) (λ e. refl) (omega arith) refl
-    also star (sure .3) (λ e. refl) (omega arith) refl
-    also star (sure .4) (λ e. refl) (omega arith) refl
-    also star (sure .5) (λ e. refl) (omega arith) refl
-    also star (sure .6) (λ e. refl) (omega arith) refl
+    star (sure .0) (λ e. clash e refl) refl refl
+    also star (sure .0) (λ e. clash e refl) refl refl
+    also star (sure .0) (λ e. clash e refl) refl refl
+    also star (sure .0) (λ e. clash e refl) refl refl
+    also star (sure .0) (λ e. clash e refl) refl refl
+    also star (sure .0) (λ e. clash e refl) refl refl
+    also star (sure .1) (λ e. refl) refl refl
+    also star (sure .2) (λ e. refl) refl refl
+    also star (sure .3) (λ e. refl) refl refl
+    also star (sure .4) (λ e. refl) refl refl
+    also star (sure .5) (λ e. refl) refl refl
+    also star (sure .6) (λ e. refl) refl refl
     also tt

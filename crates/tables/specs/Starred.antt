@@ -1,14 +1,17 @@
--- The starred figures of document 01, "Yards to try", as one table with one statement.
+-- The starred figures of document 01, "Yards to try", as one table with one statement. The one starred text is a plan's: Outputs, of crate plan, has it.
 -- Assumes nothing.
 use mathlib.Core.Path.{_≡_}
-use mathlib.Core.Bool.{Bool, true, false}
+use mathlib.Core.Bool.{Bool, true, false, _&&_}
 use mathlib.Core.List.{List, [], _∷_, map}
 use mathlib.Core.Option.{Option, none, some}
-use Prim.Native.Nat.{ℕ, _-_}
+use Prim.Native.Nat.{ℕ, _-_, _<_}
+use lib.ListN.{length}
+use lib.Dec.{leb}
+use Rattle.laws.specs.Lists.{all}
 use Rattle.railway.specs.declared.Railway.{Railway}
 use Rattle.railway.specs.Rows.{recordRefusal}
 use Rattle.game.specs.Game.{IsFigure}
-use Rattle.game.specs.Placement.{codeOf, startCode}
+use Rattle.game.specs.Placement.{codeOf, placements, startCode}
 use Rattle.game.specs.Moves.{gameOf}
 use Rattle.railway.specs.Yards.{yardA, yardALess, yardOne, upOneTwo, upTwoOne, upTwoOneHeld, headOn}
 
@@ -45,9 +48,13 @@ stars =
 abbrev pub starCode : Star → ℕ
 starCode x = codeOf (x .yard .sections) (map (λ n. n - 1) (x .sections))
 
--- A starred fact holds: the yard is accepted, the placement is the start where that is meant, and it has the figure by the rules for whole plays.
+-- A starred fact holds: the yard is accepted; the placement is one of its own, with a section that is there for each train, so that its code is one of the yard's;
+-- it is the start where that is meant; and it has the figure by the rules for whole plays.
 pub record Holds (x : Star) : Type 0 where
   pub accepted : recordRefusal (x .yard) ≡ none
+  pub each-train : length (x .sections) ≡ x .yard .trains
+  pub there : all (λ n. leb 1 n && leb n (x .yard .sections)) (x .sections) ≡ true
+  pub coded : starCode x < placements (x .yard)
   pub start : x .ofStart ≡ true → startCode (x .yard) ≡ starCode x
   pub figure : IsFigure (gameOf (x .yard)) (starCode x) (x .figure)
 

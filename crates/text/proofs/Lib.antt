@@ -1,4 +1,6 @@
-pub mod Examples
 pub mod Decimal
-pub mod Cursor
+pub mod Walking
 pub mod Lines
+pub mod Appending
+pub mod Examples
+pub mod Numbers

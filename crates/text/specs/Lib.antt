@@ -1,2 +1,4 @@
 pub mod Text
 pub mod Reading
+pub mod Appending
+pub mod Answers

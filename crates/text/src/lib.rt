@@ -1,1 +1,101 @@
-// How numbers and lines are written, for the case file and the plan alike. There is no code here: specs/ has the definitions, proofs/ the laws.
+// Bytes and number fields at a cursor, for the case file and the plan alike. A cursor goes in by value, and the next one comes back with what
+// was read. Past the end of a text stands byte 0, which begins no field, so any cursor may come in. Writing is in `append`. specs/ has the
+// definitions, proofs/ the laws.
+ghost use mathlib.Core.Path.{_≡_};
+ghost use lib.ListN.{getD};
+ghost use Rattle.text.specs.Reading.{isDigit, numberAt};
+ghost use Rattle.text.specs.Answers.{moreDigits, numberGot, byteGot, byteInside};
+
+pub mod append; // append.rt: bytes and numbers put into a lent buffer, one behind the other
+
+pub struct Cursor {
+    pub at: usize,
+}
+
+// How long a number may be: three digits in a case file, ten in a plan.
+pub enum Width {
+    Three,
+    Ten,
+}
+
+// A number field: its value and the cursor behind it, or no number stands there.
+pub enum Number {
+    None,
+    Value(u64, Cursor),
+}
+
+// A byte that was looked for: the cursor behind it, or another byte stands there.
+pub enum Byte {
+    Other,
+    Past(Cursor),
+}
+
+// The byte at the cursor.
+pub fn peek(text: &[u8], c: Cursor) -> u8
+    ensures { λ b. ⌜ b ≡ getD (now (text .entry)) (c .at) 0 ⌝ }
+{
+    let at = c.at;
+    if at < text.len() { text[at] } else { 0 }
+}
+
+// The byte b at the cursor.
+pub fn byte_at(text: &[u8], c: Cursor, b: u8) -> Byte
+    ensures { λ r. ⌜ byteGot b r ≡ byteInside (now (text .entry)) b (c .at) ⌝ }
+{
+    let at = c.at;
+    if at < text.len() {
+        if text[at] == b {
+            return Byte::Past(Cursor { at: at + 1 });
+        }
+    }
+    Byte::Other
+}
+
+fn is_digit(b: u8) -> bool
+    ensures { λ d. ⌜ d ≡ isDigit b ⌝ }
+{
+    if b < 48 {
+        return false;
+    }
+    if 57 < b {
+        return false;
+    }
+    true
+}
+
+fn more_digits(w: Width) -> u8
+    ensures { λ n. ⌜ n ≡ moreDigits w ⌝ }
+{
+    match w {
+        Width::Three => 2,
+        Width::Ten => 9,
+    }
+}
+
+// The number at the cursor: as many digits as there are and the width allows, and a zero by itself.
+pub fn number_at(text: &[u8], c: Cursor, w: Width) -> Number
+    ensures { λ r. ⌜ numberGot r ≡ numberAt (now (text .entry)) (moreDigits w) (c .at) ⌝ }
+{
+    let first = peek(text, c);
+    if is_digit(first) {
+        let mut at = c.at + 1;
+        if first == 48 {
+            return Number::Value(0, Cursor { at: at });
+        }
+        let mut n = (first - 48) as u64;
+        let mut left = more_digits(w);
+        while 0 < left {
+            let b = peek(text, Cursor { at: at });
+            if is_digit(b) {
+                n = n * 10 + (b - 48) as u64;
+                at += 1;
+                left -= 1;
+            } else {
+                return Number::Value(n, Cursor { at: at });
+            }
+        }
+        Number::Value(n, Cursor { at: at })
+    } else {
+        Number::None
+    }
+}

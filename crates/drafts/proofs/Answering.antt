@@ -1,0 +1,259 @@
+-- A draft is answered as its description is. Row by row the record and the flags say what the rows of the description say, each row where none before
+-- it applies: that is all that the first of them depends on.
+-- Assumes nothing.
+use Prim.Native.Nat.{ℕ, suc, _-_, _<_, _≤_}
+use mathlib.Core.Path.{_≡_, refl, sym, _∙_, ap}
+use mathlib.Core.Logic.{_⊎_, inl, inr}
+use mathlib.Core.Bool.{Bool, true, false, cond, not, _&&_, _||_}
+use mathlib.Core.List.{List, [], _∷_, map, List·Memᴰ}
+use mathlib.Core.Option.{Option, none, some}
+use native.Mathlib.Omega.{arith}
+use lib.Dec.{eqb, ltb}
+use lib.ListN.{length, getD, length-map, List·getD-map}
+use borrow.Author.Tests.{eqb-true, eqb-false, eq-eqb, ne-eqb}
+use Rattle.laws.specs.Below.{anyBelow, listBelow}
+use Rattle.laws.specs.Lists.{any, repeats, Every}
+use Rattle.laws.proofs.Bools.{bool?, clash, or-false, or-none, not-true, not-is, not-and}
+use Rattle.laws.proofs.Below as B
+use Rattle.laws.proofs.Below.{list-places}
+use Rattle.laws.proofs.Lists.{any-false, any-none, getD-member, repeats-apart, repeats-list}
+use Rattle.railway.specs.declared.Leg.{Leg}
+use Rattle.railway.specs.declared.Leg.the-variants.{Stem, Plus, Minus}
+use Rattle.railway.specs.declared.End.the-variants.{Port}
+use Rattle.railway.specs.declared.Joined.{Joined}
+use Rattle.railway.specs.declared.Joined.the-variants.{Nothing, With}
+use Rattle.railway.specs.declared.Train.{Train}
+use Rattle.railway.specs.declared.Railway.{Railway}
+use Rattle.railway.specs.declared.Refusal.{Refusal}
+use Rattle.railway.specs.declared.Refusal.the-variants.{Count, Unknown, Join, Loose, Double, Place}
+use Rattle.railway.specs.Bounds.{sectionEnds}
+use Rattle.railway.specs.Refusals.{Row, row, refuseIf, first}
+use Rattle.railway.specs.Record.{emptyRailway, joined, runOf}
+use Rattle.railway.specs.Rows.{outside, unjoined}
+use Rattle.railway.specs.Rows as RR
+use Rattle.railway.proofs.Refusals.{refuse-none}
+use Rattle.railway.proofs.Accepted.{Bounded, bounded}
+use Rattle.casefile.specs.declared.CaseRead.{CaseRead}
+use Rattle.casefile.specs.Form.{EndField, port, JoinLine, SignalLine, TrainLine, Description, WellFormed}
+use Rattle.casefile.specs.Rows.{within, known, unknownJoin, unknownSignal, unknownTrain, wrongJoin, sameEnd, joinEnds, looseEnd, looseAt, sameSignal, countRow, unknownRow, joinRow, looseRow, doubleRow, placeRow, descriptionRows}
+use Rattle.casefile.specs.Recording.{fieldOf, partner, trainOf, noTrainLine, railwayOf}
+use Rattle.casefile.specs.Given.{accepted, refused}
+use Rattle.casefile.specs.Reading.{judged}
+use Rattle.casefile.proofs.Clean.{within-is}
+use Rattle.casefile.proofs.Ends.{partner-nothing}
+use Rattle.casefile.proofs.Told.{joined-at, run-at}
+use Rattle.drafts.specs.declared.Draft.{Draft}
+use Rattle.drafts.specs.Drafting.{counted, opened, putPoint, putJoin, putSignal, putTrain, draftRows, answerOf, draftAnswer}
+use Rattle.drafts.proofs.Feeding.{putRising, putEach, drafted}
+use Rattle.drafts.proofs.Stored.{same-everywhere}
+use Rattle.drafts.proofs.Sized.{Sized, sized-counted, sized-rising, sized-each, sized-point, sized-put-join, sized-put-signal, sized-put-train}
+use Rattle.drafts.proofs.Known.{unknown-noted}
+use Rattle.drafts.proofs.Built.{faults, doubles, KnownJoin, KnownSignal, KnownTrain}
+use Rattle.drafts.proofs.Joining.{Fit, fit-faults, faults-fit, partner-none, less-one}
+use Rattle.drafts.proofs.Signalling.{index, Single, single-doubles, doubles-single}
+use Rattle.drafts.proofs.Record.{joins-keep, sized-joins, withPoints, withJoins, built, sized-points, drafted-is, ready, none-joined, placed, built-is}
+
+-- two tests that fail together are the same
+same-test : (a b : Bool) → (a ≡ false → b ≡ false) → (b ≡ false → a ≡ false) → a ≡ b
+same-test true b f g = sym (let h = bool? b in elim h [ inl e ↦ e | inr e ↦ clash refl (g e) ])
+same-test false b f g = sym (f refl)
+
+-- the first row, where the rows agree one by one as far as none before applies
+first-then : (f : Refusal) (a b : Bool) (xs ys : List Row) → a ≡ b → (b ≡ false → first xs ≡ first ys) → first (row f a ∷ xs) ≡ first (row f b ∷ ys)
+unfolding first
+first-then f a true xs ys p h = rw p
+first-then f a false xs ys p h = rw p (h refl)
+
+-- ROW 6 of the railway of a description
+unjoined-partner : (js : List JoinLine) (f : EndField) → unjoined (partner js f) ≡ not (any (sameEnd f) (joinEnds js))
+unjoined-partner js f = elim (bool? (any (sameEnd f) (joinEnds js))) [
+  | inl e ↦ rw e (named (partner js f) (λ p. clash e (partner-nothing js f p)))
+  | inr e ↦ rw (e, partner-none js f e)
+]
+  where
+    named : (j : Joined) → (j ≡ Nothing → ⊥) → unjoined j ≡ false
+    named Nothing h = absurd (h refl)
+    named (With e) h = refl
+
+loose-same : (d : Description) → Bounded (d .sections) (d .points) (d .trains) → RR.looseRow (railwayOf d) ≡ looseRow d
+unfolding RR.looseRow looseRow railwayOf
+loose-same d b = B.any-same (RR.looseAt (railwayOf d)) (looseAt d) (d .points) (λ n h. at-point n h)
+  where
+    at-port : (n : ℕ) (l : Leg) → n < d .points → unjoined (joined (railwayOf d) (Port (record { 0 = n }) l)) ≡ looseEnd d (port (suc n) l)
+    at-port n l h = let q = b .few-points in ap unjoined (joined-at d (Port (record { 0 = n }) l) (omega arith)) ∙ unjoined-partner (d .joins) (port (suc n) l)
+
+    at-point : (n : ℕ) → n < d .points → RR.looseAt (railwayOf d) n ≡ looseAt d n
+    at-point n h = rw (at-port n Stem h, at-port n Plus h, at-port n Minus h)
+
+-- ROW 8 of the railway of a description
+module _ (d : Description) (f : WellFormed d) (b : Bounded (d .sections) (d .points) (d .trains)) (kt : Every (KnownTrain d) (d .runs)) where
+  abbrev nth : ℕ → TrainLine
+  nth t = getD (d .runs) t noTrainLine
+
+  shares : ℕ → ℕ → Bool
+  shares t u = eqb (nth u .start) (nth t .start) || eqb (nth u .destination) (nth t .destination)
+
+  shares-same : (t u : ℕ) → u < t → t < d .trains → RR.sharesWith (railwayOf d) t u ≡ shares t u
+  unfolding shares
+  shares-same t u h g =
+      let o = f .one-a-train in
+      let ku = kt (nth u) (getD-member (d .runs) u noTrainLine (omega arith)) in
+      let kv = kt (nth t) (getD-member (d .runs) t noTrainLine (omega arith)) in
+      let su = within-is (nth u .start) (d .sections) (ku .0) in
+      let st = within-is (nth t .start) (d .sections) (kv .0) in
+      let du = within-is (nth u .destination) (d .sections) (ku .1) in
+      let dt = within-is (nth t .destination) (d .sections) (kv .1) in
+      by-runs (runOf (railwayOf d) u) (runOf (railwayOf d) t) (run-at d u (omega arith) (b .few-trains)) (run-at d t g (b .few-trains))
+      ∙ rw (less-one (nth u .start) (nth t .start) (su .0) (st .0), less-one (nth u .destination) (nth t .destination) (du .0) (dt .0))
+    where
+      by-runs : (x y : Train) → x ≡ trainOf (nth u) → y ≡ trainOf (nth t)
+          → (eqb (x .start .0) (y .start .0) || eqb (x .destination .0) (y .destination .0))
+          ≡ (eqb (nth u .start - 1) (nth t .start - 1) || eqb (nth u .destination - 1) (nth t .destination - 1))
+      by-runs x y p q = rw (p, q)
+
+  -- no two T lines share a number exactly if those at two places never do
+  apart-repeats : (p : TrainLine → ℕ) → ((t u : ℕ) → u < t → t < d .trains → eqb (p (nth u)) (p (nth t)) ≡ false) → repeats eqb (map p (d .runs)) ≡ false
+  apart-repeats p h =
+      let o = f .one-a-train in
+      rw (← list-places p (d .runs) noTrainLine) (repeats-list eqb (λ i. p (nth i)) (length (d .runs)) (λ i j a c. h j i a (omega arith)))
+
+  repeats-no : (p : TrainLine → ℕ) → repeats eqb (map p (d .runs)) ≡ false → (t u : ℕ) → u < t → t < d .trains → eqb (p (nth u)) (p (nth t)) ≡ false
+  repeats-no p e t u h g =
+      let o = f .one-a-train in
+      let k = repeats-apart eqb (map p (d .runs)) (p noTrainLine) u t e h (rw (length-map (d .runs) p, o) g) in
+      rw (List·getD-map p (d .runs) u noTrainLine, List·getD-map p (d .runs) t noTrainLine) at k
+
+  place-same : RR.placeRow (railwayOf d) ≡ placeRow d
+  unfolding RR.placeRow placeRow railwayOf shares
+  place-same =
+      same-test _ _
+      (λ e.
+      let no : (t u : ℕ) → u < t → t < d .trains → shares t u ≡ false = λ t u h g.
+      sym (shares-same t u h g) ∙ B.any-false (RR.sharesWith (railwayOf d) t) t (B.any-false (RR.sharesAt (railwayOf d)) (d .trains) e t g) u h in
+      or-none _ _
+      (apart-repeats (λ t. t .start) (λ t u h g. or-false (eqb (nth u .start) (nth t .start)) (eqb (nth u .destination) (nth t .destination)) (no t u h g) .0))
+      (apart-repeats (λ t. t .destination) (λ t u h g. or-false (eqb (nth u .start) (nth t .start)) (eqb (nth u .destination) (nth t .destination)) (no t u h g) .1)))
+      (λ e.
+      let q = or-false (repeats eqb (map (λ t. t .start) (d .runs))) (repeats eqb (map (λ t. t .destination) (d .runs))) e in
+      B.none-any (RR.sharesAt (railwayOf d)) (d .trains) (λ t g. B.none-any (RR.sharesWith (railwayOf d) t) t (λ u h.
+      shares-same t u h g ∙ or-none _ _ (repeats-no (λ t. t .start) (q .0) t u h g) (repeats-no (λ t. t .destination) (q .1) t u h g))))
+
+module _ (d : Description) (f : WellFormed d) where
+  -- ROW 3: the counts of the record are the description's, or none where they are out of bounds
+  counts-of : (s p k : ℕ) (w : Draft) → Sized s p k (w .railway)
+      → Sized s p k (putRising putTrain 1 (putEach putSignal (putEach putJoin (putRising putPoint 1 w (d .legs)) (d .joins)) (d .signals)) (d .runs) .railway)
+  counts-of s p k w z =
+      sized-rising s p k putTrain (sized-put-train s p k) (d .runs) 1 _
+      (sized-each s p k putSignal (sized-put-signal s p k) (d .signals) _
+      (sized-each s p k putJoin (sized-put-join s p k) (d .joins) _ (sized-rising s p k putPoint (sized-point s p k) (d .legs) 1 w z)))
+
+  sized-count : (s p k : ℕ) (r : Railway) → Sized s p k r → RR.countRow r ≡ outside s p k
+  sized-count s p k r z = rw (z .sections, z .points, z .trains)
+
+  count-same : RR.countRow (drafted d .railway) ≡ countRow d
+  unfolding drafted opened
+  count-same = cases (countRow d) refl
+    where
+      cases : (c : Bool) → countRow d ≡ c
+          → RR.countRow (putRising putTrain 1 (putEach putSignal (putEach putJoin (putRising putPoint 1
+          (record { railway = cond c emptyRailway (counted (d .sections) (d .points) (d .trains)); unknown = false; wrong = false; double = false })
+          (d .legs)) (d .joins)) (d .signals)) (d .runs) .railway) ≡ c
+      cases true e = sized-count 0 0 0 _ (counts-of 0 0 0 _ (sized-counted 0 0 0))
+      cases false e =
+          let z = sized-counted (d .sections) (d .points) (d .trains) in
+          sized-count (d .sections) (d .points) (d .trains) _ (counts-of (d .sections) (d .points) (d .trains) _ z) ∙ e
+
+  module _ (h3 : countRow d ≡ false) where
+    b : Bounded (d .sections) (d .points) (d .trains)
+    b = bounded (d .sections) (d .points) (d .trains) h3
+
+    unknown-same : drafted d .unknown ≡ unknownRow d
+    unfolding drafted opened
+    unknown-same = rw h3 (unknown-noted d _ (sized-counted (d .sections) (d .points) (d .trains)) refl f)
+
+    module _ (h4 : unknownRow d ≡ false) where
+      kj : Every (KnownJoin d) (d .joins)
+      unfolding unknownRow
+      kj j m =
+          let a = or-false (any (unknownJoin d) (d .joins) || any (unknownSignal d) (d .signals)) (any (unknownTrain d) (d .runs)) h4 in
+          let c = or-false (any (unknownJoin d) (d .joins)) (any (unknownSignal d) (d .signals)) (a .0) in
+          not-and (known d (j .one)) (known d (j .other)) (any-false (unknownJoin d) (d .joins) j (c .0) m)
+
+      kg : Every (KnownSignal d) (d .signals)
+      unfolding unknownRow
+      kg g m =
+          let a = or-false (any (unknownJoin d) (d .joins) || any (unknownSignal d) (d .signals)) (any (unknownTrain d) (d .runs)) h4 in
+          let c = or-false (any (unknownJoin d) (d .joins)) (any (unknownSignal d) (d .signals)) (a .0) in
+          not-is (within (g .number) (d .sections)) (any-false (unknownSignal d) (d .signals) g (c .1) m)
+
+      kt : Every (KnownTrain d) (d .runs)
+      unfolding unknownRow
+      kt t m =
+          let a = or-false (any (unknownJoin d) (d .joins) || any (unknownSignal d) (d .signals)) (any (unknownTrain d) (d .runs)) h4 in
+          not-and (within (t .start) (d .sections)) (within (t .destination) (d .sections)) (any-false (unknownTrain d) (d .runs) t (a .1) m)
+
+      is : drafted d ≡ record {
+        railway = built d f b h3 kj kg kt;
+        unknown = false;
+        wrong = faults (withPoints d f b h3 kj kg kt) (d .joins);
+        double = doubles (withJoins d f b h3 kj kg kt) (d .signals);
+      }
+      is = drafted-is d f b h3 kj kg kt
+
+      -- ROW 5
+      fit-of : joinRow d ≡ false → Fit d b (withPoints d f b h3 kj kg kt) (d .joins)
+      unfolding joinRow
+      fit-of e =
+          let q = or-false (any (wrongJoin d) (d .joins)) (repeats sameEnd (joinEnds (d .joins))) e in
+          record { right = λ j m. any-false (wrongJoin d) (d .joins) j (q .0) m; once = q .1; free = λ x m. none-joined d f b h3 kj kg kt _ }
+
+      join-of : Fit d b (withPoints d f b h3 kj kg kt) (d .joins) → joinRow d ≡ false
+      unfolding joinRow
+      join-of t = or-none _ _ (any-none (wrongJoin d) (d .joins) (t .right)) (t .once)
+
+      wrong-same : drafted d .wrong ≡ joinRow d
+      wrong-same =
+          ap (λ (w : Draft). w .wrong) is
+          ∙ same-test _ _ (λ e. join-of (faults-fit d b (d .joins) _ (ready d f b h3 kj kg kt) kj e)) (λ e. fit-faults d b (d .joins) _ (ready d f b h3 kj kg kt) kj (fit-of e))
+
+      -- ROWS 6 TO 8
+      module _ (h5 : joinRow d ≡ false) where
+        railway-same : drafted d .railway ≡ railwayOf d
+        railway-same = ap (λ (w : Draft). w .railway) is ∙ built-is d f b h3 kj kg kt (fit-of h5)
+
+        no-flag : (g : SignalLine) → getD (withJoins d f b h3 kj kg kt .signals) (index g) false ≡ false
+        no-flag g = ap (λ (l : List Bool). getD l (index g) false) (joins-keep (d .joins) (withPoints d f b h3 kj kg kt) .signals) ∙ same-everywhere sectionEnds false (index g)
+
+        double-same : drafted d .double ≡ doubleRow d
+        unfolding doubleRow
+        double-same =
+            let room = sized-joins (d .sections) (d .points) (d .trains) (d .joins) (withPoints d f b h3 kj kg kt) (sized-points d f b h3 kj kg kt) .signals in
+            let p = placed d f b h3 kj kg kt (fit-of h5) in
+            ap (λ (w : Draft). w .double) is
+            ∙ same-test _ _ (λ e. doubles-single (d .signals) (withJoins d f b h3 kj kg kt) room p e .once)
+            (λ e. single-doubles (d .signals) (withJoins d f b h3 kj kg kt) room p (record { once = e; free = λ g m. no-flag g }))
+
+  rows-same : first (draftRows (drafted d)) ≡ first (descriptionRows d)
+  rows-same =
+      first-then Count _ _ _ _ count-same (λ h3.
+      first-then Unknown _ _ _ _ (unknown-same h3) (λ h4.
+      first-then Join _ _ _ _ (wrong-same h3 h4) (λ h5.
+      first-then Loose _ _ _ _ (ap RR.looseRow (railway-same h3 h4 h5) ∙ loose-same d (b h3)) (λ h6.
+      first-then Double _ _ _ _ (double-same h3 h4 h5) (λ h7.
+      first-then Place _ _ _ _ (ap RR.placeRow (railway-same h3 h4 h5) ∙ place-same d f (b h3) (kt h3 h4)) (λ h8. refl))))))
+
+  railway-given : first (descriptionRows d) ≡ none → drafted d .railway ≡ railwayOf d
+  unfolding first
+  railway-given e =
+      let r3 = refuse-none (countRow d) Count _ e in
+      let r4 = refuse-none (unknownRow d) Unknown _ (r3 .1) in
+      let r5 = refuse-none (joinRow d) Join _ (r4 .1) in
+      railway-same (r3 .0) (r4 .0) (r5 .0)
+
+  by-answer : (r : Railway) (o : Option Refusal) → (o ≡ none → r ≡ railwayOf d) → answerOf r o ≡ judged (some d) o
+  by-answer r none h = rw (h refl)
+  by-answer r (some x) h = refl
+
+  pub draft-answered : draftAnswer (drafted d) ≡ judged (some d) (first (descriptionRows d))
+  unfolding draftAnswer
+  draft-answered = ap (answerOf (drafted d .railway)) rows-same ∙ by-answer (drafted d .railway) (first (descriptionRows d)) railway-given

@@ -1,0 +1,233 @@
+-- The record that is built is the railway of the description: the legs and the trains were stored one after the other, each end is joined as the
+-- J lines say, each flag stands where a G line names it. Joins leave legs, flags and trains alone, signals all but the flags.
+-- Assumes nothing.
+use Prim.Native.Nat.{ℕ, suc, _+_, _-_, _<_, _≤_}
+use mathlib.Core.Path.{_≡_, refl, sym, _∙_, ap}
+use mathlib.Core.Bool.{Bool, true, false, cond, _&&_, _||_}
+use mathlib.Core.List.{List, [], _∷_, map}
+use native.Mathlib.Omega.{arith}
+use lib.Dec.{ltb}
+use lib.ListN.{length, getD, set, replicate, length-set, length-map, List·getD-map}
+use lib.Seq.{ext-getD}
+use borrow.Author.Tests.{lt-ltb}
+use Rattle.laws.specs.Below.{listBelow}
+use Rattle.laws.specs.Lists.{any, Every}
+use Rattle.laws.proofs.Below.{list-length, list-get, list-same}
+use Rattle.railway.specs.declared.Side.{Side}
+use Rattle.railway.specs.declared.Side.the-variants.{Up}
+use Rattle.railway.specs.declared.End.{End}
+use Rattle.railway.specs.declared.Joined.{Joined}
+use Rattle.railway.specs.declared.Joined.the-variants.{Nothing, With}
+use Rattle.railway.specs.declared.Legs.{Legs}
+use Rattle.railway.specs.declared.Link.{Link}
+use Rattle.railway.specs.declared.Train.{Train}
+use Rattle.railway.specs.declared.Railway.{Railway}
+use Rattle.railway.specs.Bounds.{mostSections, mostPoints, mostTrains, sectionEnds, allEnds}
+use Rattle.railway.specs.Ends.{endIndex, endAt}
+use Rattle.railway.specs.Record.{noLegs, noLink, noTrain, emptyRailway, linkAt, flagAt, joined, legsOf, withLinks, setLink, withJoin, withSignal}
+use Rattle.railway.specs.Rows.{outside}
+use Rattle.railway.proofs.Ends.{index-end}
+use Rattle.railway.proofs.Accepted.{Bounded}
+use Rattle.casefile.specs.Form.{EndField, JoinLine, SignalLine, TrainLine, Description, WellFormed}
+use Rattle.casefile.specs.Rows.{sameSignal, joinEnds}
+use Rattle.casefile.specs.Recording.{endOf, fieldOf, partner, signalOf, trainOf, noTrainLine, railwayOf}
+use Rattle.casefile.proofs.Clean.{within-is}
+use Rattle.drafts.specs.declared.Draft.{Draft}
+use Rattle.drafts.specs.Drafting.{counted, opened, putPoint, putJoin, putSignal, putTrain}
+use Rattle.drafts.proofs.Feeding.{putRising, putEach, drafted}
+use Rattle.drafts.proofs.Stored.{storeFrom, store-length, store-all, same-everywhere, everywhere-length}
+use Rattle.drafts.proofs.Sized.{Sized, sized-counted, sized-join, sized-signal}
+use Rattle.drafts.proofs.Known.{SizedBy, or-nothing}
+use Rattle.drafts.proofs.Built.{legsRow, signalEnd, withAllLegs, withAllRuns, joinAll, faults, signalAll, doubles, KnownJoin, KnownSignal, KnownTrain, points-put, joins-put, signals-put, trains-put}
+use Rattle.drafts.proofs.Joining.{Ready, Fit, joined-all, orJoined}
+use Rattle.drafts.proofs.Signalling.{Placed, flags-all}
+
+-- WHAT IS LEFT ALONE
+pub record JoinsKeep (r q : Railway) : Type 0 where
+  pub legs : q .legs ≡ r .legs
+  pub signals : q .signals ≡ r .signals
+  pub runs : q .runs ≡ r .runs
+
+join-keeps : (r : Railway) (a b : End) → JoinsKeep r (withJoin r a b)
+unfolding withJoin
+join-keeps r a b = cases (ltb (endIndex a) allEnds && ltb (endIndex b) allEnds)
+  where
+    cases : (c : Bool) → JoinsKeep r (cond c (withLinks r (setLink b a (setLink a b (r .links)))) r)
+    cases true = record { legs = refl; signals = refl; runs = refl }
+    cases false = record { legs = refl; signals = refl; runs = refl }
+
+pub joins-keep : (js : List JoinLine) (r : Railway) → JoinsKeep r (joinAll r js)
+unfolding joinAll
+joins-keep [] r = record { legs = refl; signals = refl; runs = refl }
+joins-keep (j ∷ js) r =
+    let a = join-keeps r (endOf (j .one)) (endOf (j .other)) in
+    let b = joins-keep js (withJoin r (endOf (j .one)) (endOf (j .other))) in
+    record { legs = b .legs ∙ a .legs; signals = b .signals ∙ a .signals; runs = b .runs ∙ a .runs }
+
+pub record SignalsKeep (r q : Railway) : Type 0 where
+  pub legs : q .legs ≡ r .legs
+  pub links : q .links ≡ r .links
+  pub runs : q .runs ≡ r .runs
+
+signal-keeps : (r : Railway) (e : End) → SignalsKeep r (withSignal r e)
+unfolding withSignal
+signal-keeps r e = cases (ltb (endIndex e) sectionEnds)
+  where
+    cases : (c : Bool) → SignalsKeep r (cond c (record { sections = r .sections; points = r .points; trains = r .trains; legs = r .legs; links = r .links; signals = set (r .signals) (endIndex e) true; runs = r .runs }) r)
+    cases true = record { legs = refl; links = refl; runs = refl }
+    cases false = record { legs = refl; links = refl; runs = refl }
+
+pub signals-keep : (gs : List SignalLine) (r : Railway) → SignalsKeep r (signalAll r gs)
+unfolding signalAll
+signals-keep [] r = record { legs = refl; links = refl; runs = refl }
+signals-keep (g ∷ gs) r =
+    let a = signal-keeps r (endOf (signalEnd g)) in
+    let b = signals-keep gs (withSignal r (endOf (signalEnd g))) in
+    record { legs = b .legs ∙ a .legs; links = b .links ∙ a .links; runs = b .runs ∙ a .runs }
+
+module _ (s p k : ℕ) where
+  pub sized-joins : (js : List JoinLine) (r : Railway) → Sized s p k r → Sized s p k (joinAll r js)
+  unfolding joinAll
+  sized-joins [] r z = z
+  sized-joins (j ∷ js) r z = sized-joins js _ (sized-join s p k r z _ _)
+
+  pub sized-signals : (gs : List SignalLine) (r : Railway) → Sized s p k r → Sized s p k (signalAll r gs)
+  unfolding signalAll
+  sized-signals [] r z = z
+  sized-signals (g ∷ gs) r z = sized-signals gs _ (sized-signal s p k r z _)
+
+pub record-same : (r q : Railway) → r .sections ≡ q .sections → r .points ≡ q .points → r .trains ≡ q .trains → r .legs ≡ q .legs → r .links ≡ q .links
+    → r .signals ≡ q .signals → r .runs ≡ q .runs → r ≡ q
+record-same r q a b c e f g h = go (r .sections) (q .sections) (r .points) (q .points) (r .trains) (q .trains) (r .legs) (q .legs) (r .links) (q .links) (r .signals) (q .signals) (r .runs) (q .runs) a b c e f g h
+  where
+    go : (s s′ p p′ k k′ : ℕ) (l l′ : List Legs) (m m′ : List Link) (n n′ : List Bool) (o o′ : List Train) → s ≡ s′ → p ≡ p′ → k ≡ k′ → l ≡ l′ → m ≡ m′ → n ≡ n′ → o ≡ o′
+        → _≡_ {A = Railway} (record { sections = s; points = p; trains = k; legs = l; links = m; signals = n; runs = o })
+        (record { sections = s′; points = p′; trains = k′; legs = l′; links = m′; signals = n′; runs = o′ })
+    go s s′ p p′ k k′ l l′ m m′ n n′ o o′ a b c e f g h = rw (a, b, c, e, f, g, h)
+
+joined-index : (r : Railway) (e : End) (i : ℕ) → endIndex e ≡ i → i < allEnds → joined r e ≡ linkAt r i
+unfolding joined
+joined-index r e i q h = rw (q, lt-ltb i allEnds h)
+
+-- THE DRAFT, counts within their bounds and names all there
+module _ (d : Description) (f : WellFormed d) (b : Bounded (d .sections) (d .points) (d .trains)) (inside : outside (d .sections) (d .points) (d .trains) ≡ false)
+    (kj : Every (KnownJoin d) (d .joins)) (kg : Every (KnownSignal d) (d .signals)) (kt : Every (KnownTrain d) (d .runs)) where
+  abbrev pub start : Railway
+  start = counted (d .sections) (d .points) (d .trains)
+
+  abbrev pub withPoints : Railway
+  withPoints = withAllLegs start (storeFrom (start .legs) 0 (map legsRow (d .legs)))
+
+  abbrev pub withJoins : Railway
+  withJoins = joinAll withPoints (d .joins)
+
+  abbrev pub withSignals : Railway
+  withSignals = signalAll withJoins (d .signals)
+
+  abbrev pub built : Railway
+  built = withAllRuns withSignals (storeFrom (withSignals .runs) 0 (map trainOf (d .runs)))
+
+  legs-many : length (map legsRow (d .legs)) ≡ d .points
+  legs-many = length-map (d .legs) legsRow ∙ f .one-a-point
+
+  runs-many : length (map trainOf (d .runs)) ≡ d .trains
+  runs-many = length-map (d .runs) trainOf ∙ f .one-a-train
+
+  pub sized-points : SizedBy d withPoints
+  sized-points =
+      let z = sized-counted (d .sections) (d .points) (d .trains) in
+      record { sections = refl; points = refl; trains = refl; legs = store-length (map legsRow (d .legs)) (start .legs) 0 ∙ z .legs; links = z .links; signals = z .signals; runs = z .runs }
+
+  sized-2 : SizedBy d withJoins
+  sized-2 = sized-joins (d .sections) (d .points) (d .trains) (d .joins) withPoints sized-points
+
+  sized-3 : SizedBy d withSignals
+  sized-3 = sized-signals (d .sections) (d .points) (d .trains) (d .signals) withJoins sized-2
+
+  pub drafted-is : drafted d ≡ record { railway = built; unknown = false; wrong = faults withPoints (d .joins); double = doubles withJoins (d .signals) }
+  unfolding drafted opened
+  drafted-is =
+      let o = f .one-a-point in
+      let q = f .one-a-train in
+      let w0 : Draft = record { railway = start; unknown = false; wrong = false; double = false } in
+      let w1 : Draft = record { railway = withPoints; unknown = false; wrong = false; double = false } in
+      let w2 : Draft = record { railway = withJoins; unknown = false; wrong = faults withPoints (d .joins); double = false } in
+      let w3 : Draft = record { railway = withSignals; unknown = false; wrong = faults withPoints (d .joins); double = doubles withJoins (d .signals) } in
+      let e1 : putRising putPoint 1 w0 (d .legs) ≡ w1 = points-put d (b .few-points) (d .legs) 0 w0 (sized-counted (d .sections) (d .points) (d .trains)) (omega arith) in
+      let e2 : putEach putJoin w1 (d .joins) ≡ w2 = joins-put d (d .joins) w1 sized-points kj in
+      let e3 : putEach putSignal w2 (d .signals) ≡ w3 = signals-put d (d .signals) w2 sized-2 kg in
+      let e4 = trains-put d (b .few-trains) (d .runs) 0 w3 sized-3 (omega arith) kt in
+      rw inside (rw (e1, e2, e3) e4)
+
+  -- its tables
+  legs-built : storeFrom (start .legs) 0 (map legsRow (d .legs)) ≡ listBelow (λ n. record { side = getD (d .legs) n Up }) mostPoints
+  legs-built =
+      let m = legs-many in
+      let h = b .few-points in
+      store-all (map legsRow (d .legs)) mostPoints noLegs (omega arith) ∙ list-same _ _ mostPoints (λ i l. List·getD-map legsRow (d .legs) i Up)
+
+  pub ready : Ready d b withPoints
+  unfolding legsOf
+  ready =
+      record {
+        sized = sized-points;
+        legs = λ n h.
+            let m = b .few-points in
+            rw (lt-ltb n (d .points) h) (ap (λ (l : List Legs). getD l n noLegs .side) legs-built ∙ ap (λ (l : Legs). l .side) (list-get (λ n. record { side = getD (d .legs) n Up }) mostPoints n noLegs (omega arith)));
+      }
+
+  pub none-joined : (e : End) → joined withPoints e ≡ Nothing
+  unfolding joined
+  none-joined e = cases (ltb (endIndex e) allEnds)
+    where
+      cases : (c : Bool) → cond c (linkAt withPoints (endIndex e)) Nothing ≡ Nothing
+      cases true = ap (λ (l : Link). l .to) (same-everywhere allEnds noLink (endIndex e))
+      cases false = refl
+
+  or-none-joined : (j : Joined) → orJoined j Nothing ≡ j
+  or-none-joined Nothing = refl
+  or-none-joined (With e) = refl
+
+  module _ (fit : Fit d b withPoints (d .joins)) where
+    linked : (i : ℕ) → i < allEnds → linkAt withJoins i ≡ partner (d .joins) (fieldOf (endAt i))
+    linked i h =
+        sym (joined-index withJoins (endAt i) i (index-end i h) h) ∙ joined-all d b (d .joins) withPoints ready kj fit (endAt i)
+        ∙ ap (orJoined (partner (d .joins) (fieldOf (endAt i)))) (none-joined (endAt i)) ∙ or-none-joined (partner (d .joins) (fieldOf (endAt i)))
+
+    links-built : withJoins .links ≡ listBelow (λ i. record { to = partner (d .joins) (fieldOf (endAt i)) }) allEnds
+    links-built =
+        let l = sized-2 .links in
+        ext-getD noLink (withJoins .links) _ (l ∙ sym (list-length (λ i. record { to = partner (d .joins) (fieldOf (endAt i)) }) allEnds)) (λ i h.
+        link-of (getD (withJoins .links) i noLink) (partner (d .joins) (fieldOf (endAt i))) (linked i (omega arith))
+        ∙ sym (list-get (λ i. record { to = partner (d .joins) (fieldOf (endAt i)) }) allEnds i noLink (omega arith)))
+      where
+        link-of : (l : Link) (j : Joined) → l .to ≡ j → l ≡ record { to = j }
+        link-of l j e = ap (λ (j : Joined). record { to = j }) e
+
+    pub placed : Every Placed (d .signals)
+    placed g m = let w = within-is (g .number) (d .sections) (kg g m) in let h = b .few-sections in (w .0, omega arith)
+
+    signals-built : withSignals .signals ≡ listBelow (λ i. any (sameSignal (signalOf i)) (d .signals)) sectionEnds
+    signals-built =
+        let l = sized-3 .signals in
+        let k = joins-keep (d .joins) withPoints in
+        ext-getD false (withSignals .signals) _ (l ∙ sym (list-length (λ i. any (sameSignal (signalOf i)) (d .signals)) sectionEnds)) (λ i h.
+        flags-all (d .signals) withJoins (sized-2 .signals) placed i (omega arith)
+        ∙ ap (λ (x : Bool). any (sameSignal (signalOf i)) (d .signals) || x) (ap (λ (l : List Bool). getD l i false) (k .signals) ∙ same-everywhere sectionEnds false i)
+        ∙ or-nothing (any (sameSignal (signalOf i)) (d .signals))
+        ∙ sym (list-get (λ i. any (sameSignal (signalOf i)) (d .signals)) sectionEnds i false (omega arith)))
+
+    runs-built : storeFrom (withSignals .runs) 0 (map trainOf (d .runs)) ≡ listBelow (λ t. trainOf (getD (d .runs) t noTrainLine)) mostTrains
+    runs-built =
+        let m = runs-many in
+        let h = b .few-trains in
+        let e : withSignals .runs ≡ replicate mostTrains noTrain = signals-keep (d .signals) withJoins .runs ∙ joins-keep (d .joins) withPoints .runs in
+        ap (λ (l : List Train). storeFrom l 0 (map trainOf (d .runs))) e
+        ∙ store-all (map trainOf (d .runs)) mostTrains noTrain (omega arith) ∙ list-same _ _ mostTrains (λ i l. List·getD-map trainOf (d .runs) i noTrainLine)
+
+    pub built-is : built ≡ railwayOf d
+    unfolding railwayOf
+    built-is =
+        record-same built _ (sized-3 .sections) (sized-3 .points) (sized-3 .trains)
+        (signals-keep (d .signals) withJoins .legs ∙ joins-keep (d .joins) withPoints .legs ∙ legs-built)
+        (signals-keep (d .signals) withJoins .links ∙ links-built) signals-built runs-built

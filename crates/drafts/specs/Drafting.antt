@@ -1,0 +1,167 @@
+-- Reading a case text in one walk: the record is built line by line, beside three flags for what the record cannot show. Contracts cite these
+-- definitions and proofs/ ties them to the casefile's; nothing of document 01 rests on this file. Assumes nothing.
+use mathlib.Core.Path.{_≡_}
+use mathlib.Core.Bool.{Bool, true, false, cond, not, _&&_, _||_}
+use mathlib.Core.List.{List, [], _∷_}
+use mathlib.Core.Option.{Option, none, some}
+use Prim.Native.Nat.{ℕ, zero, suc, _-_, _≤_}
+use lib.Dec.{ltb, leb, eqb}
+use lib.ListN.{length, getD}
+use Rattle.text.specs.declared.Cursor.{Cursor}
+use Rattle.text.specs.Reading.{Got, bad, got, then}
+use Rattle.railway.specs.declared.Side.{Side}
+use Rattle.railway.specs.declared.End.{End}
+use Rattle.railway.specs.declared.Railway.{Railway}
+use Rattle.railway.specs.declared.Refusal.{Refusal}
+use Rattle.railway.specs.declared.Refusal.the-variants.{Count, Unknown, Join, Loose, Double, Place}
+use Rattle.railway.specs.Refusals.{Row, row, first}
+use Rattle.railway.specs.Record.{emptyRailway, joined, hasSignal, withJoin, withSignal, withLegs, withTrain}
+use Rattle.railway.specs.Rows.{outside, tied, wrongPair, unjoined, countRow, looseRow, placeRow}
+use Rattle.casefile.specs.declared.CaseRead.{CaseRead}
+use Rattle.casefile.specs.Form.{EndField, section, port, JoinLine, SignalLine, TrainLine}
+use Rattle.casefile.specs.Rows.{within}
+use Rattle.casefile.specs.Recording.{endOf, trainOf}
+use Rattle.casefile.specs.Given.{accepted, refused}
+use Rattle.casefile.specs.Reading.{Counts, headerAt, pointLineAt, joinLineAt, signalLineAt, trainLineAt}
+use Rattle.drafts.specs.declared.Draft.{Draft}
+use Rattle.drafts.specs.declared.Kind.{Kind}
+use Rattle.drafts.specs.declared.Kind.the-variants.{P, J, G, T}
+use Rattle.drafts.specs.declared.KnownEnd.{KnownEnd}
+use Rattle.drafts.specs.declared.KnownEnd.the-variants.{NotThere, There}
+use Rattle.drafts.specs.declared.Lines.{Lines}
+
+-- A test that a number lies within a count, and what a program makes of it.
+pub record Tested (n count : ℕ) (b : Bool) : Type 0 where
+  pub is : b ≡ within n count
+  pub small : b ≡ true → (1 ≤ n) × (n ≤ 255)
+
+-- A number as far as a byte goes.
+abbrev pub cap : ℕ → ℕ
+cap n = cond (leb n 255) n 255
+
+-- AN END that a line names, if it is there by the record's counts.
+abbrev pub isThere : Railway → EndField → Bool
+isThere r (section n s) = within n (r .sections)
+isThere r (port n l) = within n (r .points)
+
+abbrev pub endIn : Railway → EndField → KnownEnd
+endIn r e = cond (isThere r e) (There (endOf e)) NotThere
+
+-- THE DRAFT. Names that are not there are noted and change nothing else.
+abbrev pub unknownIn : Draft → Draft
+unknownIn d = record { railway = d .railway; unknown = true; wrong = d .wrong; double = d .double }
+
+abbrev pub withRailway : Draft → Railway → Draft
+withRailway d r = record { railway = r; unknown = d .unknown; wrong = d .wrong; double = d .double }
+
+-- The counts, where they are within their bounds; else the record stays empty, and row 3 applies to it.
+abbrev pub counted : ℕ → ℕ → ℕ → Railway
+counted s p k =
+    record {
+      sections = s;
+      points = p;
+      trains = k;
+      legs = emptyRailway .legs;
+      links = emptyRailway .links;
+      signals = emptyRailway .signals;
+      runs = emptyRailway .runs;
+    }
+
+unfoldable pub opened : ℕ → ℕ → ℕ → Draft
+opened s p k = record { railway = cond (outside s p k) emptyRailway (counted s p k); unknown = false; wrong = false; double = false }
+
+-- A P line.
+unfoldable pub putPoint : Draft → ℕ → Side → Draft
+putPoint d n side = withRailway d (cond (within n (d .railway .points)) (withLegs (d .railway) (n - 1) side) (d .railway))
+
+-- A J line: its ends may not be tied, or one is in a join already.
+abbrev pub faulty : Railway → End → End → Bool
+faulty r e f = wrongPair (tied r e) (tied r f) || not (unjoined (joined r e) && unjoined (joined r f))
+
+abbrev pub putEnds : Draft → KnownEnd → KnownEnd → Draft
+putEnds d (There e) (There f) =
+    record { railway = withJoin (d .railway) e f; unknown = d .unknown; wrong = d .wrong || faulty (d .railway) e f; double = d .double }
+putEnds d (There e) NotThere = unknownIn d
+putEnds d NotThere k = unknownIn d
+
+unfoldable pub putJoin : Draft → JoinLine → Draft
+putJoin d j = putEnds d (endIn (d .railway) (j .one)) (endIn (d .railway) (j .other))
+
+-- A G line: a signal may stand there already.
+abbrev pub putAt : Draft → KnownEnd → Draft
+putAt d (There e) = record { railway = withSignal (d .railway) e; unknown = d .unknown; wrong = d .wrong; double = d .double || hasSignal (d .railway) e }
+putAt d NotThere = unknownIn d
+
+unfoldable pub putSignal : Draft → SignalLine → Draft
+putSignal d g = putAt d (endIn (d .railway) (section (g .number) (g .side)))
+
+-- A T line.
+unfoldable pub putTrain : Draft → ℕ → TrainLine → Draft
+putTrain d n t =
+    cond (within n (d .railway .trains) && (within (t .start) (d .railway .sections) && within (t .destination) (d .railway .sections)))
+    (withRailway d (withTrain (d .railway) (n - 1) (trainOf t)))
+    (unknownIn d)
+
+-- LINES INTO A DRAFT. A line of a kind, read where it begins; its first letter.
+abbrev pub lineInto : List ℕ → Kind → ℕ → ℕ → Draft → Got Draft
+lineInto s P n c d = then (pointLineAt s n c) (λ x c. got (putPoint d n x) c)
+lineInto s J n c d = then (joinLineAt s c) (λ x c. got (putJoin d x) c)
+lineInto s G n c d = then (signalLineAt s c) (λ x c. got (putSignal d x) c)
+lineInto s T n c d = then (trainLineAt s n c) (λ x c. got (putTrain d n x) c)
+
+abbrev pub letter : Kind → ℕ
+letter P = 80
+letter J = 74
+letter G = 71
+letter T = 84
+
+-- As many lines as a count says, with numbers rising by one from n; and as many as there are.
+module _ {R : Type 0} (line : ℕ → ℕ → R → Got R) where
+  unfoldable pub fed : ℕ → ℕ → ℕ → R → Got R
+  fed zero n c r = got r c
+  fed (suc k) n c r = then (line n c r) (λ r c. fed k (suc n) c r)
+
+module _ {R : Type 0} (begins : ℕ → Bool) (line : ℕ → R → Got R) where
+  unfoldable pub fedWhile : ℕ → ℕ → R → Got R
+  fedWhile zero c r = got r c
+  fedWhile (suc most) c r = elim (begins c) [ true ↦ then (line c r) (λ r c. fedWhile most c r) | false ↦ got r c ]
+
+abbrev pub countedInto : List ℕ → Kind → ℕ → ℕ → Draft → Got Draft
+countedInto s kind count c d = fed (lineInto s kind) count 1 c d
+
+abbrev pub manyInto : List ℕ → Kind → ℕ → Draft → Got Draft
+manyInto s kind c d = fedWhile (λ c. eqb (getD s c 0) (letter kind)) (lineInto s kind 0) (length s) c d
+
+-- The whole text, and nothing behind the last line.
+abbrev pub endAt : List ℕ → Draft → ℕ → Got Draft
+endAt s d c = cond (ltb c (length s)) bad (got d c)
+
+unfoldable pub draftOf : List ℕ → Got Draft
+draftOf s =
+    then (headerAt s 0) (λ h c.
+    then (countedInto s P (h .points) c (opened (h .sections) (h .points) (h .trains))) (λ d c.
+    then (manyInto s J c d) (λ d c.
+    then (manyInto s G c d) (λ d c.
+    then (countedInto s T (h .trains) c d) (λ d c. endAt s d c)))))
+
+-- What lines that were read stand for.
+abbrev pub linesGot : Lines → Got Draft
+linesGot l = cond (l .good) (got (l .draft) (l .next .at)) bad
+
+-- THE ANSWER: rows 3 to 8, by the record and the flags.
+abbrev pub draftRows : Draft → List Row
+draftRows d =
+    row Count (countRow (d .railway))
+    ∷ row Unknown (d .unknown)
+    ∷ row Join (d .wrong)
+    ∷ row Loose (looseRow (d .railway))
+    ∷ row Double (d .double)
+    ∷ row Place (placeRow (d .railway))
+    ∷ []
+
+abbrev pub answerOf : Railway → Option Refusal → CaseRead
+answerOf r none = accepted r
+answerOf r (some f) = refused f
+
+unfoldable pub draftAnswer : Draft → CaseRead
+draftAnswer d = answerOf (d .railway) (first (draftRows d))

@@ -1,0 +1,131 @@
+-- A line as code reads it, step by step: where a step reads nothing the line is not in form, and else what the line gives is what its rest gives.
+-- Bytes, sides, legs and ends are read by looking for one byte after the other.
+-- Assumes nothing.
+use Prim.Native.Nat.{ℕ, _+_, _<_}
+use mathlib.Core.Path.{_≡_, refl, sym, _∙_, ap}
+use mathlib.Core.Bool.{Bool, true, false, cond}
+use mathlib.Core.List.{List}
+use native.Mathlib.Omega.{arith}
+use lib.Dec.{eqb}
+use lib.ListN.{getD}
+use borrow.Author.Tests.{eq-eqb, ne-eqb}
+use Rattle.text.specs.declared.Cursor.{Cursor}
+use Rattle.text.specs.declared.Byte.{Byte}
+use Rattle.text.specs.declared.Byte.the-variants.{Other, Past}
+use Rattle.text.specs.Reading.{Got, bad, got, then, byteAt}
+use Rattle.text.specs.Answers.{byteGot, byteInside}
+use Rattle.text.proofs.Walking.{bad-got}
+use Rattle.text.proofs.Numbers.{byte-is}
+use Rattle.railway.specs.declared.Side.{Side}
+use Rattle.railway.specs.declared.Side.the-variants.{Up, Down}
+use Rattle.railway.specs.declared.Leg.{Leg}
+use Rattle.railway.specs.declared.Leg.the-variants.{Stem, Plus, Minus}
+use Rattle.casefile.specs.Form.{EndField, section, port, sideByte, legByte}
+use Rattle.casefile.specs.Reading.{sideFieldAt, legFieldAt, markAt}
+use Rattle.lines.specs.Answers.{behindTab}
+
+-- ANY STEP
+module _ {A B : Type 0} where
+  pub fails : {g : Got A} (k : A → ℕ → Got B) → g ≡ bad → bad ≡ then g k
+  fails k e = rw e
+
+  pub goes : {g : Got A} {x : A} {c : ℕ} {y : Got B} (k : A → ℕ → Got B) → g ≡ got x c → y ≡ k x c → y ≡ then g k
+  goes k e h = rw e h
+
+-- A FIELD BEHIND A TAB
+module _ {A B : Type 0} (s : List ℕ) (field : ℕ → Got A) (at : ℕ) where
+  tab-bad : (g : Got ℕ) (k : A → ℕ → Got B) → then g (λ x c. field c) ≡ bad → bad ≡ then g (λ x c. then (field c) k)
+  tab-bad bad k e = refl
+  tab-bad (got x c) k e = fails k e
+
+  pub tab-fails : (k : A → ℕ → Got B) → behindTab s field at ≡ bad → bad ≡ then (byteAt s 9 at) (λ x c. then (field c) k)
+  tab-fails k e = tab-bad (byteAt s 9 at) k e
+
+  tab-got : (g : Got ℕ) {x : A} {c : ℕ} {y : Got B} (k : A → ℕ → Got B) → then g (λ x c. field c) ≡ got x c → y ≡ k x c → y ≡ then g (λ x c. then (field c) k)
+  tab-got bad k e h = bad-got refl e
+  tab-got (got x c) k e h = goes k e h
+
+  pub tab-goes : {x : A} {c : ℕ} {y : Got B} (k : A → ℕ → Got B) → behindTab s field at ≡ got x c → y ≡ k x c → y ≡ then (byteAt s 9 at) (λ x c. then (field c) k)
+  tab-goes k e h = tab-got (byteAt s 9 at) k e h
+
+-- A BYTE
+module _ (s : List ℕ) (b at : ℕ) (pos : 0 < b) (r : Byte) (looked : byteGot b r ≡ byteInside s b at) where
+  module _ (e : r ≡ Other) where
+    byte-bad : byteAt s b at ≡ bad
+    byte-bad = sym (looked ∙ byte-is s at b pos) ∙ ap (byteGot b) e
+
+    pub byte-fails : {B : Type 0} (k : ℕ → ℕ → Got B) → bad ≡ then (byteAt s b at) k
+    byte-fails k = fails k byte-bad
+
+    pub byte-miss : eqb (getD s at 0) b ≡ false
+    unfolding byteAt
+    byte-miss = cases (eqb (getD s at 0) b) byte-bad
+      where
+        cases : (p : Bool) → cond p (got b (at + 1)) bad ≡ bad → p ≡ false
+        cases true h = bad-got h refl
+        cases false h = refl
+
+  module _ (c : Cursor) (e : r ≡ Past c) where
+    byte-got : byteAt s b at ≡ got b (c .at)
+    byte-got = sym (looked ∙ byte-is s at b pos) ∙ ap (byteGot b) e
+
+    pub byte-goes : {B : Type 0} {y : Got B} (k : ℕ → ℕ → Got B) → y ≡ k b (c .at) → y ≡ then (byteAt s b at) k
+    byte-goes k h = goes k byte-got h
+
+    pub byte-hit : (eqb (getD s at 0) b ≡ true) × (c .at ≡ at + 1)
+    unfolding byteAt
+    byte-hit = cases (eqb (getD s at 0) b) (c .at) byte-got
+      where
+        cases : (p : Bool) (d : ℕ) → cond p (got b (at + 1)) bad ≡ got b d → (p ≡ true) × (d ≡ at + 1)
+        cases true d h = (refl, cc)
+        cases false d h = bad-got refl h
+
+-- SIDES AND LEGS
+module _ (s : List ℕ) (at : ℕ) where
+  pub side-up : (c : ℕ) → (eqb (getD s at 0) (sideByte Up) ≡ true) × (c ≡ at + 1) → got Up c ≡ sideFieldAt s at
+  unfolding sideFieldAt
+  side-up c h = rw (h .0, h .1)
+
+  module _ (u : eqb (getD s at 0) (sideByte Up) ≡ false) where
+    pub side-down : (c : ℕ) → (eqb (getD s at 0) (sideByte Down) ≡ true) × (c ≡ at + 1) → got Down c ≡ sideFieldAt s at
+    unfolding sideFieldAt
+    side-down c h = rw (u, h .0, h .1)
+
+    pub side-none : eqb (getD s at 0) (sideByte Down) ≡ false → bad ≡ sideFieldAt s at
+    unfolding sideFieldAt
+    side-none d = rw (u, d)
+
+  pub leg-stem : (c : ℕ) → (eqb (getD s at 0) (legByte Stem) ≡ true) × (c ≡ at + 1) → got Stem c ≡ legFieldAt s at
+  unfolding legFieldAt
+  leg-stem c h = rw (h .0, h .1)
+
+  module _ (a : eqb (getD s at 0) (legByte Stem) ≡ false) where
+    pub leg-plus : (c : ℕ) → (eqb (getD s at 0) (legByte Plus) ≡ true) × (c ≡ at + 1) → got Plus c ≡ legFieldAt s at
+    unfolding legFieldAt
+    leg-plus c h = rw (a, h .0, h .1)
+
+    module _ (p : eqb (getD s at 0) (legByte Plus) ≡ false) where
+      pub leg-minus : (c : ℕ) → (eqb (getD s at 0) (legByte Minus) ≡ true) × (c ≡ at + 1) → got Minus c ≡ legFieldAt s at
+      unfolding legFieldAt
+      leg-minus c h = rw (a, p, h .0, h .1)
+
+      pub leg-none : eqb (getD s at 0) (legByte Minus) ≡ false → bad ≡ legFieldAt s at
+      unfolding legFieldAt
+      leg-none m = rw (a, p, m)
+
+  -- the letter behind an end's number
+  pub mark-side : (n : ℕ) (x : Side) (c : ℕ) → sideFieldAt s at ≡ got x c → got (section n x) c ≡ markAt s n at (sideFieldAt s at)
+  mark-side n x c e = rw e
+
+  pub mark-leg : (n : ℕ) (l : Leg) (c : ℕ) → sideFieldAt s at ≡ bad → legFieldAt s at ≡ got l c → got (port n l) c ≡ markAt s n at (sideFieldAt s at)
+  mark-leg n l c e f = rw (e, f)
+
+  pub mark-none : (n : ℕ) → sideFieldAt s at ≡ bad → legFieldAt s at ≡ bad → bad ≡ markAt s n at (sideFieldAt s at)
+  mark-none n e f = rw (e, f)
+
+-- THE NUMBER THAT IS DUE
+pub number-due : {A : Type 0} (m n : ℕ) {x : A} {c : ℕ} → m ≡ n → got x c ≡ cond (eqb m n) (got x c) bad
+number-due m n e = rw (eq-eqb m n e)
+
+pub number-other : {A : Type 0} (m n : ℕ) (g : Got A) → (m ≡ n → ⊥) → bad ≡ cond (eqb m n) g bad
+number-other m n g e = rw (ne-eqb m n e)

@@ -1,0 +1,106 @@
+-- `lines::header_line` meets its contract: each field is read where the one before it ends, and the first that is not in form ends the line.
+-- Assumes nothing.
+use borrow.Author.Needs.{needs}
+use native.Mathlib.Omega.{arith}
+use denote.Ref.{now}
+use mathlib.Core.Path.{refl, sym, _∙_, ap}
+use Rattle.text.specs.Answers.{numberGot}
+use Rattle.casefile.specs.Reading.{headerAt}
+use Rattle.lines.proofs.Chain.{tab-fails, tab-goes, byte-fails, byte-goes}
+use Rattle.lines.proofs.header_line.Statement.{statement}
+use Rattle.lines.proofs.header_line.Tie as tie
+
+byte-at-requires : tie.Need-byte-at-requires
+byte-at-requires c κs = search needs
+
+enum-known-c1 : tie.Need-enum-known-c1
+enum-known-c1 c = search needs
+
+enum-told : tie.Need-enum-told
+enum-told c = search needs
+
+returns : tie.Need-returns
+unfolding headerAt
+returns c = byte-fails (now (c .before .before .before .before .args .text)) 72 _ (omega arith) _ (c .before .before .byte-at .ensures) (c .enum-told .given .1) _
+
+tab-number-requires : tie.Need-tab-number-requires
+tab-number-requires c κs = search needs
+
+enum-known-sections : tie.Need-enum-known-sections
+enum-known-sections c = search needs
+
+enum-told-2 : tie.Need-enum-told-2
+enum-told-2 c = search needs
+
+returns-2 : tie.Need-returns-2
+unfolding headerAt
+returns-2 c = let k1 = c .before .before .before in let s = now (k1 .before .before .before .before .before .args .text) in byte-goes s 72 _ (omega arith) _ (k1 .before .before .before .byte-at .ensures) _ (k1 .before .c1 .given .1) _ (tab-fails s _ _ _ (sym (c .before .before .tab-number .ensures) ∙ ap numberGot (c .enum-told2 .given .1)))
+
+tab-number-requires-2 : tie.Need-tab-number-requires-2
+tab-number-requires-2 c κs = search needs
+
+enum-known-points : tie.Need-enum-known-points
+enum-known-points c = search needs
+
+enum-told-3 : tie.Need-enum-told-3
+enum-told-3 c = search needs
+
+returns-3 : tie.Need-returns-3
+unfolding headerAt
+returns-3 c = let k2 = c .before .before .before in let k1 = k2 .before .before .before .before in let s = now (k1 .before .before .before .before .before .args .text) in byte-goes s 72 _ (omega arith) _ (k1 .before .before .before .byte-at .ensures) _ (k1 .before .c1 .given .1) _ (tab-goes s _ _ _ (sym (k2 .before .before .before .tab-number .ensures) ∙ ap numberGot (k2 .before .sections .given .1)) (tab-fails s _ _ _ (sym (c .before .before .tab-number2 .ensures) ∙ ap numberGot (c .enum-told3 .given .1))))
+
+tab-number-requires-3 : tie.Need-tab-number-requires-3
+tab-number-requires-3 c κs = search needs
+
+enum-known-trains : tie.Need-enum-known-trains
+enum-known-trains c = search needs
+
+enum-told-4 : tie.Need-enum-told-4
+enum-told-4 c = search needs
+
+returns-4 : tie.Need-returns-4
+unfolding headerAt
+returns-4 c = let k3 = c .before .before .before in let k2 = k3 .before .before .before .before in let k1 = k2 .before .before .before .before in let s = now (k1 .before .before .before .before .before .args .text) in byte-goes s 72 _ (omega arith) _ (k1 .before .before .before .byte-at .ensures) _ (k1 .before .c1 .given .1) _ (tab-goes s _ _ _ (sym (k2 .before .before .before .tab-number .ensures) ∙ ap numberGot (k2 .before .sections .given .1)) (tab-goes s _ _ _ (sym (k3 .before .before .before .tab-number2 .ensures) ∙ ap numberGot (k3 .before .points .given .1)) (tab-fails s _ _ _ (sym (c .before .before .tab-number3 .ensures) ∙ ap numberGot (c .enum-told4 .given .1)))))
+
+byte-at-requires-2 : tie.Need-byte-at-requires-2
+byte-at-requires-2 c κs = search needs
+
+enum-known-c5 : tie.Need-enum-known-c5
+enum-known-c5 c = search needs
+
+enum-told-5 : tie.Need-enum-told-5
+enum-told-5 c = search needs
+
+returns-5 : tie.Need-returns-5
+unfolding headerAt
+returns-5 c = let k4 = c .before .before .before in let k3 = k4 .before .before .before .before in let k2 = k3 .before .before .before .before in let k1 = k2 .before .before .before .before in let s = now (k1 .before .before .before .before .before .args .text) in byte-goes s 72 _ (omega arith) _ (k1 .before .before .before .byte-at .ensures) _ (k1 .before .c1 .given .1) _ (tab-goes s _ _ _ (sym (k2 .before .before .before .tab-number .ensures) ∙ ap numberGot (k2 .before .sections .given .1)) (tab-goes s _ _ _ (sym (k3 .before .before .before .tab-number2 .ensures) ∙ ap numberGot (k3 .before .points .given .1)) (tab-goes s _ _ _ (sym (k4 .before .before .before .tab-number3 .ensures) ∙ ap numberGot (k4 .before .trains .given .1)) (byte-fails s 10 _ (omega arith) _ (c .before .before .byte-at2 .ensures) (c .enum-told5 .given .1) _))))
+
+returns-6 : tie.Need-returns-6
+unfolding headerAt
+returns-6 c = let k5 = c in let k4 = k5 .before .before .before .before in let k3 = k4 .before .before .before .before in let k2 = k3 .before .before .before .before in let k1 = k2 .before .before .before .before in let s = now (k1 .before .before .before .before .before .args .text) in byte-goes s 72 _ (omega arith) _ (k1 .before .before .before .byte-at .ensures) _ (k1 .before .c1 .given .1) _ (tab-goes s _ _ _ (sym (k2 .before .before .before .tab-number .ensures) ∙ ap numberGot (k2 .before .sections .given .1)) (tab-goes s _ _ _ (sym (k3 .before .before .before .tab-number2 .ensures) ∙ ap numberGot (k3 .before .points .given .1)) (tab-goes s _ _ _ (sym (k4 .before .before .before .tab-number3 .ensures) ∙ ap numberGot (k4 .before .trains .given .1)) (byte-goes s 10 _ (omega arith) _ (k5 .before .before .before .byte-at2 .ensures) _ (k5 .before .c5 .given .1) _ (refl)))))
+
+pub header-line-spec : {M : Type 1} → statement M
+header-line-spec =
+    tie.close
+    (tie.spec
+    byte-at-requires
+    enum-known-c1
+    enum-told
+    returns
+    tab-number-requires
+    enum-known-sections
+    enum-told-2
+    returns-2
+    tab-number-requires-2
+    enum-known-points
+    enum-told-3
+    returns-3
+    tab-number-requires-3
+    enum-known-trains
+    enum-told-4
+    returns-4
+    byte-at-requires-2
+    enum-known-c5
+    enum-told-5
+    returns-5
+    returns-6)

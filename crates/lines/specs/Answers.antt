@@ -1,0 +1,64 @@
+-- What the answers of the line functions stand for. Contracts cite these; nothing of document 01 rests on them. Assumes nothing.
+use mathlib.Core.List.{List}
+use Prim.Native.Nat.{ℕ}
+use Rattle.text.specs.declared.Cursor.{Cursor}
+use Rattle.text.specs.Reading.{Got, bad, got, then, byteAt}
+use Rattle.railway.specs.declared.Side.{Side}
+use Rattle.railway.specs.declared.Leg.{Leg}
+use Rattle.casefile.specs.Form.{EndField, section, port, JoinLine, SignalLine, TrainLine}
+use Rattle.casefile.specs.Reading.{Counts}
+use Rattle.lines.specs.declared.SideRead.{SideRead}
+use Rattle.lines.specs.declared.SideRead.the-variants.{NoSide, SideIs}
+use Rattle.lines.specs.declared.LegRead.{LegRead}
+use Rattle.lines.specs.declared.LegRead.the-variants.{NoLeg, LegIs}
+use Rattle.lines.specs.declared.NamedEnd.{NamedEnd}
+use Rattle.lines.specs.declared.NamedEnd.the-variants.{OfSection, OfPoint}
+use Rattle.lines.specs.declared.EndRead.{EndRead}
+use Rattle.lines.specs.declared.EndRead.the-variants.{NoEnd, EndIs}
+use Rattle.lines.specs.declared.HeaderRead.{HeaderRead}
+use Rattle.lines.specs.declared.HeaderRead.the-variants.{NoHeader, CountsAre}
+use Rattle.lines.specs.declared.JoinRead.{JoinRead}
+use Rattle.lines.specs.declared.JoinRead.the-variants.{NoJoin, EndsAre}
+use Rattle.lines.specs.declared.SignalRead.{SignalRead}
+use Rattle.lines.specs.declared.SignalRead.the-variants.{NoSignal, SignalIs}
+use Rattle.lines.specs.declared.TrainRead.{TrainRead}
+use Rattle.lines.specs.declared.TrainRead.the-variants.{NoTrain, RunIs}
+
+-- A tab, and a field behind it.
+abbrev pub behindTab : {A : Type 0} → List ℕ → (ℕ → Got A) → ℕ → Got A
+behindTab s field c = then (byteAt s 9 c) (λ x c. field c)
+
+abbrev pub sideGot : SideRead → Got Side
+sideGot NoSide = bad
+sideGot (SideIs s c) = got s (c .at)
+
+abbrev pub legGot : LegRead → Got Leg
+legGot NoLeg = bad
+legGot (LegIs l c) = got l (c .at)
+
+abbrev pub endNamed : NamedEnd → EndField
+endNamed (OfSection n s) = section n s
+endNamed (OfPoint n l) = port n l
+
+abbrev pub endGot : EndRead → Got EndField
+endGot NoEnd = bad
+endGot (EndIs e c) = got (endNamed e) (c .at)
+
+abbrev pub countsGot : HeaderRead → Got Counts
+countsGot NoHeader = bad
+countsGot (CountsAre s p k c) = got (record { sections = s; points = p; trains = k }) (c .at)
+
+abbrev pub joinNamed : NamedEnd → NamedEnd → JoinLine
+joinNamed a b = record { one = endNamed a; other = endNamed b }
+
+abbrev pub joinGot : JoinRead → Got JoinLine
+joinGot NoJoin = bad
+joinGot (EndsAre a b c) = got (joinNamed a b) (c .at)
+
+abbrev pub signalGot : SignalRead → Got SignalLine
+signalGot NoSignal = bad
+signalGot (SignalIs n s c) = got (record { number = n; side = s }) (c .at)
+
+abbrev pub trainGot : TrainRead → Got TrainLine
+trainGot NoTrain = bad
+trainGot (RunIs h s d c) = got (record { heading = h; start = s; destination = d }) (c .at)

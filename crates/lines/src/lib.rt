@@ -1,0 +1,238 @@
+// The lines of a case text, each read at a cursor: what it says and the cursor behind it, or it is not in form. A field that is no number
+// (or no end, no side) ends the reading of its line. Any bytes and any cursor may come in.
+ghost use mathlib.Core.Path.{_≡_};
+ghost use Rattle.text.specs.Answers.{numberGot};
+ghost use Rattle.casefile.specs.Reading.{caseNumberAt, sideFieldAt, legFieldAt, endFieldAt, headerAt, pointLineAt, joinLineAt, signalLineAt, trainLineAt};
+ghost use Rattle.lines.specs.Answers.{behindTab, sideGot, legGot, endGot, countsGot, joinGot, signalGot, trainGot};
+use railway::Leg;
+use railway::Side;
+use text::Byte;
+use text::Cursor;
+use text::Number;
+use text::Width;
+
+// `u` or `d`.
+pub enum SideRead {
+    NoSide,
+    SideIs(Side, Cursor),
+}
+
+// `s`, `+` or `-`.
+pub enum LegRead {
+    NoLeg,
+    LegIs(Leg, Cursor),
+}
+
+// An end as it is written, with the document's number.
+pub enum NamedEnd {
+    OfSection(u64, Side),
+    OfPoint(u64, Leg),
+}
+
+pub enum EndRead {
+    NoEnd,
+    EndIs(NamedEnd, Cursor),
+}
+
+// The H line: sections, points, trains.
+pub enum HeaderRead {
+    NoHeader,
+    CountsAre(u64, u64, u64, Cursor),
+}
+
+pub enum JoinRead {
+    NoJoin,
+    EndsAre(NamedEnd, NamedEnd, Cursor),
+}
+
+pub enum SignalRead {
+    NoSignal,
+    SignalIs(u64, Side, Cursor),
+}
+
+// A T line: heading, start, destination.
+pub enum TrainRead {
+    NoTrain,
+    RunIs(Side, u64, u64, Cursor),
+}
+
+fn side_field(text: &[u8], c: Cursor) -> SideRead
+    ensures { λ r. ⌜ sideGot r ≡ sideFieldAt (now (text .entry)) (c .at) ⌝ }
+{
+    let Byte::Past(up) = text::byte_at(text, c, 117) else {
+        let Byte::Past(down) = text::byte_at(text, c, 100) else {
+            return SideRead::NoSide;
+        };
+        return SideRead::SideIs(Side::Down, down);
+    };
+    SideRead::SideIs(Side::Up, up)
+}
+
+fn leg_field(text: &[u8], c: Cursor) -> LegRead
+    ensures { λ r. ⌜ legGot r ≡ legFieldAt (now (text .entry)) (c .at) ⌝ }
+{
+    let Byte::Past(stem) = text::byte_at(text, c, 115) else {
+        let Byte::Past(plus) = text::byte_at(text, c, 43) else {
+            let Byte::Past(minus) = text::byte_at(text, c, 45) else {
+                return LegRead::NoLeg;
+            };
+            return LegRead::LegIs(Leg::Minus, minus);
+        };
+        return LegRead::LegIs(Leg::Plus, plus);
+    };
+    LegRead::LegIs(Leg::Stem, stem)
+}
+
+// An end: its number, then a section's side or a point's leg.
+fn end_field(text: &[u8], c: Cursor) -> EndRead
+    ensures { λ r. ⌜ endGot r ≡ endFieldAt (now (text .entry)) (c .at) ⌝ }
+{
+    let Number::Value(n, mark) = text::number_at(text, c, Width::Three) else {
+        return EndRead::NoEnd;
+    };
+    let SideRead::SideIs(side, next) = side_field(text, mark) else {
+        let LegRead::LegIs(leg, behind) = leg_field(text, mark) else {
+            return EndRead::NoEnd;
+        };
+        return EndRead::EndIs(NamedEnd::OfPoint(n, leg), behind);
+    };
+    EndRead::EndIs(NamedEnd::OfSection(n, side), next)
+}
+
+// Fields behind a tab.
+fn tab_number(text: &[u8], c: Cursor) -> Number
+    ensures { λ r. ⌜ numberGot r ≡ behindTab (now (text .entry)) (caseNumberAt (now (text .entry))) (c .at) ⌝ }
+{
+    let Byte::Past(field) = text::byte_at(text, c, 9) else {
+        return Number::None;
+    };
+    text::number_at(text, field, Width::Three)
+}
+
+fn tab_side(text: &[u8], c: Cursor) -> SideRead
+    ensures { λ r. ⌜ sideGot r ≡ behindTab (now (text .entry)) (sideFieldAt (now (text .entry))) (c .at) ⌝ }
+{
+    let Byte::Past(field) = text::byte_at(text, c, 9) else {
+        return SideRead::NoSide;
+    };
+    side_field(text, field)
+}
+
+fn tab_end(text: &[u8], c: Cursor) -> EndRead
+    ensures { λ r. ⌜ endGot r ≡ behindTab (now (text .entry)) (endFieldAt (now (text .entry))) (c .at) ⌝ }
+{
+    let Byte::Past(field) = text::byte_at(text, c, 9) else {
+        return EndRead::NoEnd;
+    };
+    end_field(text, field)
+}
+
+// `H`, sections, points, trains.
+pub fn header_line(text: &[u8], c: Cursor) -> HeaderRead
+    ensures { λ r. ⌜ countsGot r ≡ headerAt (now (text .entry)) (c .at) ⌝ }
+{
+    let Byte::Past(c1) = text::byte_at(text, c, 72) else {
+        return HeaderRead::NoHeader;
+    };
+    let Number::Value(sections, c2) = tab_number(text, c1) else {
+        return HeaderRead::NoHeader;
+    };
+    let Number::Value(points, c3) = tab_number(text, c2) else {
+        return HeaderRead::NoHeader;
+    };
+    let Number::Value(trains, c4) = tab_number(text, c3) else {
+        return HeaderRead::NoHeader;
+    };
+    let Byte::Past(c5) = text::byte_at(text, c4, 10) else {
+        return HeaderRead::NoHeader;
+    };
+    HeaderRead::CountsAre(sections, points, trains, c5)
+}
+
+// `P`, the number n, the side of the legs.
+pub fn point_line(text: &[u8], c: Cursor, n: u64) -> SideRead
+    ensures { λ r. ⌜ sideGot r ≡ pointLineAt (now (text .entry)) n (c .at) ⌝ }
+{
+    let Byte::Past(c1) = text::byte_at(text, c, 80) else {
+        return SideRead::NoSide;
+    };
+    let Number::Value(m, c2) = tab_number(text, c1) else {
+        return SideRead::NoSide;
+    };
+    let SideRead::SideIs(side, c3) = tab_side(text, c2) else {
+        return SideRead::NoSide;
+    };
+    let Byte::Past(c4) = text::byte_at(text, c3, 10) else {
+        return SideRead::NoSide;
+    };
+    if m == n {
+        return SideRead::SideIs(side, c4);
+    }
+    SideRead::NoSide
+}
+
+// `J`, two ends.
+pub fn join_line(text: &[u8], c: Cursor) -> JoinRead
+    ensures { λ r. ⌜ joinGot r ≡ joinLineAt (now (text .entry)) (c .at) ⌝ }
+{
+    let Byte::Past(c1) = text::byte_at(text, c, 74) else {
+        return JoinRead::NoJoin;
+    };
+    let EndRead::EndIs(one, c2) = tab_end(text, c1) else {
+        return JoinRead::NoJoin;
+    };
+    let EndRead::EndIs(other, c3) = tab_end(text, c2) else {
+        return JoinRead::NoJoin;
+    };
+    let Byte::Past(c4) = text::byte_at(text, c3, 10) else {
+        return JoinRead::NoJoin;
+    };
+    JoinRead::EndsAre(one, other, c4)
+}
+
+// `G`, a section end.
+pub fn signal_line(text: &[u8], c: Cursor) -> SignalRead
+    ensures { λ r. ⌜ signalGot r ≡ signalLineAt (now (text .entry)) (c .at) ⌝ }
+{
+    let Byte::Past(c1) = text::byte_at(text, c, 71) else {
+        return SignalRead::NoSignal;
+    };
+    let Number::Value(n, c2) = tab_number(text, c1) else {
+        return SignalRead::NoSignal;
+    };
+    let SideRead::SideIs(side, c3) = side_field(text, c2) else {
+        return SignalRead::NoSignal;
+    };
+    let Byte::Past(c4) = text::byte_at(text, c3, 10) else {
+        return SignalRead::NoSignal;
+    };
+    SignalRead::SignalIs(n, side, c4)
+}
+
+// `T`, the number n, heading, start, destination.
+pub fn train_line(text: &[u8], c: Cursor, n: u64) -> TrainRead
+    ensures { λ r. ⌜ trainGot r ≡ trainLineAt (now (text .entry)) n (c .at) ⌝ }
+{
+    let Byte::Past(c1) = text::byte_at(text, c, 84) else {
+        return TrainRead::NoTrain;
+    };
+    let Number::Value(m, c2) = tab_number(text, c1) else {
+        return TrainRead::NoTrain;
+    };
+    let SideRead::SideIs(heading, c3) = tab_side(text, c2) else {
+        return TrainRead::NoTrain;
+    };
+    let Number::Value(start, c4) = tab_number(text, c3) else {
+        return TrainRead::NoTrain;
+    };
+    let Number::Value(destination, c5) = tab_number(text, c4) else {
+        return TrainRead::NoTrain;
+    };
+    let Byte::Past(c6) = text::byte_at(text, c5, 10) else {
+        return TrainRead::NoTrain;
+    };
+    if m == n {
+        return TrainRead::RunIs(heading, start, destination, c6);
+    }
+    TrainRead::NoTrain
+}

@@ -1,0 +1,47 @@
+-- Calls one after the other, of any emitter and any checker that keep their promises (document 01, "The two tables and the plan": how the calls are chained).
+-- Each call is what it was handed, what it answered and what it left. Assumes nothing.
+use mathlib.Core.Path.{_≡_}
+use mathlib.Core.Bool.{Bool, true, false, _&&_}
+use mathlib.Core.List.{List, [], _∷_}
+use mathlib.Core.Option.{Option, none, some}
+use Prim.Native.Nat.{ℕ}
+use lib.ListN.{length, take}
+use lib.Dec.{leb}
+use Rattle.railway.specs.declared.Railway.{Railway}
+use Rattle.plan.specs.declared.PlanPlace.{PlanPlace}
+use Rattle.plan.specs.declared.Emitted.{Emitted}
+use Rattle.plan.specs.declared.Emitted.the-variants.{Line, End, NoPlan, Refused}
+use Rattle.plan.specs.declared.LineAnswer.{LineAnswer}
+use Rattle.plan.specs.Checker.{Checking, Run, onward}
+use Rattle.plan.specs.Promises.{EmitterPost, LinePost}
+
+-- THE EMITTER'S CALLS. What they give: the lines written, and the answer that was no line; none if the buffers ran out before it.
+pub record Emission : Type 0 where
+  pub lines : List (List ℕ)
+  pub last : Option Emitted
+
+abbrev pub isLine : Emitted → Bool
+isLine (Line n next) = true
+isLine End = false
+isLine NoPlan = false
+isLine (Refused f) = false
+
+-- Calls from a place on, with a buffer for each, every next one from the place that the last one answered, until an answer that is no line.
+pub data Emitting (r : Railway) (figs sets : List ℕ) : PlanPlace → List (List ℕ) → Emission → Type 0 where
+  unasked : (place : PlanPlace) → Emitting r figs sets place [] (record { lines = []; last = none })
+  wrote : (place next : PlanPlace) (n : ℕ) (b b′ : List ℕ) (bs : List (List ℕ)) (e : Emission) → EmitterPost r figs sets place b (Line n next) b′
+      → Emitting r figs sets next bs e → Emitting r figs sets place (b ∷ bs) (record { lines = take n b′ ∷ e .lines; last = e .last })
+  stopped : (place : PlanPlace) (a : Emitted) (b b′ : List ℕ) (bs : List (List ℕ)) → isLine a ≡ false → EmitterPost r figs sets place b a b′
+      → Emitting r figs sets place (b ∷ bs) (record { lines = []; last = some a })
+
+-- Buffers long enough: for each line one that it fits into, and one more for the call after the last.
+unfoldable pub longEnough : List (List ℕ) → List (List ℕ) → Bool
+longEnough ls [] = false
+longEnough [] (b ∷ bs) = true
+longEnough (l ∷ ls) (b ∷ bs) = leb (length l) (length b) && longEnough ls bs
+
+-- THE CHECKER'S CALLS for lines, the first handed c, and every next one the state and the tables that the last one left.
+pub data Taking (r : Railway) : Checking → List (List ℕ) → Run → Type 0 where
+  no-more : (c : Checking) → Taking r c [] (record { answers = []; end = c })
+  one-more : (c c′ : Checking) (a : LineAnswer) (text : List ℕ) (texts : List (List ℕ)) (u : Run) → LinePost r c text a c′
+      → Taking r c′ texts u → Taking r c (text ∷ texts) (onward a u)

@@ -1,0 +1,25 @@
+-- `text::byte_at` meets its contract: inside the text the byte is looked at, past its end nothing stands.
+-- Assumes nothing.
+use borrow.Author.Needs.{needs}
+use Rattle.text.proofs.Numbers.{byte-there, byte-other, byte-past}
+use denote.Ref.{now}
+use Rattle.text.proofs.byte_at.Statement.{statement}
+use Rattle.text.proofs.byte_at.Tie as tie
+
+shared-slice-read-if2 : tie.Need-shared-slice-read-if2
+shared-slice-read-if2 c = search needs
+
+add-t10 : tie.Need-add-t10
+add-t10 c = search needs
+
+returns : tie.Need-returns
+returns c = byte-there (now (c .before .before .before .args .text)) _ _ (c .before .before .if1 .taken) (c .if2 .taken)
+
+returns-2 : tie.Need-returns-2
+returns-2 c = byte-other (now (c .before .before .before .args .text)) _ _ (c .before .before .if1 .taken) (c .if2 .left)
+
+returns-3 : tie.Need-returns-3
+returns-3 c = byte-past (now (c .before .args .text)) _ _ (c .if1 .left)
+
+pub byte-at-spec : {M : Type 1} → statement M
+byte-at-spec = tie.close (tie.spec shared-slice-read-if2 add-t10 returns returns-2 returns-3)

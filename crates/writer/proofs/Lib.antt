@@ -1,0 +1,4 @@
+pub mod Pieces
+pub mod Lines
+pub mod Written
+pub mod Claims

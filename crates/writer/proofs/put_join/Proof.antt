@@ -1,0 +1,55 @@
+-- `writer::put_join` meets its contract: nothing where there is no join or the other end comes first, else the J line.
+-- Assumes nothing.
+use borrow.Author.Needs.{needs}
+use Rattle.writer.proofs.Lines.{join-none, join-earlier, join-line}
+use Rattle.writer.proofs.put_join.Statement.{statement}
+use Rattle.writer.proofs.put_join.Tie as tie
+
+enum-told : tie.Need-enum-told
+enum-told c = search needs
+
+enum-known-j : tie.Need-enum-known-j
+enum-known-j c = search needs
+
+index-of-requires : tie.Need-index-of-requires
+index-of-requires c κs = search needs
+
+two-requires : tie.Need-two-requires
+two-requires c κs = search needs
+
+end-at-requires : tie.Need-end-at-requires
+end-at-requires c κs = search needs
+
+put-end-requires : tie.Need-put-end-requires
+put-end-requires c κs = search needs
+
+put-end-requires-2 : tie.Need-put-end-requires-2
+put-end-requires-2 c κs = search needs
+
+returns : tie.Need-returns
+returns c = let a = c .before .before .before .args in join-none (a .i) (a .j) (c .enum-told .given .1)
+
+same-length : tie.Need-same-length
+same-length c = search needs
+
+returns-2 : tie.Need-returns-2
+returns-2 c = let a = c .before .before .before .before .before .before .before .before .before .before .before .before .before .before .before .before .before .before .before .args in let g = c .before .before .before .before .before .before .before .before .before .before .before .before .before .before .before .before .j .given in join-line (a .i) (a .j) (g .0 .0) _ (g .1) (c .before .before .before .before .before .before .before .before .before .before .before .before .before .before .index-of .ensures) _ (c .before .before .before .before .before .before .before .end-at .ensures) (c .before .before .before .before .before .before .before .before .before .before .before .before .before .if1 .taken) (c .before .before .before .before .before .before .before .before .before .before .before .two .ensures) (c .before .before .before .before .before .before .put-end .ensures) (c .before .before .put-end2 .ensures)
+
+returns-3 : tie.Need-returns-3
+returns-3 c = let a = c .before .before .before .before .before .before .args in let g = c .before .before .before .j .given in join-earlier (a .i) (a .j) (g .0 .0) _ (g .1) (c .before .index-of .ensures) (c .if1 .left)
+
+pub put-join-spec : {M : Type 1} → statement M
+put-join-spec =
+    tie.close
+    (tie.spec
+    enum-told
+    enum-known-j
+    index-of-requires
+    two-requires
+    end-at-requires
+    put-end-requires
+    put-end-requires-2
+    returns
+    same-length
+    returns-2
+    returns-3)

@@ -1,0 +1,40 @@
+-- `writer::put_text` meets its contract: the first line and the four parts, one behind the other, make the text.
+-- Assumes nothing.
+use borrow.Author.Needs.{needs}
+use Rattle.text.proofs.Appending.{append-then}
+use Rattle.writer.proofs.Pieces.{text-pieces}
+use Rattle.writer.proofs.put_text.Statement.{statement}
+use Rattle.writer.proofs.put_text.Tie as tie
+
+put-header-requires : tie.Need-put-header-requires
+put-header-requires c κs = search needs
+
+put-part-requires : tie.Need-put-part-requires
+put-part-requires c κs = search needs
+
+put-part-requires-2 : tie.Need-put-part-requires-2
+put-part-requires-2 c κs = search needs
+
+put-part-requires-3 : tie.Need-put-part-requires-3
+put-part-requires-3 c κs = search needs
+
+put-part-requires-4 : tie.Need-put-part-requires-4
+put-part-requires-4 c κs = search needs
+
+same-length : tie.Need-same-length
+same-length c = search needs
+
+returns : tie.Need-returns
+returns c = rw (text-pieces (c .before .before .before .before .before .before .before .before .before .before .before .before .before .before .before .before .before .before .before .before .before .args .r)) (append-then (c .before .before .before .before .before .before .before .before .before .before .before .before .before .before .before .before .before .before .put-header .ensures) (append-then (c .before .before .before .before .before .before .before .before .before .before .before .before .before .before .put-part .ensures) (append-then (c .before .before .before .before .before .before .before .before .before .before .put-part2 .ensures) (append-then (c .before .before .before .before .before .before .put-part3 .ensures) (c .before .before .put-part4 .ensures)))))
+
+pub put-text-spec : {M : Type 1} → statement M
+put-text-spec =
+    tie.close
+    (tie.spec
+    put-header-requires
+    put-part-requires
+    put-part-requires-2
+    put-part-requires-3
+    put-part-requires-4
+    same-length
+    returns)

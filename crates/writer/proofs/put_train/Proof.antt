@@ -1,0 +1,63 @@
+-- `writer::put_train` meets its contract: the fields of the T line, one behind the other.
+-- Assumes nothing.
+use borrow.Author.Needs.{needs}
+use Rattle.writer.proofs.Lines.{train-line}
+use Rattle.writer.proofs.put_train.Statement.{statement}
+use Rattle.writer.proofs.put_train.Tie as tie
+
+two-requires : tie.Need-two-requires
+two-requires c κs = search needs
+
+add-number : tie.Need-add-number
+add-number c = search needs
+
+number-requires : tie.Need-number-requires
+number-requires c κs = search needs
+
+side-byte-requires : tie.Need-side-byte-requires
+side-byte-requires c κs = search needs
+
+two-requires-2 : tie.Need-two-requires-2
+two-requires-2 c κs = search needs
+
+cast-number : tie.Need-cast-number
+cast-number c = search needs
+
+add-number-2 : tie.Need-add-number-2
+add-number-2 c = search needs
+
+number-requires-2 : tie.Need-number-requires-2
+number-requires-2 c κs = search needs
+
+cast-number-2 : tie.Need-cast-number-2
+cast-number-2 c = search needs
+
+add-number-3 : tie.Need-add-number-3
+add-number-3 c = search needs
+
+number-requires-3 : tie.Need-number-requires-3
+number-requires-3 c κs = search needs
+
+same-length : tie.Need-same-length
+same-length c = search needs
+
+returns : tie.Need-returns
+returns c = let a = c .before .before .before .before .before .before .before .before .before .before .before .before .before .before .before .before .before .before .before .before .before .before .before .before .args in train-line (a .i) (a .t) _ (c .before .before .before .before .before .before .before .before .before .before .before .before .before .side-byte .ensures) (c .before .before .before .before .before .before .before .before .before .before .before .before .before .before .before .before .before .before .before .before .before .two .ensures) (c .before .before .before .before .before .before .before .before .before .before .before .before .before .before .before .before .before .number .ensures) (c .before .before .before .before .before .before .before .before .before .before .before .before .two2 .ensures) (c .before .before .before .before .before .before .before .number2 .ensures) (c .before .before .number3 .ensures)
+
+pub put-train-spec : {M : Type 1} → statement M
+put-train-spec =
+    tie.close
+    (tie.spec
+    two-requires
+    add-number
+    number-requires
+    side-byte-requires
+    two-requires-2
+    cast-number
+    add-number-2
+    number-requires-2
+    cast-number-2
+    add-number-3
+    number-requires-3
+    same-length
+    returns)

@@ -1,0 +1,36 @@
+-- The text of a case file piece by piece, as code writes it: a piece for each point, section end or train. Contracts cite this file; nothing of
+-- document 01 rests on it, and proofs/Pieces ties it to the writer's text. Assumes nothing.
+use mathlib.Core.Bool.{Bool, cond}
+use mathlib.Core.List.{List, [], _∷_}
+use Prim.Native.Nat.{ℕ, suc}
+use lib.Dec.{ltb}
+use Rattle.text.specs.Text.{decimal, line}
+use Rattle.railway.specs.declared.Joined.{Joined}
+use Rattle.railway.specs.declared.Joined.the-variants.{Nothing, With}
+use Rattle.railway.specs.declared.Railway.{Railway}
+use Rattle.railway.specs.Ends.{endIndex, endAt}
+use Rattle.railway.specs.Record.{joined, hasSignal, legsOf, runOf}
+use Rattle.casefile.specs.Form.{endField, pointLine, joinLine, trainLine}
+use Rattle.casefile.specs.Recording.{fieldOf}
+use Rattle.casefile.specs.Writing.{trainFrom}
+use Rattle.writer.specs.declared.Part.{Part}
+use Rattle.writer.specs.declared.Part.the-variants.{Points, Joins, Signals, Trains}
+
+-- The first line.
+abbrev pub headerText : ℕ → ℕ → ℕ → List ℕ
+headerText s p k = line ((72 ∷ []) ∷ decimal s ∷ decimal p ∷ decimal k ∷ [])
+
+-- What stands for a section end among the J lines, given what it is joined to, and among the G lines, given whether a signal stands there.
+abbrev pub joinPiece : ℕ → Joined → List ℕ
+joinPiece i Nothing = []
+joinPiece i (With f) = cond (ltb i (endIndex f)) (joinLine (record { one = fieldOf (endAt i); other = fieldOf f })) []
+
+abbrev pub signalPiece : ℕ → Bool → List ℕ
+signalPiece i stands = cond stands (line ((71 ∷ []) ∷ endField (fieldOf (endAt i)) ∷ [])) []
+
+-- A piece of each part.
+abbrev pub pieceOf : Railway → Part → ℕ → List ℕ
+pieceOf r Points i = pointLine (suc i) (legsOf r i)
+pieceOf r Joins i = joinPiece i (joined r (endAt i))
+pieceOf r Signals i = signalPiece i (hasSignal r (endAt i))
+pieceOf r Trains i = trainLine (suc i) (trainFrom (runOf r i))
