@@ -89,8 +89,8 @@ module _ (r : Railway) (ok : Facts r) where
       }
 
   -- the one choice names a train of the railway, and the same under settings that agree
-  pub choice-there : (F : ℕ → Option ℕ) (c : OneChoice (gameOf r) F) (p : ℕ) (s : Setting) → c .named p s < r .trains
-  choice-there F c p s = c .there p s (ok .one-train)
+  pub choice-there : (Without : ℕ → Type 0) (c : OneChoice (gameOf r) Without) (p : ℕ) (s : Setting) → c .named p s < r .trains
+  choice-there Without c p s = c .there p s (ok .one-train)
 
-  pub choice-agrees : (F : ℕ → Option ℕ) (c : OneChoice (gameOf r) F) (p : ℕ) (a b : Setting) → SameSetting r a b → c .named p a ≡ c .named p b
-  choice-agrees F c p a b same = c .alike p a b (alike a b same p)
+  pub choice-agrees : (Without : ℕ → Type 0) (c : OneChoice (gameOf r) Without) (p : ℕ) (a b : Setting) → SameSetting r a b → c .named p a ≡ c .named p b
+  choice-agrees Without c p a b same = c .alike p a b (alike a b same p)

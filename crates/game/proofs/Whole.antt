@@ -266,7 +266,7 @@ module _ {S : Type 0} (g : Game S) (F : ℕ → Option ℕ) (f : ℕ → S) (ins
   none-only p hp none e no-way = e
   none-only p hp (some n) e no-way = absurd (no-way (following f) (λ c. let h : HomeWithin g (following f) c p n = follows g F f inside ok p n hp e c in (h .0, h .2)))
 
-  pub one-choice : OneChoice g F
+  pub one-choice : OneChoice g (λ p. F p ≡ none)
   one-choice = record { named = worst g F; there = worst-there g F; moves = worst-moves g F; alike = worst-alike g F; beats = beaten }
 
   pub whole : Whole g F f

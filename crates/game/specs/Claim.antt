@@ -1,5 +1,5 @@
--- What a table of figures and a table of settings claim of whole plays, and when a setting keeps a placement's figure.
--- Assumes nothing.
+-- What a table of figures and a table of settings claim of whole plays (document 01, "Agreement": demand 3, in the words of "A turn"), and when a setting keeps a
+-- placement's figure ("The two tables and the plan"). Assumes nothing.
 use mathlib.Core.Path.{_≡_}
 use mathlib.Core.Bool.{true}
 use mathlib.Core.Logic.{_↔_}
@@ -28,14 +28,14 @@ pub record Alike {S : Type 0} (g : Game S) (p : ℕ) (s o : S) : Type 0 where
   pub same-trains : (t : ℕ) → may g p s t ≡ may g p o t
   pub same-ends : (t : ℕ) → may g p s t ≡ true → g .next p s t ≡ g .next p o t
 
--- One choice of trains, by placement and setting alone, that beats every way of working wherever F has no figure.
+-- One choice of trains, without memory, that wins against every way of working from every placement of a kind: those that have no figure.
 -- It names a train that is there, one that may move if any may, and the same under settings that are alike.
-pub record OneChoice {S : Type 0} (g : Game S) (F : ℕ → Option ℕ) : Type 0 where
+pub record OneChoice {S : Type 0} (g : Game S) (Without : ℕ → Type 0) : Type 0 where
   pub named : ℕ → S → ℕ
   pub there : (p : ℕ) (s : S) → 0 < g .trains → named p s < g .trains
   pub moves : (p : ℕ) (s : S) (t : ℕ) → may g p s t ≡ true → may g p s (named p s) ≡ true
   pub alike : (p : ℕ) (s o : S) → Alike g p s o → named p s ≡ named p o
-  pub beats : (w : Way S) (p : ℕ) → p < g .placements → F p ≡ none → Beats g (positional named) w p
+  pub beats : (w : Way S) (p : ℕ) → p < g .placements → Without p → Beats g (positional named) w p
 
 -- What figures F and settings f claim of whole plays.
 pub record Whole {S : Type 0} (g : Game S) (F : ℕ → Option ℕ) (f : ℕ → S) : Type 0 where
@@ -47,4 +47,4 @@ pub record Whole {S : Type 0} (g : Game S) (F : ℕ → Option ℕ) (f : ℕ →
   pub not-sooner : (w : Way S) (p n : ℕ) → p < g .placements → F p ≡ some n → (c : Choice S) × ((m : ℕ) → m < n → ¬ (HomeWithin g w c p m))
   -- there is no figure exactly where no way comes home against all choices
   pub none-exactly : (p : ℕ) → p < g .placements → (F p ≡ none) ↔ ((w : Way S) → ¬ ((c : Choice S) → ComesHome g w c p))
-  pub one-choice : OneChoice g F
+  pub one-choice : OneChoice g (λ p. F p ≡ none)

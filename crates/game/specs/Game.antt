@@ -47,7 +47,7 @@ Choice S = List (Turn S) → ℕ → S → ℕ
 abbrev pub following : {S : Type 0} → (ℕ → S) → Way S
 following f h p = f p
 
--- A choice of trains that is fixed by placement and setting alone.
+-- A choice of trains without memory: it looks at where the trains stand and at the setting picked, not at what was played before.
 abbrev pub positional : {S : Type 0} → (ℕ → S → ℕ) → Choice S
 positional C h p s = C p s
 

@@ -11,10 +11,10 @@ use Rattle.railway.specs.declared.Railway.{Railway}
 use Rattle.plan.specs.declared.PlanPlace.{PlanPlace}
 use Rattle.plan.specs.declared.Emitted.{Emitted}
 use Rattle.plan.specs.declared.Emitted.the-variants.{Line, End, NoPlan, Refused}
-use Rattle.plan.specs.Emitter.{Wrote, emitLine}
+use Rattle.plan.specs.Emitter.{isLine, Wrote, emitLine}
 use Rattle.plan.specs.Checker.{Checking, freshChecking, takeLine, Run, onward, run}
 use Rattle.plan.specs.Promises.{EmitterPost, LinePost, FreshPost}
-use Rattle.plan.specs.Calls.{Emission, isLine, Emitting, unasked, wrote, stopped, Taking, no-more, one-more}
+use Rattle.plan.specs.Calls.{Emission, Emitting, unasked, wrote, stopped, Taking, no-more, one-more}
 
 -- THE EMITTER. The calls after one that left this, by the place from which they start.
 abbrev pub goOn : List ℕ → Emitted → (PlanPlace → Emission) → Emission

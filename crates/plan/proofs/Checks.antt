@@ -105,7 +105,7 @@ module _ (r : Railway) (a : recordRefusal r ≡ none) where
   few = omega (arith, ok .few-sections)
 
   -- the code of a line that fits is a placement's
-  code-in : (d : PlacementLine) → fits r (placementLine d) ≡ true → lineCode r d < placements r
+  pub code-in : (d : PlacementLine) → fits r (placementLine d) ≡ true → lineCode r d < placements r
   code-in d e =
       let f = fits-parts r d e in
       let c : lineCode r d < r .sections ^ length (d .sections) =

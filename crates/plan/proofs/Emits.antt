@@ -25,7 +25,7 @@ use Rattle.plan.specs.declared.PlanPlace.the-variants.{Top, From}
 use Rattle.plan.specs.declared.Emitted.the-variants.{Line, End, NoPlan}
 use Rattle.plan.specs.Lines.{startLine, placementLine, spell}
 use Rattle.plan.specs.Text.{hasFigure, lineFor, planLines, planTexts}
-use Rattle.plan.specs.Emitter.{unwritten, written, nextCode, lineAt, emitLine}
+use Rattle.plan.specs.Emitter.{unwritten, written, nextCode, due, writtenDue, emitLine}
 use Rattle.plan.specs.Calls.{Emission, longEnough}
 use Rattle.plan.proofs.Calls.{goOn, emission}
 
@@ -49,7 +49,7 @@ module _ (r : Railway) (figs sets : List ℕ) (fine : caseRefusal r figs sets �
   emits-none e place buffer = rw (fine, e)
 
   module _ (n : ℕ) (start : figureIn figs (startCode r) ≡ some n) where
-    emit-at : (place : PlanPlace) (buffer : List ℕ) → emitLine r figs sets place buffer ≡ lineAt r figs sets buffer place
+    emit-at : (place : PlanPlace) (buffer : List ℕ) → emitLine r figs sets place buffer ≡ writtenDue buffer (due r figs sets place)
     unfolding emitLine
     emit-at place buffer = rw (fine, start)
 

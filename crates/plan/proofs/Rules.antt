@@ -1,123 +1,266 @@
--- The rule on refusals holds of every call: each answer is made in one place of its definition, which says what is left. Assumes nothing.
-use mathlib.Core.Path.{_≡_, refl, ap}
+-- The rule on refusals holds of every call: each answer is made in one place of its definition, which says what is left. What a line changes is read off the one
+-- line that its text spells. Assumes nothing.
+use mathlib.Core.Path.{_≡_, refl, sym, _∙_, ap, subst}
+use mathlib.Core.Logic.{_⊎_, inl, inr, _↔_}
 use mathlib.Core.Bool.{Bool, true, false, cond}
 use mathlib.Core.List.{List, _++_}
 use mathlib.Core.Option.{Option, none, some}
-use Prim.Native.Nat.{ℕ, suc, _≤_}
+use Prim.Native.Nat.{ℕ, suc, _≤_, _<_}
 use native.Mathlib.Omega.{arith}
-use lib.ListN.{length, getD, drop, length-append, length-drop}
-use lib.Seq.{drop-append-seam}
+use lib.ListN.{length, getD, set, drop, length-append, length-drop, length-set}
+use lib.Seq.{drop-append-seam, getD-set-same, getD-set-other}
 use lib.Dec.{ltb}
-use borrow.Author.Tests.{ltb-false}
-use Rattle.laws.proofs.Bools.{clash, some-none}
+use borrow.Author.Tests.{ltb-true, ltb-false}
+use Rattle.laws.proofs.Bools.{clash, some-none, some-one}
 use Rattle.railway.specs.declared.Railway.{Railway}
 use Rattle.railway.specs.declared.Refusal.{Refusal}
-use Rattle.railway.specs.declared.Refusal.the-variants.{Space, PlanForm}
-use Rattle.game.specs.Placement.{startCode}
-use Rattle.tables.specs.Tables.{noFigure, figureIn, caseRefusal}
+use Rattle.railway.specs.declared.Refusal.the-variants.{Space, PlanForm, PlanFault}
+use Rattle.railway.specs.Refusals.{number}
+use Rattle.railway.specs.Rows.{recordRefusal}
+use Rattle.game.specs.Placement.{placements, startCode}
+use Rattle.game.proofs.Accepted.{facts}
+use Rattle.tables.specs.Tables.{figureIn, caseRefusal}
+use Rattle.tables.specs.Solver.{Kept}
+use Rattle.tables.proofs.Refusals.{Enough, case-none}
 use Rattle.plan.specs.declared.PlanPlace.{PlanPlace}
-use Rattle.plan.specs.declared.PlanPlace.the-variants.{Top, From}
 use Rattle.plan.specs.declared.Emitted.{Emitted}
 use Rattle.plan.specs.declared.Emitted.the-variants.{Line, End, NoPlan, Refused as EmitRefused}
 use Rattle.plan.specs.declared.Checker.{Checker}
 use Rattle.plan.specs.declared.Checker.the-variants.{Fresh, Begun}
 use Rattle.plan.specs.declared.LineAnswer.{LineAnswer}
 use Rattle.plan.specs.declared.LineAnswer.the-variants.{Taken, Refused as LineRefused}
-use Rattle.plan.specs.Lines.{PlanLine, startLine, placementLine, spell, lineCode}
-use Rattle.plan.specs.Text.{lineFor}
-use Rattle.plan.specs.Emitter.{unwritten, written, nextCode, lineOf, lineAt, emitted, emitLine}
-use Rattle.plan.specs.Checker.{Checking, Left, left, begin, enter, refuse, takes, takesIf, takeLine, testPlan}
+use Rattle.plan.specs.declared.TestAnswer.{TestAnswer}
+use Rattle.plan.specs.declared.TestAnswer.the-variants.{Pass, Refused as TestRefused}
+use Rattle.plan.specs.Lines.{PlacementLine, PlanLine, startLine, placementLine, Spells, lineCode}
+use Rattle.plan.specs.Text.{isSome, hasFigure}
+use Rattle.plan.specs.Emitter.{isLine, unwritten, written, Due, due, writtenDue, emitted, emitLine}
+use Rattle.plan.specs.Test.{byTables}
+use Rattle.plan.specs.Computed.{testHolds}
+use Rattle.plan.specs.Checker.{Checking, Left, left, lineEntry, begin, enter, refuse, takes, takesIf, takeLine, tests, testPlan}
 use Rattle.plan.specs.Reading.{readLine}
-use Rattle.plan.specs.Rules.{EmitRule, EmitRuleHolds, CheckRuleHolds}
+use Rattle.plan.specs.Rules.{TooShort, EmitRule, EmitRuleHolds, LineChanges, CheckRuleHolds}
+use Rattle.plan.proofs.Reading.{reads-line}
+use Rattle.plan.proofs.Checks.{code-in}
 
--- THE EMITTER. Answers but a line leave the buffer.
-abbrev is-line : Emitted → Bool
-is-line (Line n next) = true
-is-line End = false
-is-line NoPlan = false
-is-line (EmitRefused f) = false
+-- things that differ, told apart by a number
+abbrev emittedKind : Emitted → ℕ
+emittedKind (Line n next) = 0
+emittedKind End = 1
+emittedKind NoPlan = 2
+emittedKind (EmitRefused f) = 3
 
-unwritten-rule : (r : Railway) (figs sets buffer : List ℕ) (a : Emitted) → is-line a ≡ false
-    → ((f : Refusal) → caseRefusal r figs sets ≡ some f → a ≡ EmitRefused f) → ((f : Refusal) → caseRefusal r figs sets ≡ none → a ≡ EmitRefused f → f ≡ Space)
-    → EmitRule r figs sets buffer (unwritten a buffer)
-unwritten-rule r figs sets buffer a o first others =
-    record {
-      first = first;
-      others = others;
-      leaves = λ f e. refl;
-      fits = λ n next e. clash (ap is-line e) o;
-      past = λ n next e. refl;
-      as-long = refl;
-    }
+differ : {A B : Type 0} (f : A → ℕ) {a b : A} → a ≡ b → ¬ (f a ≡ f b) → B
+differ f e n = absurd (n (ap f e))
 
-module _ (r : Railway) (figs sets buffer : List ℕ) (fine : caseRefusal r figs sets ≡ none) where
-  written-rule : (l : List ℕ) (next : PlanPlace) → EmitRule r figs sets buffer (written l next buffer)
-  written-rule l next = go (ltb (length buffer) (length l)) refl
-    where
-      go : (b : Bool) → ltb (length buffer) (length l) ≡ b → EmitRule r figs sets buffer (cond b (unwritten (EmitRefused Space) buffer) (record { answer = Line (length l) next; buffer = l ++ drop (length l) buffer }))
-      go true e = unwritten-rule r figs sets buffer (EmitRefused Space) refl (λ f q. some-none q fine) (λ f q p. cc)
-      go false e =
-          let h : length l ≤ length buffer = ltb-false (length buffer) (length l) e in
-          record {
-            first = λ f q. some-none q fine;
-            others = λ f q p. (let z : _≡_ {A = ℕ} 0 1 = cc in absurd (omega arith));
-            leaves = λ f q. (let z : _≡_ {A = ℕ} 0 1 = cc in absurd (omega arith));
-            fits = λ n k q. (let z : length l ≡ n = cc in omega arith);
-            past = λ n k q. (let z : length l ≡ n = cc in rw (← z) (drop-append-seam l (drop (length l) buffer)));
-            as-long = simp (length-append, length-drop) (omega arith);
-          }
+-- THE EMITTER. Refused by rows 3 to 9.
+module _ (r : Railway) (figs sets : List ℕ) (place : PlanPlace) (buffer : List ℕ) where
+  refused-rule : (f : Refusal) → caseRefusal r figs sets ≡ some f → EmitRule r figs sets place buffer (unwritten (EmitRefused f) buffer)
+  refused-rule f e =
+      record {
+        first = λ g q. (let z : f ≡ g = cc in rw z);
+        others = λ g q p. some-none e q;
+        space = λ q. some-none e q;
+        leaves = λ p. refl;
+        fits = λ n next p. differ emittedKind p (λ z. omega arith);
+        past = λ n next p. differ emittedKind p (λ z. omega arith);
+        as-long = refl;
+      }
 
-  line-rule : (o : Option ℕ) → EmitRule r figs sets buffer (lineOf r figs sets buffer o)
-  line-rule none = unwritten-rule r figs sets buffer End refl (λ f q. some-none q fine) (λ f q p. (let z : _≡_ {A = ℕ} 0 1 = cc in absurd (omega arith)))
-  line-rule (some p) = written-rule (spell (placementLine (lineFor r figs sets p))) (From (suc p))
+  module _ (fine : caseRefusal r figs sets ≡ none) where
+    -- nothing to write: no plan, or its end
+    idle-rule : (a : Emitted) → isLine a ≡ false → ((f : Refusal) → ¬ (a ≡ EmitRefused f)) → ¬ (TooShort r figs sets place buffer) → EmitRule r figs sets place buffer (unwritten a buffer)
+    idle-rule a o n t =
+        record {
+          first = λ f q. some-none q fine;
+          others = λ f q p. absurd (n f p);
+          space = λ q. (λ p. absurd (n Space p), λ x. absurd (t x));
+          leaves = λ p. refl;
+          fits = λ k next p. clash (ap isLine p) o;
+          past = λ k next p. clash (ap isLine p) o;
+          as-long = refl;
+        }
 
-  place-rule : (place : PlanPlace) → EmitRule r figs sets buffer (lineAt r figs sets buffer place)
-  place-rule Top = written-rule (spell (startLine (getD figs (startCode r) noFigure))) (From 0)
-  place-rule (From c) = line-rule (nextCode r figs c)
+    due-rule : hasFigure figs (startCode r) ≡ true → (d : Due) → due r figs sets place ≡ some d → EmitRule r figs sets place buffer (written (d .text) (d .next) buffer)
+    due-rule h d u = go (ltb (length buffer) (length (d .text))) refl
+      where
+        go : (b : Bool) → ltb (length buffer) (length (d .text)) ≡ b
+            → EmitRule r figs sets place buffer (cond b (unwritten (EmitRefused Space) buffer) (record { answer = Line (length (d .text)) (d .next); buffer = d .text ++ drop (length (d .text)) buffer }))
+        go true e =
+            record {
+              first = λ f q. some-none q fine;
+              others = λ f q p. cc;
+              space = λ q. (λ p. record { planned = h; line = d; is-due = u; shorter = ltb-true (length buffer) (length (d .text)) e }, λ x. refl);
+              leaves = λ p. refl;
+              fits = λ n next p. differ emittedKind p (λ z. omega arith);
+              past = λ n next p. differ emittedKind p (λ z. omega arith);
+              as-long = refl;
+            }
+        go false e =
+            let k : length (d .text) ≤ length buffer = ltb-false (length buffer) (length (d .text)) e in
+            record {
+              first = λ f q. some-none q fine;
+              others = λ f q p. differ emittedKind p (λ z. omega arith);
+              space = λ q. (
+                λ p. differ emittedKind p (λ z. omega arith),
+                λ x. (
+                    let z : d ≡ x .line = some-one (sym u ∙ x .is-due) in
+                    let y : length buffer < length (x .line .text) = x .shorter in
+                    let v : length buffer < length (d .text) = rw z y in
+                    absurd (omega arith)
+                    ),
+              );
+              leaves = λ p. clash refl p;
+              fits = λ n next p. (let z : length (d .text) ≡ n = cc in omega arith);
+              past = λ n next p. (let z : length (d .text) ≡ n = cc in rw (← z) (drop-append-seam (d .text) (drop (length (d .text)) buffer)));
+              as-long = simp (length-append, length-drop) (omega arith);
+            }
+
+    place-rule : hasFigure figs (startCode r) ≡ true → (o : Option Due) → due r figs sets place ≡ o → EmitRule r figs sets place buffer (writtenDue buffer o)
+    place-rule h none u = idle-rule End refl (λ f p. differ emittedKind p (λ z. omega arith)) (λ x. some-none (x .is-due) u)
+    place-rule h (some d) u = due-rule h d u
 
 pub emit-rule : EmitRuleHolds
 unfolding emitLine
-emit-rule r figs sets place buffer = go (caseRefusal r figs sets) (figureIn figs (startCode r)) refl
+emit-rule r figs sets place buffer = go (caseRefusal r figs sets) (figureIn figs (startCode r)) refl refl
   where
-    go : (o : Option Refusal) (start : Option ℕ) → caseRefusal r figs sets ≡ o → EmitRule r figs sets buffer (emitted r figs sets place buffer o start)
-    go (some f) start e = unwritten-rule r figs sets buffer (EmitRefused f) refl (λ g q. (let z : f ≡ g = cc in rw z)) (λ g q p. some-none e q)
-    go none none e = unwritten-rule r figs sets buffer NoPlan refl (λ g q. some-none q e) (λ g q p. (let z : _≡_ {A = ℕ} 0 1 = cc in absurd (omega arith)))
-    go none (some n) e = place-rule r figs sets buffer e place
+    go : (o : Option Refusal) (start : Option ℕ) → caseRefusal r figs sets ≡ o → figureIn figs (startCode r) ≡ start → EmitRule r figs sets place buffer (emitted r figs sets place buffer o start)
+    go (some f) start e s = refused-rule r figs sets place buffer f e
+    go none none e s = idle-rule r figs sets place buffer e NoPlan refl (λ f p. differ emittedKind p (λ z. omega arith)) (λ x. clash (x .planned) (ap isSome s))
+    go none (some n) e s = place-rule r figs sets place buffer e (ap isSome s) (due r figs sets place) refl
 
--- THE CHECKER
-record LineRule (c : Checking) (x : Left LineAnswer) : Type 0 where
+-- THE CHECKER. A line that is refused, or that changes no table.
+abbrev isStart : PlanLine → ℕ
+isStart (startLine n) = 0
+isStart (placementLine d) = 1
+
+abbrev lineTaken : LineAnswer → ℕ
+lineTaken Taken = 0
+lineTaken (LineRefused f) = 1
+
+unchanged : (r : Railway) (table : List ℕ) → Kept r table table
+unchanged r table = record { as-long = refl; past = λ p l. refl }
+
+record LineRule (r : Railway) (c : Checking) (text : List ℕ) (x : Left LineAnswer) : Type 0 where
   others : (f : Refusal) → x .answer ≡ LineRefused f → f ≡ PlanForm
   leaves : (f : Refusal) → x .answer ≡ LineRefused f → x .checking ≡ c
+  changes : LineChanges r c text x
 
-refuse-rule : (c : Checking) → LineRule c (refuse c PlanForm)
-refuse-rule c = record { others = λ f e. cc; leaves = λ f e. refl }
+refused-changes : (r : Railway) (c : Checking) (text : List ℕ) (f : Refusal) → LineChanges r c text (refuse c f)
+refused-changes r c text f =
+    record {
+      kept-figs = unchanged r (c .figs);
+      kept-sets = unchanged r (c .sets);
+      first-line = λ n s. (refl, refl);
+      other-codes = λ d s p n. (refl, refl);
+      own-code = λ d s p. differ lineTaken p (λ z. omega arith);
+    }
 
-take-rule : (c d : Checking) → LineRule c (left Taken d)
-take-rule c d = record { others = λ f e. (let z : _≡_ {A = ℕ} 0 1 = cc in absurd (omega arith)); leaves = λ f e. (let z : _≡_ {A = ℕ} 0 1 = cc in absurd (omega arith)) }
+module _ (r : Railway) (c : Checking) (text : List ℕ) where
+  form-rule : LineRule r c text (refuse c PlanForm)
+  form-rule = record { others = λ f e. cc; leaves = λ f e. refl; changes = refused-changes r c text PlanForm }
 
-takes-rule : (r : Railway) (c : Checking) (state : Checker) (o : Option PlanLine) → LineRule c (takes r c state o)
-takes-rule r c Fresh none = refuse-rule c
-takes-rule r c (Begun m from) none = refuse-rule c
-takes-rule r c Fresh (some (startLine n)) = take-rule c (begin c n)
-takes-rule r c Fresh (some (placementLine d)) = refuse-rule c
-takes-rule r c (Begun m from) (some (startLine n)) = refuse-rule c
-takes-rule r c (Begun m from) (some (placementLine d)) = go (ltb (lineCode r d) from)
+  module _ (accepted : recordRefusal r ≡ none) (long : Enough r (c .figs) (c .sets)) where
+    reads : (l : PlanLine) → Spells r text l → readLine r text ≡ some l
+    reads l s = reads-line r (omega (arith, facts r accepted .few-sections)) text l .1 s
+
+    begin-rule : (n : ℕ) → readLine r text ≡ some (startLine n) → LineRule r c text (left Taken (begin c n))
+    begin-rule n e =
+        record {
+          others = λ f p. differ lineTaken p (λ z. omega arith);
+          leaves = λ f p. differ lineTaken p (λ z. omega arith);
+          changes =
+              record {
+                kept-figs = unchanged r (c .figs);
+                kept-sets = unchanged r (c .sets);
+                first-line = λ m s. (refl, refl);
+                other-codes = λ d s p q. (refl, refl);
+                own-code = λ d s p. differ isStart (some-one (sym e ∙ reads (placementLine d) s)) (λ z. omega arith);
+              };
+        }
+
+    enter-rule : (m : ℕ) (d : PlacementLine) → readLine r text ≡ some (placementLine d) → LineRule r c text (left Taken (enter r c m d))
+    enter-rule m d e =
+        record {
+          others = λ f p. differ lineTaken p (λ z. omega arith);
+          leaves = λ f p. differ lineTaken p (λ z. omega arith);
+          changes =
+              record {
+                kept-figs = entered (c .figs) (d .figure);
+                kept-sets = entered (c .sets) (lineEntry r d);
+                first-line = λ n s. differ isStart (some-one (sym e ∙ reads (startLine n) s)) (λ z. omega arith);
+                other-codes = λ k s p n. (
+                    let z : ¬ (p ≡ lineCode r d) = (λ q. n (q ∙ ap (lineCode r) (same k s))) in
+                    (getD-set-other (c .figs) (lineCode r d) p (d .figure) 0 z, getD-set-other (c .sets) (lineCode r d) p (lineEntry r d) 0 z)
+                    );
+                own-code = λ k s p. subst (λ (x : PlacementLine). (getD (set (c .figs) (lineCode r d) (d .figure)) (lineCode r x) 0 ≡ x .figure)
+                    × (getD (set (c .sets) (lineCode r d) (lineEntry r d)) (lineCode r x) 0 ≡ lineEntry r x)) (same k s)
+                    (getD-set-same (c .figs) (lineCode r d) (d .figure) 0 (omega (arith, inside, long .figures)), getD-set-same (c .sets) (lineCode r d) (lineEntry r d) 0 (omega (arith, inside, long .settings)));
+              };
+        }
+      where
+        inside : lineCode r d < placements r
+        inside = code-in r accepted d (reads-line r (omega (arith, facts r accepted .few-sections)) text (placementLine d) .0 e .fit)
+
+        same : (k : PlacementLine) → Spells r text (placementLine k) → d ≡ k
+        same k s = let z : _≡_ {A = PlanLine} (placementLine d) (placementLine k) = some-one (sym e ∙ reads (placementLine k) s) in cc
+
+        entered : (table : List ℕ) (v : ℕ) → Kept r table (set table (lineCode r d) v)
+        entered table v = record { as-long = length-set table (lineCode r d) v; past = λ p l. getD-set-other table (lineCode r d) p v 0 (λ q. omega (arith, inside)) }
+
+    takes-rule : (state : Checker) (o : Option PlanLine) → readLine r text ≡ o → LineRule r c text (takes r c state o)
+    takes-rule Fresh none e = form-rule
+    takes-rule (Begun m from) none e = form-rule
+    takes-rule Fresh (some (startLine n)) e = begin-rule n e
+    takes-rule Fresh (some (placementLine d)) e = form-rule
+    takes-rule (Begun m from) (some (startLine n)) e = form-rule
+    takes-rule (Begun m from) (some (placementLine d)) e = go (ltb (lineCode r d) from)
+      where
+        go : (b : Bool) → LineRule r c text (cond b (refuse c PlanForm) (left Taken (enter r c m d)))
+        go true = form-rule
+        go false = enter-rule m d e
+
+-- THE TEST behind rows 3 to 9
+abbrev testNumbered : TestAnswer → ℕ
+testNumbered Pass = 0
+testNumbered (TestRefused f) = suc (number f)
+
+record TestRule (state : Checker) (a : TestAnswer) : Type 0 where
+  early : (a ≡ TestRefused PlanForm) ↔ (state ≡ Fresh)
+  others : (f : Refusal) → a ≡ TestRefused f → (f ≡ PlanForm) ⊎ (f ≡ PlanFault)
+
+abbrev isFresh : Checker → ℕ
+isFresh Fresh = 0
+isFresh (Begun m from) = 1
+
+tests-rule : (r : Railway) (c : Checking) (state : Checker) → TestRule state (tests r c none state)
+tests-rule r c Fresh = record { early = (λ e. refl, λ e. refl); others = λ f e. inl cc }
+tests-rule r c (Begun m from) = go (testHolds r m (byTables (c .figs) (c .sets)))
   where
-    go : (b : Bool) → LineRule c (cond b (refuse c PlanForm) (left Taken (enter r c m d)))
-    go true = refuse-rule c
-    go false = take-rule c (enter r c m d)
+    go : (b : Bool) → TestRule (Begun m from) (cond b Pass (TestRefused PlanFault))
+    go true = record { early = (λ e. differ testNumbered e (λ z. omega arith), λ e. differ isFresh e (λ z. omega arith)); others = λ f e. differ testNumbered e (λ z. omega arith) }
+    go false = record { early = (λ e. differ testNumbered e (λ z. omega arith), λ e. differ isFresh e (λ z. omega arith)); others = λ f e. inr cc }
 
 pub check-rule : CheckRuleHolds
 unfolding takeLine testPlan
 check-rule r c =
     record {
       line-first = λ text f e. rw e;
-      line-others = λ text f e q. takes-rule r c (c .state) (readLine r text) .others f (rw e at q);
-      line-leaves = λ text f q. kept text (caseRefusal r (c .figs) (c .sets)) f q;
+      line-others = λ text f e q. behind text e .others f (rw e at q);
+      line-leaves = λ text f q. kept text (caseRefusal r (c .figs) (c .sets)) refl f q;
+      line-changes = λ text. changed text (caseRefusal r (c .figs) (c .sets)) refl;
       test-first = λ f e. rw e;
+      test-early = λ e. rw e (tests-rule r c (c .state) .early);
+      test-others = λ f e q. tests-rule r c (c .state) .others f (rw e at q);
       test-leaves = refl;
     }
   where
-    kept : (text : List ℕ) (o : Option Refusal) (f : Refusal) → takesIf r c text o .answer ≡ LineRefused f → takesIf r c text o .checking ≡ c
-    kept text none f q = takes-rule r c (c .state) (readLine r text) .leaves f q
-    kept text (some g) f q = refl
+    behind : (text : List ℕ) → caseRefusal r (c .figs) (c .sets) ≡ none → LineRule r c text (takes r c (c .state) (readLine r text))
+    behind text e = let k = case-none r (c .figs) (c .sets) .0 e in takes-rule r c text (k .0) (k .1) (c .state) (readLine r text) refl
+
+    kept : (text : List ℕ) (o : Option Refusal) → caseRefusal r (c .figs) (c .sets) ≡ o → (f : Refusal) → takesIf r c text o .answer ≡ LineRefused f → takesIf r c text o .checking ≡ c
+    kept text none e f q = behind text e .leaves f q
+    kept text (some g) e f q = refl
+
+    changed : (text : List ℕ) (o : Option Refusal) → caseRefusal r (c .figs) (c .sets) ≡ o → LineChanges r c text (takesIf r c text o)
+    changed text none e = behind text e .changes
+    changed text (some g) e = refused-changes r c text g

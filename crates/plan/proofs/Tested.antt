@@ -1,5 +1,5 @@
 -- The test of a plan. Computed it is true exactly if the plan passes; plans that list the same pass together; and whoever follows one that passes is home
--- in time, for every turn ends in a listed placement of smaller figure. Assumes nothing.
+-- in time, for the figure listed falls at every turn. Assumes nothing.
 use mathlib.Core.Path.{_≡_, refl, sym, _∙_, ap, subst}
 use mathlib.Core.Logic.{inl, inr, _↔_}
 use mathlib.Core.Bool.{Bool, true, false, not, _&&_, _||_}

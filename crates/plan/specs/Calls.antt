@@ -10,8 +10,9 @@ use lib.Dec.{leb}
 use Rattle.railway.specs.declared.Railway.{Railway}
 use Rattle.plan.specs.declared.PlanPlace.{PlanPlace}
 use Rattle.plan.specs.declared.Emitted.{Emitted}
-use Rattle.plan.specs.declared.Emitted.the-variants.{Line, End, NoPlan, Refused}
+use Rattle.plan.specs.declared.Emitted.the-variants.{Line}
 use Rattle.plan.specs.declared.LineAnswer.{LineAnswer}
+use Rattle.plan.specs.Emitter.{isLine}
 use Rattle.plan.specs.Checker.{Checking, Run, onward}
 use Rattle.plan.specs.Promises.{EmitterPost, LinePost}
 
@@ -19,12 +20,6 @@ use Rattle.plan.specs.Promises.{EmitterPost, LinePost}
 pub record Emission : Type 0 where
   pub lines : List (List ℕ)
   pub last : Option Emitted
-
-abbrev pub isLine : Emitted → Bool
-isLine (Line n next) = true
-isLine End = false
-isLine NoPlan = false
-isLine (Refused f) = false
 
 -- Calls from a place on, with a buffer for each, every next one from the place that the last one answered, until an answer that is no line.
 pub data Emitting (r : Railway) (figs sets : List ℕ) : PlanPlace → List (List ℕ) → Emission → Type 0 where

@@ -1,6 +1,6 @@
 -- The emitter: a line of the plan a call, from two tables into a lent text buffer (document 01, "The two tables and the plan": plan text; rows 3 to 9 and what
 -- stands under the table of numbers). Each call is total: any record, tables, place and buffer. Assumes nothing.
-use mathlib.Core.Bool.{Bool, cond, _&&_}
+use mathlib.Core.Bool.{Bool, true, false, cond, _&&_}
 use mathlib.Core.List.{List, _++_}
 use mathlib.Core.Option.{Option, none, some}
 use Prim.Native.Nat.{ℕ, suc}
@@ -30,6 +30,12 @@ refusalGiven (Refused f) = some f
 abbrev pub numberGiven : Emitted → Option ℕ
 numberGiven a = numberOf (refusalGiven a)
 
+abbrev pub isLine : Emitted → Bool
+isLine (Line n next) = true
+isLine End = false
+isLine NoPlan = false
+isLine (Refused f) = false
+
 -- What a call leaves: its answer, and the lent text buffer.
 pub record Wrote : Type 0 where
   pub answer : Emitted
@@ -53,20 +59,29 @@ figureFrom figs c p = leb c p && hasFigure figs p
 abbrev pub nextCode : Railway → List ℕ → ℕ → Option ℕ
 nextCode r figs c = lowest (figureFrom figs c) (placements r)
 
--- The line at a place: the first line; else that of the next placement with a figure; the end where there is no such placement.
-abbrev pub lineOf : Railway → List ℕ → List ℕ → List ℕ → Option ℕ → Wrote
-lineOf r figs sets buffer none = unwritten End buffer
-lineOf r figs sets buffer (some p) = written (spell (placementLine (lineFor r figs sets p))) (From (suc p)) buffer
+-- The line that is due at a place, and the place behind it: the first line; else that of the next placement with a figure; none where there is no such placement.
+pub record Due : Type 0 where
+  pub text : List ℕ
+  pub next : PlanPlace
 
-abbrev pub lineAt : Railway → List ℕ → List ℕ → List ℕ → PlanPlace → Wrote
-lineAt r figs sets buffer Top = written (spell (startLine (getD figs (startCode r) noFigure))) (From 0) buffer
-lineAt r figs sets buffer (From c) = lineOf r figs sets buffer (nextCode r figs c)
+abbrev pub dueFor : Railway → List ℕ → List ℕ → Option ℕ → Option Due
+dueFor r figs sets none = none
+dueFor r figs sets (some p) = some (record { text = spell (placementLine (lineFor r figs sets p)); next = From (suc p) })
+
+abbrev pub due : Railway → List ℕ → List ℕ → PlanPlace → Option Due
+due r figs sets Top = some (record { text = spell (startLine (getD figs (startCode r) noFigure)); next = From 0 })
+due r figs sets (From c) = dueFor r figs sets (nextCode r figs c)
+
+-- It is written; the end where none is due.
+abbrev pub writtenDue : List ℕ → Option Due → Wrote
+writtenDue buffer none = unwritten End buffer
+writtenDue buffer (some d) = written (d .text) (d .next) buffer
 
 -- A refusal by the record or the tables comes first, then none where the start has no figure, then the line.
 abbrev pub emitted : Railway → List ℕ → List ℕ → PlanPlace → List ℕ → Option Refusal → Option ℕ → Wrote
 emitted r figs sets place buffer (some f) start = unwritten (Refused f) buffer
 emitted r figs sets place buffer none none = unwritten NoPlan buffer
-emitted r figs sets place buffer none (some n) = lineAt r figs sets buffer place
+emitted r figs sets place buffer none (some n) = writtenDue buffer (due r figs sets place)
 
 -- A CALL of the emitter.
 unfoldable pub emitLine : Railway → List ℕ → List ℕ → PlanPlace → List ℕ → Wrote

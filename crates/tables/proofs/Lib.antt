@@ -13,6 +13,7 @@ pub mod Starred
 pub mod Refusals
 pub mod Examples
 pub mod Exists
+pub mod Choice
 pub mod Rounds
 pub mod Promise
 pub mod Steps

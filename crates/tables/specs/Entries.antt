@@ -13,7 +13,7 @@ use Rattle.game.specs.Setting.{Setting, headsFor, signalOpen}
 abbrev pub trainBits : ℕ
 trainBits = 16
 
--- Entry v says that train t's signal is open.
+-- Train t is open in entry v: each train has a bit behind those of the points.
 abbrev pub opensIn : ℕ → ℕ → Bool
 opensIn v t = bit v (trainBits + t)
 

@@ -1,6 +1,7 @@
 pub mod Entries
 pub mod Tables
 pub mod Solver
+pub mod Choice
 pub mod Starred
 pub mod Find
 pub mod Rounds

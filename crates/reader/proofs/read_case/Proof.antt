@@ -1,0 +1,33 @@
+-- `reader::read_case` meets its contract: the text is too long, or not in form, or answered by its draft.
+-- Assumes nothing.
+use borrow.Author.Needs.{needs}
+use denote.Ref.{now}
+use mathlib.Core.Path.{refl, sym, _∙_, ap}
+use Rattle.reader.proofs.Parts.{lines-bad, lines-got}
+use Rattle.drafts.proofs.Whole.{too-long, not-in-form, answered}
+use Rattle.reader.proofs.read_case.Statement.{statement}
+use Rattle.reader.proofs.read_case.Tie as tie
+
+refuse-requires : tie.Need-refuse-requires
+refuse-requires c κs = search needs
+
+returns : tie.Need-returns
+returns c = c .refuse .ensures ∙ too-long (now (c .before .before .before .args .text)) (c .before .if1 .taken)
+
+read-lines-requires : tie.Need-read-lines-requires
+read-lines-requires c κs = search needs
+
+answer-requires : tie.Need-answer-requires
+answer-requires c κs = search needs
+
+refuse-requires-2 : tie.Need-refuse-requires-2
+refuse-requires-2 c κs = search needs
+
+returns-2 : tie.Need-returns-2
+returns-2 c = let t = c .before in let l = t .before in let e = l .before in c .answer .ensures ∙ answered (now (e .before .before .args .text)) (e .if1 .left) _ _ (sym (l .read-lines .ensures) ∙ lines-got _ (t .if2 .taken))
+
+returns-3 : tie.Need-returns-3
+returns-3 c = let t = c .before in let l = t .before in let e = l .before in c .refuse2 .ensures ∙ not-in-form (now (e .before .before .args .text)) (e .if1 .left) (sym (l .read-lines .ensures) ∙ lines-bad _ (t .if2 .left))
+
+pub read-case-spec : {M : Type 1} → statement M
+read-case-spec = tie.close (tie.spec refuse-requires returns read-lines-requires answer-requires refuse-requires-2 returns-2 returns-3)
