@@ -1,19 +1,17 @@
 -- A draft is answered as its description is. Row by row the record and the flags say what the rows of the description say, each row where none before
 -- it applies: that is all that the first of them depends on.
 -- Assumes nothing.
-use Prim.Native.Nat.{ℕ, suc, _-_, _<_, _≤_}
+use Prim.Native.Nat.{ℕ, suc, _-_, _<_}
 use mathlib.Core.Path.{_≡_, refl, sym, _∙_, ap}
-use mathlib.Core.Logic.{_⊎_, inl, inr}
-use mathlib.Core.Bool.{Bool, true, false, cond, not, _&&_, _||_}
-use mathlib.Core.List.{List, [], _∷_, map, List·Memᴰ}
+use mathlib.Core.Logic.{inl, inr}
+use mathlib.Core.Bool.{Bool, true, false, cond, not, _||_}
+use mathlib.Core.List.{List, _∷_, map}
 use mathlib.Core.Option.{Option, none, some}
 use native.Mathlib.Omega.{arith}
-use lib.Dec.{eqb, ltb}
+use lib.Dec.{eqb}
 use lib.ListN.{length, getD, length-map, List·getD-map}
-use borrow.Author.Tests.{eqb-true, eqb-false, eq-eqb, ne-eqb}
-use Rattle.laws.specs.Below.{anyBelow, listBelow}
 use Rattle.laws.specs.Lists.{any, repeats, Every}
-use Rattle.laws.proofs.Bools.{bool?, clash, or-false, or-none, not-true, not-is, not-and}
+use Rattle.laws.proofs.Bools.{bool?, clash, or-false, or-none, not-is, not-and}
 use Rattle.laws.proofs.Below as B
 use Rattle.laws.proofs.Below.{list-places}
 use Rattle.laws.proofs.Lists.{any-false, any-none, getD-member, repeats-apart, repeats-list}
@@ -27,17 +25,15 @@ use Rattle.railway.specs.declared.Railway.{Railway}
 use Rattle.railway.specs.declared.Refusal.{Refusal}
 use Rattle.railway.specs.declared.Refusal.the-variants.{Count, Unknown, Join, Loose, Double, Place}
 use Rattle.railway.specs.Bounds.{sectionEnds}
-use Rattle.railway.specs.Refusals.{Row, row, refuseIf, first}
+use Rattle.railway.specs.Refusals.{Row, row, first}
 use Rattle.railway.specs.Record.{emptyRailway, joined, runOf}
 use Rattle.railway.specs.Rows.{outside, unjoined}
 use Rattle.railway.specs.Rows as RR
 use Rattle.railway.proofs.Refusals.{refuse-none}
 use Rattle.railway.proofs.Accepted.{Bounded, bounded}
-use Rattle.casefile.specs.declared.CaseRead.{CaseRead}
 use Rattle.casefile.specs.Form.{EndField, port, JoinLine, SignalLine, TrainLine, Description, WellFormed}
-use Rattle.casefile.specs.Rows.{within, known, unknownJoin, unknownSignal, unknownTrain, wrongJoin, sameEnd, joinEnds, looseEnd, looseAt, sameSignal, countRow, unknownRow, joinRow, looseRow, doubleRow, placeRow, descriptionRows}
-use Rattle.casefile.specs.Recording.{fieldOf, partner, trainOf, noTrainLine, railwayOf}
-use Rattle.casefile.specs.Given.{accepted, refused}
+use Rattle.casefile.specs.Rows.{within, known, unknownJoin, unknownSignal, unknownTrain, wrongJoin, sameEnd, joinEnds, looseEnd, looseAt, countRow, unknownRow, joinRow, looseRow, doubleRow, placeRow, descriptionRows}
+use Rattle.casefile.specs.Recording.{partner, trainOf, noTrainLine, railwayOf}
 use Rattle.casefile.specs.Reading.{judged}
 use Rattle.casefile.proofs.Clean.{within-is}
 use Rattle.casefile.proofs.Ends.{partner-nothing}
@@ -50,7 +46,7 @@ use Rattle.drafts.proofs.Sized.{Sized, sized-counted, sized-rising, siz
 use Rattle.drafts.proofs.Known.{unknown-noted}
 use Rattle.drafts.proofs.Built.{faults, doubles, KnownJoin, KnownSignal, KnownTrain}
 use Rattle.drafts.proofs.Joining.{Fit, fit-faults, faults-fit, partner-none, less-one}
-use Rattle.drafts.proofs.Signalling.{index, Single, single-doubles, doubles-single}
+use Rattle.drafts.proofs.Signalling.{index, single-doubles, doubles-single}
 use Rattle.drafts.proofs.Record.{joins-keep, sized-joins, withPoints, withJoins, built, sized-points, drafted-is, ready, none-joined, placed, built-is}
 
 -- two tests that fail together are the same

@@ -2,11 +2,10 @@
 -- flags. Each line is put in as an update of the record alone, or with its own flag beside it.
 -- Assumes nothing.
 use Prim.Native.Nat.{ℕ, suc, _+_, _-_, _<_, _≤_}
-use mathlib.Core.Path.{_≡_, refl, sym, _∙_, ap}
-use mathlib.Core.Bool.{Bool, true, false, cond, _&&_, _||_}
-use mathlib.Core.List.{List, [], _∷_, map, List·Memᴰ, List·Memᴰ·head, List·Memᴰ·tail}
+use mathlib.Core.Path.{_≡_, refl, _∙_, ap}
+use mathlib.Core.Bool.{Bool, true, false, _||_}
+use mathlib.Core.List.{List, [], _∷_, map, List·Memᴰ·head, List·Memᴰ·tail}
 use native.Mathlib.Omega.{arith}
-use lib.Dec.{ltb}
 use lib.ListN.{length, set, length-set}
 use borrow.Author.Tests.{lt-ltb}
 use Rattle.laws.specs.Lists.{Every}
@@ -16,17 +15,15 @@ use Rattle.railway.specs.declared.Train.{Train}
 use Rattle.railway.specs.declared.Railway.{Railway}
 use Rattle.railway.specs.Bounds.{mostPoints, mostTrains}
 use Rattle.railway.specs.Record.{hasSignal, withJoin, withSignal, withLegs, withTrain}
-use Rattle.railway.specs.Rows.{outside}
-use Rattle.railway.proofs.Accepted.{Bounded}
-use Rattle.casefile.specs.Form.{EndField, section, JoinLine, SignalLine, TrainLine, Description, WellFormed}
+use Rattle.casefile.specs.Form.{EndField, section, JoinLine, SignalLine, TrainLine, Description}
 use Rattle.casefile.specs.Rows.{within, known}
 use Rattle.casefile.specs.Recording.{endOf, trainOf}
 use Rattle.casefile.proofs.Clean.{is-within}
 use Rattle.drafts.specs.declared.Draft.{Draft}
-use Rattle.drafts.specs.Drafting.{isThere, counted, opened, putPoint, faulty, putJoin, putSignal, putTrain, withRailway}
-use Rattle.drafts.proofs.Feeding.{putRising, putEach, drafted}
+use Rattle.drafts.specs.Drafting.{putPoint, faulty, putJoin, putSignal, putTrain, withRailway}
+use Rattle.drafts.proofs.Feeding.{putRising, putEach}
 use Rattle.drafts.proofs.Stored.{storeFrom}
-use Rattle.drafts.proofs.Sized.{Sized, sized-counted, sized-point, sized-put-join, sized-put-signal, sized-rising, sized-each}
+use Rattle.drafts.proofs.Sized.{sized-point, sized-put-join, sized-put-signal}
 use Rattle.drafts.proofs.Known.{or-nothing, or-assoc, SizedBy, there-known}
 
 abbrev pub legsRow : Side → Legs

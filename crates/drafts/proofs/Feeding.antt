@@ -2,18 +2,16 @@
 -- the next is read, and where one is not in form neither way gives anything.
 -- Assumes nothing.
 use Prim.Native.Nat.{ℕ, zero, suc}
-use mathlib.Core.Path.{_≡_, refl, sym, _∙_}
+use mathlib.Core.Path.{_≡_, refl, _∙_}
 use mathlib.Core.Bool.{Bool, true, false, cond}
 use mathlib.Core.List.{List, [], _∷_}
 use lib.Dec.{ltb, eqb}
 use lib.ListN.{length, getD}
 use Rattle.text.specs.Reading.{Got, bad, got, then}
-use Rattle.railway.specs.declared.Side.{Side}
-use Rattle.casefile.specs.Form.{JoinLine, SignalLine, TrainLine, Description}
+use Rattle.casefile.specs.Form.{Description}
 use Rattle.casefile.specs.Reading.{counted, while, headerAt, pointLineAt, joinLineAt, signalLineAt, trainLineAt, walk}
 use Rattle.drafts.specs.declared.Draft.{Draft}
-use Rattle.drafts.specs.declared.Kind.the-variants.{P, J, G, T}
-use Rattle.drafts.specs.Drafting.{opened, putPoint, putJoin, putSignal, putTrain, lineInto, fed, fedWhile, countedInto, manyInto, endAt, draftOf}
+use Rattle.drafts.specs.Drafting.{opened, putPoint, putJoin, putSignal, putTrain, fed, fedWhile, draftOf}
 
 -- all of a list put in, with numbers rising from n; without numbers
 module _ {A R : Type 0} where

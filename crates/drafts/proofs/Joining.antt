@@ -1,35 +1,31 @@
 -- Row 5 and the links: joins are added one by one, each judged against the record so far. Where none is at fault, no end is in two and each end is
 -- joined as the J lines say; and where the row does not apply, none is at fault.
 -- Assumes nothing.
-use Prim.Native.Nat.{ℕ, suc, _-_, _<_, _≤_}
+use Prim.Native.Nat.{ℕ, _-_, _<_, _≤_}
 use mathlib.Core.Path.{_≡_, refl, sym, _∙_, ap}
 use mathlib.Core.Bool.{Bool, true, false, cond, not, _&&_, _||_}
 use mathlib.Core.List.{List, [], _∷_, List·Memᴰ, List·Memᴰ·head, List·Memᴰ·tail}
 use mathlib.Core.Logic.{inl, inr}
 use native.Mathlib.Omega.{arith}
 use lib.Dec.{ltb, eqb}
-use lib.ListN.{length, getD}
-use lib.Seq.{ext-getD}
-use borrow.Author.Tests.{lt-ltb, eqb-true, eqb-false, eq-eqb, ne-eqb}
-use Rattle.laws.specs.Below.{listBelow}
+use lib.ListN.{getD}
+use borrow.Author.Tests.{eqb-true, eqb-false, eq-eqb, ne-eqb}
 use Rattle.laws.specs.Lists.{any, repeats, Every}
-use Rattle.laws.proofs.Bools.{bool?, clash, or-false, or-none, not-and, eq?}
-use Rattle.laws.proofs.Below.{list-length, list-get}
-use Rattle.laws.proofs.Lists.{any-none, any-false, repeats-head, repeats-none, every-none, every-more}
+use Rattle.laws.proofs.Bools.{bool?, clash, or-false, or-none, not-and}
+use Rattle.laws.proofs.Lists.{any-none, repeats-head, repeats-none, every-none, every-more}
 use Rattle.railway.specs.declared.Side.{Side}
 use Rattle.railway.specs.declared.Side.the-variants.{Up}
 use Rattle.railway.specs.declared.End.{End}
 use Rattle.railway.specs.declared.Joined.{Joined}
 use Rattle.railway.specs.declared.Joined.the-variants.{Nothing, With}
-use Rattle.railway.specs.declared.Link.{Link}
 use Rattle.railway.specs.declared.Railway.{Railway}
 use Rattle.railway.specs.Bounds.{allEnds}
-use Rattle.railway.specs.Ends.{sameSide, portSide, endIndex, endAt}
-use Rattle.railway.specs.Record.{noLink, linkAt, joined, legsOf, withLinks, setLink, withJoin}
+use Rattle.railway.specs.Ends.{portSide, endIndex}
+use Rattle.railway.specs.Record.{joined, legsOf, withLinks, setLink, withJoin}
 use Rattle.railway.specs.Record as R
 use Rattle.railway.specs.Rows.{bothPorts, oneSection, wrongPair, unjoined}
 use Rattle.railway.specs.Rows as RR
-use Rattle.railway.proofs.Ends.{Numbered, index-below, index-end, end-numbered}
+use Rattle.railway.proofs.Ends.{Numbered}
 use Rattle.railway.proofs.Updates.{join-first, join-second, join-rest}
 use Rattle.railway.proofs.Accepted.{Bounded}
 use Rattle.casefile.specs.Form.{EndField, section, port, JoinLine, Description}
@@ -38,7 +34,7 @@ use Rattle.casefile.specs.Recording.{endOf, fieldOf, partner}
 use Rattle.casefile.proofs.Clean.{within-is}
 use Rattle.casefile.proofs.Ends.{same-is, same-self, not-same, end-field, Counted, field-end}
 use Rattle.drafts.specs.Drafting.{faulty}
-use Rattle.drafts.proofs.Sized.{Sized, sized-join}
+use Rattle.drafts.proofs.Sized.{sized-join}
 use Rattle.drafts.proofs.Known.{SizedBy}
 use Rattle.drafts.proofs.Built.{joinAll, faults, KnownJoin}
 

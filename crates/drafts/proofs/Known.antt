@@ -1,7 +1,7 @@
 -- Row 4: the draft has noted a name that is not there exactly where the description names one. The record's counts are the description's at every
 -- line, so each line is judged as the row judges it; a note once made stays.
 -- Assumes nothing.
-use Prim.Native.Nat.{ℕ, suc, _+_, _-_, _<_, _≤_}
+use Prim.Native.Nat.{ℕ, suc, _+_, _≤_}
 use mathlib.Core.Path.{_≡_, refl, sym, _∙_, ap}
 use mathlib.Core.Bool.{Bool, true, false, cond, not, _&&_, _||_}
 use mathlib.Core.List.{List, [], _∷_}
@@ -13,12 +13,11 @@ use Rattle.railway.specs.declared.Side.{Side}
 use Rattle.railway.specs.declared.Railway.{Railway}
 use Rattle.casefile.specs.Form.{EndField, section, port, JoinLine, SignalLine, TrainLine, Description, WellFormed}
 use Rattle.casefile.specs.Rows.{within, known, unknownJoin, unknownSignal, unknownTrain, unknownRow}
-use Rattle.casefile.specs.Recording.{endOf, trainOf}
+use Rattle.casefile.specs.Recording.{endOf}
 use Rattle.casefile.proofs.Clean.{is-within}
 use Rattle.drafts.specs.declared.Draft.{Draft}
-use Rattle.drafts.specs.declared.KnownEnd.{KnownEnd}
 use Rattle.drafts.specs.declared.KnownEnd.the-variants.{NotThere, There}
-use Rattle.drafts.specs.Drafting.{isThere, endIn, putPoint, putEnds, putJoin, putAt, putSignal, putTrain, withRailway, unknownIn}
+use Rattle.drafts.specs.Drafting.{isThere, putPoint, putEnds, putJoin, putAt, putSignal, putTrain, withRailway, unknownIn}
 use Rattle.drafts.proofs.Feeding.{putRising, putEach}
 use Rattle.drafts.proofs.Sized.{Sized, SizedDraft, sized-rising, sized-each, sized-point, sized-put-join, sized-put-signal, sized-put-train}
 

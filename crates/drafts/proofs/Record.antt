@@ -1,19 +1,18 @@
 -- The record that is built is the railway of the description: the legs and the trains were stored one after the other, each end is joined as the
 -- J lines say, each flag stands where a G line names it. Joins leave legs, flags and trains alone, signals all but the flags.
 -- Assumes nothing.
-use Prim.Native.Nat.{ℕ, suc, _+_, _-_, _<_, _≤_}
+use Prim.Native.Nat.{ℕ, _<_}
 use mathlib.Core.Path.{_≡_, refl, sym, _∙_, ap}
 use mathlib.Core.Bool.{Bool, true, false, cond, _&&_, _||_}
 use mathlib.Core.List.{List, [], _∷_, map}
 use native.Mathlib.Omega.{arith}
 use lib.Dec.{ltb}
-use lib.ListN.{length, getD, set, replicate, length-set, length-map, List·getD-map}
+use lib.ListN.{length, getD, set, replicate, length-map, List·getD-map}
 use lib.Seq.{ext-getD}
 use borrow.Author.Tests.{lt-ltb}
 use Rattle.laws.specs.Below.{listBelow}
 use Rattle.laws.specs.Lists.{any, Every}
 use Rattle.laws.proofs.Below.{list-length, list-get, list-same}
-use Rattle.railway.specs.declared.Side.{Side}
 use Rattle.railway.specs.declared.Side.the-variants.{Up}
 use Rattle.railway.specs.declared.End.{End}
 use Rattle.railway.specs.declared.Joined.{Joined}
@@ -22,20 +21,20 @@ use Rattle.railway.specs.declared.Legs.{Legs}
 use Rattle.railway.specs.declared.Link.{Link}
 use Rattle.railway.specs.declared.Train.{Train}
 use Rattle.railway.specs.declared.Railway.{Railway}
-use Rattle.railway.specs.Bounds.{mostSections, mostPoints, mostTrains, sectionEnds, allEnds}
+use Rattle.railway.specs.Bounds.{mostPoints, mostTrains, sectionEnds, allEnds}
 use Rattle.railway.specs.Ends.{endIndex, endAt}
-use Rattle.railway.specs.Record.{noLegs, noLink, noTrain, emptyRailway, linkAt, flagAt, joined, legsOf, withLinks, setLink, withJoin, withSignal}
+use Rattle.railway.specs.Record.{noLegs, noLink, noTrain, linkAt, joined, legsOf, withLinks, setLink, withJoin, withSignal}
 use Rattle.railway.specs.Rows.{outside}
 use Rattle.railway.proofs.Ends.{index-end}
 use Rattle.railway.proofs.Accepted.{Bounded}
-use Rattle.casefile.specs.Form.{EndField, JoinLine, SignalLine, TrainLine, Description, WellFormed}
-use Rattle.casefile.specs.Rows.{sameSignal, joinEnds}
+use Rattle.casefile.specs.Form.{JoinLine, SignalLine, Description, WellFormed}
+use Rattle.casefile.specs.Rows.{sameSignal}
 use Rattle.casefile.specs.Recording.{endOf, fieldOf, partner, signalOf, trainOf, noTrainLine, railwayOf}
 use Rattle.casefile.proofs.Clean.{within-is}
 use Rattle.drafts.specs.declared.Draft.{Draft}
-use Rattle.drafts.specs.Drafting.{counted, opened, putPoint, putJoin, putSignal, putTrain}
+use Rattle.drafts.specs.Drafting.{counted, opened, putPoint, putJoin, putSignal}
 use Rattle.drafts.proofs.Feeding.{putRising, putEach, drafted}
-use Rattle.drafts.proofs.Stored.{storeFrom, store-length, store-all, same-everywhere, everywhere-length}
+use Rattle.drafts.proofs.Stored.{storeFrom, store-length, store-all, same-everywhere}
 use Rattle.drafts.proofs.Sized.{Sized, sized-counted, sized-join, sized-signal}
 use Rattle.drafts.proofs.Known.{SizedBy, or-nothing}
 use Rattle.drafts.proofs.Built.{legsRow, signalEnd, withAllLegs, withAllRuns, joinAll, faults, signalAll, doubles, KnownJoin, KnownSignal, KnownTrain, points-put, joins-put, signals-put, trains-put}

@@ -1,7 +1,7 @@
 -- Row 7 and the flags: signals are added one by one. A section end has its flag exactly if a G line names it or it had one before; a signal stands
 -- there already exactly where a G line before names it too.
 -- Assumes nothing.
-use Prim.Native.Nat.{ℕ, suc, _-_, _/_, _%_, _<_, _≤_}
+use Prim.Native.Nat.{ℕ, suc, _-_, _/_, _<_, _≤_}
 use mathlib.Core.Path.{_≡_, refl, sym, _∙_, ap}
 use mathlib.Core.Logic.{_⊎_, inl, inr}
 use mathlib.Core.Bool.{Bool, true, false, cond, _&&_, _||_}
@@ -18,14 +18,13 @@ use Rattle.railway.specs.declared.Side.{Side}
 use Rattle.railway.specs.declared.End.{End}
 use Rattle.railway.specs.declared.Railway.{Railway}
 use Rattle.railway.specs.Bounds.{mostSections, sectionEnds}
-use Rattle.railway.specs.Ends.{sameSide, sideAt, endIndex, endAt}
+use Rattle.railway.specs.Ends.{sameSide, endIndex}
 use Rattle.railway.specs.Record.{flagAt, hasSignal, withSignal}
 use Rattle.railway.proofs.Ends.{index-one, section-below, end-section, index-end}
-use Rattle.casefile.specs.Form.{EndField, section, SignalLine}
+use Rattle.casefile.specs.Form.{section, SignalLine}
 use Rattle.casefile.specs.Rows.{sameSignal}
 use Rattle.casefile.specs.Recording.{endOf, fieldOf, signalOf}
 use Rattle.casefile.proofs.Ends.{signal-is, side-self, field-end}
-use Rattle.drafts.proofs.Known.{or-assoc}
 use Rattle.drafts.proofs.Built.{signalEnd, signalAll, doubles}
 
 -- a G line whose section a railway can have, and the index of its end

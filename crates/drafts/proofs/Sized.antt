@@ -1,26 +1,25 @@
 -- What every update of a record leaves: its counts and the lengths of its tables.
 -- Assumes nothing.
 use Prim.Native.Nat.{ℕ, _-_}
-use mathlib.Core.Path.{_≡_, refl, sym, _∙_}
-use mathlib.Core.Bool.{Bool, true, false, cond, _&&_, _||_}
+use mathlib.Core.Path.{_≡_, refl}
+use mathlib.Core.Bool.{Bool, true, false, cond, _&&_}
 use mathlib.Core.List.{List, [], _∷_}
 use lib.Dec.{ltb}
-use lib.ListN.{length, set, replicate, length-set}
+use lib.ListN.{length, length-set}
 use Rattle.railway.specs.declared.Side.{Side}
 use Rattle.railway.specs.declared.End.{End}
 use Rattle.railway.specs.declared.Train.{Train}
 use Rattle.railway.specs.declared.Railway.{Railway}
 use Rattle.railway.specs.Bounds.{mostPoints, mostTrains, sectionEnds, allEnds}
 use Rattle.railway.specs.Ends.{endIndex}
-use Rattle.railway.specs.Record.{noLegs, noLink, noTrain, emptyRailway, withLinks, setLink, withJoin, withSignal, withLegs, withTrain}
-use Rattle.railway.specs.Rows.{outside}
-use Rattle.casefile.specs.Form.{EndField, JoinLine, SignalLine, TrainLine, section}
+use Rattle.railway.specs.Record.{noLegs, noLink, noTrain, withJoin, withSignal, withLegs, withTrain}
+use Rattle.casefile.specs.Form.{JoinLine, SignalLine, TrainLine, section}
 use Rattle.casefile.specs.Rows.{within}
 use Rattle.casefile.specs.Recording.{trainOf}
 use Rattle.drafts.specs.declared.Draft.{Draft}
 use Rattle.drafts.specs.declared.KnownEnd.{KnownEnd}
 use Rattle.drafts.specs.declared.KnownEnd.the-variants.{NotThere, There}
-use Rattle.drafts.specs.Drafting.{endIn, counted, opened, putPoint, putEnds, putJoin, putAt, putSignal, putTrain, withRailway, unknownIn}
+use Rattle.drafts.specs.Drafting.{endIn, counted, putPoint, putEnds, putJoin, putAt, putSignal, putTrain, withRailway, unknownIn}
 use Rattle.drafts.proofs.Feeding.{putRising, putEach}
 use Rattle.drafts.proofs.Stored.{everywhere-length}
 

@@ -3,20 +3,18 @@
 -- Assumes nothing.
 use Prim.Native.Nat.{ℕ, _<_, _≤_}
 use mathlib.Core.Path.{_≡_, refl, sym, _∙_, ap}
-use mathlib.Core.Bool.{true, false}
-use mathlib.Core.List.{List, [], _∷_}
-use mathlib.Core.Option.{Option, none, some}
-use lib.Dec.{ltb}
+use mathlib.Core.List.{List}
+use mathlib.Core.Option.{none, some}
 use lib.ListN.{length}
 use borrow.Author.Tests.{lt-ltb, le-ltb}
 use Rattle.text.specs.Reading.{Got, bad, got, then, value}
 use Rattle.text.proofs.Walking.{bad-got}
 use Rattle.railway.specs.declared.Refusal.the-variants.{Length, Form}
-use Rattle.railway.specs.Refusals.{row, first}
+use Rattle.railway.specs.Refusals.{first}
 use Rattle.casefile.specs.Form.{Description}
 use Rattle.casefile.specs.Rows.{mostBytes, descriptionRows}
 use Rattle.casefile.specs.Given.{refused}
-use Rattle.casefile.specs.Reading.{walk, read, formRows, caseRows, judged, caseAnswer}
+use Rattle.casefile.specs.Reading.{walk, read, judged, caseAnswer}
 use Rattle.casefile.proofs.Whole.{read-sound}
 use Rattle.drafts.specs.declared.Draft.{Draft}
 use Rattle.drafts.specs.Drafting.{draftOf, draftAnswer}

@@ -7,7 +7,6 @@ use mathlib.Core.Option.{Option, none, some}
 use Prim.Native.Nat.{ℕ, zero, suc, _-_, _≤_}
 use lib.Dec.{ltb, leb, eqb}
 use lib.ListN.{length, getD}
-use Rattle.text.specs.declared.Cursor.{Cursor}
 use Rattle.text.specs.Reading.{Got, bad, got, then}
 use Rattle.railway.specs.declared.Side.{Side}
 use Rattle.railway.specs.declared.End.{End}
@@ -22,7 +21,7 @@ use Rattle.casefile.specs.Form.{EndField, section, port, JoinLine, SignalLine, 
 use Rattle.casefile.specs.Rows.{within}
 use Rattle.casefile.specs.Recording.{endOf, trainOf}
 use Rattle.casefile.specs.Given.{accepted, refused}
-use Rattle.casefile.specs.Reading.{Counts, headerAt, pointLineAt, joinLineAt, signalLineAt, trainLineAt}
+use Rattle.casefile.specs.Reading.{headerAt, pointLineAt, joinLineAt, signalLineAt, trainLineAt}
 use Rattle.drafts.specs.declared.Draft.{Draft}
 use Rattle.drafts.specs.declared.Kind.{Kind}
 use Rattle.drafts.specs.declared.Kind.the-variants.{P, J, G, T}

@@ -1,7 +1,6 @@
 -- What the answers of the line functions stand for. Contracts cite these; nothing of document 01 rests on them. Assumes nothing.
 use mathlib.Core.List.{List}
 use Prim.Native.Nat.{ℕ}
-use Rattle.text.specs.declared.Cursor.{Cursor}
 use Rattle.text.specs.Reading.{Got, bad, got, then, byteAt}
 use Rattle.railway.specs.declared.Side.{Side}
 use Rattle.railway.specs.declared.Leg.{Leg}

@@ -1,7 +1,7 @@
 -- What follows from the reader's promise: the casefile's theorems, with the answer put in for what was promised of it.
 -- Assumes nothing.
-use mathlib.Core.Path.{_≡_, sym, _∙_}
-use mathlib.Core.Logic.{_⊎_, inl, inr}
+use mathlib.Core.Path.{sym, _∙_}
+use mathlib.Core.Logic.{inl, inr}
 use Rattle.casefile.proofs.Exactly.{accepted-exactly, refused-exactly, always-answered}
 use Rattle.casefile.proofs.Again.{accepted-again}
 use Rattle.reader.specs.Claims.{ReaderAccepts, ReaderRefuses, ReaderAnswers, ReaderGives}

@@ -5,7 +5,7 @@ use Prim.Native.Nat.{ℕ, zero, suc, _+_, _-_, _<_, _≤_}
 use mathlib.Core.Path.{_≡_, refl, sym, _∙_, ap}
 use mathlib.Core.Logic.{inl, inr}
 use mathlib.Core.Bool.{Bool, true, false}
-use mathlib.Core.List.{List, [], _∷_, _++_}
+use mathlib.Core.List.{List, _++_}
 use native.Mathlib.Omega.{arith}
 use lib.Dec.{eqb}
 use lib.ListN.{length, getD, drop, length-append, length-drop, List·getD-eq-default}
@@ -13,7 +13,7 @@ use borrow.Author.Tests.{eq-eqb, ne-eqb}
 use Rattle.laws.proofs.Bools.{lt?}
 use Rattle.text.specs.Text.{line}
 use Rattle.text.specs.Reading.{Got, bad, got, then}
-use Rattle.text.proofs.Walking.{Steps, steps}
+use Rattle.text.proofs.Walking.{steps}
 use Rattle.casefile.specs.Form.{pointLine, joinLine, signalLine, trainLine}
 use Rattle.casefile.specs.Reading.{pointLineAt, joinLineAt, signalLineAt, trainLineAt}
 use Rattle.casefile.proofs.Lines.{join-sound, signal-sound, point-sound, train-sound}

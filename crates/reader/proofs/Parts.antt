@@ -1,21 +1,18 @@
 -- What the reader's functions answer, over plain values: each return is a case of the definition that its contract cites.
 -- Assumes nothing.
 use Prim.Native.Nat.{ℕ, _-_, _<_, _≤_}
-use mathlib.Core.Path.{_≡_, refl, sym, _∙_, ap}
+use mathlib.Core.Path.{_≡_, refl, sym, _∙_}
 use mathlib.Core.Logic.{inl, inr}
-use mathlib.Core.Bool.{Bool, true, false, cond, not, _&&_, _||_}
+use mathlib.Core.Bool.{Bool, true, false, not, _&&_, _||_}
 use mathlib.Core.List.{List}
 use native.Mathlib.Omega.{arith}
 use lib.Dec.{ltb, leb}
 use lib.ListN.{length}
-use borrow.Author.Tests.{lt-ltb, le-ltb, ltb-false, leb-true, le-leb, lt-leb}
-use Rattle.text.specs.declared.Cursor.{Cursor}
+use borrow.Author.Tests.{lt-ltb, le-ltb, leb-true, le-leb, lt-leb}
 use Rattle.text.specs.Reading.{Got, bad, got, then}
 use Rattle.laws.proofs.Bools.{clash, lt?, and-true}
 use Rattle.railway.specs.declared.Side.{Side}
 use Rattle.railway.specs.declared.Leg.{Leg}
-use Rattle.railway.specs.declared.SectionNo.{SectionNo}
-use Rattle.railway.specs.declared.PointNo.{PointNo}
 use Rattle.railway.specs.declared.End.{End}
 use Rattle.railway.specs.declared.End.the-variants.{Section, Port}
 use Rattle.railway.specs.declared.Railway.{Railway}
@@ -23,8 +20,8 @@ use Rattle.railway.specs.declared.Refusal.the-variants.{Count, Unknown, Join, L
 use Rattle.railway.specs.Refusals.{first}
 use Rattle.railway.specs.Record.{emptyRailway, hasSignal, withJoin, withSignal, withLegs, withTrain}
 use Rattle.railway.specs.Rows.{outside, countRow, looseRow, placeRow}
-use Rattle.railway.proofs.Accepted.{Bounded, bounded}
-use Rattle.casefile.specs.Form.{SignalLine, TrainLine}
+use Rattle.railway.proofs.Accepted.{bounded}
+use Rattle.casefile.specs.Form.{TrainLine}
 use Rattle.casefile.specs.Rows.{within}
 use Rattle.casefile.specs.Recording.{trainOf}
 use Rattle.casefile.specs.Given.{accepted, refused}
@@ -38,7 +35,7 @@ use Rattle.drafts.specs.declared.Kind.the-variants.{P, J, G, T}
 use Rattle.drafts.specs.declared.KnownEnd.{KnownEnd}
 use Rattle.drafts.specs.declared.KnownEnd.the-variants.{NotThere, There}
 use Rattle.drafts.specs.declared.Lines.{Lines}
-use Rattle.drafts.specs.Drafting.{Tested, cap, endIn, unknownIn, withRailway, counted, opened, putPoint, faulty, putEnds, putJoin, putSignal, putTrain, lineInto, countedInto, manyInto, endAt, draftOf, linesGot, draftAnswer}
+use Rattle.drafts.specs.Drafting.{Tested, cap, endIn, unknownIn, withRailway, opened, putPoint, faulty, putJoin, putSignal, putTrain, lineInto, countedInto, manyInto, endAt, draftOf, linesGot, draftAnswer}
 
 -- NUMBERS
 pub within-low : (n count : ℕ) → n < 1 → Tested n count false

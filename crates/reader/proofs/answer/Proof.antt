@@ -1,7 +1,7 @@
 -- `reader::answer` meets its contract: the rows one after the other, by the record and by the flags.
 -- Assumes nothing.
 use borrow.Author.Needs.{needs}
-use mathlib.Core.Path.{refl, sym, _∙_, ap}
+use mathlib.Core.Path.{sym, _∙_}
 use Rattle.railway.specs.Rows.{looseRow}
 use Rattle.reader.proofs.Parts.{answer-count, answer-unknown, answer-join, answer-loose, answer-double, answer-place, answer-accepted}
 use Rattle.reader.proofs.answer.Statement.{statement}

@@ -2,7 +2,6 @@
 -- Assumes nothing.
 use borrow.Author.Needs.{needs}
 use native.Mathlib.Omega.{arith}
-use mathlib.Core.Path.{refl, sym, _∙_, ap}
 use Rattle.reader.proofs.Parts.{section-there, section-not, port-there, port-not}
 use Rattle.reader.proofs.end_in.Statement.{statement}
 use Rattle.reader.proofs.end_in.Tie as tie

@@ -1,7 +1,7 @@
 -- `reader::is_faulty` meets its contract: the pair first, then each end.
 -- Assumes nothing.
 use borrow.Author.Needs.{needs}
-use mathlib.Core.Path.{refl, sym, _∙_, ap}
+use mathlib.Core.Path.{sym, _∙_, ap}
 use Rattle.railway.specs.Rows.{unjoined}
 use Rattle.reader.proofs.Parts.{faulty-pair, faulty-free, faulty-second, faulty-first}
 use Rattle.reader.proofs.is_faulty.Statement.{statement}

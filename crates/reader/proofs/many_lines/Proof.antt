@@ -4,10 +4,9 @@
 use borrow.Author.Needs.{needs}
 use native.Mathlib.Omega.{arith}
 use denote.Ref.{now}
-use mathlib.Core.Path.{refl, sym, _∙_, ap}
+use mathlib.Core.Path.{sym, _∙_}
 use Prim.Native.Nat.{_-_}
 use lib.ListN.{length}
-use Rattle.drafts.specs.Drafting.{letter}
 use Rattle.reader.proofs.Parts.{lines-bad, lines-got}
 use Rattle.reader.proofs.Loops.{Walked, forward, letter-inside, walked-start, walked-next, walked-bad, walked-done}
 use Rattle.reader.proofs.many_lines.Statement.{statement}

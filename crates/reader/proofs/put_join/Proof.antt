@@ -1,7 +1,7 @@
 -- `reader::put_join` meets its contract: one end is not there, or the other, or both are joined.
 -- Assumes nothing.
 use borrow.Author.Needs.{needs}
-use mathlib.Core.Path.{refl, sym, _∙_, ap}
+use mathlib.Core.Path.{_∙_}
 use Rattle.reader.proofs.Parts.{join-first-not, join-second-not, join-in}
 use Rattle.reader.proofs.put_join.Statement.{statement}
 use Rattle.reader.proofs.put_join.Tie as tie

@@ -2,7 +2,6 @@
 -- Assumes nothing.
 use borrow.Author.Needs.{needs}
 use native.Mathlib.Omega.{arith}
-use mathlib.Core.Path.{refl, sym, _∙_, ap}
 use Rattle.reader.proofs.Parts.{point-in, point-out}
 use Rattle.reader.proofs.put_point.Statement.{statement}
 use Rattle.reader.proofs.put_point.Tie as tie

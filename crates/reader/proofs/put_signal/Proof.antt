@@ -1,7 +1,7 @@
 -- `reader::put_signal` meets its contract: the end is not there, or its signal is added.
 -- Assumes nothing.
 use borrow.Author.Needs.{needs}
-use mathlib.Core.Path.{refl, sym, _∙_, ap}
+use mathlib.Core.Path.{_∙_}
 use Rattle.reader.proofs.Parts.{signal-not, signal-in}
 use Rattle.reader.proofs.put_signal.Statement.{statement}
 use Rattle.reader.proofs.put_signal.Tie as tie

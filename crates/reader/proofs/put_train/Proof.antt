@@ -2,7 +2,7 @@
 -- Assumes nothing.
 use borrow.Author.Needs.{needs}
 use native.Mathlib.Omega.{arith}
-use mathlib.Core.Path.{refl, sym, _∙_, ap}
+use mathlib.Core.Path.{_∙_}
 use Rattle.reader.proofs.Parts.{train-in, train-not, first-of, second-of, third-of}
 use Rattle.reader.proofs.put_train.Statement.{statement}
 use Rattle.reader.proofs.put_train.Tie as tie

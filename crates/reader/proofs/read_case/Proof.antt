@@ -2,7 +2,7 @@
 -- Assumes nothing.
 use borrow.Author.Needs.{needs}
 use denote.Ref.{now}
-use mathlib.Core.Path.{refl, sym, _∙_, ap}
+use mathlib.Core.Path.{sym, _∙_}
 use Rattle.reader.proofs.Parts.{lines-bad, lines-got}
 use Rattle.drafts.proofs.Whole.{too-long, not-in-form, answered}
 use Rattle.reader.proofs.read_case.Statement.{statement}

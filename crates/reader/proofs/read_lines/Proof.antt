@@ -3,7 +3,7 @@
 -- Assumes nothing.
 use borrow.Author.Needs.{needs}
 use denote.Ref.{now}
-use mathlib.Core.Path.{refl, sym, _∙_, ap}
+use mathlib.Core.Path.{sym, _∙_, ap}
 use Rattle.drafts.specs.Drafting.{linesGot}
 use Rattle.lines.specs.Answers.{countsGot}
 use Rattle.reader.proofs.Parts.{header-bad, points-bad, joins-bad, signals-bad, trains-bad, more-left, all-read}
