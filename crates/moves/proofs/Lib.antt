@@ -1,3 +1,4 @@
 pub mod Coding
 pub mod Placing
 pub mod Moving
+pub mod Round

@@ -56,7 +56,7 @@ module _ (r : Railway) (table : List ℕ) (h : Compiled r table) where
   few-trains k e = rw (trains-are r k e) (ok .few-trains)
 
   -- THE SECTION of a train
-  past-trains : (p t : ℕ) → r .trains ≤ t → 0 ≡ standsOn r p t
+  pub past-trains : (p t : ℕ) → r .trains ≤ t → 0 ≡ standsOn r p t
   unfolding standsOn
   past-trains p t l = sym (List·getD-eq-default (sectionsOf r p) 0 (rw (sections-length (r .sections) (r .trains) p) l))
 

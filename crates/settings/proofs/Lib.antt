@@ -1,3 +1,5 @@
 pub mod Ways
 pub mod Trying
 pub mod Exactly
+pub mod Inhabited
+pub mod Examples
