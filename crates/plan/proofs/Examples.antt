@@ -12,7 +12,7 @@ use lib.ListN.{set, replicate}
 use Rattle.laws.specs.Below.{allBelow, anyBelow, sumBelow, whichBelow, listBelow, lowest}
 use Rattle.laws.specs.Bits.{fromBits}
 use Rattle.laws.specs.Lists.{any, all}
-use Rattle.text.specs.Text.{digits, line}
+use Rattle.text.specs.Text.{digits, line, bytes}
 use Rattle.text.specs.Reading.{fields, valueOf, sameText}
 use Rattle.railway.specs.declared.Side.the-variants.{Up, Down}
 use Rattle.railway.specs.declared.Railway.{Railway}
@@ -40,7 +40,6 @@ use Rattle.plan.specs.Test.{listedSetting}
 use Rattle.plan.specs.Reading.{guess, readLine}
 use Rattle.plan.specs.Computed.{placementFine, testHolds}
 use Rattle.plan.specs.Checker.{freshChecking, lineEntry, lineNumber, testNumber, takeLine, testPlan, Run, run}
-use Rattle.plan.specs.Outputs.{bytes}
 
 -- A text and the number that its call is to get; 0: it is taken.
 record Said : Type 0 where

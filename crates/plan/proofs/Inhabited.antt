@@ -11,7 +11,7 @@ use lib.ListN.{length, replicate, List·getD-eq-default}
 use Rattle.laws.specs.Below.{allBelow, anyBelow, sumBelow, whichBelow, listBelow}
 use Rattle.laws.specs.Bits.{fromBits}
 use Rattle.laws.specs.Lists.{any, all}
-use Rattle.text.specs.Text.{digits, line}
+use Rattle.text.specs.Text.{digits, line, bytes}
 use Rattle.text.specs.Reading.{fields, valueOf, sameText}
 use Rattle.railway.specs.declared.Refusal.the-variants.{PlanFault}
 use Rattle.railway.specs.Ends.{endAt}
@@ -40,7 +40,6 @@ use Rattle.plan.specs.Computed.{placementFine, testHolds}
 use Rattle.plan.specs.Checker.{testNumber, freshChecking, takeLine, testPlan, Run, run, takenTexts}
 use Rattle.plan.specs.Checked.{Passing, Failing}
 use Rattle.plan.specs.Demand3.{Handed, ownTexts, othersRefused, Passed, Demand3}
-use Rattle.plan.specs.Outputs.{bytes}
 use Rattle.plan.proofs.Calls.{emission, emitting, taking}
 use Rattle.plan.proofs.Checks.{checked-holds}
 use Rattle.plan.proofs.Plan.{plan-passes}
