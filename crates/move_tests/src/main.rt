@@ -1,0 +1,246 @@
+// Moves and first settings in small yards: Yard A of document 01, and a yard for each way in which moves are easily got wrong. A line
+// each: what is asked, a tab, and the answer. A move answers `-` (not allowed), `x` (derails), `c` (collides) or the code it leads
+// to; a search answers `none` or the entry. Sections, points and trains are counted from 0 in the code, from 1 in the text.
+use acceptance::Tested;
+use compiled::TABLE;
+use libc::STDOUT_FILENO;
+use moves::Move;
+use railway::End;
+use railway::Leg;
+use railway::PointNo;
+use railway::Railway;
+use railway::SectionNo;
+use railway::Side;
+use railway::Train;
+use settings::Found;
+
+const NONE: u32 = 4294967295;
+
+fn number(label: &[u8], n: u32) {
+    io::write_all(STDOUT_FILENO, label);
+    io::write_all(STDOUT_FILENO, b"\t");
+    io::print_decimal(STDOUT_FILENO, n as u64);
+    io::write_all(STDOUT_FILENO, b"\n");
+}
+
+fn word(label: &[u8], w: &[u8]) {
+    io::write_all(STDOUT_FILENO, label);
+    io::write_all(STDOUT_FILENO, b"\t");
+    io::write_all(STDOUT_FILENO, w);
+    io::write_all(STDOUT_FILENO, b"\n");
+}
+
+fn flag(label: &[u8], b: bool) {
+    if b {
+        word(label, b"yes");
+    } else {
+        word(label, b"no");
+    }
+}
+
+fn show_move(label: &[u8], table: &[u8; TABLE], p: u32, v: u32, t: u8) {
+    match moves::move_of(table, p, v, t) {
+        Move::NotAllowed => word(label, b"-"),
+        Move::Derails => word(label, b"x"),
+        Move::Collides => word(label, b"c"),
+        Move::At(q) => number(label, q),
+    }
+}
+
+fn show_first(label: &[u8], table: &[u8; TABLE], figures: &[u32], p: u32, n: u32) {
+    match settings::find_setting(table, figures, p, n) {
+        Found::Nothing => word(label, b"none"),
+        Found::Entry(v) => number(label, v),
+    }
+}
+
+fn show_test(label: &[u8], r: Railway) {
+    let c = compiled::compile(r);
+    let t = c.tested;
+    match t {
+        Tested::Accepted => word(label, b"accepted"),
+        Tested::Refused(f) => number(label, f.number() as u32),
+    }
+}
+
+fn table_of(r: Railway) -> [u8; TABLE] {
+    let c = compiled::compile(r);
+    c.table
+}
+
+fn up(n: u8) -> End {
+    End::Section(SectionNo(n), Side::Up)
+}
+
+fn down(n: u8) -> End {
+    End::Section(SectionNo(n), Side::Down)
+}
+
+fn port(l: Leg) -> End {
+    End::Port(PointNo(0), l)
+}
+
+fn counts(s: u8, p: u8, k: u8) -> Railway {
+    let mut r = Railway::empty();
+    r.sections = s;
+    r.points = p;
+    r.trains = k;
+    r
+}
+
+fn train(r: Railway, t: u8, heading: Side, from: u8, to: u8) -> Railway {
+    r.with_train(
+        t,
+        Train {
+            heading: heading,
+            start: SectionNo(from),
+            destination: SectionNo(to),
+        },
+    )
+}
+
+// Yard A's point: sections 1 and 2 at its legs, 3 at its stem.
+fn fork(k: u8) -> Railway {
+    let r = counts(3, 1, k).with_legs(PointNo(0), Side::Down);
+    let a = r.with_join(up(0), port(Leg::Plus));
+    let b = a.with_join(up(1), port(Leg::Minus));
+    b.with_join(down(2), port(Leg::Stem))
+}
+
+fn yard_a_less() -> Railway {
+    let r = train(fork(2), 0, Side::Up, 1, 2);
+    train(r, 1, Side::Down, 2, 0).with_signal(up(1))
+}
+
+// Two trains towards the legs, both free.
+fn legs() -> Railway {
+    let r = train(fork(2), 0, Side::Up, 0, 2);
+    train(r, 1, Side::Up, 1, 0)
+}
+
+// Yard A, where (2,3) has code 7, (2,1) 1, (3,1) 2, (1,3) 6 and (1,1) 0.
+fn codes() {
+    let t = table_of(yard_a_less().with_signal(down(0)));
+    number(b"placements of A", moves::placements(&t));
+    number(b"start of A", moves::start_code(&t));
+    number(b"home of A", moves::home_code(&t));
+    number(
+        b"code of (2,3) again",
+        moves::code_of(&t, moves::placement_of(&t, 7)),
+    );
+    flag(b"(1,1) lost", moves::is_lost(&t, 0));
+    flag(b"(2,3) lost", moves::is_lost(&t, 7));
+    flag(b"(3,1) home", moves::is_home(&t, 2));
+    flag(b"(2,1) home", moves::is_home(&t, 1));
+    number(
+        b"end of train 1 in (2,3)",
+        railway::index_of(moves::heads_for(&t, 7, 0)) as u32,
+    );
+    number(
+        b"end of train 2 in (2,3)",
+        railway::index_of(moves::heads_for(&t, 7, 1)) as u32,
+    );
+    flag(b"train 1 held in (2,3)", moves::may_move(&t, 7, 0, 0));
+    flag(b"train 1 open in (2,3)", moves::may_move(&t, 7, 65536, 0));
+    flag(b"train 2 free in (2,3)", moves::may_move(&t, 7, 0, 1));
+    flag(b"no train 3", moves::may_move(&t, 7, 0, 2));
+}
+
+fn moves_of_a() {
+    let t = table_of(yard_a_less().with_signal(down(0)));
+    show_move(b"stem, plus set", &t, 7, 1, 1);
+    show_move(b"stem, minus set, section taken", &t, 7, 0, 1);
+    show_move(b"held", &t, 7, 1, 0);
+    show_move(b"set leg, section taken", &t, 7, 65536, 0);
+    show_move(b"leg not set", &t, 7, 65537, 0);
+    show_move(b"set leg", &t, 1, 65536, 0);
+    show_move(b"end of track", &t, 1, 131072, 1);
+    show_move(b"no such train", &t, 7, 65536, 2);
+}
+
+fn firsts_of_a() {
+    let t = table_of(yard_a_less().with_signal(down(0)));
+    let less = table_of(yard_a_less());
+    let figures = [NONE, 1, 0, NONE, NONE, NONE, NONE, NONE, NONE];
+    show_first(
+        b"(2,3) below 2: a free train, nothing opened",
+        &t,
+        &figures,
+        7,
+        2,
+    );
+    show_first(b"(2,3) below 1", &t, &figures, 7, 1);
+    show_first(b"(2,1) below 1: one opened", &t, &figures, 1, 1);
+    show_first(
+        b"(2,1) below 1 without 1d: train 2 runs off",
+        &less,
+        &figures,
+        1,
+        1,
+    );
+    show_first(
+        b"(1,3): a free train derails or collides",
+        &t,
+        &figures,
+        6,
+        9,
+    );
+    show_first(b"(1,1): lost", &t, &figures, 0, 9);
+    show_first(b"(2,3) with a short table", &t, &[], 7, 9);
+}
+
+fn firsts_at_legs() {
+    let zeros = [0u32; 9];
+    let mut most = [0u32; 9];
+    most[5] = NONE;
+    show_first(
+        b"two free trains at one point",
+        &table_of(legs()),
+        &zeros,
+        3,
+        1,
+    );
+    show_first(
+        b"the free one at the plus leg",
+        &table_of(legs().with_signal(up(1))),
+        &zeros,
+        3,
+        1,
+    );
+    show_first(
+        b"the free one at the minus leg",
+        &table_of(legs().with_signal(up(0))),
+        &zeros,
+        3,
+        1,
+    );
+    let held = table_of(legs().with_signal(up(0)).with_signal(up(1)));
+    show_first(b"both held: the lowest", &held, &zeros, 3, 1);
+    show_first(b"both held: the lowest that works", &held, &most, 3, 1);
+    show_first(b"both held: below 0", &held, &zeros, 3, 0);
+    let stem = table_of(train(fork(1), 0, Side::Down, 2, 0));
+    show_first(b"both legs good: minus", &stem, &zeros, 2, 1);
+    show_first(b"minus bad: plus", &stem, &[0, NONE, 0], 2, 1);
+}
+
+// A loop: 1u leads to the stem, and plus back to 1d.
+fn ring() {
+    let r = counts(2, 1, 1).with_legs(PointNo(0), Side::Up);
+    let a = r.with_join(up(0), port(Leg::Stem));
+    let b = a.with_join(port(Leg::Plus), down(0));
+    let c = b.with_join(port(Leg::Minus), down(1));
+    let t = table_of(train(c, 0, Side::Up, 0, 1));
+    show_move(b"round into its own section", &t, 0, 1, 0);
+    show_move(b"round the other way", &t, 0, 0, 0);
+    show_first(b"below 1, home being 0", &t, &[NONE, 0], 0, 1);
+}
+
+fn main() {
+    codes();
+    moves_of_a();
+    firsts_of_a();
+    firsts_at_legs();
+    ring();
+    show_test(b"the empty record", Railway::empty());
+    show_test(b"A without 1d", yard_a_less());
+}
