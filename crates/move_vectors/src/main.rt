@@ -9,7 +9,7 @@ use moves::Move;
 use railway::Railway;
 
 // The number of bytes of the next record, or there is none.
-enum Size {
+enum Length {
     None,
     Bytes(usize),
 }
@@ -27,37 +27,45 @@ fn main() {
 
 // One record; answers whether there was one.
 fn one() -> bool {
-    let Size::Bytes(n) = size() else {
+    let Length::Bytes(n) = size() else {
         return false;
     };
-    let mut space = io::buffer();
+    let mut space = io::large_buffer();
     if n <= space.len() {
-        io::read_full(STDIN_FILENO, &mut space[..n]);
-        show(&space[..n]);
+        fill(&mut space[..n]);
         true
     } else {
         false
     }
 }
 
-fn size() -> Size {
-    let mut byte = [0u8; 1];
-    let mut mark = [0u8; 2];
-    if io::read_full(STDIN_FILENO, &mut mark) < 2 {
-        return Size::None;
+fn fill(space: &mut [u8]) {
+    io::read_full(STDIN_FILENO, space);
+    show(space);
+}
+
+fn size() -> Length {
+    if next_byte() == 0 {
+        return Length::None;
     }
+    next_byte();
     let mut n: usize = 0;
     let mut digits: u8 = 0;
     while digits < 6 {
-        io::read_full(STDIN_FILENO, &mut byte);
-        let b = byte[0];
+        let b = next_byte();
         if b == 10 {
-            return Size::Bytes(n);
+            return Length::Bytes(n);
         }
         n = (n * 10 + (b % 16) as usize) % 100000;
         digits += 1;
     }
-    Size::None
+    Length::None
+}
+
+fn next_byte() -> u8 {
+    let mut byte = [0u8; 1];
+    io::read_full(STDIN_FILENO, &mut byte);
+    byte[0]
 }
 
 fn show(text: &[u8]) {
@@ -87,10 +95,10 @@ fn placements(r: Railway) {
 // Every set of open trains.
 fn settings(table: &[u8; TABLE], k: u8, q: u8, p: u32) {
     let n = power(k);
-    let mut open: u32 = 0;
-    while open < n {
-        points(table, k, q, p, open % 16);
-        open += 1;
+    let mut mask: u32 = 0;
+    while mask < n {
+        points(table, k, q, p, mask % 16);
+        mask += 1;
     }
 }
 
@@ -111,14 +119,22 @@ fn power(n: u8) -> u32 {
 
 fn line(table: &[u8; TABLE], k: u8, p: u32, v: u32) {
     io::print_decimal(STDOUT_FILENO, p as u64);
-    io::write_all(STDOUT_FILENO, b"\t");
+    tab();
     io::print_decimal(STDOUT_FILENO, v as u64);
     let mut t: u8 = 0;
     while t < k {
-        io::write_all(STDOUT_FILENO, b"\t");
+        tab();
         outcome(table, p, v, t);
         t += 1;
     }
+    line_end();
+}
+
+fn tab() {
+    io::write_all(STDOUT_FILENO, b"\t");
+}
+
+fn line_end() {
     io::write_all(STDOUT_FILENO, b"\n");
 }
 
