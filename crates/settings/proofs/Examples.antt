@@ -7,7 +7,7 @@ use Prim.Native.Nat.{ℕ}
 use Rattle.railway.specs.declared.Side.the-variants.{Up, Down}
 use Rattle.railway.specs.declared.Leg.the-variants.{Stem, Plus, Minus}
 use Rattle.railway.specs.declared.Railway.{Railway}
-use Rattle.game.specs.Yards.{yardH, lineP, lineJ, lineG, lineT, sec, port, yardALess, yardA, upTwoOne}
+use Rattle.railway.specs.Yards.{yardH, lineP, lineJ, lineG, lineT, sec, port, yardALess, yardA, upTwoOne}
 use Rattle.laws.specs.Below.{allBelow, anyBelow, sumBelow, lowest}
 use Rattle.laws.specs.Bits.{fromBits}
 use Rattle.railway.specs.Record.{joined, hasSignal, runOf, withJoin, withSignal, withLegs, withTrain}
