@@ -12,8 +12,8 @@ use Rattle.tables.specs.Tables.{noFigure}
 use Rattle.plan.specs.declared.PlanPlace.{PlanPlace}
 use Rattle.plan.specs.declared.Emitted.{Emitted}
 use Rattle.plan.specs.declared.Emitted.the-variants.{Line, End, NoPlan, Refused}
-use Rattle.plan.specs.declared.Checker.{Checker}
-use Rattle.plan.specs.declared.Checker.the-variants.{Fresh}
+use Rattle.plan.specs.declared.CheckerState.{CheckerState}
+use Rattle.plan.specs.declared.CheckerState.the-variants.{Fresh}
 use Rattle.plan.specs.Emitter.{isLine, Wrote, emitLine}
 use Rattle.plan.specs.Checker.{Checking, freshChecking, takeLine, Run, onward, run}
 use Rattle.plan.specs.Promises.{EmitterPost, LinePost, FreshPost}
@@ -71,7 +71,7 @@ taking r (l ∷ ls) c =
     (taking r ls (takeLine r c l .checking))
 
 -- fresh tables
-by-parts : (c : Checking) (state : Checker) (figs sets : List ℕ) → c .state ≡ state → c .figs ≡ figs → c .sets ≡ sets → c ≡ record { state = state; figs = figs; sets = sets }
+by-parts : (c : Checking) (state : CheckerState) (figs sets : List ℕ) → c .state ≡ state → c .figs ≡ figs → c .sets ≡ sets → c ≡ record { state = state; figs = figs; sets = sets }
 by-parts c state figs sets e f s = rw (← e, ← f, ← s)
 
 pub fresh-one : (figs sets : List ℕ) (c : Checking) → FreshPost figs sets c → c ≡ freshChecking (length figs) (length sets)

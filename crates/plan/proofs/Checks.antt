@@ -27,8 +27,8 @@ use Rattle.game.proofs.Codes.{code-below}
 use Rattle.tables.specs.Entries.{opensIn}
 use Rattle.tables.specs.Tables.{noFigure, figureEntry, caseRefusal}
 use Rattle.tables.proofs.Entries.{entry-plus, entry-opens}
-use Rattle.plan.specs.declared.Checker.{Checker}
-use Rattle.plan.specs.declared.Checker.the-variants.{Fresh, Begun}
+use Rattle.plan.specs.declared.CheckerState.{CheckerState}
+use Rattle.plan.specs.declared.CheckerState.the-variants.{Fresh, Begun}
 use Rattle.plan.specs.declared.LineAnswer.{LineAnswer}
 use Rattle.plan.specs.declared.LineAnswer.the-variants.{Taken, Refused as LineRefused}
 use Rattle.plan.specs.declared.TestAnswer.{TestAnswer}
@@ -186,10 +186,10 @@ module _ (r : Railway) (a : recordRefusal r ≡ none) where
           (begun m (ds ++ (d ∷ [])) g (ap (Begun m) (sym (ap (codeAfter 0) (map-append (lineCode r) ds (d ∷ [])) ∙ code-after-snoc 0 (codes r ds) (lineCode r d))))
           (record { figs = cells-more r noFigure (λ d. d .figure) ds d (c .figs) (t .figs) (f .rising) l (code-in d (s .fit)); sets = cells-more r 0 (lineEntry r) ds d (c .sets) (t .sets) (f .rising) l (code-in d (s .fit)) }))
 
-  reads-on : {taken : List (List ℕ)} {text : List ℕ} {c : Checking} {state : Checker} {o : Option Refusal} → o ≡ none → c .state ≡ state
+  reads-on : {taken : List (List ℕ)} {text : List ℕ} {c : Checking} {state : CheckerState} {o : Option Refusal} → o ≡ none → c .state ≡ state
       → Call taken text c (takes r c state (readLine r text)) → Call taken text c (takesIf r c text o)
   reads-on {taken} {text} {c} e s x =
-      subst (λ (o : Option Refusal). Call taken text c (takesIf r c text o)) (sym e) (subst (λ (state : Checker). Call taken text c (takes r c state (readLine r text))) (sym s) x)
+      subst (λ (o : Option Refusal). Call taken text c (takesIf r c text o)) (sym e) (subst (λ (state : CheckerState). Call taken text c (takes r c state (readLine r text))) (sym s) x)
 
   pub call : (taken : List (List ℕ)) (text : List ℕ) (c : Checking) → Holds taken c → Call taken text c (takeLine r c text)
   unfolding takeLine
@@ -270,7 +270,7 @@ module _ (r : Railway) (a : recordRefusal r ≡ none) where
       let h = tested r (byTables (c .figs) (c .sets)) m in
       (λ e. test-same r ok (byTables (c .figs) (c .sets)) (byLines r ds) s m (h .0 e), λ e. h .1 (test-same r ok (byLines r ds) (byTables (c .figs) (c .sets)) (listing-back r (byTables (c .figs) (c .sets)) (byLines r ds) s) m e))
 
-  tests-at : (c : Checking) {state : Checker} {o : Option Refusal} → o ≡ none → c .state ≡ state → tests r c o (c .state) ≡ tests r c none state
+  tests-at : (c : Checking) {state : CheckerState} {o : Option Refusal} → o ≡ none → c .state ≡ state → tests r c o (c .state) ≡ tests r c none state
   tests-at c e s = ap (λ (o : Option Refusal). tests r c o (c .state)) e ∙ ap (tests r c none) s
 
   one-more : (taken : List (List ℕ)) (text : List ℕ) (c : Checking) → Holds taken c → (isTaken (takeLine r c text .answer) ≡ true) ↔ InForm r (taken ++ (text ∷ []))

@@ -25,8 +25,8 @@ use Rattle.tables.proofs.Refusals.{Enough, case-none}
 use Rattle.plan.specs.declared.PlanPlace.{PlanPlace}
 use Rattle.plan.specs.declared.Emitted.{Emitted}
 use Rattle.plan.specs.declared.Emitted.the-variants.{Line, End, NoPlan, Refused as EmitRefused}
-use Rattle.plan.specs.declared.Checker.{Checker}
-use Rattle.plan.specs.declared.Checker.the-variants.{Fresh, Begun}
+use Rattle.plan.specs.declared.CheckerState.{CheckerState}
+use Rattle.plan.specs.declared.CheckerState.the-variants.{Fresh, Begun}
 use Rattle.plan.specs.declared.LineAnswer.{LineAnswer}
 use Rattle.plan.specs.declared.LineAnswer.the-variants.{Taken, Refused as LineRefused}
 use Rattle.plan.specs.declared.TestAnswer.{TestAnswer}
@@ -207,7 +207,7 @@ module _ (r : Railway) (c : Checking) (text : List ℕ) where
         entered : (table : List ℕ) (v : ℕ) → Kept r table (set table (lineCode r d) v)
         entered table v = record { as-long = length-set table (lineCode r d) v; past = λ p l. getD-set-other table (lineCode r d) p v 0 (λ q. omega (arith, inside)) }
 
-    takes-rule : (state : Checker) (o : Option PlanLine) → readLine r text ≡ o → LineRule r c text (takes r c state o)
+    takes-rule : (state : CheckerState) (o : Option PlanLine) → readLine r text ≡ o → LineRule r c text (takes r c state o)
     takes-rule Fresh none e = form-rule
     takes-rule (Begun m from) none e = form-rule
     takes-rule Fresh (some (startLine n)) e = begin-rule n e
@@ -224,15 +224,15 @@ abbrev testNumbered : TestAnswer → ℕ
 testNumbered Pass = 0
 testNumbered (TestRefused f) = suc (number f)
 
-record TestRule (state : Checker) (a : TestAnswer) : Type 0 where
+record TestRule (state : CheckerState) (a : TestAnswer) : Type 0 where
   early : (a ≡ TestRefused PlanForm) ↔ (state ≡ Fresh)
   others : (f : Refusal) → a ≡ TestRefused f → (f ≡ PlanForm) ⊎ (f ≡ PlanFault)
 
-abbrev isFresh : Checker → ℕ
+abbrev isFresh : CheckerState → ℕ
 isFresh Fresh = 0
 isFresh (Begun m from) = 1
 
-tests-rule : (r : Railway) (c : Checking) (state : Checker) → TestRule state (tests r c none state)
+tests-rule : (r : Railway) (c : Checking) (state : CheckerState) → TestRule state (tests r c none state)
 tests-rule r c Fresh = record { early = (λ e. refl, λ e. refl); others = λ f e. inl cc }
 tests-rule r c (Begun m from) = go (testHolds r m (byTables (c .figs) (c .sets)))
   where

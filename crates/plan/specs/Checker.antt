@@ -13,8 +13,8 @@ use Rattle.railway.specs.declared.Refusal.the-variants.{PlanForm, PlanFault}
 use Rattle.railway.specs.Refusals.{numberOf}
 use Rattle.tables.specs.Entries.{entryFrom}
 use Rattle.tables.specs.Tables.{noFigure, caseRefusal}
-use Rattle.plan.specs.declared.Checker.{Checker}
-use Rattle.plan.specs.declared.Checker.the-variants.{Fresh, Begun}
+use Rattle.plan.specs.declared.CheckerState.{CheckerState}
+use Rattle.plan.specs.declared.CheckerState.the-variants.{Fresh, Begun}
 use Rattle.plan.specs.declared.LineAnswer.{LineAnswer}
 use Rattle.plan.specs.declared.LineAnswer.the-variants.{Taken, Refused as LineRefused}
 use Rattle.plan.specs.declared.TestAnswer.{TestAnswer}
@@ -41,7 +41,7 @@ testNumber a = numberOf (testRefusal a)
 
 -- THE STATE with the two lent tables; what a call leaves, and its answer.
 pub record Checking : Type 0 where
-  pub state : Checker
+  pub state : CheckerState
   pub figs : List ℕ
   pub sets : List ℕ
 
@@ -78,7 +78,7 @@ abbrev pub refuse : Checking → Refusal → Left LineAnswer
 refuse c f = left (LineRefused f) c
 
 -- The first line comes once and before the others, whose codes strictly rise; every other text is refused as plan form (10).
-abbrev pub takes : Railway → Checking → Checker → Option PlanLine → Left LineAnswer
+abbrev pub takes : Railway → Checking → CheckerState → Option PlanLine → Left LineAnswer
 takes r c state none = refuse c PlanForm
 takes r c Fresh (some (startLine n)) = left Taken (begin c n)
 takes r c Fresh (some (placementLine d)) = refuse c PlanForm
@@ -94,7 +94,7 @@ unfoldable pub takeLine : Railway → Checking → List ℕ → Left LineAnswer
 takeLine r c text = takesIf r c text (caseRefusal r (c .figs) (c .sets))
 
 -- THE TEST: rows 3 to 9; then plan form (10) before the first line; then plan fault (11) where the lines taken fail.
-abbrev pub tests : Railway → Checking → Option Refusal → Checker → TestAnswer
+abbrev pub tests : Railway → Checking → Option Refusal → CheckerState → TestAnswer
 tests r c (some f) state = TestRefused f
 tests r c none Fresh = TestRefused PlanForm
 tests r c none (Begun m from) = cond (testHolds r m (byTables (c .figs) (c .sets))) Pass (TestRefused PlanFault)

@@ -8,7 +8,7 @@ use Rattle.railway.specs.declared.Railway.{Railway}
 use Rattle.tables.specs.Tables.{noFigure}
 use Rattle.plan.specs.declared.PlanPlace.{PlanPlace}
 use Rattle.plan.specs.declared.Emitted.{Emitted}
-use Rattle.plan.specs.declared.Checker.the-variants.{Fresh}
+use Rattle.plan.specs.declared.CheckerState.the-variants.{Fresh}
 use Rattle.plan.specs.declared.LineAnswer.{LineAnswer}
 use Rattle.plan.specs.declared.TestAnswer.{TestAnswer}
 use Rattle.plan.specs.Emitter.{numberGiven, emitLine}

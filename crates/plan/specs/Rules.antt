@@ -15,7 +15,7 @@ use Rattle.tables.specs.Tables.{caseRefusal}
 use Rattle.tables.specs.Solver.{Kept}
 use Rattle.plan.specs.declared.PlanPlace.{PlanPlace}
 use Rattle.plan.specs.declared.Emitted.the-variants.{Line, Refused as EmitRefused}
-use Rattle.plan.specs.declared.Checker.the-variants.{Fresh}
+use Rattle.plan.specs.declared.CheckerState.the-variants.{Fresh}
 use Rattle.plan.specs.declared.LineAnswer.{LineAnswer}
 use Rattle.plan.specs.declared.LineAnswer.the-variants.{Taken, Refused as LineRefused}
 use Rattle.plan.specs.declared.TestAnswer.the-variants.{Refused as TestRefused}

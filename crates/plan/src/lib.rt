@@ -17,7 +17,7 @@ pub enum Emitted {
 }
 
 // The checker's state: no line taken; or the first line's figure, and the lowest code that may still come.
-pub enum Checker {
+pub enum CheckerState {
     Fresh,
     Begun(u32, u32),
 }
