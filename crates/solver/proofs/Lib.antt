@@ -1,0 +1,5 @@
+pub mod Visiting
+pub mod Clearing
+pub mod Sweeping
+pub mod Filling
+pub mod Answering

@@ -1,0 +1,67 @@
+-- Round n at one placement, and what it begins with. A placement that is home has figure 0 already, so one without a figure at which something is found is neither
+-- home nor lost. Assumes nothing.
+use mathlib.Core.Path.{_≡_, refl, sym, _∙_, ap}
+use mathlib.Core.Logic.{inl, inr}
+use mathlib.Core.Bool.{Bool, true, false}
+use mathlib.Core.List.{List}
+use mathlib.Core.Option.{Option, none, some}
+use Prim.Native.Nat.{ℕ, _<_}
+use lib.ListN.{length, getD, set}
+use lib.Dec.{eqb}
+use borrow.Author.Tests.{eq-eqb, ne-eqb}
+use Rattle.laws.proofs.Bools.{bool?, clash, some-none, not-true, or-false, or-none}
+use Rattle.laws.proofs.Lists.{getD-inside}
+use Rattle.railway.specs.declared.Railway.{Railway}
+use Rattle.game.specs.Game.{home, over}
+use Rattle.game.specs.Placement.{atHome, shared}
+use Rattle.game.specs.Moves.{gameOf}
+use Rattle.tables.specs.Tables.{noFigure, figureEntry, figureIn}
+use Rattle.tables.specs.Find.{find}
+use Rattle.tables.specs.Rounds.{firstFigure}
+use Rattle.settings.specs.Answers.{firstKeeping}
+use Rattle.solver.specs.Sweeps.{Visited, rests, enters}
+
+pub entry-some : (x : ℕ) → (x ≡ noFigure → ⊥) → figureEntry x ≡ some x
+entry-some x h = rw (ne-eqb x noFigure h)
+
+pub entry-none : (x : ℕ) → x ≡ noFigure → figureEntry x ≡ none
+entry-none x h = rw (eq-eqb x noFigure h)
+
+-- BEFORE THE FIRST ROUND
+module _ (r : Railway) (p : ℕ) (lost at-home : Bool) (el : lost ≡ shared r p) where
+  pub first-lost : lost ≡ true → noFigure ≡ firstFigure r p
+  first-lost e = let s : shared r p ≡ true = sym el ∙ e in rw s
+
+  module _ (eh : at-home ≡ atHome r p) (apart : lost ≡ false) where
+    pub first-home : at-home ≡ true → 0 ≡ firstFigure r p
+    first-home e = let s : shared r p ≡ false = sym el ∙ apart in let h : atHome r p ≡ true = sym eh ∙ e in rw (s, h)
+
+    pub first-away : at-home ≡ false → noFigure ≡ firstFigure r p
+    first-away e = let s : shared r p ≡ false = sym el ∙ apart in let h : atHome r p ≡ false = sym eh ∙ e in rw (s, h)
+
+-- ONE PLACEMENT
+module _ (r : Railway) (n p : ℕ) (figs sets : List ℕ) (inside : p < length figs) where
+  pub has-figure : (getD figs p 0 ≡ noFigure → ⊥) → Visited r n p figs sets figs sets false
+  has-figure h = rests refl refl (λ e o. some-none (entry-some (getD figs p noFigure) (λ y. h (getD-inside figs p 0 noFigure inside ∙ y))) e)
+
+  module _ (found : Option ℕ) (searched : found ≡ firstKeeping r (figureIn figs) p n) where
+    apart-find : shared r p ≡ false → firstKeeping r (figureIn figs) p n ≡ find r (figureIn figs) p n
+    unfolding firstKeeping
+    apart-find e = rw e
+
+    lost-find : shared r p ≡ true → firstKeeping r (figureIn figs) p n ≡ none
+    unfolding firstKeeping
+    lost-find e = rw e
+
+    pub finds-nothing : found ≡ none → Visited r n p figs sets figs sets false
+    finds-nothing e = rests refl refl (λ y o. sym (apart-find (or-false (shared r p) (atHome r p) o .0)) ∙ sym searched ∙ e)
+
+    module _ (homed : home (gameOf r) p ≡ true → figureIn figs p ≡ some 0) (empty : getD figs p 0 ≡ noFigure) where
+      no-figure : figureIn figs p ≡ none
+      no-figure = entry-none (getD figs p noFigure) (getD-inside figs p noFigure 0 inside ∙ empty)
+
+      pub finds-entry : (v : ℕ) → found ≡ some v → Visited r n p figs sets (set figs p n) (set sets p v) true
+      finds-entry v e =
+          let apart : shared r p ≡ false = not-true (shared r p) (λ y. some-none (sym searched ∙ e) (lost-find y)) in
+          let away : atHome r p ≡ false = not-true (atHome r p) (λ y. let h : home (gameOf r) p ≡ true = rw (apart, y) in some-none (homed h) no-figure) in
+          enters v no-figure (or-none (shared r p) (atHome r p) apart away) (sym (apart-find apart) ∙ sym searched ∙ e) refl refl
