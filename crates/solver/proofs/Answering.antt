@@ -2,22 +2,64 @@
 use mathlib.Core.Path.{_≡_, refl, sym, _∙_, ap}
 use mathlib.Core.List.{List}
 use mathlib.Core.Option.{none, some}
-use Prim.Native.Nat.{ℕ, _≤_, _<_}
-use lib.ListN.{length, getD, List·getD-eq-default}
-use Rattle.laws.proofs.Lists.{getD-inside}
+use Prim.Native.Nat.{ℕ, _+_, _^_, _≤_, _<_}
+use native.Mathlib.Omega.{arith}
+use native.Mathlib.Nat.{pow-le-pow-left, pow-le-pow-right}
+use lib.ListN.{length, getD}
 use Rattle.railway.specs.declared.Railway.{Railway}
-use Rattle.game.specs.Placement.{startCode}
-use Rattle.tables.specs.Tables.{noFigure, figureEntry, figureIn}
+use Rattle.railway.specs.declared.Refusal.{Refusal}
+use Rattle.railway.specs.Refusals.{numberOf}
+use Rattle.acceptance.specs.declared.Tested.the-variants.{Accepted, Refused}
+use Rattle.acceptance.specs.Answers.{refusalGiven as refusalTested}
+use Rattle.game.specs.Placement.{placements, startCode}
+use Rattle.game.proofs.Accepted.{Facts, facts}
+use Rattle.tables.specs.declared.SolverAnswer.{SolverAnswer}
+use Rattle.tables.specs.declared.SolverAnswer.the-variants.{Refused as Refuses}
+use Rattle.tables.specs.Tables.{noFigure, figureIn, caseRefusal}
+use Rattle.tables.specs.Solver.{refusalGiven, figureGiven, SolverTables, SolverPost}
+use Rattle.compiled.specs.declared.Compilation.{Compilation}
+use Rattle.compiled.specs.Table.{Compiled}
+use Rattle.cases.specs.Cases.{CasePost}
 use Rattle.solver.proofs.Visiting.{entry-some, entry-none}
 
 -- THE START'S FIGURE
-module _ (r : Railway) (figs : List ℕ) (at : ℕ) (start : at ≡ startCode r) where
-  pub start-past : length figs ≤ at → none ≡ figureIn figs (startCode r)
-  start-past l = sym (rw (← start) (entry-none (getD figs at noFigure) (List·getD-eq-default figs noFigure l)))
+module _ (r : Railway) (figs : List ℕ) (at f : ℕ) (start : at ≡ startCode r) (entry : f ≡ getD figs at noFigure) where
+  pub start-none : f ≡ noFigure → none ≡ figureIn figs (startCode r)
+  start-none e = rw (← start, ← entry) (sym (entry-none f e))
 
-  module _ (l : at < length figs) where
-    pub start-none : getD figs at 0 ≡ noFigure → none ≡ figureIn figs (startCode r)
-    start-none e = sym (rw (← start) (entry-none (getD figs at noFigure) (getD-inside figs at noFigure 0 l ∙ e)))
+  pub start-some : (f ≡ noFigure → ⊥) → some f ≡ figureIn figs (startCode r)
+  start-some h = rw (← start, ← entry) (sym (entry-some f h))
 
-    pub start-some : (getD figs at 0 ≡ noFigure → ⊥) → some (getD figs at 0) ≡ figureIn figs (startCode r)
-    start-some h = sym (rw (← start) (entry-some (getD figs at noFigure) (λ y. h (getD-inside figs at 0 noFigure l ∙ y)) ∙ ap (λ (x : ℕ). some x) (getD-inside figs at noFigure 0 l)))
+-- an accepted railway has few enough placements for every round to have a number
+few-placements : (r : Railway) → Facts r → placements r ≤ 5308416
+few-placements r ok =
+    let a : (r .sections) ^ (r .trains) ≤ 48 ^ (r .trains) = pow-le-pow-left (ok .few-sections) (r .trains) in
+    let b : 48 ^ (r .trains) ≤ 48 ^ 4 = pow-le-pow-right {n = 48} (omega arith) (ok .few-trains) in
+    omega arith
+
+-- THE ANSWER
+module _ (r : Railway) (figs sets : List ℕ) (c : Compilation) (p : CasePost r figs sets c) where
+  pub answer-refused : (f : Refusal) → c .tested ≡ Refused f → SolverPost r (Refuses f) figs sets figs sets
+  answer-refused f e =
+      let due : caseRefusal r figs sets ≡ some f = sym (p .refusal) ∙ ap refusalTested e in
+      record { refusal = sym due; numbered = ap numberOf (sym due); leaves = rw due (refl, refl) }
+
+  module _ (e : c .tested ≡ Accepted) (m : ℕ) (counts : (q : Railway) → Compiled q (c .table) → m ≡ placements q) where
+    fine : caseRefusal r figs sets ≡ none
+    fine = sym (p .refusal) ∙ ap refusalTested e
+
+    its-table : Compiled r (c .table)
+    its-table = p .compiled fine
+
+    pub room : (m + 1 < noFigure) × ((m ≤ length figs) × (m ≤ length sets))
+    room =
+        let n : m ≡ placements r = counts r its-table in
+        let few = few-placements r (facts r (its-table .accepted)) in
+        (omega arith, (omega (arith, p .room fine .0), omega (arith, p .room fine .1)))
+
+    pub answer-solved : (a : SolverAnswer) (figs′ sets′ : List ℕ) → ((q : Railway) → Compiled q (c .table) → m ≡ placements q → SolverTables q figs sets figs′ sets′)
+        → ((q : Railway) → Compiled q (c .table) → (refusalGiven a ≡ none) × (figureGiven a ≡ figureIn figs′ (startCode q))) → SolverPost r a figs sets figs′ sets′
+    answer-solved a figs′ sets′ fills starts =
+        let s = starts r its-table in
+        let given : refusalGiven a ≡ caseRefusal r figs sets = s .0 ∙ sym fine in
+        record { refusal = given; numbered = ap numberOf given; leaves = rw fine (fills r its-table (counts r its-table), s .1) }

@@ -15,12 +15,29 @@ ghost use Rattle.tables.specs.Solver.{figureGiven, refusalGiven, RoundTables, S
 ghost use Rattle.tables.specs.Rounds.{firstFigure};
 ghost use Rattle.compiled.specs.Table.{Compiled};
 ghost use Rattle.solver.specs.Sweeps.{Visited, After, RoundPost};
+use acceptance::Tested;
 use compiled::TABLE;
+use railway::Railway;
 use settings::Found;
+use settings::NO_FIGURE;
 use tables::SolverAnswer;
 
-// The figure table's entry for none.
-const NO_FIGURE: u32 = 4294967295;
+// THE SOLVER: both tables of a case and the start's figure, or a refusal and the tables as they were.
+pub fn solve(r: Railway, figures: &mut [u32], settings: &mut [u32]) -> SolverAnswer
+    ensures { λ a. ⌜ SolverPost r a (now (figures .entry)) (now (settings .entry)) (now (figures .exit)) (now (settings .exit)) ⌝ }
+{
+    let c = cases::open_case(r, figures, settings);
+    let tested = c.tested;
+    let table = c.table;
+    match tested {
+        Tested::Refused(f) => SolverAnswer::Refused(f),
+        Tested::Accepted => {
+            let m = moves::placements(&table);
+            fill(&table, figures, settings, m);
+            start_answer(&table, figures)
+        }
+    }
+}
 
 // Rounds until one adds nothing. Each round but the last gives a figure to some placement, so there are at most m and one more.
 fn fill(table: &[u8; TABLE], figures: &mut [u32], settings: &mut [u32], m: u32)
@@ -104,11 +121,7 @@ fn visit(table: &[u8; TABLE], figures: &mut [u32], settings: &mut [u32], p: u32,
 fn start_answer(table: &[u8; TABLE], figures: &[u32]) -> SolverAnswer
     ensures { λ a. ⌜ ((r : Railway) → Compiled r (now (table .entry)) → (refusalGiven a ≡ none) × (figureGiven a ≡ figureIn (now (figures .entry)) (startCode r))) ⌝ }
 {
-    let at = moves::start_code(table) as usize;
-    if figures.len() <= at {
-        return SolverAnswer::Unsolvable;
-    }
-    let f = figures[at];
+    let f = settings::figure_at(figures, moves::start_code(table));
     if f == NO_FIGURE {
         return SolverAnswer::Unsolvable;
     }

@@ -4,6 +4,7 @@ use borrow.Author.Needs.{needs}
 use native.Mathlib.Omega.{arith}
 use mathlib.Core.Path.{_∙_}
 use Prim.Native.Nat.{_+_, _-_}
+use borrow.Author.Tests.{not-true, not-false}
 use Rattle.solver.proofs.Filling.{Filling, filling-start, filling-next, filling-end, filling-over}
 use Rattle.solver.proofs.fill.Statement.{statement}
 use Rattle.solver.proofs.fill.Tie as tie
@@ -33,13 +34,13 @@ same-length-2 : tie.Need-same-length-2 Inv-loop μ-loop
 same-length-2 c = let o = c .before .before .before .before .before in let l = o .before .before .before .before in let k = l .before .before .before .before .before in let a = k .before .before .before .before .before in o .one-round .kept .1 .1 .0 ∙ l .loop .inv .long-sets ∙ k .clear .kept .1 .1 .0
 
 returns : tie.Need-returns Inv-loop μ-loop
-returns c = let o = c .before .before .before .before .before in let l = o .before .before .before .before in let k = l .before .before .before .before .before in let a = k .before .before .before .before .before in filling-end (a .args .table .now) (a .args .m) (a .args .figures .now) (a .args .settings .now) _ _ (k .clear .ensures) (l .loop .figures) (l .loop .settings) (l .loop .n) (l .loop .inv) (a .pre .0) (o .before .before .before .loop-test .taken) _ _ _ (o .one-round .ensures) (c .if1 .taken)
+returns c = let o = c .before .before .before .before .before in let l = o .before .before .before .before in let k = l .before .before .before .before .before in let a = k .before .before .before .before .before in filling-end (a .args .table .now) (a .args .m) (a .args .figures .now) (a .args .settings .now) _ _ (k .clear .ensures) (l .loop .figures) (l .loop .settings) (l .loop .n) (l .loop .inv) (a .pre .0) (o .before .before .before .loop-test .taken) _ _ _ (o .one-round .ensures) (not-true _ (c .if1 .taken))
 
 loop-less : tie.Need-loop-less Inv-loop μ-loop
 loop-less c = let o = c .before .before .before .before .before in let l = o .before .before .before .before in let k = l .before .before .before .before .before in let a = k .before .before .before .before .before in omega (arith, o .before .before .before .loop-test .taken)
 
 loop-again : tie.Need-loop-again Inv-loop μ-loop
-loop-again c = let o = c .before .before .before .before .before in let l = o .before .before .before .before in let k = l .before .before .before .before .before in let a = k .before .before .before .before .before in filling-next (a .args .table .now) (a .args .m) (a .args .figures .now) (a .args .settings .now) _ _ (k .clear .ensures) (l .loop .figures) (l .loop .settings) (l .loop .n) (l .loop .inv) (a .pre .0) (o .before .before .before .loop-test .taken) _ _ _ (o .one-round .ensures) (o .one-round .kept .1 .0) (o .one-round .kept .1 .1 .0) (c .if1 .left)
+loop-again c = let o = c .before .before .before .before .before in let l = o .before .before .before .before in let k = l .before .before .before .before .before in let a = k .before .before .before .before .before in filling-next (a .args .table .now) (a .args .m) (a .args .figures .now) (a .args .settings .now) _ _ (k .clear .ensures) (l .loop .figures) (l .loop .settings) (l .loop .n) (l .loop .inv) (a .pre .0) (o .before .before .before .loop-test .taken) _ _ _ (o .one-round .ensures) (o .one-round .kept .1 .0) (o .one-round .kept .1 .1 .0) (not-false _ (c .if1 .left))
 
 same-length-3 : tie.Need-same-length-3 Inv-loop μ-loop
 same-length-3 c = let l = c .before in let k = l .before .before .before .before .before in let a = k .before .before .before .before .before in l .loop .inv .long-figs ∙ k .clear .kept .1 .0
