@@ -1,19 +1,27 @@
--- What follows from the reader's promise: the casefile's theorems, with the answer put in for what was promised of it.
+-- What follows from the reader's promise: the answer is the casefile's, of which its theorems speak.
 -- Assumes nothing.
-use mathlib.Core.Path.{sym, _∙_}
+use mathlib.Core.Path.{_≡_, sym, _∙_}
+use mathlib.Core.List.{List}
 use mathlib.Core.Logic.{inl, inr}
-use Rattle.casefile.proofs.Exactly.{accepted-exactly, refused-exactly, always-answered}
+use Prim.Native.Nat.{ℕ}
+use Rattle.casefile.specs.declared.CaseRead.{CaseRead}
+use Rattle.casefile.specs.Given.{ReaderPost}
+use Rattle.casefile.specs.Reading.{caseAnswer}
+use Rattle.casefile.proofs.Exactly.{accepted-exactly, refused-exactly, always-answered, reader-answers}
 use Rattle.casefile.proofs.Again.{accepted-again}
-use Rattle.reader.specs.Claims.{ReaderAccepts, ReaderRefuses, ReaderAnswers, ReaderGives}
+use Rattle.reader.specs.Claims.{ReaderAccepts, ReaderRefuses, ReaderSettles, ReaderGives}
+
+answer-is : (text : List ℕ) (r : CaseRead) → ReaderPost text r → r ≡ caseAnswer text
+answer-is text r = reader-answers text r .1
 
 pub reader-accepts : ReaderAccepts
-reader-accepts text r h q = let e = accepted-exactly text q in (λ p. e .0 (sym h ∙ p), λ w. h ∙ e .1 w)
+reader-accepts text r p q = let h = answer-is text r p in let e = accepted-exactly text q in (λ x. e .0 (sym h ∙ x), λ w. h ∙ e .1 w)
 
 pub reader-refuses : ReaderRefuses
-reader-refuses text r h f = let e = refused-exactly text f in (λ p. e .0 (sym h ∙ p), λ w. h ∙ e .1 w)
+reader-refuses text r p f = let h = answer-is text r p in let e = refused-exactly text f in (λ x. e .0 (sym h ∙ x), λ w. h ∙ e .1 w)
 
-pub reader-answers : ReaderAnswers
-reader-answers text r h = elim (always-answered text) [ inl a ↦ inl (a .0, h ∙ a .1) | inr a ↦ inr (a .0, h ∙ a .1) ]
+pub reader-settles : ReaderSettles
+reader-settles text r p = let h = answer-is text r p in elim (always-answered text) [ inl a ↦ inl (a .0, h ∙ a .1) | inr a ↦ inr (a .0, h ∙ a .1) ]
 
 pub reader-gives : ReaderGives
-reader-gives text r h q e = accepted-again text q (sym h ∙ e)
+reader-gives text r p q e = accepted-again text q (sym (answer-is text r p) ∙ e)

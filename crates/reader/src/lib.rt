@@ -4,8 +4,8 @@
 ghost use mathlib.Core.Path.{_≡_};
 ghost use mathlib.Core.Bool.{true, false, _&&_, _||_};
 ghost use Rattle.railway.specs.Rows.{unjoined};
-ghost use Rattle.casefile.specs.Given.{refused};
-ghost use Rattle.casefile.specs.Reading.{pointLineAt, joinLineAt, signalLineAt, trainLineAt, caseAnswer};
+ghost use Rattle.casefile.specs.Given.{refused, ReaderPost};
+ghost use Rattle.casefile.specs.Reading.{pointLineAt, joinLineAt, signalLineAt, trainLineAt};
 ghost use Rattle.lines.specs.Answers.{endNamed, joinNamed};
 ghost use Rattle.drafts.specs.Drafting.{Tested, cap, endIn, unknownIn, opened, putPoint, faulty, putJoin, putSignal, putTrain, lineInto, letter, countedInto, manyInto, draftOf, linesGot, draftAnswer};
 use acceptance::Flaw;
@@ -32,7 +32,7 @@ use text::Cursor;
 
 // The reader.
 pub fn read_case(text: &[u8]) -> CaseRead
-    ensures { λ r. ⌜ r ≡ caseAnswer (now (text .entry)) ⌝ }
+    ensures { λ r. ⌜ ReaderPost (now (text .entry)) r ⌝ }
 {
     if 4096 < text.len() {
         return refuse(Refusal::Length);

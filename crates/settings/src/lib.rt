@@ -25,7 +25,7 @@ use moves::Placement;
 use railway::Railway;
 
 // The figure table's entry for none.
-const NO_FIGURE: u32 = 4294967295;
+pub const NO_FIGURE: u32 = 4294967295;
 
 // What a search for a setting finds: nothing, or an entry of the setting table.
 pub enum Found {
@@ -89,7 +89,7 @@ fn way_of(table: &[u8; TABLE], figures: &[u32], q: Placement, n: u32, t: u8) -> 
 }
 
 // What a move ends in has a figure below n.
-fn is_below(figures: &[u32], m: Move, n: u32) -> bool
+pub fn is_below(figures: &[u32], m: Move, n: u32) -> bool
     ensures { λ b. ⌜ ((o : Outcome) → ended m ≡ some o → b ≡ isBelow n (figureOf (figureIn (now (figures .entry))) o)) ⌝ }
 {
     match m {
@@ -107,7 +107,7 @@ fn is_below(figures: &[u32], m: Move, n: u32) -> bool
 }
 
 // The figure table's entry at a code; none past its end.
-fn figure_at(figures: &[u32], p: u32) -> u32
+pub fn figure_at(figures: &[u32], p: u32) -> u32
     ensures { λ f. ⌜ f ≡ getD (now (figures .entry)) p noFigure ⌝ }
 {
     let at = p as usize;

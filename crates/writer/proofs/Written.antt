@@ -16,8 +16,9 @@ use Rattle.text.proofs.Appending.{appended-bytes, appended-cursor}
 use Rattle.railway.specs.declared.Refusal.{Refusal}
 use Rattle.railway.specs.declared.Refusal.the-variants.{Space}
 use Rattle.railway.specs.declared.Railway.{Railway}
-use Rattle.railway.specs.Refusals.{Row, row, refuseIf, first}
+use Rattle.railway.specs.Refusals.{row, first}
 use Rattle.railway.specs.Rows.{recordRows, recordRefusal}
+use Rattle.railway.proofs.Refusals.{first-append}
 use Rattle.acceptance.specs.declared.Tested.{Tested}
 use Rattle.acceptance.specs.declared.Tested.the-variants as tested
 use Rattle.acceptance.specs.Answers.{Judged, refusalGiven}
@@ -26,21 +27,11 @@ use Rattle.casefile.specs.Rows.{mostBytes}
 use Rattle.casefile.specs.Writing.{spaceRow, writtenText, writerRefusal, written, bufferAfter}
 use Rattle.casefile.proofs.Lengths.{written-fits}
 
--- rows behind others are asked where none before them applies
-refuse-then : (b : Bool) (f : Refusal) (x y : Option Refusal) → orElse (refuseIf b f x) y ≡ refuseIf b f (orElse x y)
-refuse-then true f x y = refl
-refuse-then false f x y = refl
-
-first-then : (xs ys : List Row) → first (xs ++ ys) ≡ orElse (first xs) (first ys)
-unfolding first
-first-then [] ys = refl
-first-then (x ∷ xs) ys = rw (first-then xs ys) (sym (refuse-then (x .applies) (x .refusal) (first xs) (first ys)))
-
 -- WHICH ROW
 module _ (r : Railway) (buffer : List ℕ) where
-  pub rows-then : writerRefusal r buffer ≡ orElse (recordRefusal r) (first (row Space (spaceRow r buffer) ∷ []))
+  rows-then : writerRefusal r buffer ≡ orElse (recordRefusal r) (first (row Space (spaceRow r buffer) ∷ []))
   unfolding writerRefusal recordRefusal
-  rows-then = first-then (recordRows r) (row Space (spaceRow r buffer) ∷ [])
+  rows-then = first-append (recordRows r) (row Space (spaceRow r buffer) ∷ [])
 
   by-record : (f : Refusal) → recordRefusal r ≡ some f → writerRefusal r buffer ≡ some f
   by-record f h = rows-then ∙ rw h
@@ -49,7 +40,7 @@ module _ (r : Railway) (buffer : List ℕ) where
   unfolding first
   by-space h l = rows-then ∙ rw (h, lt-ltb (length buffer) (length (writtenText r)) l)
 
-  pub by-none : recordRefusal r ≡ none → length (writtenText r) ≤ length buffer → writerRefusal r buffer ≡ none
+  by-none : recordRefusal r ≡ none → length (writtenText r) ≤ length buffer → writerRefusal r buffer ≡ none
   unfolding first
   by-none h l = rows-then ∙ rw (h, le-ltb (length buffer) (length (writtenText r)) l)
 

@@ -1,4 +1,5 @@
--- What follows from the writer's promise, a sentence to each: `written` is what it answers, `bufferAfter` what it leaves; proofs/Claims has the proofs.
+-- What follows from the writer's promise, a sentence to each, of every call: `w` is what `write_case` answers, `after` the buffer that it leaves.
+-- proofs/Claims has the proofs.
 -- Assumes nothing.
 use mathlib.Core.Path.{_≡_}
 use mathlib.Core.List.{List}
@@ -9,30 +10,33 @@ use Rattle.railway.specs.declared.Railway.{Railway}
 use Rattle.railway.specs.declared.Refusal.{Refusal}
 use Rattle.railway.specs.Rows.{recordRefusal}
 use Rattle.railway.specs.Same.{SameRailway}
+use Rattle.casefile.specs.declared.Written.{Written}
 use Rattle.casefile.specs.declared.Written.the-variants.{Bytes, Refused}
 use Rattle.casefile.specs.Rows.{mostBytes}
 use Rattle.casefile.specs.Given.{accepted}
 use Rattle.casefile.specs.Reading.{caseAnswer}
-use Rattle.casefile.specs.Writing.{writtenText, written, bufferAfter}
+use Rattle.casefile.specs.Writing.{writtenText, WriterPost}
 
 -- ROOM ENOUGH. An accepted record is written into any buffer that is as long as a case text may be.
 abbrev pub RoomEnough : Type 0
-RoomEnough = (r : Railway) (buffer : List ℕ) → recordRefusal r ≡ none → mostBytes ≤ length buffer → (n : ℕ) × (written r buffer ≡ Bytes n)
+RoomEnough =
+    (r : Railway) (buffer : List ℕ) (w : Written) (after : List ℕ) → WriterPost r buffer w after
+    → recordRefusal r ≡ none → mostBytes ≤ length buffer → (n : ℕ) × (w ≡ Bytes n)
 
 -- READ BACK. The bytes that were answered for are a case text of the same railway, and what is written of that one is the same again; they are no
 -- more than a case text may have, and the bytes behind them are as they were.
-pub record ReadBack (r : Railway) (buffer : List ℕ) (n : ℕ) : Type 0 where
+pub record ReadBack (r : Railway) (buffer after : List ℕ) (n : ℕ) : Type 0 where
   pub railway : Railway
-  pub reads : caseAnswer (take n (bufferAfter r buffer)) ≡ accepted railway
+  pub reads : caseAnswer (take n after) ≡ accepted railway
   pub same : SameRailway r railway
-  pub again : writtenText railway ≡ take n (bufferAfter r buffer)
+  pub again : writtenText railway ≡ take n after
   pub short : n ≤ mostBytes
   pub within : n ≤ length buffer
-  pub behind : drop n (bufferAfter r buffer) ≡ drop n buffer
+  pub behind : drop n after ≡ drop n buffer
 
 abbrev pub BytesReadBack : Type 0
-BytesReadBack = (r : Railway) (buffer : List ℕ) (n : ℕ) → written r buffer ≡ Bytes n → ReadBack r buffer n
+BytesReadBack = (r : Railway) (buffer : List ℕ) (w : Written) (after : List ℕ) → WriterPost r buffer w after → (n : ℕ) → w ≡ Bytes n → ReadBack r buffer after n
 
 -- REFUSED, the buffer is as it was.
 abbrev pub RefusedKeeps : Type 0
-RefusedKeeps = (r : Railway) (buffer : List ℕ) (f : Refusal) → written r buffer ≡ Refused f → bufferAfter r buffer ≡ buffer
+RefusedKeeps = (r : Railway) (buffer : List ℕ) (w : Written) (after : List ℕ) → WriterPost r buffer w after → (f : Refusal) → w ≡ Refused f → after ≡ buffer

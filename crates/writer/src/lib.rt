@@ -7,7 +7,7 @@ ghost use Rattle.laws.specs.Below.{gatherBelow};
 ghost use Rattle.text.specs.Appending.{Appended};
 ghost use Rattle.casefile.specs.Form.{sideByte, legByte, endField, joinLine, pointLine, trainLine};
 ghost use Rattle.casefile.specs.Recording.{fieldOf};
-ghost use Rattle.casefile.specs.Writing.{trainFrom, writtenText, written, bufferAfter};
+ghost use Rattle.casefile.specs.Writing.{trainFrom, writtenText, WriterPost};
 ghost use Rattle.writer.specs.Pieces.{headerText, joinPiece, signalPiece, pieceOf};
 use acceptance::Tested;
 use casefile::Written;
@@ -35,8 +35,7 @@ pub enum Part {
 
 // Any record, any buffer: the text's length, with the text in front of the buffer; or the first of rows 3 to 9 that applies.
 pub fn write_case(r: Railway, buffer: &mut [u8]) -> Written
-    ensures answer { λ w. ⌜ w ≡ written r (now (buffer .entry)) ⌝ }
-    ensures bytes { λ w. ⌜ now (buffer .exit) ≡ bufferAfter r (now (buffer .entry)) ⌝ }
+    ensures { λ w. ⌜ WriterPost r (now (buffer .entry)) w (now (buffer .exit)) ⌝ }
 {
     match acceptance::test_record(r) {
         Tested::Refused(f) => Written::Refused(f),

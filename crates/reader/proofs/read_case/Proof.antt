@@ -3,6 +3,7 @@
 use borrow.Author.Needs.{needs}
 use denote.Ref.{now}
 use mathlib.Core.Path.{sym, _∙_}
+use Rattle.casefile.proofs.Exactly.{reader-answers}
 use Rattle.reader.proofs.Parts.{lines-bad, lines-got}
 use Rattle.drafts.proofs.Whole.{too-long, not-in-form, answered}
 use Rattle.reader.proofs.read_case.Statement.{statement}
@@ -12,7 +13,7 @@ refuse-requires : tie.Need-refuse-requires
 refuse-requires c κs = search needs
 
 returns : tie.Need-returns
-returns c = c .refuse .ensures ∙ too-long (now (c .before .before .before .args .text)) (c .before .if1 .taken)
+returns c = let text = now (c .before .before .before .args .text) in reader-answers text _ .0 (c .refuse .ensures ∙ too-long text (c .before .if1 .taken))
 
 read-lines-requires : tie.Need-read-lines-requires
 read-lines-requires c κs = search needs
@@ -24,10 +25,10 @@ refuse-requires-2 : tie.Need-refuse-requires-2
 refuse-requires-2 c κs = search needs
 
 returns-2 : tie.Need-returns-2
-returns-2 c = let t = c .before in let l = t .before in let e = l .before in c .answer .ensures ∙ answered (now (e .before .before .args .text)) (e .if1 .left) _ _ (sym (l .read-lines .ensures) ∙ lines-got _ (t .if2 .taken))
+returns-2 c = let t = c .before in let l = t .before in let e = l .before in let text = now (e .before .before .args .text) in reader-answers text _ .0 (c .answer .ensures ∙ answered text (e .if1 .left) _ _ (sym (l .read-lines .ensures) ∙ lines-got _ (t .if2 .taken)))
 
 returns-3 : tie.Need-returns-3
-returns-3 c = let t = c .before in let l = t .before in let e = l .before in c .refuse2 .ensures ∙ not-in-form (now (e .before .before .args .text)) (e .if1 .left) (sym (l .read-lines .ensures) ∙ lines-bad _ (t .if2 .left))
+returns-3 c = let t = c .before in let l = t .before in let e = l .before in let text = now (e .before .before .args .text) in reader-answers text _ .0 (c .refuse2 .ensures ∙ not-in-form text (e .if1 .left) (sym (l .read-lines .ensures) ∙ lines-bad _ (t .if2 .left)))
 
 pub read-case-spec : {M : Type 1} → statement M
 read-case-spec = tie.close (tie.spec refuse-requires returns read-lines-requires answer-requires refuse-requires-2 returns-2 returns-3)

@@ -1,0 +1,23 @@
+-- What is promised of a case handed in with two tables. Nothing of document 01 rests on this file: it is `caseRefusal` (tables/Tables), and the compiled railway.
+-- Assumes nothing.
+use mathlib.Core.Path.{_≡_}
+use mathlib.Core.List.{List}
+use mathlib.Core.Option.{none, some}
+use Prim.Native.Nat.{ℕ, _≤_}
+use lib.ListN.{length, replicate}
+use Rattle.railway.specs.declared.Railway.{Railway}
+use Rattle.railway.specs.declared.Refusal.{Refusal}
+use Rattle.railway.specs.Refusals.{numberOf}
+use Rattle.acceptance.specs.Answers.{refusalGiven, numberGiven}
+use Rattle.game.specs.Placement.{placements}
+use Rattle.tables.specs.Tables.{caseRefusal}
+use Rattle.compiled.specs.declared.Compilation.{Compilation}
+use Rattle.compiled.specs.Table.{Compiled, tableBytes}
+
+-- The first of rows 3 to 9 is given, by its number, with a table that is all zero; where none applies, the railway's table, and room for every placement.
+pub record CasePost (r : Railway) (figs sets : List ℕ) (c : Compilation) : Type 0 where
+  pub refusal : refusalGiven (c .tested) ≡ caseRefusal r figs sets
+  pub numbered : numberGiven (c .tested) ≡ numberOf (caseRefusal r figs sets)
+  pub compiled : caseRefusal r figs sets ≡ none → Compiled r (c .table)
+  pub room : caseRefusal r figs sets ≡ none → (placements r ≤ length figs) × (placements r ≤ length sets)
+  pub zero : (f : Refusal) → caseRefusal r figs sets ≡ some f → c .table ≡ replicate tableBytes 0

@@ -1,0 +1,42 @@
+// A case handed in with two lent tables: judged by rows 3 to 9, and compiled where none applies. Solver, emitter and checker begin with it.
+ghost use mathlib.Core.Path.{_≡_};
+ghost use lib.ListN.{replicate};
+ghost use Rattle.railway.specs.declared.Refusal.the-variants.{Space};
+ghost use Rattle.acceptance.specs.declared.Tested.the-variants.{Refused};
+ghost use Rattle.compiled.specs.Table.{tableBytes};
+ghost use Rattle.cases.specs.Cases.{CasePost};
+use acceptance::Tested;
+use compiled::Compilation;
+use compiled::TABLE;
+use railway::Railway;
+use railway::Refusal;
+
+// The record is tested first, then the length of the tables. Where anything is refused the compiled table is all zero.
+pub fn open_case(r: Railway, figures: &[u32], settings: &[u32]) -> Compilation
+    ensures { λ c. ⌜ CasePost r (now (figures .entry)) (now (settings .entry)) c ⌝ }
+{
+    let c = compiled::compile(r);
+    let tested = c.tested;
+    let Tested::Accepted = tested else {
+        return c;
+    };
+    let table = c.table;
+    let n = moves::placements(&table) as usize;
+    if figures.len() < n {
+        return short();
+    }
+    if settings.len() < n {
+        return short();
+    }
+    c
+}
+
+// The tables are too short.
+fn short() -> Compilation
+    ensures { λ c. ⌜ (c .tested ≡ Refused Space) × (c .table ≡ replicate tableBytes 0) ⌝ }
+{
+    Compilation {
+        tested: Tested::Refused(Refusal::Space),
+        table: [0u8; TABLE],
+    }
+}

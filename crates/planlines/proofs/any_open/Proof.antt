@@ -1,0 +1,62 @@
+-- `planlines::any_open` meets its contract. The loop's invariant: none before t is open.
+-- Assumes nothing.
+use native.Mathlib.Omega.{arith}
+use borrow.Author.Needs.{needs}
+use Prim.Native.Nat.{_≤_, _-_}
+use mathlib.Core.Path.{_≡_, refl, sym, _∙_}
+use mathlib.Core.Bool.{false}
+use Rattle.laws.specs.Below.{anyBelow}
+use Rattle.laws.proofs.Below.{any-next, any-none, any-one}
+use Rattle.tables.specs.Entries.{opensIn}
+use Rattle.planlines.proofs.any_open.Statement.{statement}
+use Rattle.planlines.proofs.any_open.Tie as tie
+
+abbrev Inv-loop : tie.InvT-loop
+Inv-loop k v t₀ t = (t ≤ k) × (anyBelow (opensIn v) t ≡ false)
+
+abbrev μ-loop : tie.MeasureT-loop
+μ-loop k v t₀ t = k - t
+
+loop-holds : tie.Need-loop-holds Inv-loop μ-loop
+unfolding anyBelow
+loop-holds c = (omega arith, refl)
+
+cast-bit-at : tie.Need-cast-bit-at Inv-loop μ-loop
+cast-bit-at c = search needs
+
+add-bit-at : tie.Need-add-bit-at Inv-loop μ-loop
+add-bit-at c = search needs
+
+bit-at-requires : tie.Need-bit-at-requires Inv-loop μ-loop
+bit-at-requires c κs = search needs
+
+returns : tie.Need-returns Inv-loop μ-loop
+returns c = let l = c .before .before .before in any-one (opensIn (l .before .args .v)) _ (l .loop .t) (c .before .before .loop-test .taken) (sym (c .before .bit-at .ensures) ∙ c .if1 .taken)
+
+add-t : tie.Need-add-t Inv-loop μ-loop
+add-t c = omega arith
+
+loop-less : tie.Need-loop-less Inv-loop μ-loop
+loop-less c = omega arith
+
+loop-again : tie.Need-loop-again Inv-loop μ-loop
+loop-again c = let l = c .before .before .before in (omega arith, any-next (opensIn (l .before .args .v)) (l .loop .t) (l .loop .inv .1) (sym (c .before .bit-at .ensures) ∙ c .if1 .left))
+
+returns-2 : tie.Need-returns-2 Inv-loop μ-loop
+returns-2 c = let l = c .before in any-none (opensIn (l .before .args .v)) _ (l .loop .t) (l .loop .inv .1) (l .loop .inv .0) (c .loop-test .left)
+
+pub any-open-spec : {M : Type 1} → statement M
+any-open-spec =
+    tie.close
+    (tie.spec
+    Inv-loop
+    μ-loop
+    loop-holds
+    cast-bit-at
+    add-bit-at
+    bit-at-requires
+    returns
+    add-t
+    loop-less
+    loop-again
+    returns-2)

@@ -1,0 +1,68 @@
+-- `planlines::put_signs` meets its contract. The loop's invariant: the pieces before n are written, and the buffer is as long as it was.
+-- Assumes nothing.
+use native.Mathlib.Omega.{arith}
+use borrow.Author.Needs.{needs}
+use Prim.Native.Nat.{_≤_, _-_}
+use mathlib.Core.Path.{_≡_, refl, _∙_}
+use lib.ListN.{length}
+use Rattle.laws.specs.Below.{gatherBelow}
+use Rattle.text.specs.Appending.{Appended}
+use Rattle.text.proofs.Appending.{pieces-none, pieces-next, pieces-all}
+use Rattle.laws.specs.Bits.{bit}
+use Rattle.planlines.specs.Spelling.{pointPiece}
+use Rattle.planlines.proofs.Pieces.{sign-piece}
+use Rattle.planlines.proofs.put_signs.Statement.{statement}
+use Rattle.planlines.proofs.put_signs.Tie as tie
+
+abbrev Inv-loop : tie.InvT-loop
+Inv-loop out₀ at m v next₀ n₀ out next n = Appended out₀ at (gatherBelow (pointPiece (bit v)) n) out next × (n ≤ m) × (length out ≡ length out₀)
+
+abbrev μ-loop : tie.MeasureT-loop
+μ-loop out₀ at m v next₀ n₀ out next n = m - n
+
+loop-holds : tie.Need-loop-holds Inv-loop μ-loop
+loop-holds c = let a = c .before .args in (pieces-none (pointPiece (bit (a .v))), omega arith, refl)
+
+cast-bit-at : tie.Need-cast-bit-at Inv-loop μ-loop
+cast-bit-at c = search needs
+
+bit-at-requires : tie.Need-bit-at-requires Inv-loop μ-loop
+bit-at-requires c κs = search needs
+
+sign-requires : tie.Need-sign-requires Inv-loop μ-loop
+sign-requires c κs = search needs
+
+byte-requires : tie.Need-byte-requires Inv-loop μ-loop
+byte-requires c κs = search needs
+
+add-n : tie.Need-add-n Inv-loop μ-loop
+add-n c = omega arith
+
+loop-less : tie.Need-loop-less Inv-loop μ-loop
+loop-less c = omega arith
+
+loop-again : tie.Need-loop-again Inv-loop μ-loop
+loop-again c = let l = c .before .before .before .before .before .before .before in let a = l .before .before .args in (pieces-next (pointPiece (bit (a .v))) (l .loop .n) (l .loop .inv .0) (sign-piece (bit (a .v)) (l .loop .n) _ _ (c .before .before .before .before .bit-at .ensures) (c .before .before .before .sign .ensures) (c .before .before .byte .ensures)), omega arith, c .before .before .byte .kept .0 ∙ l .loop .inv .2)
+
+same-length : tie.Need-same-length Inv-loop μ-loop
+same-length c = c .before .loop .inv .2
+
+returns : tie.Need-returns Inv-loop μ-loop
+returns c = let l = c .before in let a = l .before .before .args in pieces-all (pointPiece (bit (a .v))) (l .loop .n) (a .m) (l .loop .inv .1) (c .loop-test .left) (l .loop .inv .0)
+
+pub put-signs-spec : {M : Type 1} → statement M
+put-signs-spec =
+    tie.close
+    (tie.spec
+    Inv-loop
+    μ-loop
+    loop-holds
+    cast-bit-at
+    bit-at-requires
+    sign-requires
+    byte-requires
+    add-n
+    loop-less
+    loop-again
+    same-length
+    returns)

@@ -1,0 +1,34 @@
+-- `planlines::put_train` meets its contract: a digit where the train's bit is set, else nothing.
+-- Assumes nothing.
+use native.Mathlib.Omega.{arith}
+use borrow.Author.Needs.{needs}
+use Rattle.tables.specs.Entries.{opensIn}
+use Rattle.planlines.proofs.Pieces.{train-open, train-closed, open-digit}
+use Rattle.planlines.proofs.put_train.Statement.{statement}
+use Rattle.planlines.proofs.put_train.Tie as tie
+
+add-bit-at : tie.Need-add-bit-at
+add-bit-at c = search needs
+
+bit-at-requires : tie.Need-bit-at-requires
+bit-at-requires c κs = search needs
+
+add-byte : tie.Need-add-byte
+add-byte c = let s = c .before .before .before .before in let h = open-digit (s .args .v) (s .args .t) _ (omega arith) (c .before .before .bit-at .ensures) (c .before .if1 .taken) in omega arith
+
+byte-requires : tie.Need-byte-requires
+byte-requires c κs = search needs
+
+same-length : tie.Need-same-length
+same-length c = search needs
+
+returns : tie.Need-returns
+returns c = let l = c .before .before .before .before .before in let a = l .before .before .args in train-open (opensIn (a .v)) (a .t) _ (l .bit-at .ensures) (c .before .before .before .before .if1 .taken) (c .before .before .byte .ensures)
+
+returns-2 : tie.Need-returns-2
+returns-2 c = let a = c .before .before .before .args in train-closed (opensIn (a .v)) (a .t) _ (c .before .bit-at .ensures) (c .if1 .left)
+
+pub put-train-spec : {M : Type 1} → statement M
+put-train-spec =
+    tie.close
+    (tie.spec add-bit-at bit-at-requires add-byte byte-requires same-length returns returns-2)

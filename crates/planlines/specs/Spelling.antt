@@ -1,0 +1,32 @@
+-- A placement's line by the parts that code has of it, and the pieces that it is spelled in. Contracts cite this file; nothing of document 01 rests on it.
+-- Assumes nothing.
+use mathlib.Core.Bool.{Bool, cond}
+use mathlib.Core.List.{List, [], _∷_, _++_}
+use Prim.Native.Nat.{ℕ, _+_}
+use Rattle.laws.specs.Below.{listBelow}
+use Rattle.laws.specs.Bits.{bit}
+use Rattle.text.specs.Text.{tab}
+use Rattle.tables.specs.Entries.{opensIn}
+use Rattle.plan.specs.Lines.{PlacementLine, sign, sectionField}
+use Rattle.moves.specs.declared.Placement.{Placement}
+use Rattle.moves.specs.Steps.{sectionIn}
+
+-- The line of a placement by value, of k trains, with figure n and entry v of the setting table over m points.
+abbrev pub lineOf : ℕ → ℕ → Placement → ℕ → ℕ → PlacementLine
+lineOf k m q n v =
+    record {
+      sections = listBelow (sectionIn q) k;
+      figure = n;
+      opens = listBelow (opensIn v) k;
+      plus = listBelow (bit v) m;
+    }
+
+-- What is written for train t, its section and then its digit where it is open, and for point n.
+abbrev pub sectionPiece : Placement → ℕ → List ℕ
+sectionPiece q t = sectionField (sectionIn q t) ++ (tab ∷ [])
+
+abbrev pub openPiece : (ℕ → Bool) → ℕ → List ℕ
+openPiece opens t = cond (opens t) ((49 + t) ∷ []) []
+
+abbrev pub pointPiece : (ℕ → Bool) → ℕ → List ℕ
+pointPiece plus n = sign (plus n) ∷ []

@@ -1,0 +1,132 @@
+-- The test of a plan by the tests that code makes, one law for each return. Assumes nothing.
+use mathlib.Core.Path.{_≡_, refl, sym, _∙_, ap}
+use mathlib.Core.Bool.{Bool, true, false, cond, not, _&&_, _||_}
+use mathlib.Core.List.{List}
+use mathlib.Core.Option.{Option, none, some}
+use Prim.Native.Nat.{ℕ, _+_, _≤_, _<_}
+use lib.Dec.{eqb}
+use lib.ListN.{getD}
+use borrow.Author.Tests.{eq-eqb, ne-eqb}
+use Rattle.laws.specs.Below.{allBelow, anyBelow}
+use Rattle.laws.proofs.Below.{any-one, any-none, all-but, all-each}
+use Rattle.railway.specs.declared.Railway.{Railway}
+use Rattle.game.specs.Game.{Outcome, may}
+use Rattle.game.specs.Claim.{figureOf}
+use Rattle.game.specs.Local.{isBelow, goesBelow, keepsTest}
+use Rattle.game.specs.Placement.{placements, startCode, atHome, shared}
+use Rattle.game.specs.Setting.{held}
+use Rattle.game.specs.Moves.{moveOf, gameOf}
+use Rattle.tables.specs.Entries.{opensIn, settingAt}
+use Rattle.tables.specs.Tables.{noFigure, figureIn}
+use Rattle.plan.specs.Test.{byTables, listedSetting}
+use Rattle.plan.specs.Computed.{isFigure, trainFine, listedFine, fineIf, placementFine, testHolds}
+use Rattle.compiled.specs.Table.{countByte}
+use Rattle.moves.specs.declared.Move.{Move}
+use Rattle.moves.specs.Answers.{ended, moveUnder}
+use Rattle.moves.proofs.Placing.{trains-are}
+use Rattle.plantest.specs.Steps.{entryFine}
+
+-- LOOPS over the trains, k being the table's count of them
+pub train-there : (r : Railway) (k : ℕ) → k ≡ countByte r 2 → (t : ℕ) → t < k → t < r .trains
+train-there r k e t l = rw (sym (trains-are r k e)) l
+
+module _ (r : Railway) (k : ℕ) (e : k ≡ countByte r 2) (f : ℕ → Bool) (t : ℕ) where
+  pub one-of-trains : t < k → f t ≡ true → true ≡ anyBelow f (r .trains)
+  one-of-trains l h = any-one f (r .trains) t (rw (sym (trains-are r k e)) l) h
+
+  pub none-of-trains : t ≤ k → k ≤ t → anyBelow f t ≡ false → false ≡ anyBelow f (r .trains)
+  none-of-trains l m h = any-none f (r .trains) t h (rw (sym (trains-are r k e)) l) (rw (sym (trains-are r k e)) m)
+
+  pub but-a-train : t < k → f t ≡ false → false ≡ allBelow f (r .trains)
+  but-a-train l h = all-but f (r .trains) t (rw (sym (trains-are r k e)) l) h
+
+  pub every-train : t ≤ k → k ≤ t → allBelow f t ≡ true → true ≡ allBelow f (r .trains)
+  every-train l m h = all-each f (r .trains) t h (rw (sym (trains-are r k e)) l) (rw (sym (trains-are r k e)) m)
+
+-- .. and over the placements
+module _ (r : Railway) (m : ℕ) (e : m ≡ placements r) (f : ℕ → Bool) (p : ℕ) where
+  pub but-a-placement : p < m → f p ≡ false → false ≡ allBelow f (placements r)
+  but-a-placement l h = all-but f (placements r) p (rw (← e) l) h
+
+  pub every-placement : p ≤ m → m ≤ p → allBelow f p ≡ true → true ≡ allBelow f (placements r)
+  every-placement l g h = all-each f (placements r) p h (rw (← e) l) (rw (← e) g)
+
+-- ONE TRAIN: open without a signal
+module _ (r : Railway) (p v t : ℕ) (o : Bool) (is : o ≡ opensIn v t) where
+  pub open-fine : (h : Bool) → o ≡ true → h ≡ held r p t → h ≡ entryFine r p v t
+  open-fine h y e = rw (sym is ∙ y) e
+
+  pub closed-fine : o ≡ false → true ≡ entryFine r p v t
+  closed-fine y = rw (sym is ∙ y)
+
+-- .. and where its move ends
+module _ (r : Railway) (figs : List ℕ) (p v n t : ℕ) (m : Bool) (is : m ≡ may (gameOf r) p (settingAt r p v) t) where
+  pub stays-below : m ≡ false → true ≡ goesBelow (gameOf r) (figureIn figs) p (settingAt r p v) n t
+  stays-below y = rw (sym is ∙ y)
+
+  pub moves-below : (o : Move) (b : Bool) → m ≡ true → ended o ≡ moveUnder r p v t → ((x : Outcome) → ended o ≡ some x → b ≡ isBelow n (figureOf (figureIn figs) x))
+      → b ≡ goesBelow (gameOf r) (figureIn figs) p (settingAt r p v) n t
+  unfolding moveUnder
+  moves-below o b y e h = rw (sym is ∙ y) (h (moveOf r p (settingAt r p v) t) (rw (sym is ∙ y) at e))
+
+-- A SETTING THAT KEEPS the figure
+module _ (r : Railway) (figs : List ℕ) (p v n : ℕ) (s : Bool) (is : s ≡ anyBelow (may (gameOf r) p (settingAt r p v)) (r .trains)) where
+  pub none-keeps : s ≡ false → false ≡ keepsTest (gameOf r) (figureIn figs) p (settingAt r p v) n
+  unfolding keepsTest
+  none-keeps y = rw (sym is ∙ y)
+
+  pub some-keeps : (b : Bool) → s ≡ true → b ≡ allBelow (goesBelow (gameOf r) (figureIn figs) p (settingAt r p v) n) (r .trains)
+      → b ≡ keepsTest (gameOf r) (figureIn figs) p (settingAt r p v) n
+  unfolding keepsTest
+  some-keeps b y e = rw (sym is ∙ y) e
+
+-- A LISTED PLACEMENT
+module _ (r : Railway) (figs sets : List ℕ) (p n : ℕ) (lost : Bool) (is-lost : lost ≡ shared r p) where
+  pub lost-fine : lost ≡ true → false ≡ listedFine r (byTables figs sets) p n
+  lost-fine y = rw (sym is-lost ∙ y)
+
+  module _ (apart : lost ≡ false) (v : ℕ) (is-v : v ≡ getD sets p 0) (o : Bool) (is-o : o ≡ allBelow (entryFine r p v) (r .trains)) where
+    opens : o ≡ allBelow (trainFine r (byTables figs sets) p) (r .trains)
+    opens = rw is-v at is-o
+
+    pub unsignalled-fine : o ≡ false → false ≡ listedFine r (byTables figs sets) p n
+    unsignalled-fine y = rw (sym is-lost ∙ apart, sym opens ∙ y)
+
+    module _ (signalled : o ≡ true) (h : Bool) (is-h : h ≡ atHome r p) where
+      pub home-fine : h ≡ true → true ≡ listedFine r (byTables figs sets) p n
+      home-fine y = rw (sym is-lost ∙ apart, sym opens ∙ signalled, sym is-h ∙ y)
+
+      pub kept-fine : (b : Bool) → h ≡ false → b ≡ keepsTest (gameOf r) (figureIn figs) p (settingAt r p v) n → b ≡ listedFine r (byTables figs sets) p n
+      unfolding listedSetting settingAt
+      kept-fine b y e = rw (sym is-lost ∙ apart, sym opens ∙ signalled, sym is-h ∙ y) (rw is-v at e)
+
+-- A PLACEMENT
+module _ (r : Railway) (figs sets : List ℕ) (p n : ℕ) (is : n ≡ getD figs p noFigure) where
+  pub unlisted-fine : n ≡ noFigure → true ≡ placementFine r (byTables figs sets) p
+  unfolding placementFine
+  unlisted-fine z = rw (← is, eq-eqb n noFigure z)
+
+  pub listed-is-fine : (b : Bool) → (n ≡ noFigure → ⊥) → b ≡ listedFine r (byTables figs sets) p n → b ≡ placementFine r (byTables figs sets) p
+  unfolding placementFine
+  listed-is-fine b z e = go (getD figs p noFigure) is
+    where
+      go : (x : ℕ) → n ≡ x → b ≡ fineIf r (byTables figs sets) p (cond (eqb x noFigure) none (some x))
+      go x i = rw (← i, ne-eqb n noFigure z) e
+
+-- THE WHOLE TEST
+module _ (r : Railway) (figs sets : List ℕ) (m n s : ℕ) (is-s : s ≡ startCode r) (is : n ≡ getD figs s noFigure) where
+  start-is : n ≡ getD figs (startCode r) noFigure
+  start-is = rw is-s at is
+
+  pub start-unlisted : n ≡ noFigure → false ≡ testHolds r m (byTables figs sets)
+  unfolding testHolds
+  start-unlisted z = rw (← start-is, eq-eqb n noFigure z)
+
+  module _ (z : n ≡ noFigure → ⊥) where
+    pub start-other : (n ≡ m → ⊥) → false ≡ testHolds r m (byTables figs sets)
+    unfolding testHolds
+    start-other d = rw (← start-is, ne-eqb n noFigure z, ne-eqb n m d)
+
+    pub start-same : (b : Bool) → n ≡ m → b ≡ allBelow (placementFine r (byTables figs sets)) (placements r) → b ≡ testHolds r m (byTables figs sets)
+    unfolding testHolds
+    start-same b d e = rw (← start-is, ne-eqb n noFigure z, eq-eqb n m d) e

@@ -1,0 +1,64 @@
+-- `plantest::all_below` meets its contract. The loop's invariant: every train before t that may move comes below the figure.
+-- Assumes nothing.
+use native.Mathlib.Omega.{arith}
+use borrow.Author.Needs.{needs}
+use mathlib.Core.Path.{_≡_, refl, sym, _∙_}
+use mathlib.Core.Bool.{true}
+use Prim.Native.Nat.{_-_, _≤_}
+use Rattle.laws.specs.Below.{allBelow}
+use Rattle.laws.proofs.Below.{all-next}
+use Rattle.railway.specs.declared.Railway.{Railway}
+use Rattle.game.specs.Local.{goesBelow}
+use Rattle.game.specs.Moves.{gameOf}
+use Rattle.tables.specs.Entries.{settingAt}
+use Rattle.tables.specs.Tables.{figureIn}
+use Rattle.compiled.specs.Table.{Compiled}
+use Rattle.plantest.proofs.Testing.{but-a-train, every-train}
+use Rattle.plantest.proofs.all_below.Statement.{statement}
+use Rattle.plantest.proofs.all_below.Tie as tie
+
+abbrev Inv-loop : tie.InvT-loop
+Inv-loop table figures p v n k t₀ t = (t ≤ k) × ((r : Railway) → Compiled r table → allBelow (goesBelow (gameOf r) (figureIn figures) p (settingAt r p v) n) t ≡ true)
+
+abbrev μ-loop : tie.MeasureT-loop
+μ-loop table figures p v n k t₀ t = k - t
+
+count-in-requires : tie.Need-count-in-requires Inv-loop μ-loop
+count-in-requires c κs = search needs
+
+loop-holds : tie.Need-loop-holds Inv-loop μ-loop
+unfolding allBelow
+loop-holds c = (omega arith, λ r h. refl)
+
+goes-below-requires : tie.Need-goes-below-requires Inv-loop μ-loop
+goes-below-requires c κs = search needs
+
+add-t : tie.Need-add-t Inv-loop μ-loop
+add-t c = omega arith
+
+loop-less : tie.Need-loop-less Inv-loop μ-loop
+loop-less c = omega arith
+
+loop-again : tie.Need-loop-again Inv-loop μ-loop
+loop-again c = let l = c .before .before .before in (omega arith, λ r h. all-next _ _ (l .loop .inv .1 r h) (sym (c .before .goes-below .ensures r h) ∙ c .if1 .taken))
+
+returns : tie.Need-returns Inv-loop μ-loop
+returns c = λ r h. let l = c .before .before .before in but-a-train r _ (l .before .count-in .ensures r h (omega arith)) _ (l .loop .t) (c .before .before .loop-test .taken) (sym (c .before .goes-below .ensures r h) ∙ c .if1 .left)
+
+returns-2 : tie.Need-returns-2 Inv-loop μ-loop
+returns-2 c = λ r h. let l = c .before in every-train r _ (l .before .count-in .ensures r h (omega arith)) _ (l .loop .t) (l .loop .inv .0) (c .loop-test .left) (l .loop .inv .1 r h)
+
+pub all-below-spec : {M : Type 1} → statement M
+all-below-spec =
+    tie.close
+    (tie.spec
+    Inv-loop
+    μ-loop
+    count-in-requires
+    loop-holds
+    goes-below-requires
+    add-t
+    loop-less
+    loop-again
+    returns
+    returns-2)

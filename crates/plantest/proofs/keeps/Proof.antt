@@ -1,0 +1,21 @@
+-- `plantest::keeps` meets its contract: both of its halves.
+-- Assumes nothing.
+use borrow.Author.Needs.{needs}
+use Rattle.plantest.proofs.Testing.{none-keeps, some-keeps}
+use Rattle.plantest.proofs.keeps.Statement.{statement}
+use Rattle.plantest.proofs.keeps.Tie as tie
+
+some-may-requires : tie.Need-some-may-requires
+some-may-requires c κs = search needs
+
+all-below-requires : tie.Need-all-below-requires
+all-below-requires c κs = search needs
+
+returns : tie.Need-returns
+returns c = λ r h. let a = c .before .before .before .before .args in some-keeps r (a .figures .now) (a .p) (a .v) (a .n) _ (c .before .before .some-may .ensures r h) _ (c .before .if1 .taken) (c .all-below .ensures r h)
+
+returns-2 : tie.Need-returns-2
+returns-2 c = λ r h. let a = c .before .before .before .args in none-keeps r (a .figures .now) (a .p) (a .v) (a .n) _ (c .before .some-may .ensures r h) (c .if1 .left)
+
+pub keeps-spec : {M : Type 1} → statement M
+keeps-spec = tie.close (tie.spec some-may-requires all-below-requires returns returns-2)

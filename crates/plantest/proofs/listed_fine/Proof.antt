@@ -1,0 +1,79 @@
+-- `plantest::listed_fine` meets its contract: lost, open without a signal, home, and else by the setting.
+-- Assumes nothing.
+use borrow.Author.Needs.{needs}
+use Rattle.plantest.proofs.Testing.{lost-fine, unsignalled-fine, home-fine, kept-fine}
+use Rattle.plantest.proofs.listed_fine.Statement.{statement}
+use Rattle.plantest.proofs.listed_fine.Tie as tie
+
+placement-of-requires : tie.Need-placement-of-requires
+placement-of-requires c κs = search needs
+
+lost-in-requires : tie.Need-lost-in-requires
+lost-in-requires c κs = search needs
+
+returns : tie.Need-returns
+returns c =
+    λ r h.
+    let w = c .before in
+    let a = w .before .before .before .before .args in
+    lost-fine r (a .figures .now) (a .settings .now) (a .p) (a .n) _ (w .lost-in .ensures r _ (w .before .placement-of .ensures r h)) (c .if1 .taken)
+
+entry-at-requires : tie.Need-entry-at-requires
+entry-at-requires c κs = search needs
+
+opens-fine-requires : tie.Need-opens-fine-requires
+opens-fine-requires c κs = search needs
+
+is-home-requires : tie.Need-is-home-requires
+is-home-requires c κs = search needs
+
+returns-2 : tie.Need-returns-2
+returns-2 c =
+    λ r h.
+    let o = c .before .before .before in
+    let e = o .before in
+    let w = e .before .before in
+    let a = w .before .before .before .before .args in
+    let on = w .before .placement-of .ensures r h in
+    home-fine r (a .figures .now) (a .settings .now) (a .p) (a .n) _ (w .lost-in .ensures r _ on) (e .before .if1 .left) _ (e .entry-at .ensures) _ (o .opens-fine .ensures r _ on) (c .before .before .if2 .taken) _
+    (c .before .is-home .ensures r h) (c .if3 .taken)
+
+keeps-requires : tie.Need-keeps-requires
+keeps-requires c κs = search needs
+
+returns-3 : tie.Need-returns-3
+returns-3 c =
+    λ r h.
+    let i = c .before .before in
+    let o = i .before .before in
+    let e = o .before in
+    let w = e .before .before in
+    let a = w .before .before .before .before .args in
+    let on = w .before .placement-of .ensures r h in
+    kept-fine r (a .figures .now) (a .settings .now) (a .p) (a .n) _ (w .lost-in .ensures r _ on) (e .before .if1 .left) _ (e .entry-at .ensures) _ (o .opens-fine .ensures r _ on) (i .before .if2 .taken) _
+    (i .is-home .ensures r h) _ (c .before .if3 .left) (c .keeps .ensures r h)
+
+returns-4 : tie.Need-returns-4
+returns-4 c =
+    λ r h.
+    let o = c .before in
+    let e = o .before in
+    let w = e .before .before in
+    let a = w .before .before .before .before .args in
+    let on = w .before .placement-of .ensures r h in
+    unsignalled-fine r (a .figures .now) (a .settings .now) (a .p) (a .n) _ (w .lost-in .ensures r _ on) (e .before .if1 .left) _ (e .entry-at .ensures) _ (o .opens-fine .ensures r _ on) (c .if2 .left)
+
+pub listed-fine-spec : {M : Type 1} → statement M
+listed-fine-spec =
+    tie.close
+    (tie.spec
+    placement-of-requires
+    lost-in-requires
+    returns
+    entry-at-requires
+    opens-fine-requires
+    is-home-requires
+    returns-2
+    keeps-requires
+    returns-3
+    returns-4)

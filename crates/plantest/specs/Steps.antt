@@ -1,0 +1,11 @@
+-- What the contract of a step of the test says. Nothing of document 01 rests on this file: over tables it is `trainFine` (plan/Computed).
+-- Assumes nothing.
+use mathlib.Core.Bool.{Bool, not, _||_}
+use Prim.Native.Nat.{ℕ}
+use Rattle.railway.specs.declared.Railway.{Railway}
+use Rattle.game.specs.Setting.{held}
+use Rattle.tables.specs.Entries.{opensIn}
+
+-- Train t is not open in entry v, or a signal stands at the end that it heads for in placement p.
+abbrev pub entryFine : Railway → ℕ → ℕ → ℕ → Bool
+entryFine r p v t = not (opensIn v t) || held r p t

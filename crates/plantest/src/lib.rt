@@ -1,0 +1,166 @@
+// The test of a plan on two tables, of a railway that is compiled: the start's figure first, then placement after placement. All functions are
+// total: a code past a table has no figure, and its setting is zero. What they promise, they promise of every railway whose table is handed in.
+ghost use mathlib.Core.Path.{_≡_};
+ghost use Prim.Native.Nat.{ℕ, _<_};
+ghost use lib.ListN.{getD};
+ghost use Rattle.laws.specs.Below.{allBelow, anyBelow};
+ghost use Rattle.railway.specs.declared.Railway.{Railway};
+ghost use Rattle.game.specs.Game.{may};
+ghost use Rattle.game.specs.Local.{goesBelow, keepsTest};
+ghost use Rattle.game.specs.Placement.{placements};
+ghost use Rattle.game.specs.Moves.{gameOf};
+ghost use Rattle.tables.specs.Entries.{settingAt};
+ghost use Rattle.tables.specs.Tables.{figureIn};
+ghost use Rattle.plan.specs.Test.{byTables};
+ghost use Rattle.plan.specs.Computed.{listedFine, placementFine, testHolds};
+ghost use Rattle.compiled.specs.Table.{Compiled};
+ghost use Rattle.moves.specs.Steps.{On};
+ghost use Rattle.plantest.specs.Steps.{entryFine};
+use compiled::TABLE;
+use moves::Placement;
+
+// THE TEST, m being the first line's figure: the start is listed with it, and every listed placement is as it must be.
+pub fn test_holds(table: &[u8; TABLE], figures: &[u32], settings: &[u32], m: u32) -> bool
+    ensures { λ b. ⌜ ((r : Railway) → Compiled r (now (table .entry)) → b ≡ testHolds r m (byTables (now (figures .entry)) (now (settings .entry)))) ⌝ }
+{
+    let n = settings::figure_at(figures, moves::start_code(table));
+    if n == settings::NO_FIGURE {
+        return false;
+    }
+    if n == m {
+        all_fine(table, figures, settings)
+    } else {
+        false
+    }
+}
+
+// Every placement.
+fn all_fine(table: &[u8; TABLE], figures: &[u32], settings: &[u32]) -> bool
+    ensures { λ b. ⌜ ((r : Railway) → Compiled r (now (table .entry)) → b ≡ allBelow (placementFine r (byTables (now (figures .entry)) (now (settings .entry)))) (placements r)) ⌝ }
+{
+    let m = moves::placements(table);
+    let mut p: u32 = 0;
+    while p < m {
+        if is_fine(table, figures, settings, p) {
+            p += 1;
+        } else {
+            return false;
+        }
+    }
+    true
+}
+
+// One placement: it is not listed, or it is as listed placements must be.
+fn is_fine(table: &[u8; TABLE], figures: &[u32], settings: &[u32], p: u32) -> bool
+    ensures { λ b. ⌜ ((r : Railway) → Compiled r (now (table .entry)) → b ≡ placementFine r (byTables (now (figures .entry)) (now (settings .entry))) p) ⌝ }
+{
+    let n = settings::figure_at(figures, p);
+    if n == settings::NO_FIGURE {
+        return true;
+    }
+    listed_fine(table, figures, settings, p, n)
+}
+
+// A placement that is listed with figure n: not lost; its open trains have signals; and it is home, or its setting keeps the figure.
+fn listed_fine(table: &[u8; TABLE], figures: &[u32], settings: &[u32], p: u32, n: u32) -> bool
+    ensures { λ b. ⌜ ((r : Railway) → Compiled r (now (table .entry)) → b ≡ listedFine r (byTables (now (figures .entry)) (now (settings .entry))) p n) ⌝ }
+{
+    let q = moves::placement_of(table, p);
+    if moves::lost_in(table, q) {
+        return false;
+    }
+    let v = entry_at(settings, p);
+    if opens_fine(table, q, v) {
+        if moves::is_home(table, p) {
+            return true;
+        }
+        keeps(table, figures, p, v, n)
+    } else {
+        false
+    }
+}
+
+// The setting table's entry at a code; zero past its end.
+fn entry_at(settings: &[u32], p: u32) -> u32
+    ensures { λ v. ⌜ v ≡ getD (now (settings .entry)) p 0 ⌝ }
+{
+    let at = p as usize;
+    if at < settings.len() { settings[at] } else { 0 }
+}
+
+// No open train lacks a signal at the end that it heads for.
+fn opens_fine(table: &[u8; TABLE], q: Placement, v: u32) -> bool
+    ensures { λ b. ⌜ ((r : Railway) (p : ℕ) → On r p (now (table .entry)) q → b ≡ allBelow (entryFine r p v) (r .trains)) ⌝ }
+{
+    let k = compiled::count_in(table, 2);
+    let mut t: u8 = 0;
+    while t < k {
+        if train_fine(table, q, v, t) {
+            t += 1;
+        } else {
+            return false;
+        }
+    }
+    true
+}
+
+fn train_fine(table: &[u8; TABLE], q: Placement, v: u32, t: u8) -> bool
+    ensures { λ b. ⌜ ((r : Railway) (p : ℕ) → On r p (now (table .entry)) q → t < r .trains → b ≡ entryFine r p v t) ⌝ }
+{
+    if moves::bit_at(v, 16 + (t as u32)) {
+        moves::held_in(table, q, t)
+    } else {
+        true
+    }
+}
+
+// Under entry v some train may move, and every move allowed ends in a listed placement of a figure below n.
+fn keeps(table: &[u8; TABLE], figures: &[u32], p: u32, v: u32, n: u32) -> bool
+    ensures { λ b. ⌜ ((r : Railway) → Compiled r (now (table .entry)) → b ≡ keepsTest (gameOf r) (figureIn (now (figures .entry))) p (settingAt r p v) n) ⌝ }
+{
+    if some_may(table, p, v) {
+        all_below(table, figures, p, v, n)
+    } else {
+        false
+    }
+}
+
+fn some_may(table: &[u8; TABLE], p: u32, v: u32) -> bool
+    ensures { λ b. ⌜ ((r : Railway) → Compiled r (now (table .entry)) → b ≡ anyBelow (may (gameOf r) p (settingAt r p v)) (r .trains)) ⌝ }
+{
+    let k = compiled::count_in(table, 2);
+    let mut t: u8 = 0;
+    while t < k {
+        if moves::may_move(table, p, v, t) {
+            return true;
+        }
+        t += 1;
+    }
+    false
+}
+
+fn all_below(table: &[u8; TABLE], figures: &[u32], p: u32, v: u32, n: u32) -> bool
+    ensures { λ b. ⌜ ((r : Railway) → Compiled r (now (table .entry)) → b ≡ allBelow (goesBelow (gameOf r) (figureIn (now (figures .entry))) p (settingAt r p v) n) (r .trains)) ⌝ }
+{
+    let k = compiled::count_in(table, 2);
+    let mut t: u8 = 0;
+    while t < k {
+        if goes_below(table, figures, p, v, n, t) {
+            t += 1;
+        } else {
+            return false;
+        }
+    }
+    true
+}
+
+// The train may not move, or its move ends below n.
+fn goes_below(table: &[u8; TABLE], figures: &[u32], p: u32, v: u32, n: u32, t: u8) -> bool
+    ensures { λ b. ⌜ ((r : Railway) → Compiled r (now (table .entry)) → b ≡ goesBelow (gameOf r) (figureIn (now (figures .entry))) p (settingAt r p v) n t) ⌝ }
+{
+    if moves::may_move(table, p, v, t) {
+        settings::is_below(figures, moves::move_of(table, p, v, t), n)
+    } else {
+        true
+    }
+}
