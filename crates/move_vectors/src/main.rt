@@ -1,22 +1,16 @@
 // What every move ends in, for case texts: by rising code, each placement with no two trains on a section, and there by rising entry of the
 // setting table: the code, the entry, and of each train `-` it may not move, `x` it derails, `c` it collides, or the section it then stands on.
-// Standard input is records one after the other: a line `@`, tab, the number of bytes, then those bytes.
+// Standard input is records (crate framed).
 use casefile::CaseAnswer;
 use compiled::TABLE;
-use libc::STDIN_FILENO;
+use framed::Reading;
 use libc::STDOUT_FILENO;
 use moves::Move;
 use railway::Railway;
 
-// The number of bytes of the next record, or there is none.
-enum Length {
-    None,
-    Bytes(usize),
-}
-
 fn main() {
     let mut turns: u64 = 0;
-    while turns < 1000000 {
+    while turns < 18446744073709551615 {
         if one() {
             turns += 1;
         } else {
@@ -27,45 +21,21 @@ fn main() {
 
 // One record; answers whether there was one.
 fn one() -> bool {
-    let Length::Bytes(n) = size() else {
-        return false;
-    };
     let mut space = io::large_buffer();
-    if n <= space.len() {
-        fill(&mut space[..n]);
-        true
-    } else {
-        false
-    }
-}
-
-fn fill(space: &mut [u8]) {
-    io::read_full(STDIN_FILENO, space);
-    show(space);
-}
-
-fn size() -> Length {
-    if next_byte() == 0 {
-        return Length::None;
-    }
-    next_byte();
-    let mut n: usize = 0;
-    let mut digits: u8 = 0;
-    while digits < 6 {
-        let b = next_byte();
-        if b == 10 {
-            return Length::Bytes(n);
+    let record = framed::next_record(&mut space);
+    let n = record.bytes;
+    let reading = record.reading;
+    match reading {
+        Reading::Whole => {
+            show(&space[..n]);
+            true
         }
-        n = (n * 10 + (b % 16) as usize) % 100000;
-        digits += 1;
+        Reading::Ended => false,
+        Reading::Broken => {
+            io::write_all(STDOUT_FILENO, b"broken record\n");
+            false
+        }
     }
-    Length::None
-}
-
-fn next_byte() -> u8 {
-    let mut byte = [0u8; 1];
-    io::read_full(STDIN_FILENO, &mut byte);
-    byte[0]
 }
 
 fn show(text: &[u8]) {

@@ -1,0 +1,18 @@
+-- What is left of the space that was lent for a record. Which bytes come from standard input no definition can say. Nothing of document 01 rests on this.
+-- Assumes nothing.
+use mathlib.Core.Path.{_≡_}
+use mathlib.Core.List.{List}
+use Prim.Native.Nat.{ℕ}
+use lib.ListN.{length, drop}
+use Rattle.framed.specs.declared.Reading.{Reading}
+use Rattle.framed.specs.declared.Reading.the-variants.{Whole, Ended, Broken}
+use Rattle.framed.specs.declared.Record.{Record}
+
+-- Past a whole record the space is as it was, and all of it is where the input had ended; a broken record may have left some of its bytes.
+abbrev pub KeptBy : Reading → ℕ → List ℕ → List ℕ → Type 0
+KeptBy Whole n old new = drop n new ≡ drop n old
+KeptBy Ended n old new = (n ≡ 0) × (new ≡ old)
+KeptBy Broken n old new = (n ≡ 0) × (length new ≡ length old)
+
+abbrev pub Kept : Record → List ℕ → List ℕ → Type 0
+Kept r old new = KeptBy (r .reading) (r .bytes) old new

@@ -1,0 +1,125 @@
+// The records of a vector file, from standard input: a line `@`, tab, the number of bytes in decimal, and then those bytes, of any value. A record
+// comes whole or not at all: one that is longer than the lent space, one that ends early and a line of another form are told as broken.
+ghost use Prim.Native.Nat.{_≤_};
+ghost use mathlib.Core.Path.{_≡_};
+ghost use Rattle.io.specs.Counts.{Counts};
+ghost use Rattle.framed.specs.Framed.{Kept};
+use libc::STDIN_FILENO;
+
+// Whether there was a record.
+pub enum Reading {
+    Whole,
+    Ended,
+    Broken,
+}
+
+// What was read, and of how many bytes the record is: none unless it is whole.
+pub struct Record {
+    pub reading: Reading,
+    pub bytes: usize,
+}
+
+// A byte of standard input.
+enum Byte {
+    End,
+    Is(u8),
+}
+
+// The number that stands in the line before a record.
+enum Length {
+    Ended,
+    Broken,
+    Bytes(usize),
+}
+
+// The most digits of that number, and what it must stay below for one more to come.
+const DIGITS: u8 = 8;
+
+const LONGEST: usize = 10000000;
+
+// The next record, at the start of the lent space.
+pub fn next_record(space: &mut [u8]) -> Record
+    ensures { λ r. ⌜ Counts (r .bytes) (now (space .exit)) ⌝ }
+    ensures { λ r. ⌜ Kept r (now (space .entry)) (now (space .exit)) ⌝ }
+{
+    match head_line() {
+        Length::Ended => Record {
+            reading: Reading::Ended,
+            bytes: 0,
+        },
+        Length::Broken => Record {
+            reading: Reading::Broken,
+            bytes: 0,
+        },
+        Length::Bytes(n) => fill(space, n),
+    }
+}
+
+fn fill(space: &mut [u8], n: usize) -> Record
+    ensures { λ r. ⌜ Counts (r .bytes) (now (space .exit)) ⌝ }
+    ensures { λ r. ⌜ Kept r (now (space .entry)) (now (space .exit)) ⌝ }
+{
+    if space.len() < n {
+        return Record {
+            reading: Reading::Broken,
+            bytes: 0,
+        };
+    }
+    let got = io::read_full(STDIN_FILENO, &mut space[..n]);
+    if got == n {
+        Record {
+            reading: Reading::Whole,
+            bytes: n,
+        }
+    } else {
+        Record {
+            reading: Reading::Broken,
+            bytes: 0,
+        }
+    }
+}
+
+fn head_line() -> Length {
+    let Byte::Is(first) = next_byte() else {
+        return Length::Ended;
+    };
+    let Byte::Is(second) = next_byte() else {
+        return Length::Broken;
+    };
+    if first == b'@' && second == b'\t' {
+        number()
+    } else {
+        Length::Broken
+    }
+}
+
+fn number() -> Length {
+    let mut n: usize = 0;
+    let mut digits: u8 = 0;
+    while digits < DIGITS {
+        let Byte::Is(b) = next_byte() else {
+            return Length::Broken;
+        };
+        if b == b'\n' {
+            return Length::Bytes(n);
+        }
+        if LONGEST <= n {
+            return Length::Broken;
+        }
+        if b < b'0' || b'9' < b {
+            return Length::Broken;
+        }
+        n = n * 10 + (b - b'0') as usize;
+        digits += 1;
+    }
+    Length::Broken
+}
+
+fn next_byte() -> Byte {
+    let mut byte = [0u8; 1];
+    if io::read_full(STDIN_FILENO, &mut byte) == 1 {
+        Byte::Is(byte[0])
+    } else {
+        Byte::End
+    }
+}
