@@ -33,24 +33,27 @@ use Rattle.casefile.specs.Reading.{read, caseAnswer}
 abbrev pub ReadIsSpelling : Type 0
 ReadIsSpelling = (text : List ℕ) (d : Description) → (read text ≡ some d) ↔ Describes text d
 
--- So a text says one thing at most, and row 2 applies exactly where reading gives nothing.
+-- So a text says one thing at most.
 abbrev pub DescribesOne : Type 0
 DescribesOne = (text : List ℕ) (d e : Description) → Describes text d → Describes text e → d ≡ e
 
+-- Row 2 applies exactly where reading gives nothing.
 abbrev pub FormDecided : Type 0
 FormDecided = (text : List ℕ) → (read text ≡ none) ↔ FormRow text
 
--- GIVEN EXACTLY IF. A refusal is answered exactly where its row applies and none before it, a railway exactly where no row applies and it is the text's.
+-- GIVEN EXACTLY IF. A refusal is answered exactly where its row applies and none before it.
 abbrev pub RefusedExactly : Type 0
 RefusedExactly = (text : List ℕ) (f : Refusal) → (caseAnswer text ≡ refused f) ↔ RefusedWith text f
 
+-- A railway is answered exactly where no row applies and it is the text's.
 abbrev pub AcceptedExactly : Type 0
 AcceptedExactly = (text : List ℕ) (r : Railway) → (caseAnswer text ≡ accepted r) ↔ AcceptedWith text r
 
--- The same for the numbers; and the answer is the only one that keeps a reader's promise, which any program that answers so keeps.
+-- A number is answered exactly where it is that of the refusal given.
 abbrev pub NumberedExactly : Type 0
 NumberedExactly = (text : List ℕ) (n : ℕ) → (readNumber (caseAnswer text) ≡ some n) ↔ NumberedWith text n
 
+-- The answer is the only one that keeps a reader's promise, which any program that answers so keeps.
 abbrev pub ReaderAnswers : Type 0
 ReaderAnswers = (text : List ℕ) (a : CaseRead) → (a ≡ caseAnswer text) ↔ ReaderPost text a
 
@@ -65,12 +68,13 @@ Names (section n s) (Port m l) = ⊥
 Names (port n l) (Section m t) = ⊥
 Names (port n l) (Port m k) = (n ≡ suc (m .0)) × (l ≡ k)
 
--- Some J line ties the two ends, either first; some G line names the end.
+-- Some J line ties the two ends, either first.
 pub record Joins (js : List JoinLine) (e f : End) : Type 0 where
   pub join : JoinLine
   pub member : List·Memᴰ join js
   pub ties : (Names (join .one) e × Names (join .other) f) ⊎ (Names (join .one) f × Names (join .other) e)
 
+-- Some G line names the end.
 pub record Signals (gs : List SignalLine) (e : End) : Type 0 where
   pub signal : SignalLine
   pub member : List·Memᴰ signal gs
@@ -92,6 +96,7 @@ pub record Told (d : Description) (r : Railway) : Type 0 where
   pub signals : (e : End) → (hasSignal r e ≡ true) ↔ Signals (d .signals) e
   pub runs : (t : ℕ) → t < d .trains → Runs (getD (d .runs) t noTrainLine) (runOf r t)
 
+-- A text that is accepted is read as a record that has what its lines say.
 abbrev pub ReadAsTold : Type 0
 ReadAsTold = (text : List ℕ) (r : Railway) → caseAnswer text ≡ accepted r → (d : Description) × Describes text d × Told d r
 
@@ -99,10 +104,11 @@ ReadAsTold = (text : List ℕ) (r : Railway) → caseAnswer text ≡ accepted r 
 abbrev pub WrittenAsTold : Type 0
 WrittenAsTold = (r : Railway) → recordRefusal r ≡ none → (d : Description) × Describes (writtenText r) d × Told d r
 
--- THE ROUND TRIP. What is written of an accepted record is a case text of the same railway, and fits into the bytes that a case text may have.
+-- THE ROUND TRIP. What is written of an accepted record is a case text of the same railway.
 abbrev pub RoundTrip : Type 0
 RoundTrip = (r : Railway) → recordRefusal r ≡ none → (q : Railway) × (caseAnswer (writtenText r) ≡ accepted q) × SameRailway r q
 
+-- It fits into the bytes that a case text may have.
 abbrev pub WrittenFits : Type 0
 WrittenFits = (r : Railway) → recordRefusal r ≡ none → length (writtenText r) ≤ mostBytes
 
@@ -139,6 +145,7 @@ pub record Sorted (d : Description) : Type 0 where
   pub joins : rises (map (λ j. rank (j .one)) (d .joins)) ≡ true
   pub signals : rises (map (λ g. rank (section (g .number) (g .side))) (d .signals)) ≡ true
 
+-- The writer's text of an accepted record is in this order.
 abbrev pub WriterSorts : Type 0
 WriterSorts = (r : Railway) → recordRefusal r ≡ none → (d : Description) → Describes (writtenText r) d → Sorted d
 
@@ -146,9 +153,10 @@ WriterSorts = (r : Railway) → recordRefusal r ≡ none → (d : Description) �
 abbrev pub SameRefusal : Type 0
 SameRefusal = (r q : Railway) → SameRailway r q → recordRefusal r ≡ recordRefusal q
 
--- It has the same text, and accepted records with the same text are the same railway.
+-- It has the same text.
 abbrev pub SameText : Type 0
 SameText = (r q : Railway) → SameRailway r q → writtenText r ≡ writtenText q
 
+-- Accepted records with the same text are the same railway.
 abbrev pub TextSame : Type 0
 TextSame = (r q : Railway) → recordRefusal r ≡ none → recordRefusal q ≡ none → writtenText r ≡ writtenText q → SameRailway r q

@@ -16,15 +16,17 @@ pub data EndField : Type 0 where
   section : ℕ → Side → EndField
   port : ℕ → Leg → EndField
 
--- A J line, a G line and a T line.
+-- A J line: its two ends, as they follow each other there.
 pub record JoinLine : Type 0 where
   pub one : EndField
   pub other : EndField
 
+-- A G line: the section end that it names.
 pub record SignalLine : Type 0 where
   pub number : ℕ
   pub side : Side
 
+-- A T line but for its train number, which is its place among the T lines.
 pub record TrainLine : Type 0 where
   pub heading : Side
   pub start : ℕ
@@ -40,45 +42,54 @@ pub record Description : Type 0 where
   pub signals : List SignalLine
   pub runs : List TrainLine
 
--- FIELDS. `u` or `d`; `s`, `+` or `-`; a section end; any end.
+-- FIELDS. A side or a heading: `u` or `d`.
 abbrev pub sideByte : Side → ℕ
 sideByte Up = 117
 sideByte Down = 100
 
+-- A point's port: `s` is the stem, `+` plus, `-` minus.
 abbrev pub legByte : Leg → ℕ
 legByte Stem = 115
 legByte Plus = 43
 legByte Minus = 45
 
+-- A section end: the number, its side behind it.
 abbrev pub sectionField : ℕ → Side → List ℕ
 sectionField n s = decimal n ++ (sideByte s ∷ [])
 
+-- Either kind of end.
 abbrev pub endField : EndField → List ℕ
 endField (section n s) = sectionField n s
 endField (port n l) = decimal n ++ (legByte l ∷ [])
 
--- LINES. H: sections, points, trains. P: its number, the side of its legs. J: two ends. G: a section end. T: its number, heading, start, destination.
+-- LINES. H: the three counts.
 abbrev pub headerLine : Description → List ℕ
 headerLine d = line ((72 ∷ []) ∷ decimal (d .sections) ∷ decimal (d .points) ∷ decimal (d .trains) ∷ [])
 
+-- P: a point's number, and on which side its legs are.
 abbrev pub pointLine : ℕ → Side → List ℕ
 pointLine n s = line ((80 ∷ []) ∷ decimal n ∷ (sideByte s ∷ []) ∷ [])
 
+-- J: the ends that are tied.
 abbrev pub joinLine : JoinLine → List ℕ
 joinLine j = line ((74 ∷ []) ∷ endField (j .one) ∷ endField (j .other) ∷ [])
 
+-- G: where the signal stands.
 abbrev pub signalLine : SignalLine → List ℕ
 signalLine g = line ((71 ∷ []) ∷ sectionField (g .number) (g .side) ∷ [])
 
+-- T: a train's number, which way it heads, from which section and to which.
 abbrev pub trainLine : ℕ → TrainLine → List ℕ
 trainLine n t = line ((84 ∷ []) ∷ decimal n ∷ (sideByte (t .heading) ∷ []) ∷ decimal (t .start) ∷ decimal (t .destination) ∷ [])
 
--- THE TEXT. A line for each element of a list; and with the line's number, rising by one from n.
+-- THE TEXT. Lines one after the other.
 module _ {A : Type 0} where
+  -- .. one for each element, as J and G lines are.
   unfoldable pub each : (A → List ℕ) → List A → List ℕ
   each f [] = []
   each f (x ∷ xs) = f x ++ each f xs
 
+  -- .. numbered from n upwards, as P and T lines are.
   unfoldable pub rising : (ℕ → A → List ℕ) → ℕ → List A → List ℕ
   rising f n [] = []
   rising f n (x ∷ xs) = f n x ++ rising f (suc n) xs
@@ -92,20 +103,24 @@ spell d =
     ++ (each signalLine (d .signals)
     ++ rising trainLine 1 (d .runs))))
 
--- WELL FORMED. A number that one to three digits can write, and lines of such numbers.
+-- WELL FORMED. A number that one to three digits can write.
 abbrev pub Writable : ℕ → Type 0
 Writable n = n < 1000
 
+-- .. in an end.
 abbrev pub WritableEnd : EndField → Type 0
 WritableEnd (section n s) = Writable n
 WritableEnd (port n l) = Writable n
 
+-- .. in both ends of a J line.
 abbrev pub WritableJoin : JoinLine → Type 0
 WritableJoin j = WritableEnd (j .one) × WritableEnd (j .other)
 
+-- .. in a G line.
 abbrev pub WritableSignal : SignalLine → Type 0
 WritableSignal g = Writable (g .number)
 
+-- .. in a T line, at start and destination; the line's own number is at most the H line's.
 abbrev pub WritableTrain : TrainLine → Type 0
 WritableTrain t = Writable (t .start) × Writable (t .destination)
 

@@ -21,28 +21,33 @@ use Rattle.casefile.specs.Form.{Description, Describes}
 use Rattle.casefile.specs.Rows.{mostBytes, LengthRow, FormRow, countRow, unknownRow, joinRow, looseRow, doubleRow, placeRow, descriptionRows}
 use Rattle.casefile.specs.Recording.{railwayOf}
 
--- The answers: accepted, with a railway; refused, with the empty record beside it.
+-- The answers: accepted, with a railway.
 abbrev pub accepted : Railway → CaseRead
 accepted r = record { answer = Accepted; railway = r }
 
+-- .. refused, with the empty record, so that nothing else is answered.
 abbrev pub refused : Refusal → CaseRead
 refused f = record { answer = Refused f; railway = emptyRailway }
 
--- What an answer stands for: the refusal given, if one is, its number in the table, and the railway read, if one is.
+-- The refusal that is answered, if one is.
 abbrev pub refusalOf : CaseAnswer → Option Refusal
 refusalOf Accepted = none
 refusalOf (Refused f) = some f
 
+-- .. by the answer with its record.
 abbrev pub readRefusal : CaseRead → Option Refusal
 readRefusal a = refusalOf (a .answer)
 
+-- .. its number in the table.
 abbrev pub readNumber : CaseRead → Option ℕ
 readNumber a = numberOf (readRefusal a)
 
+-- A record that stands beside a refusal is no railway read.
 abbrev pub railwayUnless : Railway → Option Refusal → Option Railway
 railwayUnless r none = some r
 railwayUnless r (some f) = none
 
+-- The railway read, if one is.
 abbrev pub readRailway : CaseRead → Option Railway
 readRailway a = railwayUnless (a .railway) (readRefusal a)
 

@@ -60,6 +60,7 @@ module _ (s : List ℕ) where
   markAt n c (got side e) = got (section n side) e
   markAt n c bad = then (legFieldAt c) (λ leg c. got (port n leg) c)
 
+  -- An end: a number, and its letter.
   unfoldable pub endFieldAt : ℕ → Got EndField
   endFieldAt c = then (caseNumberAt c) (λ n c. markAt n c (sideFieldAt c))
 
@@ -116,14 +117,16 @@ module _ (s : List ℕ) where
       cond (ltb c (length s)) bad
       (got (record { sections = h .sections; points = h .points; trains = h .trains; legs = legs; joins = joins; signals = signals; runs = runs }) c))))))
 
+  -- What a text says, if it is in form.
   unfoldable pub read : Option Description
   read = value walk
 
--- THE ANSWER. All rows of a text, given what was read of it; where nothing was, the form is at fault.
+-- THE ANSWER. Rows 2 to 8, given what was read of a text; where nothing was, the form is at fault.
 abbrev pub formRows : Option Description → List Row
 formRows none = row Form true ∷ []
 formRows (some d) = row Form false ∷ descriptionRows d
 
+-- .. row 1 before them.
 abbrev pub caseRows : List ℕ → Option Description → List Row
 caseRows text o = row Length (ltb mostBytes (length text)) ∷ formRows o
 
@@ -133,5 +136,6 @@ judged o (some f) = refused f
 judged none none = refused Form
 judged (some d) none = accepted (railwayOf d)
 
+-- The answer to a text.
 unfoldable pub caseAnswer : List ℕ → CaseRead
 caseAnswer text = judged (read text) (first (caseRows text (read text)))

@@ -19,11 +19,12 @@ use Rattle.railway.specs.Ends.{sideAt, endAt}
 use Rattle.casefile.specs.Form.{EndField, section, port, JoinLine, SignalLine, TrainLine, Description}
 use Rattle.casefile.specs.Rows.{sameEnd, sameSignal}
 
--- An end as written and in the record.
+-- An end as written, in the record: its number less one.
 abbrev pub endOf : EndField → End
 endOf (section n s) = Section (record { 0 = n - 1 }) s
 endOf (port n l) = Port (record { 0 = n - 1 }) l
 
+-- An end of the record, as it is written.
 abbrev pub fieldOf : End → EndField
 fieldOf (Section n s) = section (suc (n .0)) s
 fieldOf (Port n l) = port (suc (n .0)) l
@@ -37,13 +38,15 @@ partner (j ∷ js) e = cond (sameEnd e (j .one)) (With (endOf (j .other))) (cond
 abbrev pub signalOf : ℕ → SignalLine
 signalOf i = record { number = suc (i / 2); side = sideAt (i % 2) }
 
--- A T line in the record, and what stands for one that is not there.
+-- What a T line says of its train, in the record.
 abbrev pub trainOf : TrainLine → Train
 trainOf t = record { heading = t .heading; start = record { 0 = t .start - 1 }; destination = record { 0 = t .destination - 1 } }
 
+-- What stands for a T line that is not there.
 abbrev pub noTrainLine : TrainLine
 noTrainLine = record { heading = Up; start = 1; destination = 1 }
 
+-- The railway of a description.
 unfoldable pub railwayOf : Description → Railway
 railwayOf d =
     record {

@@ -17,10 +17,11 @@ use Rattle.railway.specs.Refusals.{Row, row}
 use Rattle.railway.specs.Rows.{outside, Tied, wrongPair}
 use Rattle.casefile.specs.Form.{EndField, section, port, JoinLine, SignalLine, TrainLine, Description, Describes}
 
--- 1, length: the text has more bytes than a case text may have.
+-- The bytes that a case text may have.
 abbrev pub mostBytes : ℕ
 mostBytes = 4096
 
+-- 1, length: the text has more.
 abbrev pub LengthRow : List ℕ → Type 0
 LengthRow text = mostBytes < length text
 
@@ -32,43 +33,50 @@ FormRow text = (d : Description) → Describes text d → ⊥
 abbrev pub countRow : Description → Bool
 countRow d = outside (d .sections) (d .points) (d .trains)
 
--- A number from 1 to a count; an end whose section or point is there.
+-- A number from 1 to a count.
 abbrev pub within : ℕ → ℕ → Bool
 within n count = leb 1 n && leb n count
 
+-- An end whose section or point has such a number.
 abbrev pub known : Description → EndField → Bool
 known d (section n s) = within n (d .sections)
 known d (port n l) = within n (d .points)
 
--- 4, unknown: some section or point that a J, G or T line names has number 0, or one above the H line's.
+-- A J line with an end whose section or point is not there.
 abbrev pub unknownJoin : Description → JoinLine → Bool
 unknownJoin d j = not (known d (j .one) && known d (j .other))
 
+-- A G line of no section that is there.
 abbrev pub unknownSignal : Description → SignalLine → Bool
 unknownSignal d g = not (within (g .number) (d .sections))
 
+-- A T line whose start or destination is not there.
 abbrev pub unknownTrain : Description → TrainLine → Bool
 unknownTrain d t = not (within (t .start) (d .sections) && within (t .destination) (d .sections))
 
+-- 4, unknown: one of these lines has a section or point with number 0, or one above the H line's.
 unfoldable pub unknownRow : Description → Bool
 unknownRow d = any (unknownJoin d) (d .joins) || any (unknownSignal d) (d .signals) || any (unknownTrain d) (d .runs)
 
--- 5, join: the ends of a J line are two ports, or two of one section, or lie on the same side; or an end stands in the J lines twice.
--- An end's side is a section's own, a port's by the P line of its point.
+-- The section that an end belongs to; a port belongs to none.
 abbrev pub sectionOf : EndField → Option ℕ
 sectionOf (section n s) = some n
 sectionOf (port n l) = none
 
+-- An end's side: a section's own, a port's by the P line of its point.
 abbrev pub sideOf : Description → EndField → Side
 sideOf d (section n s) = s
 sideOf d (port n l) = portSide (getD (d .legs) (n - 1) Up) l
 
+-- What row 5 asks of an end.
 abbrev pub tied : Description → EndField → Tied
 tied d e = record { section = sectionOf e; side = sideOf d e }
 
+-- The ends of a J line are two ports, or two of one section, or lie on the same side.
 abbrev pub wrongJoin : Description → JoinLine → Bool
 wrongJoin d j = wrongPair (tied d (j .one)) (tied d (j .other))
 
+-- Two fields name one end.
 abbrev pub sameEnd : EndField → EndField → Bool
 sameEnd (section m s) (section n t) = eqb m n && sameSide s t
 sameEnd (section m s) (port n l) = false
@@ -80,23 +88,27 @@ unfoldable pub joinEnds : List JoinLine → List EndField
 joinEnds [] = []
 joinEnds (j ∷ js) = j .one ∷ j .other ∷ joinEnds js
 
+-- 5, join: a J line is such, or an end stands in the J lines twice.
 unfoldable pub joinRow : Description → Bool
 joinRow d = any (wrongJoin d) (d .joins) || repeats sameEnd (joinEnds (d .joins))
 
--- 6, loose: no J line names some port of some point.
+-- No J line names this end.
 abbrev pub looseEnd : Description → EndField → Bool
 looseEnd d e = not (any (sameEnd e) (joinEnds (d .joins)))
 
+-- .. one of the three ports of point i + 1.
 abbrev pub looseAt : Description → ℕ → Bool
 looseAt d i = looseEnd d (port (suc i) Stem) || looseEnd d (port (suc i) Plus) || looseEnd d (port (suc i) Minus)
 
+-- 6, loose: so with some point.
 unfoldable pub looseRow : Description → Bool
 looseRow d = anyBelow (looseAt d) (d .points)
 
--- 7, double: two G lines name one section end.
+-- Two G lines name one section end.
 abbrev pub sameSignal : SignalLine → SignalLine → Bool
 sameSignal g h = eqb (g .number) (h .number) && sameSide (g .side) (h .side)
 
+-- 7, double: some two do.
 unfoldable pub doubleRow : Description → Bool
 doubleRow d = repeats sameSignal (d .signals)
 

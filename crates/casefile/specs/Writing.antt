@@ -31,6 +31,7 @@ abbrev pub joinFrom : ℕ → Joined → List JoinLine
 joinFrom i Nothing = []
 joinFrom i (With f) = cond (ltb i (endIndex f)) (record { one = fieldOf (endAt i); other = fieldOf f } ∷ []) []
 
+-- .. given the record.
 abbrev pub joinAt : Railway → ℕ → List JoinLine
 joinAt r i = joinFrom i (linkAt r i)
 
@@ -38,9 +39,11 @@ joinAt r i = joinFrom i (linkAt r i)
 abbrev pub signalAt : Railway → ℕ → List SignalLine
 signalAt r i = cond (flagAt r i) (signalOf i ∷ []) []
 
+-- The T line of a train.
 abbrev pub trainFrom : Train → TrainLine
 trainFrom t = record { heading = t .heading; start = suc (t .start .0); destination = suc (t .destination .0) }
 
+-- What the writer's text says: all that the record has, by rising point, section end and train.
 unfoldable pub descriptionOf : Railway → Description
 descriptionOf r =
     record {
@@ -53,42 +56,50 @@ descriptionOf r =
       runs = listBelow (λ t. trainFrom (runOf r t)) (r .trains);
     }
 
+-- The writer's text.
 unfoldable pub writtenText : Railway → List ℕ
 writtenText r = spell (descriptionOf r)
 
--- THE WRITER. Rows 3 to 8 of the record, then 9, space: the buffer is too short for the text.
+-- THE WRITER. 9, space: the text is longer than the buffer.
 abbrev pub spaceRow : Railway → List ℕ → Bool
 spaceRow r buffer = ltb (length buffer) (length (writtenText r))
 
+-- The rows that it looks at: 3 to 8 of the record, then 9.
 abbrev pub writerRows : Railway → List ℕ → List Row
 writerRows r buffer = recordRows r ++ (row Space (spaceRow r buffer) ∷ [])
 
+-- The first of them that applies, if one does.
 unfoldable pub writerRefusal : Railway → List ℕ → Option Refusal
 writerRefusal r buffer = first (writerRows r buffer)
 
--- What is answered, and the buffer's bytes afterwards: the text in front, the rest as it was; all as it was where the writer refuses.
+-- What is answered: how many bytes were written, or the refusal.
 abbrev pub writerAnswer : List ℕ → Option Refusal → Written
 writerAnswer text none = Bytes (length text)
 writerAnswer text (some f) = Refused f
 
+-- The buffer's bytes afterwards: the text in front, the rest as it was; all as it was where the writer refuses.
 abbrev pub writerBuffer : List ℕ → List ℕ → Option Refusal → List ℕ
 writerBuffer text buffer none = text ++ drop (length text) buffer
 writerBuffer text buffer (some f) = buffer
 
+-- The writer's answer to any record and buffer.
 unfoldable pub written : Railway → List ℕ → Written
 written r buffer = writerAnswer (writtenText r) (writerRefusal r buffer)
 
+-- The bytes that it leaves there.
 unfoldable pub bufferAfter : Railway → List ℕ → List ℕ
 bufferAfter r buffer = writerBuffer (writtenText r) buffer (writerRefusal r buffer)
 
--- What an answer stands for: the refusal given, if one is, its number in the table, and the count of bytes written, if some are.
+-- What an answer stands for: the refusal given, if one is.
 abbrev pub writtenRefusal : Written → Option Refusal
 writtenRefusal (Bytes n) = none
 writtenRefusal (Refused f) = some f
 
+-- .. its number in the table.
 abbrev pub writtenNumber : Written → Option ℕ
 writtenNumber w = numberOf (writtenRefusal w)
 
+-- .. the count of bytes written, if some are.
 abbrev pub writtenCount : Written → Option ℕ
 writtenCount (Bytes n) = some n
 writtenCount (Refused f) = none

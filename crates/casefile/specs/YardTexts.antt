@@ -38,5 +38,6 @@ abbrev pub AllAccepted : List YardText → Type 0
 AllAccepted [] = Unit {0}
 AllAccepted (x ∷ xs) = AcceptedWith (bytes (x .text)) (x .yard) × AllAccepted xs
 
+-- The statement for the whole table.
 abbrev pub YardsAccepted : Type 0
 YardsAccepted = AllAccepted yardTexts

@@ -19,13 +19,15 @@ use Rattle.game.specs.Moves.{passes}
 use Rattle.acceptance.specs.Answers.{Judged}
 use Rattle.compiled.specs.declared.Compilation.{Compilation}
 
--- Four bytes for each train and section, then three counts, then three bytes for each train.
+-- Where the counts begin: behind four bytes for each train and section.
 abbrev pub wayBytes : ℕ
 wayBytes = 4 * (mostTrains * mostSections)
 
+-- Where the runs begin: behind three counts.
 abbrev pub countBytes : ℕ
 countBytes = wayBytes + 3
 
+-- How long the table is: three bytes more for each train.
 abbrev pub tableBytes : ℕ
 tableBytes = countBytes + 3 * mostTrains
 
@@ -33,14 +35,17 @@ tableBytes = countBytes + 3 * mostTrains
 abbrev pub noByte : ℕ
 noByte = 255
 
+-- Whether a signal stands somewhere.
 abbrev pub flagByte : Bool → ℕ
 flagByte true = 1
 flagByte false = 0
 
+-- The point that a train meets: the first, for more than one is never met.
 abbrev pub pointByte : List ℕ → ℕ
 pointByte [] = noByte
 pointByte (n ∷ ns) = n
 
+-- The section that a train comes to.
 abbrev pub sectionByte : Option ℕ → ℕ
 sectionByte none = noByte
 sectionByte (some x) = x

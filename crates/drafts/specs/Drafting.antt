@@ -38,22 +38,24 @@ pub record Tested (n count : ℕ) (b : Bool) : Type 0 where
 abbrev pub cap : ℕ → ℕ
 cap n = cond (leb n 255) n 255
 
--- AN END that a line names, if it is there by the record's counts.
+-- AN END that a line names is there, by the record's counts.
 abbrev pub isThere : Railway → EndField → Bool
 isThere r (section n s) = within n (r .sections)
 isThere r (port n l) = within n (r .points)
 
+-- The end of the record that a line names, if it is there.
 abbrev pub endIn : Railway → EndField → KnownEnd
 endIn r e = cond (isThere r e) (There (endOf e)) NotThere
 
--- THE DRAFT. Names that are not there are noted and change nothing else.
+-- THE DRAFT. A name that is not there is noted and changes nothing else.
 abbrev pub unknownIn : Draft → Draft
 unknownIn d = record { railway = d .railway; unknown = true; wrong = d .wrong; double = d .double }
 
+-- The record goes on, the flags stay.
 abbrev pub withRailway : Draft → Railway → Draft
 withRailway d r = record { railway = r; unknown = d .unknown; wrong = d .wrong; double = d .double }
 
--- The counts, where they are within their bounds; else the record stays empty, and row 3 applies to it.
+-- A record with these counts, and as empty as can be.
 abbrev pub counted : ℕ → ℕ → ℕ → Railway
 counted s p k =
     record {
@@ -66,6 +68,7 @@ counted s p k =
       runs = emptyRailway .runs;
     }
 
+-- The H line: its counts where they are within their bounds; else the record stays empty, and row 3 applies to it.
 unfoldable pub opened : ℕ → ℕ → ℕ → Draft
 opened s p k = record { railway = cond (outside s p k) emptyRailway (counted s p k); unknown = false; wrong = false; double = false }
 
@@ -73,24 +76,27 @@ opened s p k = record { railway = cond (outside s p k) emptyRailway (counted s p
 unfoldable pub putPoint : Draft → ℕ → Side → Draft
 putPoint d n side = withRailway d (cond (within n (d .railway .points)) (withLegs (d .railway) (n - 1) side) (d .railway))
 
--- A J line: its ends may not be tied, or one is in a join already.
+-- The ends of a J line may not be tied, or one is in a join already.
 abbrev pub faulty : Railway → End → End → Bool
 faulty r e f = wrongPair (tied r e) (tied r f) || not (unjoined (joined r e) && unjoined (joined r f))
 
+-- A join of two ends that a line names.
 abbrev pub putEnds : Draft → KnownEnd → KnownEnd → Draft
 putEnds d (There e) (There f) =
     record { railway = withJoin (d .railway) e f; unknown = d .unknown; wrong = d .wrong || faulty (d .railway) e f; double = d .double }
 putEnds d (There e) NotThere = unknownIn d
 putEnds d NotThere k = unknownIn d
 
+-- A J line.
 unfoldable pub putJoin : Draft → JoinLine → Draft
 putJoin d j = putEnds d (endIn (d .railway) (j .one)) (endIn (d .railway) (j .other))
 
--- A G line: a signal may stand there already.
+-- A signal at an end that a line names; one may stand there already.
 abbrev pub putAt : Draft → KnownEnd → Draft
 putAt d (There e) = record { railway = withSignal (d .railway) e; unknown = d .unknown; wrong = d .wrong; double = d .double || hasSignal (d .railway) e }
 putAt d NotThere = unknownIn d
 
+-- A G line.
 unfoldable pub putSignal : Draft → SignalLine → Draft
 putSignal d g = putAt d (endIn (d .railway) (section (g .number) (g .side)))
 
@@ -101,40 +107,47 @@ putTrain d n t =
     (withRailway d (withTrain (d .railway) (n - 1) (trainOf t)))
     (unknownIn d)
 
--- LINES INTO A DRAFT. A line of a kind, read where it begins; its first letter.
+-- LINES INTO A DRAFT. A line of a kind, read where it begins.
 abbrev pub lineInto : List ℕ → Kind → ℕ → ℕ → Draft → Got Draft
 lineInto s P n c d = then (pointLineAt s n c) (λ x c. got (putPoint d n x) c)
 lineInto s J n c d = then (joinLineAt s c) (λ x c. got (putJoin d x) c)
 lineInto s G n c d = then (signalLineAt s c) (λ x c. got (putSignal d x) c)
 lineInto s T n c d = then (trainLineAt s n c) (λ x c. got (putTrain d n x) c)
 
+-- The letter that a line of a kind begins with.
 abbrev pub letter : Kind → ℕ
 letter P = 80
 letter J = 74
 letter G = 71
 letter T = 84
 
--- As many lines as a count says, with numbers rising by one from n; and as many as there are.
+-- Lines one after the other; `line n c r` makes of r what the line that begins at c and has number n says.
 module _ {R : Type 0} (line : ℕ → ℕ → R → Got R) where
+  -- As many as the count says, numbered from n upwards.
   unfoldable pub fed : ℕ → ℕ → ℕ → R → Got R
   fed zero n c r = got r c
   fed (suc k) n c r = then (line n c r) (λ r c. fed k (suc n) c r)
 
+-- `begins c` says whether such a line begins at c.
 module _ {R : Type 0} (begins : ℕ → Bool) (line : ℕ → R → Got R) where
+  -- As many as there are; `most` is a number that they cannot pass.
   unfoldable pub fedWhile : ℕ → ℕ → R → Got R
   fedWhile zero c r = got r c
   fedWhile (suc most) c r = elim (begins c) [ true ↦ then (line c r) (λ r c. fedWhile most c r) | false ↦ got r c ]
 
+-- All P lines, or all T lines.
 abbrev pub countedInto : List ℕ → Kind → ℕ → ℕ → Draft → Got Draft
 countedInto s kind count c d = fed (lineInto s kind) count 1 c d
 
+-- All J lines, or all G lines.
 abbrev pub manyInto : List ℕ → Kind → ℕ → Draft → Got Draft
 manyInto s kind c d = fedWhile (λ c. eqb (getD s c 0) (letter kind)) (lineInto s kind 0) (length s) c d
 
--- The whole text, and nothing behind the last line.
+-- Nothing stands behind the last line.
 abbrev pub endAt : List ℕ → Draft → ℕ → Got Draft
 endAt s d c = cond (ltb c (length s)) bad (got d c)
 
+-- The whole text.
 unfoldable pub draftOf : List ℕ → Got Draft
 draftOf s =
     then (headerAt s 0) (λ h c.
@@ -158,9 +171,11 @@ draftRows d =
     ∷ row Place (placeRow (d .railway))
     ∷ []
 
+-- Accepted with the record where no row applies, else refused.
 abbrev pub answerOf : Railway → Option Refusal → CaseRead
 answerOf r none = accepted r
 answerOf r (some f) = refused f
 
+-- What a text is answered whose draft this is.
 unfoldable pub draftAnswer : Draft → CaseRead
 draftAnswer d = answerOf (d .railway) (first (draftRows d))

@@ -77,6 +77,7 @@ module _ {S : Type 0} (g : Game S) where
   abbrev pub grown : List (Turn S) → ℕ → S → Option ℕ → List (Turn S)
   grown h p s m = h ++ (record { placement = p; setting = s; moved = m } ∷ [])
 
+  -- Where the play stands when a move has ended so.
   abbrev pub arrive : List (Turn S) → Outcome → Position S
   arrive h (lost l) = wrecked
   arrive h (at q) = standing h q
@@ -100,6 +101,7 @@ module _ {S : Type 0} (g : Game S) where
   play w c p zero = standing [] p
   play w c p (suc n) = step w c (play w c p n)
 
+  -- The play stands at home.
   abbrev pub homeAt : Position S → Bool
   homeAt wrecked = false
   homeAt (standing h p) = home p

@@ -9,14 +9,16 @@ use Rattle.laws.specs.Below.{allBelow, anyBelow}
 use Rattle.game.specs.Game.{at, Game, may, home, over}
 use Rattle.game.specs.Claim.{figureOf, Keeps}
 
--- That a setting keeps a figure, computed.
+-- A figure is there and is smaller than n, computed.
 abbrev pub isBelow : ℕ → Option ℕ → Bool
 isBelow n none = false
 isBelow n (some j) = ltb j n
 
+-- Train t may not move, or comes to a figure below n.
 abbrev pub goesBelow : {S : Type 0} → Game S → (ℕ → Option ℕ) → ℕ → S → ℕ → ℕ → Bool
 goesBelow g F p s n t = not (may g p s t) || isBelow n (figureOf F (g .next p s t))
 
+-- That a setting keeps a figure, computed.
 unfoldable pub keepsTest : {S : Type 0} → Game S → (ℕ → Option ℕ) → ℕ → S → ℕ → Bool
 keepsTest g F p s n = anyBelow (may g p s) (g .trains) && allBelow (goesBelow g F p s n) (g .trains)
 

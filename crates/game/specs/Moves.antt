@@ -44,6 +44,7 @@ abbrev pub behindPort : Joined → Option ℕ
 behindPort Nothing = none
 behindPort (With e) = sectionOf e
 
+-- Over point n: out by the port given, to the section behind it; none: the train derails on the point.
 abbrev pub pastPoint : Railway → PointNo → Option Leg → Passage
 pastPoint r n none = record { met = n .0 ∷ []; reached = none }
 pastPoint r n (some l) = record { met = n .0 ∷ []; reached = behindPort (joined r (Port n l)) }
@@ -58,10 +59,11 @@ pastJoin r plus (With (Port n leg)) = pastPoint r n (through leg (plus (n .0)))
 unfoldable pub passes : Railway → (ℕ → Bool) → End → Passage
 passes r plus e = pastJoin r plus (joined r e)
 
--- Another train than t stands on section x.
+-- Train u is another than t, and stands on section x.
 abbrev pub otherOn : Railway → ℕ → ℕ → ℕ → ℕ → Bool
 otherOn r p t x u = not (eqb u t) && eqb (standsOn r p u) x
 
+-- Another train than t stands on section x: who enters it collides.
 unfoldable pub occupied : Railway → ℕ → ℕ → ℕ → Bool
 occupied r p t x = anyBelow (otherOn r p t x) (r .trains)
 

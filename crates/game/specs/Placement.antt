@@ -22,10 +22,11 @@ sectionsIn s (suc k) p = (p % s) ∷ sectionsIn s k (p / s)
 abbrev pub placements : Railway → ℕ
 placements r = (r .sections) ^ (r .trains)
 
--- The sections of all trains, and of train t, in the placement of code p.
+-- The sections of all trains in the placement of code p.
 abbrev pub sectionsOf : Railway → ℕ → List ℕ
 sectionsOf r p = sectionsIn (r .sections) (r .trains) p
 
+-- The section on which train t stands there.
 unfoldable pub standsOn : Railway → ℕ → ℕ → ℕ
 standsOn r p t = getD (sectionsOf r p) t 0
 
@@ -33,19 +34,22 @@ standsOn r p t = getD (sectionsOf r p) t 0
 unfoldable pub startCode : Railway → ℕ
 startCode r = codeOf (r .sections) (listBelow (λ t. runOf r t .start .0) (r .trains))
 
--- Home: each train stands on its destination.
+-- Train t stands on its destination.
 abbrev pub arrived : Railway → ℕ → ℕ → Bool
 arrived r p t = eqb (standsOn r p t) (runOf r t .destination .0)
 
+-- Home: all trains do so at once.
 unfoldable pub atHome : Railway → ℕ → Bool
 atHome r p = allBelow (arrived r p) (r .trains)
 
--- Two trains share a section: the placement counts as lost.
+-- Trains t and u stand on the same section.
 abbrev pub standsWith : Railway → ℕ → ℕ → ℕ → Bool
 standsWith r p t u = eqb (standsOn r p u) (standsOn r p t)
 
+-- Train t stands there with a lower one.
 abbrev pub sharesLower : Railway → ℕ → ℕ → Bool
 sharesLower r p t = anyBelow (standsWith r p t) t
 
+-- Some two trains do: such a placement counts as lost.
 unfoldable pub shared : Railway → ℕ → Bool
 shared r p = anyBelow (sharesLower r p) (r .trains)

@@ -25,10 +25,11 @@ pub record SameSetting (r : Railway) (a b : Setting) : Type 0 where
 unfoldable pub headsFor : Railway → ℕ → ℕ → End
 headsFor r p t = Section (record { 0 = standsOn r p t }) (runOf r t .heading)
 
--- A signal stands at that end; none does, and the train is free.
+-- A signal stands at that end.
 unfoldable pub held : Railway → ℕ → ℕ → Bool
 held r p t = hasSignal r (headsFor r p t)
 
+-- None does: the train is free.
 abbrev pub free : Railway → ℕ → ℕ → Bool
 free r p t = not (held r p t)
 

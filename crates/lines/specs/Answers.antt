@@ -27,37 +27,46 @@ use Rattle.lines.specs.declared.TrainRead.the-variants.{NoTrain, RunIs}
 abbrev pub behindTab : {A : Type 0} → List ℕ → (ℕ → Got A) → ℕ → Got A
 behindTab s field c = then (byteAt s 9 c) (λ x c. field c)
 
+-- `u` or `d`, as it was read.
 abbrev pub sideGot : SideRead → Got Side
 sideGot NoSide = bad
 sideGot (SideIs s c) = got s (c .at)
 
+-- `s`, `+` or `-`, as it was read.
 abbrev pub legGot : LegRead → Got Leg
 legGot NoLeg = bad
 legGot (LegIs l c) = got l (c .at)
 
+-- An end that code names, as a case file does.
 abbrev pub endNamed : NamedEnd → EndField
 endNamed (OfSection n s) = section n s
 endNamed (OfPoint n l) = port n l
 
+-- An end, as it was read.
 abbrev pub endGot : EndRead → Got EndField
 endGot NoEnd = bad
 endGot (EndIs e c) = got (endNamed e) (c .at)
 
+-- The H line's counts, as they were read.
 abbrev pub countsGot : HeaderRead → Got Counts
 countsGot NoHeader = bad
 countsGot (CountsAre s p k c) = got (record { sections = s; points = p; trains = k }) (c .at)
 
+-- The J line of two ends that code names.
 abbrev pub joinNamed : NamedEnd → NamedEnd → JoinLine
 joinNamed a b = record { one = endNamed a; other = endNamed b }
 
+-- A J line, as it was read.
 abbrev pub joinGot : JoinRead → Got JoinLine
 joinGot NoJoin = bad
 joinGot (EndsAre a b c) = got (joinNamed a b) (c .at)
 
+-- A G line, as it was read.
 abbrev pub signalGot : SignalRead → Got SignalLine
 signalGot NoSignal = bad
 signalGot (SignalIs n s c) = got (record { number = n; side = s }) (c .at)
 
+-- A T line, as it was read.
 abbrev pub trainGot : TrainRead → Got TrainLine
 trainGot NoTrain = bad
 trainGot (RunIs h s d c) = got (record { heading = h; start = s; destination = d }) (c .at)

@@ -13,10 +13,11 @@ use Rattle.tables.specs.Entries.{settingAt}
 use Rattle.moves.specs.declared.Move.{Move}
 use Rattle.moves.specs.declared.Move.the-variants.{NotAllowed, Derails, Collides, At}
 
--- The code of the placement that puts each train on the section given for it, and home's code: each train on its destination.
+-- The code of the placement that puts each train on the section given for it.
 abbrev pub codeOn : Railway → (ℕ → ℕ) → ℕ
 codeOn r section = codeOf (r .sections) (listBelow section (r .trains))
 
+-- Home's code: all trains on their destinations.
 unfoldable pub homeCode : Railway → ℕ
 homeCode r = codeOn r (λ t. runOf r t .destination .0)
 

@@ -24,31 +24,36 @@ use Rattle.plan.specs.Test.{byTables}
 use Rattle.plan.specs.Reading.{readLine}
 use Rattle.plan.specs.Computed.{testHolds}
 
--- THE ANSWERS. The refusal that an answer gives, if it does, and its number in the table.
+-- THE ANSWERS. The refusal of a line, if it was refused.
 abbrev pub lineRefusal : LineAnswer → Option Refusal
 lineRefusal Taken = none
 lineRefusal (LineRefused f) = some f
 
+-- The refusal of the test, if it was refused.
 abbrev pub testRefusal : TestAnswer → Option Refusal
 testRefusal Pass = none
 testRefusal (TestRefused f) = some f
 
+-- The number that a line's answer gives.
 abbrev pub lineNumber : LineAnswer → Option ℕ
 lineNumber a = numberOf (lineRefusal a)
 
+-- The number that the test's answer gives.
 abbrev pub testNumber : TestAnswer → Option ℕ
 testNumber a = numberOf (testRefusal a)
 
--- THE STATE with the two lent tables; what a call leaves, and its answer.
+-- THE STATE with the two lent tables.
 pub record Checking : Type 0 where
   pub state : CheckerState
   pub figs : List ℕ
   pub sets : List ℕ
 
+-- What a call leaves: its answer, and state and tables.
 pub record Left (Answer : Type 0) : Type 0 where
   pub answer : Answer
   pub checking : Checking
 
+-- .. by its parts.
 abbrev pub left : {A : Type 0} → A → Checking → Left A
 left a c = record { answer = a; checking = c }
 
@@ -90,6 +95,7 @@ abbrev pub takesIf : Railway → Checking → List ℕ → Option Refusal → Le
 takesIf r c text (some f) = refuse c f
 takesIf r c text none = takes r c (c .state) (readLine r text)
 
+-- A CALL for a line.
 unfoldable pub takeLine : Railway → Checking → List ℕ → Left LineAnswer
 takeLine r c text = takesIf r c text (caseRefusal r (c .figs) (c .sets))
 
@@ -108,13 +114,16 @@ pub record Run : Type 0 where
   pub answers : List LineAnswer
   pub end : Checking
 
+-- A call's answer, before those of the calls that follow it.
 abbrev pub onward : LineAnswer → Run → Run
 onward a u = record { answers = a ∷ u .answers; end = u .end }
 
+-- The calls for these texts, from what the checker is handed first.
 unfoldable pub run : Railway → List (List ℕ) → Checking → Run
 run r [] c = record { answers = []; end = c }
 run r (l ∷ ls) c = onward (takeLine r c l .answer) (run r ls (takeLine r c l .checking))
 
+-- The line was taken.
 abbrev pub isTaken : LineAnswer → Bool
 isTaken Taken = true
 isTaken (LineRefused f) = false

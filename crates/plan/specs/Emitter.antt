@@ -20,16 +20,18 @@ use Rattle.plan.specs.declared.Emitted.the-variants.{Line, End, NoPlan, 
 use Rattle.plan.specs.Lines.{startLine, placementLine, spell}
 use Rattle.plan.specs.Text.{hasFigure, lineFor}
 
--- THE ANSWERS. The refusal that an answer gives, if it does, and its number in the table.
+-- THE ANSWERS. The refusal that an answer gives, if it does.
 abbrev pub refusalGiven : Emitted → Option Refusal
 refusalGiven (Line n next) = none
 refusalGiven End = none
 refusalGiven NoPlan = none
 refusalGiven (Refused f) = some f
 
+-- .. its number in the table.
 abbrev pub numberGiven : Emitted → Option ℕ
 numberGiven a = numberOf (refusalGiven a)
 
+-- A line was written.
 abbrev pub isLine : Emitted → Bool
 isLine (Line n next) = true
 isLine End = false
@@ -52,22 +54,25 @@ written l next buffer =
     (unwritten (Refused Space) buffer)
     (record { answer = Line (length l) next; buffer = l ++ drop (length l) buffer })
 
--- The lowest code from c on whose placement has a figure.
+-- A code from c on whose placement has a figure.
 abbrev pub figureFrom : List ℕ → ℕ → ℕ → Bool
 figureFrom figs c p = leb c p && hasFigure figs p
 
+-- The lowest such code.
 abbrev pub nextCode : Railway → List ℕ → ℕ → Option ℕ
 nextCode r figs c = lowest (figureFrom figs c) (placements r)
 
--- The line that is due at a place, and the place behind it: the first line; else that of the next placement with a figure; none where there is no such placement.
+-- A line that is due, and the place behind it.
 pub record Due : Type 0 where
   pub text : List ℕ
   pub next : PlanPlace
 
+-- The line for a placement; none where there is no further one.
 abbrev pub dueFor : Railway → List ℕ → List ℕ → Option ℕ → Option Due
 dueFor r figs sets none = none
 dueFor r figs sets (some p) = some (record { text = spell (placementLine (lineFor r figs sets p)); next = From (suc p) })
 
+-- What is due at a place: the first line; else that of the next placement with a figure.
 abbrev pub due : Railway → List ℕ → List ℕ → PlanPlace → Option Due
 due r figs sets Top = some (record { text = spell (startLine (getD figs (startCode r) noFigure)); next = From 0 })
 due r figs sets (From c) = dueFor r figs sets (nextCode r figs c)

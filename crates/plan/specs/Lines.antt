@@ -36,13 +36,15 @@ orByte b (x ∷ xs) = x ∷ xs
 abbrev pub openField : List Bool → List ℕ
 openField os = orByte 48 (map (λ t. 49 + t) (whichBelow (λ t. getD os t false) (length os)))
 
--- Points: `+` or `-` for each, in their order; `.` if there are none.
+-- `+` for a point at plus, `-` for one at minus.
 abbrev pub sign : Bool → ℕ
 sign plus = cond plus 43 45
 
+-- Points: a sign for each, in their order; `.` if there are none.
 abbrev pub pointField : List Bool → List ℕ
 pointField ps = orByte 46 (map sign ps)
 
+-- A train's section, by the document's number.
 abbrev pub sectionField : ℕ → List ℕ
 sectionField x = decimal (suc x)
 
@@ -50,10 +52,12 @@ sectionField x = decimal (suc x)
 abbrev pub planWord : List ℕ
 planWord = 112 ∷ 108 ∷ 97 ∷ 110 ∷ []
 
+-- The fields of a line of either kind.
 abbrev pub lineFields : PlanLine → List (List ℕ)
 lineFields (startLine n) = planWord ∷ decimal n ∷ []
 lineFields (placementLine d) = map sectionField (d .sections) ++ (decimal (d .figure) ∷ openField (d .opens) ∷ pointField (d .plus) ∷ [])
 
+-- A line as it is written.
 unfoldable pub spell : PlanLine → List ℕ
 spell l = line (lineFields l)
 
@@ -72,10 +76,11 @@ pub record Spells (r : Railway) (text : List ℕ) (l : PlanLine) : Type 0 where
   pub fit : fits r l ≡ true
   pub spelled : spell l ≡ text
 
--- The most bytes of a line, its end included: no line that fits an accepted case has more, so a longer text is refused by its form alone.
+-- The most bytes of a line, its end included.
 abbrev pub mostLineBytes : ℕ
 mostLineBytes = 45
 
+-- No line that fits an accepted case has more, so a longer text is refused by its form alone.
 abbrev pub LinesShort : Type 0
 LinesShort = (r : Railway) → recordRefusal r ≡ none → (l : PlanLine) → fits r l ≡ true → length (spell l) ≤ mostLineBytes
 

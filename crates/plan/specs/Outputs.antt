@@ -12,13 +12,16 @@ use Rattle.railway.specs.Yards.{yardA, yardOne}
 use Rattle.tables.specs.Tables.{Filled}
 use Rattle.plan.specs.Text.{planText}
 
+-- A yard, and the plan's text for it.
 pub record Output : Type 0 where
   pub yard : Railway
   pub text : String
 
+-- What Yard A gives.
 abbrev pub outputA : Output
 outputA = record { yard = yardA; text = "plan\t2\n2\t1\t1\t1\t-\n3\t1\t0\t0\t-\n2\t3\t2\t0\t+\n" }
 
+-- What the yard with one section gives, whose train starts at home.
 abbrev pub outputOne : Output
 outputOne = record { yard = yardOne; text = "plan\t0\n1\t0\t0\t.\n" }
 
@@ -27,9 +30,11 @@ pub record Writes (x : Output) : Type 0 where
   pub accepted : recordRefusal (x .yard) ≡ none
   pub text : (figs sets : List ℕ) → Filled (x .yard) figs sets → planText (x .yard) figs sets ≡ bytes (x .text)
 
+-- So with each of a list.
 abbrev pub AllWrite : List Output → Type 0
 AllWrite [] = Unit {0}
 AllWrite (x ∷ xs) = Writes x × AllWrite xs
 
+-- The statement for both.
 abbrev pub OutputsHold : Type 0
 OutputsHold = AllWrite (outputA ∷ outputOne ∷ [])

@@ -20,12 +20,13 @@ pub record EmitterPost (r : Railway) (figs sets : List ℕ) (place : PlanPlace) 
   pub numbered : numberGiven a ≡ numberGiven (emitLine r figs sets place old .answer)
   pub buffer : new ≡ emitLine r figs sets place old .buffer
 
--- The checker, handed state and tables that come back as `new`: a line, and the test.
+-- The checker, handed a line, with state and tables that come back as `new`.
 pub record LinePost (r : Railway) (old : Checking) (text : List ℕ) (a : LineAnswer) (new : Checking) : Type 0 where
   pub answer : a ≡ takeLine r old text .answer
   pub numbered : lineNumber a ≡ lineNumber (takeLine r old text .answer)
   pub checking : new ≡ takeLine r old text .checking
 
+-- .. asked for the test.
 pub record TestPost (r : Railway) (old : Checking) (a : TestAnswer) (new : Checking) : Type 0 where
   pub answer : a ≡ testPlan r old .answer
   pub numbered : testNumber a ≡ testNumber (testPlan r old .answer)

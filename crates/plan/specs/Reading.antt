@@ -12,7 +12,7 @@ use Rattle.text.specs.Reading.{fields, valueOf, sameText}
 use Rattle.railway.specs.declared.Railway.{Railway}
 use Rattle.plan.specs.Lines.{PlacementLine, PlanLine, startLine, placementLine, planWord, spell, fits}
 
--- The only line that a text, cut at its tabs, can be the spelling of.
+-- The only line for a placement that a text, cut at its tabs, can be the spelling of.
 abbrev pub guessPlacement : Railway → List (List ℕ) → PlacementLine
 guessPlacement r fs =
     record {
@@ -22,6 +22,7 @@ guessPlacement r fs =
       plus = listBelow (λ n. eqb (getD (getD fs (r .trains + 2) []) n 0) 43) (r .points);
     }
 
+-- The only line of either kind.
 unfoldable pub guess : Railway → List (List ℕ) → PlanLine
 guess r fs = cond (sameText (getD fs 0 []) planWord) (startLine (valueOf 0 (getD fs 1 []))) (placementLine (guessPlacement r fs))
 
@@ -29,5 +30,6 @@ guess r fs = cond (sameText (getD fs 0 []) planWord) (startLine (valueOf 0 (getD
 abbrev pub readIf : Railway → List ℕ → PlanLine → Option PlanLine
 readIf r text l = cond (fits r l && sameText (spell l) text) (some l) none
 
+-- The line that a text spells, if it spells one.
 unfoldable pub readLine : Railway → List ℕ → Option PlanLine
 readLine r text = readIf r text (guess r (fields text))

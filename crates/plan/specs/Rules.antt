@@ -65,8 +65,10 @@ pub record CheckRule (r : Railway) (c : Checking) : Type 0 where
   pub test-others : (f : Refusal) → caseRefusal r (c .figs) (c .sets) ≡ none → testPlan r c .answer ≡ TestRefused f → (f ≡ PlanForm) ⊎ (f ≡ PlanFault)
   pub test-leaves : testPlan r c .checking ≡ c
 
+-- The rule holds of every call of the emitter.
 abbrev pub EmitRuleHolds : Type 0
 EmitRuleHolds = (r : Railway) (figs sets : List ℕ) (place : PlanPlace) (buffer : List ℕ) → EmitRule r figs sets place buffer (emitLine r figs sets place buffer)
 
+-- It holds of every call of the checker.
 abbrev pub CheckRuleHolds : Type 0
 CheckRuleHolds = (r : Railway) (c : Checking) → CheckRule r c

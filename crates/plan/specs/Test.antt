@@ -25,10 +25,11 @@ pub record Listing : Type 0 where
   pub opens : ℕ → ℕ → Bool
   pub plus : ℕ → ℕ → Bool
 
--- The whole setting that is listed at placement p: the signals that open trains head for are open, all others closed.
+-- Train t is listed as open at placement p, and heads for the end with index i.
 abbrev pub opensListed : Railway → Listing → ℕ → ℕ → ℕ → Bool
 opensListed r L p i t = L .opens p t && eqb i (endIndex (headsFor r p t))
 
+-- The whole setting that is listed there: the signals that open trains head for are open, all others closed.
 unfoldable pub listedSetting : Railway → Listing → ℕ → Setting
 listedSetting r L p = record { plus = L .plus p; isOpen = λ i. anyBelow (opensListed r L p i) (r .trains) }
 
@@ -48,18 +49,22 @@ unfoldable pub lineOn : Railway → List PlacementLine → ℕ → Option Placem
 lineOn r [] p = none
 lineOn r (d ∷ ds) p = cond (eqb (lineCode r d) p) (some d) (lineOn r ds p)
 
+-- Its figure; without such a line the placement is not listed.
 abbrev pub figureOn : Option PlacementLine → Option ℕ
 figureOn none = none
 figureOn (some d) = some (d .figure)
 
+-- Its open trains.
 abbrev pub opensOn : Option PlacementLine → ℕ → Bool
 opensOn none t = false
 opensOn (some d) t = getD (d .opens) t false
 
+-- Its points at plus.
 abbrev pub plusOn : Option PlacementLine → ℕ → Bool
 plusOn none n = false
 plusOn (some d) n = getD (d .plus) n false
 
+-- What the lines of a plan list.
 abbrev pub byLines : Railway → List PlacementLine → Listing
 byLines r ds = record { figure = λ p. figureOn (lineOn r ds p); opens = λ p. opensOn (lineOn r ds p); plus = λ p. plusOn (lineOn r ds p) }
 

@@ -13,11 +13,12 @@ use Rattle.tables.specs.Entries.{opensIn}
 use Rattle.tables.specs.Tables.{noFigure, figureIn}
 use Rattle.plan.specs.Lines.{PlacementLine, PlanLine, spell, planOf}
 
--- A placement has a figure.
+-- There is a figure.
 abbrev pub isSome : Option ℕ → Bool
 isSome none = false
 isSome (some n) = true
 
+-- A placement has a figure in the table.
 abbrev pub hasFigure : List ℕ → ℕ → Bool
 hasFigure figs p = isSome (figureIn figs p)
 
@@ -35,9 +36,10 @@ lineFor r figs sets p =
 unfoldable pub planLines : Railway → List ℕ → List ℕ → List PlanLine
 planLines r figs sets = planOf (getD figs (startCode r) noFigure) (map (lineFor r figs sets) (whichBelow (hasFigure figs) (placements r)))
 
--- Its text, line by line and whole.
+-- Its text, line by line.
 unfoldable pub planTexts : Railway → List ℕ → List ℕ → List (List ℕ)
 planTexts r figs sets = map spell (planLines r figs sets)
 
+-- Its text as a whole.
 abbrev pub planText : Railway → List ℕ → List ℕ → List ℕ
 planText r figs sets = flatten (planTexts r figs sets)

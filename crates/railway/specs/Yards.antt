@@ -10,7 +10,7 @@ use Rattle.railway.specs.declared.End.the-variants.{Section, Port}
 use Rattle.railway.specs.declared.Railway.{Railway}
 use Rattle.railway.specs.Record.{emptyRailway, withJoin, withSignal, withLegs, withTrain}
 
--- The lines of a case file, with the document's numbers; H comes first, and each other line is added to what stands behind it.
+-- The H line: the counts, nothing else there yet. Numbers are the document's; each line below is added to the record that stands behind it.
 abbrev pub yardH : ℕ → ℕ → ℕ → Railway
 yardH s p k =
     record {
@@ -23,25 +23,31 @@ yardH s p k =
       runs = emptyRailway .runs;
     }
 
+-- A P line: the side of a point's legs.
 abbrev pub lineP : ℕ → Side → Railway → Railway
 lineP n side r = withLegs r (n - 1) side
 
+-- A J line: a join of two ends.
 abbrev pub lineJ : End → End → Railway → Railway
 lineJ a b r = withJoin r a b
 
+-- A G line: a signal at a section end.
 abbrev pub lineG : End → Railway → Railway
 lineG e r = withSignal r e
 
+-- A T line: a train's heading, start and destination.
 abbrev pub lineT : ℕ → Side → ℕ → ℕ → Railway → Railway
 lineT t heading a b r = withTrain r (t - 1) (record { heading = heading; start = record { 0 = a - 1 }; destination = record { 0 = b - 1 } })
 
+-- A section end, by the number of its section.
 abbrev pub sec : ℕ → Side → End
 sec n s = Section (record { 0 = n - 1 }) s
 
+-- A point's port, by the number of its point.
 abbrev pub port : ℕ → Leg → End
 port n l = Port (record { 0 = n - 1 }) l
 
--- Yard A without its signal at 1d, and Yard A.
+-- Yard A with its signal at 1d taken away.
 abbrev pub yardALess : Railway
 yardALess =
     lineT 2 Down 3 1
@@ -52,6 +58,7 @@ yardALess =
     (lineJ (sec 1 Up) (port 1 Plus)
     (lineP 1 Down (yardH 3 1 2)))))))
 
+-- Yard A.
 abbrev pub yardA : Railway
 yardA = lineG (sec 1 Down) yardALess
 
@@ -63,15 +70,18 @@ yardOne = lineT 1 Up 1 1 (yardH 1 0 1)
 abbrev pub yardTwo : ℕ → Railway
 yardTwo k = lineJ (sec 1 Up) (sec 2 Down) (yardH 2 0 k)
 
--- There: a train up from 1 to 2; one up from 2 to 1, without and with a signal at 2u; two trains head on, with signals at 1u and 2d.
+-- There, without signals: a train that heads up, from 1 for 2.
 abbrev pub upOneTwo : Railway
 upOneTwo = lineT 1 Up 1 2 (yardTwo 1)
 
+-- The other way about: a train that heads up, from 2 for 1.
 abbrev pub upTwoOne : Railway
 upTwoOne = lineT 1 Up 2 1 (yardTwo 1)
 
+-- The same, the train held by a signal at 2u.
 abbrev pub upTwoOneHeld : Railway
 upTwoOneHeld = lineG (sec 2 Up) upTwoOne
 
+-- Two trains head on, each bound for the other's start, a signal before each.
 abbrev pub headOn : Railway
 headOn = lineT 2 Down 2 1 (lineT 1 Up 1 2 (lineG (sec 2 Down) (lineG (sec 1 Up) (yardTwo 2))))

@@ -28,9 +28,11 @@ pub record WayOf (r : Railway) (F : ℕ → Option ℕ) (p n t : ℕ) (w : Way) 
   pub minus : w .minus ≡ isBelow n (figureOf F (moveOf r p (allAt false) t))
   pub plus : w .plus ≡ isBelow n (figureOf F (moveOf r p (allAt true) t))
 
+-- What stands for the way of a train that is not there.
 abbrev pub noWay : Way
 noWay = record { free = false; point = 0; minus = false; plus = false }
 
+-- What is known of train t.
 abbrev pub wayIn : List Way → ℕ → Way
 wayIn ws t = getD ws t noWay
 
@@ -42,20 +44,23 @@ pub record WaysOf (r : Railway) (F : ℕ → Option ℕ) (p n : ℕ) (ws : List 
   pub points-there : points ≡ r .points
   pub ways : (t : ℕ) → t < r .trains → WayOf r F p n t (wayIn ws t)
 
--- With train u open: whether train t may move, and whether it needs point q at plus.
+-- With train u open: train t may move.
 abbrev pub runsWith : List Way → ℕ → ℕ → Bool
 runsWith ws u t = wayIn ws t .free || eqb u t
 
+-- .. and needs point q at plus.
 abbrev pub needsWith : List Way → ℕ → ℕ → ℕ → Bool
 needsWith ws u q t = runsWith ws u t && (eqb (wayIn ws t .point) q && not (wayIn ws t .minus))
 
--- The move is good with these points at plus; some train may move, and every move allowed is good.
+-- The move is good with these points at plus.
 abbrev pub goodWay : ℕ → Way → Bool
 goodWay bits w = cond (bit bits (w .point)) (w .plus) (w .minus)
 
+-- Train t may not move, or its move is good.
 abbrev pub goodWith : List Way → ℕ → ℕ → ℕ → Bool
 goodWith ws u bits t = not (runsWith ws u t) || goodWay bits (wayIn ws t)
 
+-- Somebody may move, and all who may have a good move.
 abbrev pub keepsWith : List Way → ℕ → ℕ → ℕ → Bool
 keepsWith ws k u bits = anyBelow (runsWith ws u) k && allBelow (goodWith ws u bits) k
 

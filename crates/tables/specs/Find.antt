@@ -31,13 +31,15 @@ firstFound f (suc k) = orElse (firstFound f k) (f k)
 abbrev pub foundBy : Railway → ((ℕ → Bool) → Option ℕ) → Option ℕ
 foundBy r try = orElse (try (λ t. false)) (firstFound (λ u. try (eqb u)) (r .trains))
 
+-- The first entry found with all point bits tried.
 unfoldable pub find : Railway → (ℕ → Option ℕ) → ℕ → ℕ → Option ℕ
 find r F p n = foundBy r (tryOpen r F p n)
 
--- THE SAME WITHOUT TRYING ALL POINT BITS. Which points a move meets does not depend on how they lie.
+-- THE SAME WITHOUT TRYING ALL POINT BITS. All points at minus; which points a move meets does not depend on how they lie.
 abbrev pub atMinus : Setting
 atMinus = record { plus = λ q. false; isOpen = λ i. false }
 
+-- The move of train t meets point q.
 abbrev pub meetsPoint : Railway → ℕ → ℕ → ℕ → Bool
 meetsPoint r p t q = any (eqb q) (passes r (atMinus .plus) (headsFor r p t) .met)
 
@@ -49,11 +51,14 @@ needsPlus r F p n opens q t = (free r p t || opens t) && (meetsPoint r p t q && 
 abbrev pub somePlus : Railway → (ℕ → Option ℕ) → ℕ → ℕ → (ℕ → Bool) → ℕ → Bool
 somePlus r F p n opens q = anyBelow (needsPlus r F p n opens q) (r .trains)
 
+-- The entry of those points, with these trains open.
 unfoldable pub metEntry : Railway → (ℕ → Option ℕ) → ℕ → ℕ → (ℕ → Bool) → ℕ
 metEntry r F p n opens = entryFrom r (somePlus r F p n opens) opens
 
+-- .. if it keeps figure n.
 unfoldable pub tryMet : Railway → (ℕ → Option ℕ) → ℕ → ℕ → (ℕ → Bool) → Option ℕ
 tryMet r F p n opens = cond (entryKeeps r F p n (metEntry r F p n opens)) (some (metEntry r F p n opens)) none
 
+-- The first entry found with only these tried.
 unfoldable pub findMet : Railway → (ℕ → Option ℕ) → ℕ → ℕ → Option ℕ
 findMet r F p n = foundBy r (tryMet r F p n)

@@ -13,10 +13,11 @@ use Rattle.game.specs.Moves.{gameOf}
 use Rattle.tables.specs.Tables.{noFigure, figureEntry, figureIn}
 use Rattle.tables.specs.Find.{find}
 
--- Before the first round home has figure 0, and no other placement has one; no setting is set.
+-- Before the first round home has figure 0, and no other placement has one.
 abbrev pub firstFigure : Railway → ℕ → ℕ
 firstFigure r p = cond (home (gameOf r) p) 0 noFigure
 
+-- Both tables then: these figures, and no setting set.
 pub record Cleared (r : Railway) (figs sets : List ℕ) : Type 0 where
   pub first : (p : ℕ) → p < placements r → getD figs p noFigure ≡ firstFigure r p
   pub unset : (p : ℕ) → p < placements r → getD sets p 0 ≡ 0

@@ -17,15 +17,17 @@ use Rattle.tables.specs.declared.SolverAnswer.{SolverAnswer}
 use Rattle.tables.specs.declared.SolverAnswer.the-variants.{Refused, Unsolvable, Figure}
 use Rattle.tables.specs.Tables.{noFigure, figureIn, caseRefusal, IsPlanEntry, Filled}
 
--- The refusal that an answer gives, if it does, its number, and the start's figure.
+-- The refusal that an answer gives, if it does.
 abbrev pub refusalGiven : SolverAnswer → Option Refusal
 refusalGiven (Refused f) = some f
 refusalGiven Unsolvable = none
 refusalGiven (Figure n) = none
 
+-- .. its number in the table.
 abbrev pub numberGiven : SolverAnswer → Option ℕ
 numberGiven a = numberOf (refusalGiven a)
 
+-- The start's figure, if the answer has one.
 abbrev pub figureGiven : SolverAnswer → Option ℕ
 figureGiven (Refused f) = none
 figureGiven Unsolvable = none

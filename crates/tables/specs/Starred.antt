@@ -22,9 +22,11 @@ pub record Star : Type 0 where
   pub sections : List ℕ
   pub figure : Option ℕ
 
+-- .. said of a placement.
 abbrev pub placed : Railway → List ℕ → Option ℕ → Star
 placed r xs f = record { yard = r; ofStart = false; sections = xs; figure = f }
 
+-- .. said of the start.
 abbrev pub started : Railway → List ℕ → Option ℕ → Star
 started r xs f = record { yard = r; ofStart = true; sections = xs; figure = f }
 
@@ -45,6 +47,7 @@ stars =
     ∷ started headOn (1 ∷ 2 ∷ []) none
     ∷ []
 
+-- The code of that placement.
 abbrev pub starCode : Star → ℕ
 starCode x = codeOf (x .yard .sections) (map (λ n. n - 1) (x .sections))
 
@@ -58,6 +61,7 @@ pub record Holds (x : Star) : Type 0 where
   pub start : x .ofStart ≡ true → startCode (x .yard) ≡ starCode x
   pub figure : IsFigure (gameOf (x .yard)) (starCode x) (x .figure)
 
+-- Each of a list of starred facts holds.
 abbrev pub AllHold : List Star → Type 0
 AllHold [] = Unit {0}
 AllHold (x ∷ xs) = Holds x × AllHold xs

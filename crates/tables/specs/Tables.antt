@@ -27,10 +27,11 @@ use Rattle.tables.specs.Entries.{settingAt, entryOf}
 abbrev pub noFigure : ℕ
 noFigure = 4294967295
 
--- The figure that the table has at a code; past its end there is none.
+-- The figure that an entry stands for, if it is one.
 abbrev pub figureEntry : ℕ → Option ℕ
 figureEntry x = cond (eqb x noFigure) none (some x)
 
+-- The figure that the table has at a code; past its end there is none.
 abbrev pub figureIn : List ℕ → ℕ → Option ℕ
 figureIn figs p = figureEntry (getD figs p noFigure)
 
@@ -46,10 +47,11 @@ tablesShort r figs sets = ltb (length figs) (placements r) || ltb (length sets) 
 unfoldable pub caseRefusal : Railway → List ℕ → List ℕ → Option Refusal
 caseRefusal r figs sets = first (recordRows r ++ (row Space (tablesShort r figs sets) ∷ []))
 
--- THE PLAN'S RULE. How many signals of the yard a setting opens.
+-- THE PLAN'S RULE. A signal stands at the section end of index i, and is open.
 abbrev pub opensSignal : Railway → Setting → ℕ → Bool
 opensSignal r s i = flagAt r i && s .isOpen i
 
+-- How many signals of the yard a setting opens.
 unfoldable pub openSignals : Railway → Setting → ℕ
 openSignals r s = countBelow (opensSignal r s) sectionEnds
 

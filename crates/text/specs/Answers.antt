@@ -18,10 +18,12 @@ abbrev pub moreDigits : Width → ℕ
 moreDigits Three = 2
 moreDigits Ten = 9
 
+-- A number, if one was read.
 abbrev pub numberGot : Number → Got ℕ
 numberGot None = bad
 numberGot (Value n c) = got n (c .at)
 
+-- The byte b, if it was passed.
 abbrev pub byteGot : ℕ → Byte → Got ℕ
 byteGot b Other = bad
 byteGot b (Past c) = got b (c .at)

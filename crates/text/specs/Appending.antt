@@ -10,11 +10,12 @@ use lib.ListN.{length, set}
 abbrev pub next : List ℕ → ℕ → ℕ
 next out at = cond (ltb at (length out)) (suc at) at
 
--- The buffer and the cursor after a text, byte by byte; a byte that finds no room is lost.
+-- The buffer after a text, byte by byte; a byte that finds no room is lost.
 unfoldable pub bytesAfter : List ℕ → ℕ → List ℕ → List ℕ
 bytesAfter out at [] = out
 bytesAfter out at (b ∷ text) = bytesAfter (set out at b) (next out at) text
 
+-- The cursor after it: it stops at the buffer's end.
 unfoldable pub cursorAfter : List ℕ → ℕ → List ℕ → ℕ
 cursorAfter out at [] = at
 cursorAfter out at (b ∷ text) = cursorAfter (set out at b) (next out at) text

@@ -7,10 +7,11 @@ use Prim.Native.Nat.{ℕ, zero, suc, _+_, _-_, _*_}
 use lib.Dec.{ltb, eqb}
 use lib.ListN.{getD}
 
--- A byte that is a digit; one that neither parts fields nor ends a line.
+-- A byte that is a digit.
 unfoldable pub isDigit : ℕ → Bool
 isDigit b = ltb 47 b && ltb b 58
 
+-- A byte that neither parts fields nor ends a line.
 unfoldable pub isPlain : ℕ → Bool
 isPlain b = not (eqb b 9) && not (eqb b 10)
 
@@ -24,6 +25,7 @@ abbrev pub then : {A B : Type 0} → Got A → (A → ℕ → Got B) → Got B
 then bad k = bad
 then (got x c) k = k x c
 
+-- What was read, without the cursor.
 abbrev pub value : {A : Type 0} → Got A → Option A
 value bad = none
 value (got x c) = some x
@@ -45,11 +47,12 @@ module _ (s : List ℕ) where
       (cond (eqb (getD s c 0) 48) (got 0 (c + 1)) (digitsAt most (getD s c 0 - 48) (c + 1)))
       bad
 
--- BY CUTTING. A text cut at its tabs; bytes 10 fall away.
+-- BY CUTTING. One byte more in front of the first field.
 abbrev pub onFirst : ℕ → List (List ℕ) → List (List ℕ)
 onFirst b [] = (b ∷ []) ∷ []
 onFirst b (f ∷ fs) = (b ∷ f) ∷ fs
 
+-- A text cut at its tabs; bytes 10 fall away.
 unfoldable pub fields : List ℕ → List (List ℕ)
 fields [] = [] ∷ []
 fields (b ∷ bs) = cond (eqb b 9) ([] ∷ fields bs) (cond (eqb b 10) (fields bs) (onFirst b (fields bs)))

@@ -17,13 +17,15 @@ digits (suc left) n = cond (ltb n 10) ((48 + n) ∷ []) (digits left (n / 10) ++
 abbrev pub decimal : ℕ → List ℕ
 decimal n = digits 10 n
 
--- A line: its fields, byte 9 between one and the next, byte 10 behind the last.
+-- The byte that parts fields.
 abbrev pub tab : ℕ
 tab = 9
 
+-- The byte that ends a line.
 abbrev pub lineEnd : ℕ
 lineEnd = 10
 
+-- A line: its fields, byte 9 between one and the next, byte 10 behind the last.
 unfoldable pub line : List (List ℕ) → List ℕ
 line [] = lineEnd ∷ []
 line (f ∷ []) = f ++ (lineEnd ∷ [])

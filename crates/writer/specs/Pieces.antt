@@ -20,11 +20,12 @@ use Rattle.writer.specs.declared.Part.the-variants.{Points, Joins, Signa
 abbrev pub headerText : ℕ → ℕ → ℕ → List ℕ
 headerText s p k = line ((72 ∷ []) ∷ decimal s ∷ decimal p ∷ decimal k ∷ [])
 
--- What stands for a section end among the J lines, given what it is joined to, and among the G lines, given whether a signal stands there.
+-- What stands for a section end among the J lines, given what it is joined to.
 abbrev pub joinPiece : ℕ → Joined → List ℕ
 joinPiece i Nothing = []
 joinPiece i (With f) = cond (ltb i (endIndex f)) (joinLine (record { one = fieldOf (endAt i); other = fieldOf f })) []
 
+-- .. among the G lines, given whether a signal stands there.
 abbrev pub signalPiece : ℕ → Bool → List ℕ
 signalPiece i stands = cond stands (line ((71 ∷ []) ∷ endField (fieldOf (endAt i)) ∷ [])) []
 
