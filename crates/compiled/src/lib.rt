@@ -74,7 +74,8 @@ fn byte_for(r: Railway, i: usize) -> u8
     }
 }
 
-fn way_byte(r: Railway, e: End, j: u8) -> u8
+// What there is to know of a train that leaves by an end.
+pub fn way_byte(r: Railway, e: End, j: u8) -> u8
     ensures { λ b. ⌜ b ≡ wayByte r e j ⌝ }
 {
     if j == 0 {

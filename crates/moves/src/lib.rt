@@ -43,7 +43,8 @@ pub fn placements(table: &[u8; TABLE]) -> u32
     power(compiled::count_in(table, 0), compiled::count_in(table, 2))
 }
 
-fn power(s: u8, k: u8) -> u32
+// How much a section more of train k counts in a code.
+pub fn power(s: u8, k: u8) -> u32
     ensures { λ w. ⌜ (k ≤ 4 → w ≡ s ^ k) ⌝ }
 {
     let a = s as u32;
