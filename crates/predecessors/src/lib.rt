@@ -81,7 +81,14 @@ fn byte_at(behind: &[u8; BEHIND], i: usize) -> u8
 
 // THE CODE BEFORE A MOVE: that of the one placement from which train t, the point that it meets lying at plus or not, comes to placement q of
 // code c. Where there is none it is any number.
-pub fn code_before(table: &[u8; TABLE], behind: &[u8; BEHIND], q: Placement, c: u32, t: u8, plus: bool) -> u32
+pub fn code_before(
+    table: &[u8; TABLE],
+    behind: &[u8; BEHIND],
+    q: Placement,
+    c: u32,
+    t: u8,
+    plus: bool,
+) -> u32
     ensures { λ b. ⌜ ((r : Railway) (p : ℕ) → On r c (now (table .entry)) q → Behind r (now (behind .entry)) → p < placements r → t < r .trains → moveOf r p (allAt plus) t ≡ at c → b ≡ p) ⌝ }
 {
     let x = moves::section_at(q, t);

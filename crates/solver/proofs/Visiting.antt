@@ -9,7 +9,7 @@ use Prim.Native.Nat.{ℕ, _<_}
 use lib.ListN.{length, getD, set}
 use lib.Dec.{eqb}
 use borrow.Author.Tests.{eq-eqb, ne-eqb}
-use Rattle.laws.proofs.Bools.{bool?, clash, some-none, not-true, or-false, or-none}
+use Rattle.laws.proofs.Bools.{bool?, clash, some-none, some-one, not-true, or-false, or-none}
 use Rattle.laws.proofs.Lists.{getD-inside}
 use Rattle.railway.specs.declared.Railway.{Railway}
 use Rattle.game.specs.Game.{home, over}
@@ -26,6 +26,15 @@ entry-some x h = rw (ne-eqb x noFigure h)
 
 pub entry-none : (x : ℕ) → x ≡ noFigure → figureEntry x ≡ none
 entry-none x h = rw (eq-eqb x noFigure h)
+
+pub entry-is : (x j : ℕ) → figureEntry x ≡ some j → x ≡ j
+entry-is x j e = elim (bool? (eqb x noFigure)) [
+  | inl y ↦ let s : figureEntry x ≡ none = rw y in some-none e s
+  | inr y ↦ let s : figureEntry x ≡ some x = rw y in some-one (sym s ∙ e)
+]
+
+pub entry-empty : (x : ℕ) → figureEntry x ≡ none → eqb x noFigure ≡ true
+entry-empty x e = elim (bool? (eqb x noFigure)) [ inl y ↦ y | inr y ↦ let s : figureEntry x ≡ some x = rw y in some-none s e ]
 
 -- BEFORE THE FIRST ROUND
 module _ (r : Railway) (p : ℕ) (lost at-home : Bool) (el : lost ≡ shared r p) where
