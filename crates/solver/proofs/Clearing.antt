@@ -11,7 +11,7 @@ use Rattle.railway.specs.declared.Railway.{Railway}
 use Rattle.game.specs.Placement.{placements}
 use Rattle.tables.specs.Tables.{noFigure}
 use Rattle.tables.specs.Solver.{Kept}
-use Rattle.tables.specs.Rounds.{firstFigure, Cleared}
+use Rattle.tables.specs.Rounds.{firstFigure}
 use Rattle.tables.proofs.Steps.{cleared-round}
 use Rattle.compiled.specs.Table.{Compiled}
 use Rattle.solver.specs.Sweeps.{After}

@@ -1,18 +1,16 @@
 -- Round n at one placement, and what it begins with. A placement that is home has figure 0 already, so one without a figure at which something is found is neither
 -- home nor lost. Assumes nothing.
 use mathlib.Core.Path.{_≡_, refl, sym, _∙_, ap}
-use mathlib.Core.Logic.{inl, inr}
 use mathlib.Core.Bool.{Bool, true, false}
 use mathlib.Core.List.{List}
 use mathlib.Core.Option.{Option, none, some}
 use Prim.Native.Nat.{ℕ, _<_}
 use lib.ListN.{length, getD, set}
-use lib.Dec.{eqb}
 use borrow.Author.Tests.{eq-eqb, ne-eqb}
-use Rattle.laws.proofs.Bools.{bool?, clash, some-none, not-true, or-false, or-none}
+use Rattle.laws.proofs.Bools.{some-none, not-true, or-false, or-none}
 use Rattle.laws.proofs.Lists.{getD-inside}
 use Rattle.railway.specs.declared.Railway.{Railway}
-use Rattle.game.specs.Game.{home, over}
+use Rattle.game.specs.Game.{home}
 use Rattle.game.specs.Placement.{atHome, shared}
 use Rattle.game.specs.Moves.{gameOf}
 use Rattle.tables.specs.Tables.{noFigure, figureEntry, figureIn}
