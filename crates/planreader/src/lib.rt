@@ -69,7 +69,7 @@ fn number_tab(text: &[u8], c: Cursor, w: Width) -> Number
     Number::Value(n, next)
 }
 
-// The section of train t, less one; nothing is read for a train that is not there.
+// The section of train t, less one, if it is there; nothing is read for a train that is not.
 fn section_at(text: &[u8], s: u8, k: u8, t: u8, c: Cursor) -> Number
     ensures { λ r. ⌜ numberGot r ≡ sectionAt (now (text .entry)) s k t (c .at) ⌝ }
 {
@@ -82,10 +82,11 @@ fn section_at(text: &[u8], s: u8, k: u8, t: u8, c: Cursor) -> Number
     if n == 0 {
         return Number::None;
     }
-    if (s as u64) < n {
-        return Number::None;
+    let x = n - 1;
+    if x < s as u64 {
+        return Number::Value(x, next);
     }
-    Number::Value(n - 1, next)
+    Number::None
 }
 
 // The sections of all trains.
