@@ -1,6 +1,7 @@
-// One line of a plan, read for the checker: the first line with its figure, or the code, the figure and the entry of the setting table of a line for a placement.
-// The only line that a text can be is taken from it in one walk, then spelled again and compared, so that nothing else is read. Any bytes of any length
-// may come in. What is promised is promised of every accepted railway whose table is handed in (crate `compiled`).
+// One line of a plan, read for the checker: the first line with its figure, or the code, the figure and the entry of the setting table of a
+// line for a placement. The only line that a text can be is taken from it in one walk, then spelled again and compared, so that nothing else
+// is read. Any bytes of any length may come in. What is promised is promised of every accepted railway whose table is handed in (crate
+// `compiled`).
 ghost use mathlib.Core.Path.{_≡_};
 ghost use mathlib.Core.Bool.{cond, _&&_};
 ghost use mathlib.Core.Option.{none};
