@@ -36,6 +36,7 @@ use Rattle.compiled.specs.Table.{countByte, Compiled}
 use Rattle.moves.specs.declared.Placement.{Placement}
 use Rattle.moves.specs.Answers.{codeOn}
 use Rattle.moves.specs.Steps.{sectionIn}
+use Rattle.moves.proofs.Placing.{sections-are, trains-are}
 use Rattle.planlines.specs.Spelling.{lineOf}
 use Rattle.planreader.specs.declared.LineRead.the-variants.{NoLine, Start, Placed}
 use Rattle.planreader.specs.Told.{told}
@@ -194,16 +195,14 @@ module _ (r : Railway) (ok : recordRefusal r ≡ none) (text : List ℕ) where
 module _ (r : Railway) (table : List ℕ) (h : Compiled r table) (text : List ℕ) (first : getD text 0 0 ≡ 112 → ⊥) where
   module _ {s k m : ℕ} (es : s ≡ countByte r 0) (em : m ≡ countByte r 1) (ek : k ≡ countByte r 2) where
     s-is : s ≡ r .sections
-    unfolding countByte
-    s-is = es
+    s-is = sections-are r s es
 
     m-is : m ≡ r .points
     unfolding countByte
     m-is = em
 
     k-is : k ≡ r .trains
-    unfolding countByte
-    k-is = ek
+    k-is = trains-are r k ek
 
     pub no-sections : sectionsAt text s k ≡ bad → NoLine ≡ told r (readLine r text)
     no-sections e = sections-none r (h .accepted) text first (rw (s-is, k-is) at e)

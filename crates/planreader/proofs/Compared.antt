@@ -6,7 +6,7 @@ use mathlib.Core.Bool.{Bool, true, _&&_}
 use mathlib.Core.List.{List, _++_}
 use native.Mathlib.Omega.{arith}
 use lib.Dec.{eqb}
-use lib.ListN.{length, getD, drop, replicate, length-replicate, List·getD-append}
+use lib.ListN.{length, getD, drop, List·getD-append}
 use lib.Seq.{ext-getD}
 use borrow.Author.Tests.{eqb-true, eq-eqb}
 use Rattle.laws.specs.Below.{allBelow}
@@ -40,10 +40,10 @@ module _ (line text rest : List ℕ) where
   compare-front : compares (length line) ≡ sameText line text
   compare-front = same-bool (compares (length line)) (sameText line text) (λ e. ap (λ (t : List ℕ). sameText line t) (sym (same-bytes e)) ∙ same-self line) (λ e. bytes-same (same-is line text e))
 
-pub compared : (line text own out : List ℕ) (end : ℕ) (b : Bool) → own ≡ replicate mostLineBytes 0 → Appended own 0 line out end
-    → b ≡ (eqb end (length text) && allBelow (sameAt out text) end) → length line ≤ mostLineBytes → b ≡ sameText line text
-compared line text own out end b blank made e l =
-    let room : 0 + length line ≤ length own = rw (blank, length-replicate {A = ℕ} mostLineBytes 0) (omega arith) in
+pub compared : (line text own out : List ℕ) (end : ℕ) (b : Bool) → Appended own 0 line out end → b ≡ (eqb end (length text) && allBelow (sameAt out text) end)
+    → mostLineBytes ≤ length own → length line ≤ mostLineBytes → b ≡ sameText line text
+compared line text own out end b made e long l =
+    let room : 0 + length line ≤ length own = omega arith in
     let o : out ≡ line ++ drop (0 + length line) own = appended-bytes made room in
     let n : end ≡ length line = appended-cursor made room ∙ omega arith in
     e ∙ (rw (o, n) (compare-front line text (drop (0 + length line) own)))

@@ -81,7 +81,7 @@ module _ (text : List ℕ) where
   section-of : (rest : List ℕ) (s x c : ℕ) → x < s → Lies text c rest → Reads text (sectionOf s (suc x) c) x rest
   section-of rest s x c l t =
       let z : suc x - 1 ≡ x = omega arith in
-      rw (ne-eqb (suc x) 0 (λ e. omega arith), le-ltb s (suc x) (omega arith), z) (stop-here t)
+      rw (ne-eqb (suc x) 0 (λ e. omega arith), z, lt-ltb x s l) (stop-here t)
 
   section-complete : (rest : List ℕ) (s k t x c : ℕ) → s ≤ 48 → t < k → x < s → Lies text c (decimal (suc x) ++ (9 ∷ rest)) → Reads text (sectionAt text s k t c) x rest
   unfolding sectionAt

@@ -9,7 +9,7 @@ use native.Mathlib.Omega.{arith}
 use native.Mathlib.Nat.{pow-le-pow-right}
 use lib.Dec.{eqb, ltb}
 use lib.ListN.{length, getD, List·getD-eq-default}
-use borrow.Author.Tests.{lt-ltb, le-ltb, ltb-true, ltb-false, eq-eqb, ne-eqb, eqb-false}
+use borrow.Author.Tests.{lt-ltb, le-ltb, ltb-true, ltb-false, eq-eqb, ne-eqb}
 use Rattle.laws.specs.Bits.{fromBits}
 use Rattle.laws.proofs.Lists.{of-four}
 use Rattle.laws.proofs.Bits.{bits-same, bits-below}
@@ -35,26 +35,22 @@ module _ (text : List ℕ) (s k t c : ℕ) where
       section-zero z = rw (lt-ltb t k h, e, eq-eqb n 0 z)
 
       module _ (z : n ≡ 0 → ⊥) where
-        pub section-past : s < n → bad ≡ sectionAt text s k t c
+        pub section-there : n - 1 < s → got (n - 1) b ≡ sectionAt text s k t c
         unfolding sectionAt
-        section-past l = rw (lt-ltb t k h, e, ne-eqb n 0 z, lt-ltb s n l)
+        section-there l = rw (lt-ltb t k h, e, ne-eqb n 0 z, lt-ltb (n - 1) s l)
 
-        pub section-there : n ≤ s → got (n - 1) b ≡ sectionAt text s k t c
+        pub section-past : s ≤ n - 1 → bad ≡ sectionAt text s k t c
         unfolding sectionAt
-        section-there l = rw (lt-ltb t k h, e, ne-eqb n 0 z, le-ltb s n l)
+        section-past l = rw (lt-ltb t k h, e, ne-eqb n 0 z, le-ltb (n - 1) s l)
 
 -- a section that was read is there
-of-below : (s n c x b : ℕ) (p q : Bool) → eqb n 0 ≡ p → ltb s n ≡ q → cond p bad (cond q bad (got (n - 1) c)) ≡ got x b → x < s
-of-below s n c x b true q hp hq e = bad-got refl e
-of-below s n c x b false true hp hq e = bad-got refl e
-of-below s n c x b false false hp hq e =
-    let z : n - 1 ≡ x = cc in
-    let f = eqb-false n 0 hp in
-    let l = ltb-false s n hq in
-    omega arith
+of-below : (s n c x b : ℕ) (p q : Bool) → ltb (n - 1) s ≡ q → cond p bad (cond q (got (n - 1) c) bad) ≡ got x b → x < s
+of-below s n c x b true q h e = bad-got refl e
+of-below s n c x b false true h e = let z : n - 1 ≡ x = cc in rw z at (ltb-true (n - 1) s h)
+of-below s n c x b false false h e = bad-got refl e
 
 then-below : (s x b : ℕ) (g : Got ℕ) → then g (sectionOf s) ≡ got x b → x < s
-then-below s x b g e = let w = steps g (sectionOf s) x b e in of-below s (w .value) (w .cursor) x b (eqb (w .value) 0) (ltb s (w .value)) refl refl (w .second)
+then-below s x b g e = let w = steps g (sectionOf s) x b e in of-below s (w .value) (w .cursor) x b (eqb (w .value) 0) (ltb (w .value - 1) s) refl (w .second)
 
 module _ (text : List ℕ) (s k t c x b : ℕ) where
   pub section-below : sectionAt text s k t c ≡ got x b → t < k → x < s

@@ -16,17 +16,19 @@ use Rattle.planreader.specs.declared.Sections.the-variants.{NoSections, 
 abbrev pub sameAt : List ℕ → List ℕ → ℕ → Bool
 sameAt a b i = eqb (getD a i 0) (getD b i 0)
 
--- The bit of the train with a digit, and the bits of the trains whose digits a number has.
+-- The bit of the train with this digit.
 unfoldable pub trainBit : ℕ → ℕ
 trainBit d = cond (eqb d 1) 65536 (cond (eqb d 2) 131072 (cond (eqb d 3) 262144 (cond (eqb d 4) 524288 0)))
 
+-- The bits of the trains whose digits a number has.
 unfoldable pub openBits : ℕ → ℕ
 openBits o = trainBit (o % 10) + trainBit (o / 10 % 10) + trainBit (o / 100 % 10) + trainBit (o / 1000 % 10)
 
--- A section from 1 to s, less one; a figure that is not none.
+-- A section from 1 to s, less one.
 abbrev pub sectionOf : ℕ → ℕ → ℕ → Got ℕ
-sectionOf s n c = cond (eqb n 0) bad (cond (ltb s n) bad (got (n - 1) c))
+sectionOf s n c = cond (eqb n 0) bad (cond (ltb (n - 1) s) (got (n - 1) c) bad)
 
+-- A figure that is not none.
 abbrev pub figureOf : ℕ → ℕ → Got ℕ
 figureOf n c = cond (ltb n noFigure) (got n c) bad
 
@@ -39,10 +41,11 @@ module _ (text : List ℕ) where
   unfoldable pub numberTab : ℕ → ℕ → Got ℕ
   numberTab most c = then (numberAt text most c) (λ n c. then (byteAt text 9 c) (λ b c. got n c))
 
-  -- The section of train t, or 0 without reading for a train that is not one of k; those of four trains.
+  -- The section of train t; 0, and nothing is read, for a train that is not one of k.
   unfoldable pub sectionAt : ℕ → ℕ → ℕ → ℕ → Got ℕ
   sectionAt s k t c = cond (ltb t k) (then (numberTab 2 c) (sectionOf s)) (got 0 c)
 
+  -- The sections of four trains, one behind the other.
   unfoldable pub sectionsAt : ℕ → ℕ → Got (List ℕ)
   sectionsAt s k =
       then (sectionAt s k 0 0) (λ x c.
@@ -50,16 +53,19 @@ module _ (text : List ℕ) where
       then (sectionAt s k 2 c) (λ z c.
       then (sectionAt s k 3 c) (λ w c. got (x ∷ y ∷ z ∷ w ∷ []) c))))
 
+  -- A figure at the cursor.
   unfoldable pub figureAt : ℕ → Got ℕ
   figureAt c = then (numberAt text 9 c) figureOf
 
-  -- Behind a tab, open trains and m points: their entry of the setting table.
+  -- The entry of the setting table that the digits of open trains and m points behind them make.
   abbrev pub entryOf : ℕ → ℕ → ℕ → Got ℕ
   entryOf m o c = got (fromBits (plusAt c) m + openBits o) c
 
+  -- The entry of open trains and points, behind a tab.
   unfoldable pub entryAt : ℕ → ℕ → Got ℕ
   entryAt m c = cond (ltb mostPoints m) bad (then (byteAt text 9 c) (λ b c. then (numberTab 9 c) (entryOf m)))
 
+-- What the answer on the sections stands for.
 abbrev pub sectionsGot : Sections → Got (List ℕ)
 sectionsGot NoSections = bad
 sectionsGot (SectionsAre x y z w c) = got (x ∷ y ∷ z ∷ w ∷ []) (c .at)

@@ -1,6 +1,7 @@
-// One line of a plan, read for the checker: the first line with its figure, or the code, the figure and the entry of the setting table of a line for a placement.
-// The only line that a text can be is taken from it in one walk, then spelled again and compared, so that nothing else is read. Any bytes of any length
-// may come in. What is promised is promised of every accepted railway whose table is handed in (crate `compiled`).
+// One line of a plan, read for the checker: the first line with its figure, or the code, the figure and the entry of the setting table of a
+// line for a placement. The only line that a text can be is taken from it in one walk, then spelled again and compared, so that nothing else
+// is read. Any bytes of any length may come in. What is promised is promised of every accepted railway whose table is handed in (crate
+// `compiled`).
 ghost use mathlib.Core.Path.{_≡_};
 ghost use mathlib.Core.Bool.{cond, _&&_};
 ghost use mathlib.Core.Option.{none};
@@ -69,7 +70,7 @@ fn number_tab(text: &[u8], c: Cursor, w: Width) -> Number
     Number::Value(n, next)
 }
 
-// The section of train t, less one; nothing is read for a train that is not there.
+// The section of train t, less one, if it is there; nothing is read for a train that is not.
 fn section_at(text: &[u8], s: u8, k: u8, t: u8, c: Cursor) -> Number
     ensures { λ r. ⌜ numberGot r ≡ sectionAt (now (text .entry)) s k t (c .at) ⌝ }
 {
@@ -82,10 +83,11 @@ fn section_at(text: &[u8], s: u8, k: u8, t: u8, c: Cursor) -> Number
     if n == 0 {
         return Number::None;
     }
-    if (s as u64) < n {
-        return Number::None;
+    let x = n - 1;
+    if x < s as u64 {
+        return Number::Value(x, next);
     }
-    Number::Value(n - 1, next)
+    Number::None
 }
 
 // The sections of all trains.

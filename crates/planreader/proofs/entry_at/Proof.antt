@@ -4,7 +4,7 @@ use native.Mathlib.Omega.{arith}
 use denote.Ref.{now}
 use mathlib.Core.Path.{refl, sym, _∙_, ap}
 use Rattle.text.specs.Answers.{numberGot}
-use Rattle.lines.proofs.Chain.{fails, goes, byte-fails, byte-goes}
+use Rattle.text.proofs.Chain.{fails, goes, byte-fails, byte-goes}
 use Rattle.planreader.specs.Walk.{plusAt, entryAt}
 use Rattle.planreader.proofs.Taking.{entry-many, entry-few, entry-is, entry-room}
 use borrow.Author.Needs.{needs}

@@ -1,6 +1,7 @@
 -- `planreader::figure_at` meets its contract: a number, and the test that it is a figure.
 -- Assumes nothing.
 use borrow.Author.Needs.{needs}
+use native.Mathlib.Omega.{arith}
 use mathlib.Core.Path.{sym, _∙_, ap}
 use Rattle.text.specs.Answers.{numberGot}
 use Rattle.planreader.proofs.Taking.{figure-none, figure-there, figure-high}
@@ -20,7 +21,7 @@ returns : tie.Need-returns
 returns c = figure-none _ _ (sym (c .before .before .number-at .ensures) ∙ ap numberGot (c .enum-told .given .1))
 
 returns-2 : tie.Need-returns-2
-returns-2 c = let n = c .before .before in figure-there _ _ (sym (n .before .before .number-at .ensures) ∙ ap numberGot (n .n .given .1)) (c .if1 .taken)
+returns-2 c = let n = c .before .before in figure-there _ _ (sym (n .before .before .number-at .ensures) ∙ ap numberGot (n .n .given .1)) (omega (arith, c .if1 .taken))
 
 returns-3 : tie.Need-returns-3
 returns-3 c = let n = c .before .before in figure-high _ _ (sym (n .before .before .number-at .ensures) ∙ ap numberGot (n .n .given .1)) (c .if1 .left)

@@ -5,7 +5,7 @@ use native.Mathlib.Omega.{arith}
 use denote.Ref.{now}
 use mathlib.Core.Path.{refl, sym, _∙_, ap}
 use Rattle.text.specs.Answers.{numberGot}
-use Rattle.lines.proofs.Chain.{fails, goes, byte-fails, byte-goes}
+use Rattle.text.proofs.Chain.{fails, goes, byte-fails, byte-goes}
 use Rattle.planreader.specs.Walk.{numberTab}
 use Rattle.planreader.proofs.number_tab.Statement.{statement}
 use Rattle.planreader.proofs.number_tab.Tie as tie

@@ -1,13 +1,14 @@
 -- `planreader::read_line` meets its contract: a text that is too long is no line; the first byte tells the two kinds of line apart.
 -- Assumes nothing.
 use borrow.Author.Needs.{needs}
+use native.Mathlib.Omega.{arith}
 use mathlib.Core.Path.{sym, _∙_}
 use Rattle.planreader.proofs.Answered.{too-long}
 use Rattle.planreader.proofs.read_line.Statement.{statement}
 use Rattle.planreader.proofs.read_line.Tie as tie
 
 returns : tie.Need-returns
-returns c = λ r h. too-long r (h .accepted) _ (c .if1 .taken)
+returns c = λ r h. too-long r (h .accepted) _ (omega (arith, c .if1 .taken))
 
 peek-requires : tie.Need-peek-requires
 peek-requires c κs = search needs

@@ -5,7 +5,7 @@ use native.Mathlib.Omega.{arith}
 use denote.Ref.{now}
 use mathlib.Core.Path.{refl, sym, _∙_, ap}
 use Rattle.text.specs.Answers.{numberGot}
-use Rattle.lines.proofs.Chain.{fails, goes}
+use Rattle.text.proofs.Chain.{fails, goes}
 use Rattle.planreader.specs.Walk.{sectionsAt}
 use Rattle.planreader.proofs.Taking.{section-byte}
 use Rattle.planreader.proofs.sections_at.Statement.{statement}

@@ -54,7 +54,7 @@ returns c =
     let l = o .before .before .before .before in
     let k = l .before .before .before .before .before in
     let a = k .before .before .before .before .before in
-    filling-end (a .args .table .now) (a .args .m) (a .args .figures .now) (a .args .settings .now) _ _ (k .clear .ensures) (l .loop .figures) (l .loop .settings) (l .loop .n) (l .loop .inv) (a .pre .0) (omega (arith, o .before .before .before .loop-test .taken)) _ _ _ (o .one-round .ensures) (not-true _ (c .if1 .taken))
+    filling-end (a .args .table .now) (a .args .m) (a .args .figures .now) (a .args .settings .now) _ _ (k .clear .ensures) _ _ _ (l .loop .inv) (a .pre .0) (omega (arith, o .before .before .before .loop-test .taken)) _ _ _ (o .one-round .ensures) (not-true _ (c .if1 .taken))
 
 loop-less : tie.Need-loop-less Inv-loop μ-loop
 loop-less c = let o = c .before .before .before .before .before in omega (arith, o .before .before .before .loop-test .taken)
@@ -65,7 +65,7 @@ loop-again c =
     let l = o .before .before .before .before in
     let k = l .before .before .before .before .before in
     let a = k .before .before .before .before .before in
-    filling-next (a .args .table .now) (a .args .m) (a .args .figures .now) (a .args .settings .now) _ _ (k .clear .ensures) (l .loop .figures) (l .loop .settings) (l .loop .n) (l .loop .inv) (a .pre .0) (omega (arith, o .before .before .before .loop-test .taken)) _ _ _ (o .one-round .ensures) (o .one-round .kept .1 .0) (o .one-round .kept .1 .1 .0) (not-false _ (c .if1 .left))
+    filling-next (a .args .table .now) (a .args .m) (a .args .figures .now) (a .args .settings .now) _ _ (k .clear .ensures) _ _ _ (l .loop .inv) (a .pre .0) (omega (arith, o .before .before .before .loop-test .taken)) _ _ _ (o .one-round .ensures) (o .one-round .kept .1 .0) (o .one-round .kept .1 .1 .0) (not-false _ (c .if1 .left))
 
 same-length-3 : tie.Need-same-length-3 Inv-loop μ-loop
 same-length-3 c = let l = c .before in let k = l .before .before .before .before .before in l .loop .inv .long-figs ∙ k .clear .kept .1 .0
@@ -78,7 +78,7 @@ returns-2 c =
     let l = c .before in
     let k = l .before .before .before .before .before in
     let a = k .before .before .before .before .before in
-    filling-over (a .args .table .now) (a .args .m) (a .args .figures .now) (a .args .settings .now) _ _ (k .clear .ensures) (l .loop .figures) (l .loop .settings) (l .loop .n) (l .loop .inv) (omega arith)
+    filling-over (a .args .table .now) (a .args .m) (a .args .figures .now) (a .args .settings .now) _ _ (k .clear .ensures) _ _ _ (l .loop .inv) (omega arith)
 
 pub fill-spec : {M : Type 1} → statement M
 fill-spec =

@@ -34,7 +34,7 @@ loop-again c =
     let v = c .before .before .before .before .before in
     let l = v .before .before .before .before in
     let a = l .before .before .before in
-    sweeping-next (a .args .table .now) (a .args .m) (a .args .n) (a .args .figures .now) (a .args .settings .now) (l .loop .figures) (l .loop .settings) (l .loop .added) (l .loop .p) (l .loop .inv)
+    sweeping-next (a .args .table .now) (a .args .m) (a .args .n) (a .args .figures .now) (a .args .settings .now) _ _ _ _ (l .loop .inv)
     _ _ (v .visit .result) (c .if1 .added) (omega (arith, v .before .before .before .loop-test .taken)) (a .pre .0) (a .pre .1) (v .visit .kept .1 .0) (v .visit .kept .1 .1 .0) (v .visit .ensures)
     (⊎-elim (λ w. joined-added (v .visit .result) (l .loop .added) _ (w .0 .taken) (w .1)) (λ w. joined-same (v .visit .result) (l .loop .added) _ (w .0 .left) (w .1)) (c .if1 .came))
 
