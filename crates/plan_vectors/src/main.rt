@@ -1,6 +1,8 @@
 // Case texts, and what program signalplan writes for each. Standard input is records (crate framed).
+use casefile::CaseAnswer;
 use framed::Reading;
 use libc::STDOUT_FILENO;
+use railway::Railway;
 
 const ENTRIES: usize = 8192;
 
@@ -23,7 +25,7 @@ fn one() -> bool {
     let reading = record.reading;
     match reading {
         Reading::Whole => {
-            plan(&space[..n]);
+            show(&space[..n]);
             true
         }
         Reading::Ended => false,
@@ -34,8 +36,19 @@ fn one() -> bool {
     }
 }
 
-fn plan(case: &[u8]) {
+fn show(case: &[u8]) {
+    let read = reader::read_case(case);
+    let answer = read.answer;
+    match answer {
+        CaseAnswer::Refused(f) => {
+            output::refusal(f);
+        }
+        CaseAnswer::Accepted => plan(read.railway),
+    }
+}
+
+fn plan(r: Railway) {
     let mut figures = [0u32; ENTRIES];
     let mut settings = [0u32; ENTRIES];
-    planwriter::write_plan(case, &mut figures, &mut settings);
+    planwriter::write_plan(r, &mut figures, &mut settings);
 }

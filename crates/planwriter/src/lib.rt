@@ -1,5 +1,5 @@
-// The plan of a case text, written on standard output: its lines, or `none`, or `refused`, a tab and the number.
-use casefile::CaseAnswer;
+// The plan of a railway, written on standard output: its lines, or `none`, or `refused`, a tab and the number.
+ghost use Rattle.tables.specs.Solver.{SolverPost};
 use libc::STDOUT_FILENO;
 use plan::Emitted;
 use plan::PlanPlace;
@@ -9,20 +9,10 @@ use tables::SolverAnswer;
 // No line of a plan has more bytes.
 const LINE: usize = 45;
 
-// A case text, with two lent tables.
-pub fn write_plan(case: &[u8], figures: &mut [u32], settings: &mut [u32]) -> SolverAnswer {
-    let read = reader::read_case(case);
-    let answer = read.answer;
-    match answer {
-        CaseAnswer::Refused(f) => {
-            output::refusal(f);
-            SolverAnswer::Refused(f)
-        }
-        CaseAnswer::Accepted => write_solved(read.railway, figures, settings),
-    }
-}
-
-fn write_solved(r: Railway, figures: &mut [u32], settings: &mut [u32]) -> SolverAnswer {
+// A railway, with two lent tables: the solver's answer, with the tables as it left them.
+pub fn write_plan(r: Railway, figures: &mut [u32], settings: &mut [u32]) -> SolverAnswer
+    ensures { λ a. ⌜ SolverPost r a (now (figures .entry)) (now (settings .entry)) (now (figures .exit)) (now (settings .exit)) ⌝ }
+{
     let answer = solver::solve(r, figures, settings);
     match answer {
         SolverAnswer::Refused(f) => {
