@@ -43,8 +43,11 @@ struct κ = R.the-type (namedLft 1 0 tt (κ, tt))
 abbrev pub laws : (κ : Lft) → LL.Laws (struct κ)
 laws κ = R′.the-laws (namedLft 1 0 tt (κ, tt))
 
+abbrev pub Has : Lft → Reader → Val → Fml
+Has κ d u = Readers (κ, tt) .own d (u ∷ [])
+
 abbrev pub Own : Lft → Reader → Fml
-Own κ d = Readers (κ, tt) .own d (R′.lowered d ∷ [])
+Own κ d = Has κ d (R′.lowered d)
 
 -- LOCALS of their types. The walk's is long when it is spelled out, so the walks of the code go by any type in its place.
 abbrev pub reader-local : Lifetime → Local
@@ -70,15 +73,31 @@ module _ {M : Type 1} (𝓤 : URA M) (H : Heap 𝓤) (A : Atoms 𝓤) (W : Given
   pub reader-typed : (κ : Lft) (d : Reader) → Is (Readers (κ, tt)) d (R′.lowered d ∷ []) → Typed (R′.mir (named 0)) (R′.lowered d)
   reader-typed κ d is = LL.lawful (struct κ) (laws κ) 𝓤 H A W .typed d (R′.lowered d ∷ []) is .0
 
+  -- in a local of a body the lifetime has no name
+  pub local-typed : (κ : Lft) (d : Reader) (u : Val) → Is (Readers (κ, tt)) d (u ∷ []) → Typed (R′.mir erased) u
+  local-typed κ d u is = LL.lawful (R.the-type (record { mir = erased; lft = κ })) (R′.the-laws (record { mir = erased; lft = κ })) 𝓤 H A W .typed d (u ∷ []) is .0
+
   pub walk-typed : (w : Walk) (v : Val) → Is K.the-row w (v ∷ []) → Typed K′.mir v
   walk-typed w v is = LL.lawful K.the-type K′.the-laws 𝓤 H A W .typed w (v ∷ []) is .0
 
-  pub twice : (κ : Lft) (d : Reader) → ent 𝓤 (sem 𝓤 H A (Own κ d)) (sep 𝓤 (sem 𝓤 H A (Own κ d)) (sem 𝓤 H A (Own κ d)))
-  twice κ d = LL.copy (struct κ) (R′.the-copy (namedLft 1 0 tt (κ, tt))) 𝓤 H A W .twice d (R′.lowered d ∷ [])
+  pub twice : (κ : Lft) (d : Reader) (u : Val) → ent 𝓤 (sem 𝓤 H A (Has κ d u)) (sep 𝓤 (sem 𝓤 H A (Has κ d u)) (sem 𝓤 H A (Has κ d u)))
+  twice κ d u = LL.copy (struct κ) (R′.the-copy (namedLft 1 0 tt (κ, tt))) 𝓤 H A W .twice d (u ∷ [])
 
-  -- A WALK PASSED TO A FUNCTION by itself
-  pub walk-own : (w : Walk) (v : Val) → Is K.the-row w (v ∷ []) → ent 𝓤 (⋆ 𝓤 H A []) (sem 𝓤 H A (K.the-row .own w (v ∷ [])))
-  walk-own w v is = qed W [] ∵ owned ! K.the-row (Is K.the-row) (LL.makes K.the-type K′.the-plain 𝓤 H A) w (v ∷ []) is $ done !
+  -- A READER AND A WALK PASSED ON, and the reader kept
+  module _ (κ : Lft) (q : Share) (d : Reader) (u : Val) (w : Walk) (v : Val) where
+    abbrev pub Both : Fml
+    Both = owns (Readers (κ, tt) ∷ K.the-row ∷ []) (d, (w, tt)) (u ∷ [], (v ∷ [], tt))
+
+    pub passed : Is K.the-row w (v ∷ [])
+        → ent 𝓤 (⋆ 𝓤 H A ((‵ (flft κ q) ⊛ ‵ ftrue) ∷ ‵ (Has κ d u) ∷ [])) (sep 𝓤 (sep 𝓤 (sep 𝓤 (sep 𝓤 (A .lft κ q) (emp 𝓤)) (sem 𝓤 H A Both)) (emp 𝓤)) (sem 𝓤 H A (Has κ d u)))
+    passed is =
+        qed W ((‵ (flft κ q) ⊛ ‵ ftrue) ∷ ‵ (Has κ d u) ∷ []) ∵ move ! (1 ∷ []) $ use1 W (‵ (Has κ d u) ⊛ ‵ (Has κ d u)) (twice κ d u) $ split ! $
+        -- [the reader's; the reader's; the token]
+        nothing ! $ owned ! K.the-row (Is K.the-row) (LL.makes K.the-type K′.the-plain 𝓤 H A) w (v ∷ []) is $ fjoin ! $ move ! (1 ∷ 0 ∷ []) $ fjoin ! $
+        move ! (2 ∷ 0 ∷ []) $ use2 W (raw (sep 𝓤 (sep 𝓤 (sep 𝓤 (A .lft κ q) (emp 𝓤)) (sem 𝓤 H A Both)) (emp 𝓤))) asked $ frame ! $ done !
+      where
+        asked : ent 𝓤 (sep 𝓤 (sep 𝓤 (A .lft κ q) (emp 𝓤)) (sem 𝓤 H A Both)) (sep 𝓤 (sep 𝓤 (sep 𝓤 (A .lft κ q) (emp 𝓤)) (sem 𝓤 H A Both)) (emp 𝓤))
+        asked = qed W ((‵ (flft κ q) ⊛ ‵ ftrue) ∷ ‵ Both ∷ []) ∵ join ! $ frame ! $ done !
 
   -- A READER TAKEN APART for a function of the slice, the place and a walk, and kept
   module _ (κ : Lft) (q : Share) (d : Reader) (w : Walk) (v : Val) where
@@ -94,7 +113,7 @@ module _ {M : Type 1} (𝓤 : URA M) (H : Heap 𝓤) (A : Atoms 𝓤) (W : Given
     pub apart : d .at < 2 ^ 64 → Is K.the-row w (v ∷ [])
         → ent 𝓤 (⋆ 𝓤 H A ((‵ (flft κ q) ⊛ ‵ ftrue) ∷ ‵ (Own κ d) ∷ [])) (sep 𝓤 (sep 𝓤 (sep 𝓤 (sep 𝓤 (A .lft κ q) (emp 𝓤)) (sem 𝓤 H A Apart)) (emp 𝓤)) (sem 𝓤 H A (Own κ d)))
     apart fits is =
-        qed W ((‵ (flft κ q) ⊛ ‵ ftrue) ∷ ‵ (Own κ d) ∷ []) ∵ move ! (1 ∷ []) $ use1 W (‵ (Own κ d) ⊛ ‵ (Own κ d)) (twice κ d) $ split ! $
+        qed W ((‵ (flft κ q) ⊛ ‵ ftrue) ∷ ‵ (Own κ d) ∷ []) ∵ move ! (1 ∷ []) $ use1 W (‵ (Own κ d) ⊛ ‵ (Own κ d)) (twice κ d (R′.lowered d)) $ split ! $
         use1 W (given (R′.lowered d ∷ [] ≡ R′.lowered d ∷ []) (‵ (all-own (struct κ .parts) (laws κ) fields))) (own-open 𝓤 H A W (struct κ) (laws κ) fields (R′.lowered d)) $ learn ! (λ _.
         use1 W (‵ (ownAt (struct κ .parts) (laws κ) 0 (d .text)) ⊛ ‵ (rest (struct κ .parts) (laws κ) 0 fields)) (own-out 𝓤 H A W (struct κ .parts) (laws κ) 0 fields) $ split ! $
         -- [the slice's; the number's; the reader's; the token]: the slice's, with the facts of the number and of the walk made anew

@@ -86,7 +86,7 @@ module _ {M : Type 1} (𝓤 : URA M) (H : Heap 𝓤) (A : Atoms 𝓤) (W : Given
   exits n e fits =
       qed W ((‵ (flft κ q) ⊛ ‵ ftrue) ∷ ‵ (owns (Readers (κ, tt) ∷ K.the-row ∷ []) (d, (w, tt)) at) ∷ []) ∵
       suffices ! _ (ends-at 𝓤 H A moved.ended stayed (moved.clauses 𝓤 H A mem run) W (((κ, tt), (q, tt), tt, (d, (w, tt)), at), tt) (R′.lowered (on n)) (on n) (tt, (tt, tt)) (tt, (tt, tt))) $ says ! (refl, e) $ frame ! $
-      fsplit ! $ use1 W (‵ (Own κ d) ⊛ ‵ (Own κ d)) (twice 𝓤 H A W κ d) $ split ! $ move ! (0 ∷ 2 ∷ []) $ fjoin ! $ frame ! $
+      fsplit ! $ use1 W (‵ (Own κ d) ⊛ ‵ (Own κ d)) (twice 𝓤 H A W κ d (R′.lowered d)) $ split ! $ move ! (0 ∷ 2 ∷ []) $ fjoin ! $ frame ! $
       -- [what the reader owns]
       owned ! usize (Is usize) (uint-makes 𝓤 H A W w64) n _ (refl, fits) $ move ! (1 ∷ 0 ∷ []) $ by ! (own-put 𝓤 H A W (struct κ) (laws κ) 1 (d .text, (d .at, tt)) n (R′.lowered d))
 
