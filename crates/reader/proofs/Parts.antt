@@ -1,7 +1,7 @@
 -- What the reader's functions answer, over plain values: each return is a case of the definition that its contract cites.
 -- Assumes nothing.
-use Prim.Native.Nat.{ℕ, _<_, _≤_}
-use mathlib.Core.Path.{_≡_, sym, _∙_}
+use Prim.Native.Nat.{ℕ, _+_, _-_, _<_, _≤_}
+use mathlib.Core.Path.{_≡_, refl, sym, _∙_}
 use mathlib.Core.Logic.{inl, inr}
 use mathlib.Core.Bool.{Bool, true, false}
 use mathlib.Core.List.{List}
@@ -9,8 +9,8 @@ use native.Mathlib.Omega.{arith}
 use lib.Dec.{ltb}
 use lib.ListN.{length}
 use borrow.Author.Tests.{lt-ltb, le-ltb, le-leb, lt-leb}
-use Rattle.text.specs.Reading.{bad, got, then}
-use Rattle.laws.proofs.Bools.{lt?}
+use Rattle.text.specs.Reading.{Got, bad, got, then}
+use Rattle.laws.proofs.Bools.{bool?, lt?}
 use Rattle.railway.specs.declared.Railway.{Railway}
 use Rattle.railway.specs.declared.Refusal.the-variants.{Count, Unknown, Join, Loose, Double, Place}
 use Rattle.railway.specs.Refusals.{first}
@@ -22,6 +22,7 @@ use Rattle.casefile.specs.Reading.{Counts, headerAt}
 use Rattle.drafts.specs.declared.Draft.{Draft}
 use Rattle.drafts.specs.declared.Kind.the-variants.{P, J, G, T}
 use Rattle.drafts.specs.declared.Lines.{Lines}
+use Rattle.walk.specs.Walking.{leftInto}
 use Rattle.drafts.specs.Drafting.{cap, opened, countedInto, manyInto, endAt, draftOf, linesGot, draftAnswer}
 
 -- NUMBERS
@@ -80,48 +81,54 @@ module _ (l : Lines) where
   pub lines-got : l .good ≡ true → linesGot l ≡ got (l .draft) (l .next .at)
   lines-got h = rw h
 
+-- THE END OF THE TEXT
+module _ (s : List ℕ) (l : Lines) where
+  pub more-left : l .next .at < length s → bad ≡ then (linesGot l) (λ d c. endAt s d c)
+  more-left b = elim (bool? (l .good)) [ inl g ↦ rw (g, lt-ltb (l .next .at) (length s) b) | inr g ↦ rw g ]
+
+  pub all-read : length s ≤ l .next .at → linesGot l ≡ then (linesGot l) (λ d c. endAt s d c)
+  all-read b = elim (bool? (l .good)) [ inl g ↦ rw (g, le-ltb (l .next .at) (length s) b) | inr g ↦ rw g ]
+
 -- THE WHOLE TEXT, kind after kind
+in-turn : {B D E : Type 0} (g : Got B) (f : B → ℕ → Got D) (k : D → ℕ → Got E) → then (then g f) k ≡ then g (λ x c. then (f x c) k)
+in-turn bad f k = refl
+in-turn (got x c) f k = refl
+
 module _ (s : List ℕ) where
   pub header-bad : headerAt s 0 ≡ bad → bad ≡ draftOf s
   unfolding draftOf
   header-bad e = rw e
 
-  module _ (h : Counts) (c : ℕ) (eh : headerAt s 0 ≡ got h c) (w : Draft) (hw : w ≡ opened (h .sections) (h .points) (h .trains))
-      (l1 : Lines) (e1 : linesGot l1 ≡ countedInto s P (h .points) c w) where
-    from-points : draftOf s ≡ then (linesGot l1) (λ d c. then (manyInto s J c d) (λ d c. then (manyInto s G c d) (λ d c. then (countedInto s T (h .trains) c d) (λ d c. endAt s d c))))
+  counted-all : (k : ℕ) (g : Got Draft) → then g (λ d c. leftInto s 0 k T c d) ≡ then g (λ d c. countedInto s T k c d)
+  counted-all k g = let z : k - 0 ≡ k = omega arith in let y : 0 + 1 ≡ 1 = omega arith in rw (z, y)
+
+  first-all : (k c : ℕ) (d : Draft) → leftInto s 0 k P c d ≡ countedInto s P k c d
+  first-all k c d = let z : k - 0 ≡ k = omega arith in let y : 0 + 1 ≡ 1 = omega arith in rw (z, y)
+
+  module _ (h : Counts) (c : ℕ) (eh : headerAt s 0 ≡ got h c) (w : Draft) (hw : w ≡ opened (h .sections) (h .points) (h .trains)) (l0 : Lines)
+      (e0 : l0 ≡ record { good = true; draft = w; next = record { at = c } }) (l1 l2 l3 l4 l5 : Lines) (e1 : linesGot l1 ≡ then (linesGot l0) (λ d c. leftInto s 0 (h .points) P c d))
+      (e2 : linesGot l2 ≡ then (linesGot l1) (λ d c. leftInto s 0 0 J c d)) (e3 : linesGot l3 ≡ then (linesGot l2) (λ d c. leftInto s 0 0 G c d))
+      (e4 : linesGot l4 ≡ then (linesGot l3) (λ d c. leftInto s 0 (h .trains) T c d)) (e5 : linesGot l5 ≡ then (linesGot l4) (λ d c. endAt s d c)) where
+    from-points : linesGot l1 ≡ countedInto s P (h .points) c (opened (h .sections) (h .points) (h .trains))
+    from-points = e1 ∙ rw (e0, hw) (first-all (h .points) c (opened (h .sections) (h .points) (h .trains)))
+
+    from-signals : linesGot l3 ≡ then (linesGot l1) (λ d c. then (manyInto s J c d) (λ d c. manyInto s G c d))
+    from-signals = e3 ∙ rw e2 (in-turn (linesGot l1) (λ d c. manyInto s J c d) (λ d c. manyInto s G c d))
+
+    to-trains : linesGot l5 ≡ then (linesGot l3) (λ d c. then (countedInto s T (h .trains) c d) (λ d c. endAt s d c))
+    to-trains = e5 ∙ rw (e4 ∙ counted-all (h .trains) (linesGot l3)) (in-turn (linesGot l3) (λ d c. countedInto s T (h .trains) c d) (λ d c. endAt s d c))
+
+    three : (g : Got Draft) (k : Draft → ℕ → Got Draft)
+        → then (then g (λ d c. then (manyInto s J c d) (λ d c. manyInto s G c d))) k ≡ then g (λ d c. then (manyInto s J c d) (λ d c. then (manyInto s G c d) k))
+    three bad k = refl
+    three (got d c) k = in-turn (manyInto s J c d) (λ d c. manyInto s G c d) k
+
+    from-joins : linesGot l5 ≡ then (linesGot l1) (λ d c. then (manyInto s J c d) (λ d c. then (manyInto s G c d) (λ d c. then (countedInto s T (h .trains) c d) (λ d c. endAt s d c))))
+    from-joins = to-trains ∙ rw from-signals (three (linesGot l1) (λ d c. then (countedInto s T (h .trains) c d) (λ d c. endAt s d c)))
+
+    pub whole : linesGot l5 ≡ draftOf s
     unfolding draftOf
-    from-points = rw (eh, ← hw, ← e1)
-
-    pub points-bad : l1 .good ≡ false → linesGot l1 ≡ draftOf s
-    points-bad g = sym (from-points ∙ rw g)
-
-    module _ (g1 : l1 .good ≡ true) (l2 : Lines) (e2 : linesGot l2 ≡ manyInto s J (l1 .next .at) (l1 .draft)) where
-      from-joins : draftOf s ≡ then (linesGot l2) (λ d c. then (manyInto s G c d) (λ d c. then (countedInto s T (h .trains) c d) (λ d c. endAt s d c)))
-      from-joins = from-points ∙ rw (g1, ← e2)
-
-      pub joins-bad : l2 .good ≡ false → linesGot l2 ≡ draftOf s
-      joins-bad g = sym (from-joins ∙ rw g)
-
-      module _ (g2 : l2 .good ≡ true) (l3 : Lines) (e3 : linesGot l3 ≡ manyInto s G (l2 .next .at) (l2 .draft)) where
-        from-signals : draftOf s ≡ then (linesGot l3) (λ d c. then (countedInto s T (h .trains) c d) (λ d c. endAt s d c))
-        from-signals = from-joins ∙ rw (g2, ← e3)
-
-        pub signals-bad : l3 .good ≡ false → linesGot l3 ≡ draftOf s
-        signals-bad g = sym (from-signals ∙ rw g)
-
-        module _ (g3 : l3 .good ≡ true) (l4 : Lines) (e4 : linesGot l4 ≡ countedInto s T (h .trains) (l3 .next .at) (l3 .draft)) where
-          from-trains : draftOf s ≡ then (linesGot l4) (λ d c. endAt s d c)
-          from-trains = from-signals ∙ rw (g3, ← e4)
-
-          pub trains-bad : l4 .good ≡ false → linesGot l4 ≡ draftOf s
-          trains-bad g = sym (from-trains ∙ rw g)
-
-          module _ (g4 : l4 .good ≡ true) where
-            pub more-left : l4 .next .at < length s → bad ≡ draftOf s
-            more-left b = sym (from-trains ∙ rw (g4, lt-ltb (l4 .next .at) (length s) b))
-
-            pub all-read : length s ≤ l4 .next .at → linesGot l4 ≡ draftOf s
-            all-read b = lines-got l4 g4 ∙ sym (from-trains ∙ rw (g4, le-ltb (l4 .next .at) (length s) b))
+    whole = from-joins ∙ rw (eh, from-points)
 
 -- THE ANSWER
 module _ (d : Draft) where
