@@ -2,7 +2,7 @@
 // line (`walk`). The record is built on the way, beside three flags for what it cannot show: a name that is not there, a join that may not be, a
 // signal named twice. Any bytes may come in, of any length.
 ghost use mathlib.Core.Path.{_≡_};
-ghost use mathlib.Core.Bool.{true, false};
+ghost use mathlib.Core.Bool.{false};
 ghost use Rattle.text.specs.Reading.{then};
 ghost use Rattle.casefile.specs.Given.{refused, ReaderPost};
 ghost use Rattle.drafts.specs.Drafting.{cap, opened, endAt, draftOf, linesGot, draftAnswer};
@@ -16,7 +16,6 @@ use drafts::Lines;
 use lines::HeaderRead;
 use railway::Railway;
 use railway::Refusal;
-use text::Cursor;
 use walk::Walk;
 
 // The reader.
@@ -77,7 +76,7 @@ fn answer(d: Draft) -> CaseRead
 fn read_lines(text: &[u8]) -> Lines
     ensures { λ r. ⌜ linesGot r ≡ draftOf (now (text .entry)) ⌝ }
 {
-    let HeaderRead::CountsAre(s, p, k, c) = lines::header_line(text, Cursor { at: 0 }) else {
+    let HeaderRead::CountsAre(s, p, k, c) = walk::first_line(text) else {
         return walk::not_in_form(begin(0, 0, 0));
     };
     let header = walk::in_form(begin(s, p, k), c);

@@ -13,7 +13,7 @@ use lib.ListN.{length, getD, drop, length-append, length-drop, List·getD-eq-def
 use borrow.Author.Tests.{lt-ltb, le-ltb, ltb-true, ltb-false, eqb-true}
 use Rattle.laws.proofs.Bools.{bool?, lt?, and-true}
 use Rattle.text.specs.Text.{line}
-use Rattle.text.specs.Reading.{Got, bad, got, then}
+use Rattle.text.specs.Reading.{Got, got, then}
 use Rattle.text.proofs.Walking.{steps}
 use Rattle.casefile.specs.Form.{joinLine, signalLine}
 use Rattle.casefile.specs.Reading.{joinLineAt, signalLineAt}

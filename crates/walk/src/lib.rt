@@ -1,16 +1,18 @@
 // A reader of a case text: the text, and the place where it stands. It walks over lines of one kind, each put into the draft, and is moved on
 // behind each. A struct that holds a slice is taken apart by few functions, and each calls one that has the slice and the place as parameters;
-// other crates call `walk_lines`. Any bytes may come in, and any place.
+// other crates call `first_line` and `walk_lines`. Any bytes may come in, and any place.
 ghost use mathlib.Core.Path.{_≡_};
 ghost use mathlib.Core.Bool.{true, false, _&&_, _||_};
 ghost use Rattle.text.specs.Reading.{then};
-ghost use Rattle.lines.specs.Answers.{endNamed, joinNamed};
-ghost use Rattle.drafts.specs.Drafting.{Tested, endIn, unknownIn, putPoint, faulty, putJoin, putSignal, putTrain, lineInto, letter, linesGot};
+ghost use Rattle.casefile.specs.Reading.{headerAt};
+ghost use Rattle.lines.specs.Answers.{endNamed, joinNamed, countsGot};
+ghost use Rattle.drafts.specs.Drafting.{Tested, endIn, unknownIn, putPoint, faulty, putJoin, putSignal, putTrain, lineInto, linesGot};
 ghost use Rattle.walk.specs.Walking.{goesOn, numberDue, LineRead, restInto};
 use drafts::Draft;
 use drafts::Kind;
 use drafts::KnownEnd;
 use drafts::Lines;
+use lines::HeaderRead;
 use lines::JoinRead;
 use lines::NamedEnd;
 use lines::SideRead;
@@ -46,6 +48,13 @@ impl<'a> Reader<'a> {
         Reader { text, at: 0 }
     }
 
+    // The header line, where it stands.
+    pub fn header(self) -> HeaderRead
+        ensures { λ r. ⌜ countsGot r ≡ headerAt (now (self .entry .text)) (self .entry .at) ⌝ }
+    {
+        header_at(self.text, self.at)
+    }
+
     // Whether there is another line where it stands.
     pub fn goes_on(self, w: Walk) -> bool
         ensures { λ b. ⌜ b ≡ goesOn (now (self .entry .text)) (self .entry .at) w ⌝ }
@@ -71,6 +80,13 @@ impl<'a> Reader<'a> {
     }
 }
 
+// The text's first line.
+pub fn first_line(text: &[u8]) -> HeaderRead
+    ensures { λ r. ⌜ countsGot r ≡ headerAt (now (text .entry)) 0 ⌝ }
+{
+    Reader::new(text).header()
+}
+
 // All lines of a kind that are left, from where those before them end, line by line.
 pub fn walk_lines(text: &[u8], start: Walk) -> Walk
     ensures { λ r. ⌜ linesGot (r .lines) ≡ then (linesGot (start .lines)) (λ d c. restInto (now (text .entry)) start c d) ⌝ }
@@ -82,6 +98,12 @@ pub fn walk_lines(text: &[u8], start: Walk) -> Walk
         reader = reader.moved(w);
     }
     w
+}
+
+fn header_at(text: &[u8], at: usize) -> HeaderRead
+    ensures { λ r. ⌜ countsGot r ≡ headerAt (now (text .entry)) at ⌝ }
+{
+    lines::header_line(text, Cursor { at: at })
 }
 
 // Whether another line of the kind is to be read at a place: one is due, or one begins there.
