@@ -111,7 +111,7 @@ module _ {M : Type 1} (𝓤 : URA M) (H : Heap 𝓤) (A : Atoms 𝓤) (W : Given
     abbrev fields : Values (struct κ .parts)
     fields = (d .text, (d .at, tt))
 
-    abbrev slice : Val
+    abbrev pub slice : Val
     slice = sliceVal (d .text .ptr) (length (d .text .now))
 
     -- the slice's, out of a copy of the reader's
