@@ -6,7 +6,6 @@ ghost use mathlib.Core.Bool.{false};
 ghost use Rattle.text.specs.Reading.{then};
 ghost use Rattle.casefile.specs.Given.{refused, ReaderPost};
 ghost use Rattle.drafts.specs.Drafting.{cap, opened, endAt, draftOf, linesGot, draftAnswer};
-ghost use Rattle.walk.specs.Walking.{leftInto};
 use acceptance::Flaw;
 use casefile::CaseAnswer;
 use casefile::CaseRead;
@@ -16,7 +15,6 @@ use drafts::Lines;
 use lines::HeaderRead;
 use railway::Railway;
 use railway::Refusal;
-use walk::Walk;
 
 // The reader.
 pub fn read_case(text: &[u8]) -> CaseRead
@@ -80,25 +78,11 @@ fn read_lines(text: &[u8]) -> Lines
         return walk::not_in_form(begin(0, 0, 0));
     };
     let header = walk::in_form(begin(s, p, k), c);
-    let points = lines_of(text, Kind::P, p, header);
-    let joins = lines_of(text, Kind::J, 0, points);
-    let signals = lines_of(text, Kind::G, 0, joins);
-    let trains = lines_of(text, Kind::T, k, signals);
+    let points = walk::lines_of(text, Kind::P, p, header);
+    let joins = walk::lines_of(text, Kind::J, 0, points);
+    let signals = walk::lines_of(text, Kind::G, 0, joins);
+    let trains = walk::lines_of(text, Kind::T, k, signals);
     to_end(text, trains)
-}
-
-// The lines of a kind behind those before them: as many as the count says, or of a kind without a count as many as there are.
-fn lines_of(text: &[u8], kind: Kind, count: u64, before: Lines) -> Lines
-    ensures { λ r. ⌜ linesGot r ≡ then (linesGot before) (λ d c. leftInto (now (text .entry)) 0 count kind c d) ⌝ }
-{
-    let start = Walk {
-        kind: kind,
-        count: count,
-        read: 0,
-        lines: before,
-    };
-    let all = walk::walk_lines(text, start);
-    all.lines
 }
 
 // The lines are in form only if the text ends behind them.

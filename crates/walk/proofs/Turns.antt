@@ -13,7 +13,7 @@ use lib.ListN.{length, getD, drop, length-append, length-drop, List·getD-eq-def
 use borrow.Author.Tests.{lt-ltb, le-ltb, ltb-true, ltb-false, eqb-true}
 use Rattle.laws.proofs.Bools.{bool?, lt?, and-true}
 use Rattle.text.specs.Text.{line}
-use Rattle.text.specs.Reading.{Got, got, then}
+use Rattle.text.specs.Reading.{Got, bad, got, then}
 use Rattle.text.proofs.Walking.{steps}
 use Rattle.casefile.specs.Form.{joinLine, signalLine}
 use Rattle.casefile.specs.Reading.{joinLineAt, signalLineAt}
@@ -24,7 +24,7 @@ use Rattle.drafts.specs.declared.Kind.the-variants.{P, J, G, T}
 use Rattle.drafts.specs.declared.Lines.{Lines}
 use Rattle.drafts.specs.Drafting.{putJoin, putSignal, lineInto, letter, fed, fedWhile, linesGot}
 use Rattle.walk.specs.declared.Walk.{Walk}
-use Rattle.walk.specs.Walking.{another, goesOn, numberDue, LineRead, leftInto, restInto}
+use Rattle.walk.specs.Walking.{another, goesOn, numberDue, LineRead, leftInto, restInto, asLines}
 
 -- ANOTHER LINE, as the code asks for it
 module _ (s : List ℕ) (at : ℕ) (w : Walk) where
@@ -220,3 +220,14 @@ module _ (s : List ℕ) where
 
     pub left-done : goesOn s (w .lines .next .at) w ≡ false → linesGot (w .lines) ≡ then (linesGot (w₀ .lines)) (λ d c. restInto s w₀ c d)
     left-done b = elim (bool? (w .lines .good)) [ inl h ↦ good-same h (none-more _ _ h b) ∙ sym (l .is) | inr h ↦ bad-same h ∙ sym (l .is) ]
+
+-- WHAT THE WALK GAVE, as an answer
+pub as-good : (before l : Lines) (x : Got Draft) → l .good ≡ true → linesGot l ≡ x → l ≡ asLines before x
+as-good before l x h e = ap (λ (g : Bool). record { good = g; draft = l .draft; next = l .next }) h ∙ rw (← e, h)
+
+pub as-bad : (before l : Lines) (x : Got Draft) → l .good ≡ false → linesGot l ≡ x → record { good = false; draft = before .draft; next = record { at = 0 } } ≡ asLines before x
+as-bad before l x h e = rw (← e, h)
+
+pub lines-as : (before : Lines) (x : Got Draft) → linesGot (asLines before x) ≡ x
+lines-as before bad = refl
+lines-as before (got d c) = refl

@@ -1,15 +1,16 @@
 -- Walking over lines of one kind: whether there is another, what it gives, and what all of them give. Contracts cite these definitions, and they
 -- say no more than the drafts' own do; nothing of document 01 rests on this file. Assumes nothing.
 use mathlib.Core.Path.{_≡_}
-use mathlib.Core.Bool.{Bool, cond, _&&_}
+use mathlib.Core.Bool.{Bool, true, false, cond, _&&_}
 use mathlib.Core.List.{List}
 use Prim.Native.Nat.{ℕ, _+_, _-_}
 use lib.Dec.{ltb, eqb}
 use lib.ListN.{getD}
-use Rattle.text.specs.Reading.{Got}
+use Rattle.text.specs.Reading.{Got, bad, got}
 use Rattle.drafts.specs.declared.Draft.{Draft}
 use Rattle.drafts.specs.declared.Kind.{Kind}
 use Rattle.drafts.specs.declared.Kind.the-variants.{P, J, G, T}
+use Rattle.drafts.specs.declared.Lines.{Lines}
 use Rattle.drafts.specs.Drafting.{lineInto, fed, manyInto, linesGot}
 use Rattle.walk.specs.declared.Walk.{Walk}
 
@@ -42,3 +43,8 @@ leftInto s read count T c d = fed (lineInto s T) (count - read) (read + 1) c d
 
 abbrev pub restInto : List ℕ → Walk → ℕ → Draft → Got Draft
 restInto s w = leftInto s (w .read) (w .count) (w .kind)
+
+-- what they gave, as an answer: in form, or not, with the draft as it was before them
+abbrev pub asLines : Lines → Got Draft → Lines
+asLines before bad = record { good = false; draft = before .draft; next = record { at = 0 } }
+asLines before (got d c) = record { good = true; draft = d; next = record { at = c } }

@@ -1,13 +1,13 @@
 // A reader of a case text: the text, and the place where it stands. It walks over lines of one kind, each put into the draft, and is moved on
 // behind each. A struct that holds a slice is taken apart by few functions, and each calls one that has the slice and the place as parameters;
-// other crates call `first_line` and `walk_lines`. Any bytes may come in, and any place.
+// other crates call `first_line` and `lines_of`. Any bytes may come in, and any place.
 ghost use mathlib.Core.Path.{_≡_};
 ghost use mathlib.Core.Bool.{true, false, _&&_, _||_};
 ghost use Rattle.text.specs.Reading.{then};
 ghost use Rattle.casefile.specs.Reading.{headerAt};
 ghost use Rattle.lines.specs.Answers.{endNamed, joinNamed, countsGot};
 ghost use Rattle.drafts.specs.Drafting.{Tested, endIn, unknownIn, putPoint, faulty, putJoin, putSignal, putTrain, lineInto, linesGot};
-ghost use Rattle.walk.specs.Walking.{goesOn, numberDue, LineRead, restInto};
+ghost use Rattle.walk.specs.Walking.{goesOn, numberDue, LineRead, leftInto, restInto, asLines};
 use drafts::Draft;
 use drafts::Kind;
 use drafts::KnownEnd;
@@ -27,50 +27,50 @@ use railway::Train;
 use text::Cursor;
 
 // Lines of a kind: how many are due, where their kind has a count; how many were read; and what they and the lines before them gave.
-pub struct Walk {
-    pub kind: Kind,
-    pub count: u64,
-    pub read: u64,
-    pub lines: Lines,
+struct Walk {
+    kind: Kind,
+    count: u64,
+    read: u64,
+    lines: Lines,
 }
 
 // The text, and the place where the reader stands.
-pub struct Reader<'a> {
-    pub text: &'a [u8],
-    pub at: usize,
+struct Reader<'a> {
+    text: &'a [u8],
+    at: usize,
 }
 
 impl<'a> Reader<'a> {
     // A reader that stands at the text's beginning.
-    pub fn new(text: &'a [u8]) -> Reader<'a>
+    fn new(text: &'a [u8]) -> Reader<'a>
         ensures { λ r. ⌜ (r .text ≡ text .entry) × (r .at ≡ 0) ⌝ }
     {
         Reader { text, at: 0 }
     }
 
     // The header line, where it stands.
-    pub fn header(self) -> HeaderRead
+    fn header(self) -> HeaderRead
         ensures { λ r. ⌜ countsGot r ≡ headerAt (now (self .entry .text)) (self .entry .at) ⌝ }
     {
         header_at(self.text, self.at)
     }
 
     // Whether there is another line where it stands.
-    pub fn goes_on(self, w: Walk) -> bool
+    fn goes_on(self, w: Walk) -> bool
         ensures { λ b. ⌜ b ≡ goesOn (now (self .entry .text)) (self .entry .at) w ⌝ }
     {
         goes_on_at(self.text, self.at, w)
     }
 
     // The line where it stands.
-    pub fn line(self, w: Walk) -> Walk
+    fn line(self, w: Walk) -> Walk
         ensures { λ r. ⌜ LineRead (now (self .entry .text)) (self .entry .at) w r ⌝ }
     {
         line_at(self.text, self.at, w)
     }
 
     // Moved on to where the lines end that were read.
-    pub fn moved(self, w: Walk) -> Reader<'a>
+    fn moved(self, w: Walk) -> Reader<'a>
         ensures { λ r. ⌜ (r .text ≡ self .entry .text) × (r .at ≡ w .lines .next .at) ⌝ }
     {
         Reader {
@@ -87,8 +87,27 @@ pub fn first_line(text: &[u8]) -> HeaderRead
     Reader::new(text).header()
 }
 
+// The lines of a kind behind those before them: as many as the count says, or of a kind without a count as many as there are. If they are not in
+// form, the draft stays as it was before them.
+pub fn lines_of(text: &[u8], kind: Kind, count: u64, earlier: Lines) -> Lines
+    ensures { λ r. ⌜ r ≡ asLines earlier (then (linesGot earlier) (λ d c. leftInto (now (text .entry)) 0 count kind c d)) ⌝ }
+{
+    let start = Walk {
+        kind: kind,
+        count: count,
+        read: 0,
+        lines: earlier,
+    };
+    let all = walk_lines(text, start);
+    let lines = all.lines;
+    if lines.good {
+        return lines;
+    }
+    not_in_form(earlier.draft)
+}
+
 // All lines of a kind that are left, from where those before them end, line by line.
-pub fn walk_lines(text: &[u8], start: Walk) -> Walk
+fn walk_lines(text: &[u8], start: Walk) -> Walk
     ensures { λ r. ⌜ linesGot (r .lines) ≡ then (linesGot (start .lines)) (λ d c. restInto (now (text .entry)) start c d) ⌝ }
 {
     let mut reader = Reader::new(text).moved(start);
