@@ -5,7 +5,6 @@ use casefile::Written;
 use framed::Reading;
 use libc::STDOUT_FILENO;
 use railway::Railway;
-use railway::Refusal;
 
 fn main() {
     let mut turns: u64 = 0;
@@ -42,7 +41,9 @@ fn show(text: &[u8]) {
     let answer = read.answer;
     match answer {
         CaseAnswer::Accepted => again(read.railway),
-        CaseAnswer::Refused(f) => refused(f),
+        CaseAnswer::Refused(f) => {
+            output::refusal(f);
+        }
     }
 }
 
@@ -58,13 +59,8 @@ fn write(r: Railway, out: &mut [u8]) {
                 io::write_all(STDOUT_FILENO, &out[..n]);
             }
         }
-        Written::Refused(f) => refused(f),
+        Written::Refused(f) => {
+            output::refusal(f);
+        }
     }
-}
-
-fn refused(f: Refusal) {
-    io::write_all(STDOUT_FILENO, b"refused\t");
-    let n = f.number();
-    io::print_decimal(STDOUT_FILENO, n as u64);
-    io::write_all(STDOUT_FILENO, b"\n");
 }

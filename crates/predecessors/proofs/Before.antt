@@ -6,7 +6,7 @@ use mathlib.Core.List.{List, [], _∷_}
 use mathlib.Core.Option.{Option, none, some}
 use Prim.Native.Nat.{ℕ, zero, suc, _+_, _*_, _^_, _/_, _%_, _≤_, _<_}
 use native.Mathlib.Omega.{arith}
-use native.Mathlib.Nat.{mul-one, mul-comm, mul-assoc, pow-zero, pow-succ', mul-add, pow-le-pow-left, pow-le-pow-right}
+use native.Mathlib.Nat.{mul-one, mul-comm, mul-assoc, pow-zero, pow-succ', mul-add}
 use lib.ListN.{length, getD, set, replicate, length-replicate, length-set}
 use lib.Seq.{getD-set-same, getD-set-other}
 use Rattle.laws.proofs.Bools.{eq?, some-none}
@@ -26,6 +26,7 @@ use Rattle.game.specs.Moves.{passes, occupied, codeWith, enters, moveOf}
 use Rattle.game.proofs.Codes.{code-cons, code-sections, sections-length}
 use Rattle.game.proofs.Accepted.{Facts, facts}
 use Rattle.game.proofs.Moves.{section-below, passes-below, sections-with}
+use Rattle.tables.proofs.Exists.{few-placements}
 use Rattle.compiled.specs.Table.{sectionByte, wayByte, countByte, Compiled}
 use Rattle.moves.specs.declared.Placement.{Placement}
 use Rattle.moves.specs.Steps.{sectionIn, On, allAt}
@@ -120,13 +121,6 @@ entered r p t c (some x) e = go (occupied r p t x) e
 exchanged : (c c′ y y′ w w′ p p′ x x′ : ℕ) → c ≡ c′ → y ≡ y′ → w ≡ w′ → p′ ≡ p → x ≡ x′ → c′ + y′ * w′ ≡ p′ + x′ * w′ → c + y * w ≡ p + x * w
 exchanged c c′ y y′ w w′ p p′ x x′ ec ey ew ep ex e = rw (ec, ey, ew, ← ep, ex) e
 
--- an accepted railway has few enough placements for every code to be a number
-pub few-placements : (r : Railway) → Facts r → placements r ≤ 5308416
-few-placements r ok =
-    let a : (r .sections) ^ (r .trains) ≤ 48 ^ (r .trains) = pow-le-pow-left (ok .few-sections) (r .trains) in
-    let b : 48 ^ (r .trains) ≤ 48 ^ 4 = pow-le-pow-right {n = 48} (omega arith) (ok .few-trains) in
-    omega arith
-
 -- BACK FROM placement c
 module _ (r : Railway) (c : ℕ) (table : List ℕ) (q : Placement) (on : On r c table q) (p t : ℕ) (plus : Bool) (l : p < placements r) (lt : t < r .trains)
     (moved : moveOf r p (allAt plus) t ≡ at c) (x : ℕ) (here : x ≡ sectionIn q t) where
@@ -184,4 +178,4 @@ module _ (r : Railway) (c : ℕ) (table : List ℕ) (q : Placement) (on : On r c
         let m : codeWith r p t (into .section) + standsOn r p t * r .sections ^ t ≡ codeOf (r .sections) (sectionsOf r p) + into .section * r .sections ^ t =
         code-move (r .sections) (sectionsOf r p) t (into .section) inside in
         let n : c + y * w ≡ p + x * w = exchanged c _ y _ w _ p _ x _ (into .code) behind-is weight codes section-is m in
-        put p (omega (arith, few-placements r ok)) n
+        put p (omega (arith, few-placements r accepted)) n

@@ -11,14 +11,13 @@ use Rattle.railway.specs.Refusals.{numberOf}
 use Rattle.acceptance.specs.declared.Tested.the-variants.{Accepted, Refused}
 use Rattle.acceptance.specs.Answers.{refusalGiven as refusalTested}
 use Rattle.game.specs.Placement.{placements, startCode}
-use Rattle.game.proofs.Accepted.{facts}
 use Rattle.tables.specs.declared.SolverAnswer.{SolverAnswer}
 use Rattle.tables.specs.declared.SolverAnswer.the-variants.{Refused as Refuses}
 use Rattle.tables.specs.Tables.{noFigure, figureIn, caseRefusal}
 use Rattle.tables.specs.Solver.{refusalGiven, figureGiven, SolverTables, SolverPost}
+use Rattle.tables.proofs.Exists.{few-placements}
 use Rattle.compiled.specs.declared.Compilation.{Compilation}
 use Rattle.compiled.specs.Table.{Compiled}
-use Rattle.predecessors.proofs.Before.{few-placements}
 use Rattle.cases.specs.Cases.{CasePost}
 use Rattle.solver.proofs.Visiting.{entry-some, entry-none}
 
@@ -44,10 +43,11 @@ module _ (r : Railway) (figs sets : List ℕ) (c : Compilation) (p : CasePost r 
     its-table : Compiled r (c .table)
     its-table = p .compiled fine
 
+    -- few enough placements for every round to have a number, and an entry for each
     pub room : (m + 1 < noFigure) × ((m ≤ length figs) × (m ≤ length sets))
     room =
         let n : m ≡ placements r = counts r its-table in
-        let few = few-placements r (facts r (its-table .accepted)) in
+        let few = few-placements r (its-table .accepted) in
         (omega arith, (omega (arith, p .room fine .0), omega (arith, p .room fine .1)))
 
     pub answer-solved : (a : SolverAnswer) (figs′ sets′ : List ℕ) → (Compiled r (c .table) → m ≡ placements r → SolverTables r figs sets figs′ sets′)

@@ -12,14 +12,12 @@ use Rattle.laws.proofs.Below.{count-le}
 use Rattle.railway.specs.declared.Railway.{Railway}
 use Rattle.railway.specs.Rows.{recordRefusal}
 use Rattle.game.specs.Placement.{placements}
-use Rattle.game.proofs.Accepted.{facts}
 use Rattle.tables.specs.Tables.{noFigure, figureIn}
 use Rattle.tables.specs.Solver.{Kept, RoundTables, SolverTables}
-use Rattle.tables.proofs.Exists.{solution}
+use Rattle.tables.proofs.Exists.{few-placements, solution}
 use Rattle.tables.proofs.Rounds.{of-up-to}
 use Rattle.compiled.specs.Table.{Compiled}
 use Rattle.predecessors.specs.Behind.{Behind}
-use Rattle.predecessors.proofs.Before.{few-placements}
 use Rattle.solver.specs.Sweeps.{After, unfigured, unfiguredIn, RoundPost}
 use Rattle.solver.specs.Waves.{Marked}
 
@@ -61,7 +59,7 @@ first-marked r figs sets accepted t =
     }
   where
     enough : (marks : List ℕ) → length marks ≡ 4096 → placements r ≤ 1296 * length marks
-    enough marks e = omega (arith, few-placements r (facts r accepted))
+    enough marks e = omega (arith, few-placements r accepted)
 
     none-yet : (q j : ℕ) → q < placements r → figureIn figs q ≡ some j → j ≤ 0
     none-yet q j l e = let s = solution r accepted in of-up-to 0 (s .figure q) j (sym (t .figures q l (s .figure q) (s .figures q l)) ∙ e) .1

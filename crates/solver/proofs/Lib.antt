@@ -5,3 +5,4 @@ pub mod Sweeping
 pub mod Waving
 pub mod Filling
 pub mod Answering
+pub mod Claims

@@ -24,8 +24,8 @@ write-all-requires c κs = search needs
 enum-known-f : tie.Need-enum-known-f
 enum-known-f c = search needs
 
-refused-requires : tie.Need-refused-requires
-refused-requires c κs = search needs
+refusal-requires : tie.Need-refusal-requires
+refusal-requires c κs = search needs
 
 same-length : tie.Need-same-length
 same-length c = search needs
@@ -55,7 +55,7 @@ write-spec =
     slice-aggregate-write-all
     write-all-requires
     enum-known-f
-    refused-requires
+    refusal-requires
     same-length
     returns
     same-length-2

@@ -1,0 +1,70 @@
+// Pairs of texts, a case and a plan, and what program plancheck writes for each pair. Standard input is records (crate framed).
+use casefile::CaseAnswer;
+use framed::Reading;
+use libc::STDOUT_FILENO;
+use railway::Railway;
+
+const ENTRIES: usize = 8192;
+
+fn main() {
+    let mut turns: u64 = 0;
+    while turns < 18446744073709551615 {
+        if one() {
+            turns += 1;
+        } else {
+            return;
+        }
+    }
+}
+
+// One pair; answers whether there was one.
+fn one() -> bool {
+    let mut space = io::large_buffer();
+    let record = framed::next_record(&mut space);
+    let n = record.bytes;
+    let reading = record.reading;
+    match reading {
+        Reading::Whole => { plan_of(&space[..n]) }
+        Reading::Ended => false,
+        Reading::Broken => broken(),
+    }
+}
+
+// The plan's record behind the case's.
+fn plan_of(case: &[u8]) -> bool {
+    let mut space = io::large_buffer();
+    let record = framed::next_record(&mut space);
+    let n = record.bytes;
+    let reading = record.reading;
+    match reading {
+        Reading::Whole => {
+            show(case, &space[..n]);
+            true
+        }
+        Reading::Ended => broken(),
+        Reading::Broken => broken(),
+    }
+}
+
+fn broken() -> bool {
+    io::write_all(STDOUT_FILENO, b"broken record\n");
+    false
+}
+
+fn show(case: &[u8], plan: &[u8]) {
+    let read = reader::read_case(case);
+    let answer = read.answer;
+    match answer {
+        CaseAnswer::Refused(f) => {
+            output::refusal(f);
+        }
+        CaseAnswer::Accepted => check(read.railway, plan),
+    }
+}
+
+fn check(r: Railway, plan: &[u8]) {
+    let mut figures = [0u32; ENTRIES];
+    let mut settings = [0u32; ENTRIES];
+    let answer = verdict::check_plan(r, plan, &mut figures, &mut settings);
+    output::test_answer(answer);
+}

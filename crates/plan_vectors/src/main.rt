@@ -1,0 +1,54 @@
+// Case texts, and what program signalplan writes for each. Standard input is records (crate framed).
+use casefile::CaseAnswer;
+use framed::Reading;
+use libc::STDOUT_FILENO;
+use railway::Railway;
+
+const ENTRIES: usize = 8192;
+
+fn main() {
+    let mut turns: u64 = 0;
+    while turns < 18446744073709551615 {
+        if one() {
+            turns += 1;
+        } else {
+            return;
+        }
+    }
+}
+
+// One record; answers whether there was one.
+fn one() -> bool {
+    let mut space = io::large_buffer();
+    let record = framed::next_record(&mut space);
+    let n = record.bytes;
+    let reading = record.reading;
+    match reading {
+        Reading::Whole => {
+            show(&space[..n]);
+            true
+        }
+        Reading::Ended => false,
+        Reading::Broken => {
+            io::write_all(STDOUT_FILENO, b"broken record\n");
+            false
+        }
+    }
+}
+
+fn show(case: &[u8]) {
+    let read = reader::read_case(case);
+    let answer = read.answer;
+    match answer {
+        CaseAnswer::Refused(f) => {
+            output::refusal(f);
+        }
+        CaseAnswer::Accepted => plan(read.railway),
+    }
+}
+
+fn plan(r: Railway) {
+    let mut figures = [0u32; ENTRIES];
+    let mut settings = [0u32; ENTRIES];
+    planwriter::write_plan(r, &mut figures, &mut settings);
+}

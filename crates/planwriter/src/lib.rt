@@ -1,0 +1,49 @@
+// The plan of a railway, written on standard output: its lines, or `none`, or `refused`, a tab and the number.
+ghost use Rattle.tables.specs.Solver.{SolverPost};
+use libc::STDOUT_FILENO;
+use plan::Emitted;
+use plan::PlanPlace;
+use railway::Railway;
+use tables::SolverAnswer;
+
+// No line of a plan has more bytes.
+const LINE: usize = 45;
+
+// A railway, with two lent tables: the solver's answer, with the tables as it left them.
+pub fn write_plan(r: Railway, figures: &mut [u32], settings: &mut [u32]) -> SolverAnswer
+    ensures { λ a. ⌜ SolverPost r a (now (figures .entry)) (now (settings .entry)) (now (figures .exit)) (now (settings .exit)) ⌝ }
+{
+    let answer = solver::solve(r, figures, settings);
+    match answer {
+        SolverAnswer::Refused(f) => {
+            output::refusal(f);
+        }
+        SolverAnswer::Unsolvable => {
+            io::write_all(STDOUT_FILENO, b"none\n");
+        }
+        SolverAnswer::Figure(_) => write_lines(r, figures, settings),
+    }
+    answer
+}
+
+fn write_lines(r: Railway, figures: &[u32], settings: &[u32]) {
+    let mut place = PlanPlace::Top;
+    let mut lines: u32 = 0;
+    while lines < 4294967295 {
+        let emitted = write_line(r, figures, settings, place);
+        let Emitted::Line(_, next) = emitted else {
+            return;
+        };
+        place = next;
+        lines += 1;
+    }
+}
+
+fn write_line(r: Railway, figures: &[u32], settings: &[u32], place: PlanPlace) -> Emitted {
+    let mut line = [0u8; LINE];
+    let emitted = emitter::emit_line(r, figures, settings, place, &mut line);
+    if let Emitted::Line(n, _) = emitted {
+        io::write_all(STDOUT_FILENO, &line[..n]);
+    }
+    emitted
+}

@@ -1,0 +1,28 @@
+// A case text on standard input; its plan on standard output, or `none`, or `refused`, a tab and the number.
+use casefile::CaseAnswer;
+use libc::STDIN_FILENO;
+use railway::Railway;
+
+// One byte more than a case text may have: whatever follows, such a text is refused for its length.
+const CASE: usize = 4097;
+
+const ENTRIES: usize = 8192;
+
+fn main() {
+    let mut case = [0u8; CASE];
+    let n = io::read_full(STDIN_FILENO, &mut case);
+    let read = reader::read_case(&case[..n]);
+    let answer = read.answer;
+    match answer {
+        CaseAnswer::Refused(f) => {
+            output::refusal(f);
+        }
+        CaseAnswer::Accepted => plan(read.railway),
+    }
+}
+
+fn plan(r: Railway) {
+    let mut figures = [0u32; ENTRIES];
+    let mut settings = [0u32; ENTRIES];
+    planwriter::write_plan(r, &mut figures, &mut settings);
+}

@@ -1,0 +1,183 @@
+// What the solver answers and leaves in the tables: document 01's yards, then other accepted cases. Standard input is records (crate framed),
+// each a case text. For each: the answer, then by rising code the figure (`none` for no figure) and the setting; then what comes of tables just
+// long enough and one entry shorter, and of records that are refused. Every entry that the solver is lent holds a mark before the call.
+use casefile::CaseAnswer;
+use framed::Reading;
+use libc::STDOUT_FILENO;
+use railway::Railway;
+use tables::SolverAnswer;
+
+const ENTRIES: usize = 8192;
+
+const MARK: u32 = 7;
+
+const NONE: u32 = 4294967295;
+
+fn main() {
+    let mut turns: u64 = 0;
+    while turns < 18446744073709551615 {
+        if one() {
+            turns += 1;
+        } else {
+            return;
+        }
+    }
+}
+
+// One record; answers whether there was one.
+fn one() -> bool {
+    let mut space = io::large_buffer();
+    let record = framed::next_record(&mut space);
+    let n = record.bytes;
+    let reading = record.reading;
+    match reading {
+        Reading::Whole => {
+            show(&space[..n]);
+            true
+        }
+        Reading::Ended => false,
+        Reading::Broken => {
+            io::write_all(STDOUT_FILENO, b"broken record\n");
+            false
+        }
+    }
+}
+
+fn show(text: &[u8]) {
+    let read = reader::read_case(text);
+    let answer = read.answer;
+    match answer {
+        CaseAnswer::Accepted => accepted(read.railway),
+        CaseAnswer::Refused(f) => {
+            output::refusal(f);
+        }
+    }
+}
+
+fn accepted(r: Railway) {
+    let c = compiled::compile(r);
+    let table = c.table;
+    let n = moves::placements(&table) as usize;
+    io::write_all(STDOUT_FILENO, b"case\n");
+    solved(r, n);
+    just_long_enough(r, n);
+    refused_records(r);
+}
+
+// Tables of more entries than there are placements.
+fn solved(r: Railway, n: usize) {
+    let mut figures = [MARK; ENTRIES];
+    let mut settings = [MARK; ENTRIES];
+    let a = solver::solve(r, &mut figures, &mut settings);
+    answer(a);
+    entries(&figures, &settings, n);
+    flag(
+        b"past the last code as before",
+        marked_from(&figures, n) && marked_from(&settings, n),
+    );
+}
+
+// Tables of as many entries as there are placements, and either of them one shorter.
+fn just_long_enough(r: Railway, n: usize) {
+    if 0 < n {
+        io::write_all(STDOUT_FILENO, b"entries for all codes\t");
+        lent(r, n, n);
+        io::write_all(STDOUT_FILENO, b"one figure fewer\t");
+        lent(r, n - 1, n);
+        io::write_all(STDOUT_FILENO, b"one setting fewer\t");
+        lent(r, n, n - 1);
+    }
+}
+
+// The empty record, and the railway with its second train where the first is.
+fn refused_records(r: Railway) {
+    io::write_all(STDOUT_FILENO, b"empty record\t");
+    lent(Railway::empty(), ENTRIES, ENTRIES);
+    if 1 < r.trains {
+        let first = r.run_of(0);
+        io::write_all(STDOUT_FILENO, b"two trains in one place\t");
+        lent(r.with_train(1, first), ENTRIES, ENTRIES);
+    }
+}
+
+// The answer with tables of so many entries, and whether these are as before.
+fn lent(r: Railway, n: usize, m: usize) {
+    let mut figures = [MARK; ENTRIES];
+    let mut settings = [MARK; ENTRIES];
+    lend(r, &mut figures, &mut settings, n, m);
+    flag(
+        b"tables as before",
+        marked_from(&figures, 0) && marked_from(&settings, 0),
+    );
+}
+
+fn lend(r: Railway, figures: &mut [u32], settings: &mut [u32], n: usize, m: usize) {
+    if n <= figures.len() {
+        if m <= settings.len() {
+            let a = solver::solve(r, &mut figures[..n], &mut settings[..m]);
+            answer(a);
+        }
+    }
+}
+
+fn answer(a: SolverAnswer) {
+    match a {
+        SolverAnswer::Refused(f) => {
+            output::refusal(f);
+        }
+        SolverAnswer::Unsolvable => {
+            io::write_all(STDOUT_FILENO, b"none\n");
+        }
+        SolverAnswer::Figure(n) => {
+            io::write_all(STDOUT_FILENO, b"figure\t");
+            io::print_decimal(STDOUT_FILENO, n as u64);
+            io::write_all(STDOUT_FILENO, b"\n");
+        }
+    }
+}
+
+fn entries(figures: &[u32], settings: &[u32], n: usize) {
+    let mut p: usize = 0;
+    while p < n {
+        entry(p, at(figures, p), at(settings, p));
+        p += 1;
+    }
+}
+
+fn entry(p: usize, figure: u32, setting: u32) {
+    io::print_decimal(STDOUT_FILENO, p as u64);
+    io::write_all(STDOUT_FILENO, b"\t");
+    if figure == NONE {
+        io::write_all(STDOUT_FILENO, b"none");
+    } else {
+        io::print_decimal(STDOUT_FILENO, figure as u64);
+    }
+    io::write_all(STDOUT_FILENO, b"\t");
+    io::print_decimal(STDOUT_FILENO, setting as u64);
+    io::write_all(STDOUT_FILENO, b"\n");
+}
+
+fn at(table: &[u32], p: usize) -> u32 {
+    if p < table.len() { table[p] } else { NONE }
+}
+
+// Whether the mark stands in every entry from one on.
+fn marked_from(table: &[u32], from: usize) -> bool {
+    let mut p = from;
+    while p < table.len() {
+        if table[p] != MARK {
+            return false;
+        }
+        p += 1;
+    }
+    true
+}
+
+fn flag(label: &[u8], b: bool) {
+    io::write_all(STDOUT_FILENO, label);
+    if b {
+        io::write_all(STDOUT_FILENO, b"\tyes\n");
+    } else {
+        io::write_all(STDOUT_FILENO, b"\tno\n");
+    }
+}

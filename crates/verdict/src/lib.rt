@@ -1,0 +1,44 @@
+// A plan's text checked whole: its lines handed to the checker one after the other, then the test; the first line that is refused ends it.
+ghost use mathlib.Core.Path.{_≡_};
+ghost use Prim.Native.Nat.{_+_};
+ghost use lib.ListN.{drop};
+ghost use Rattle.verdict.specs.Verdict.{PlanPost};
+ghost use Rattle.verdict.specs.Lengths.{lineBytes};
+use checker::Checker;
+use plan::LineAnswer;
+use plan::TestAnswer;
+use railway::Railway;
+
+// A railway and a plan's text. The tables are made fresh first.
+pub fn check_plan(r: Railway, plan: &[u8], figures: &mut [u32], settings: &mut [u32]) -> TestAnswer
+    ensures { λ a. ⌜ PlanPost r (now (plan .entry)) (now (figures .entry)) (now (settings .entry)) a (now (figures .exit)) (now (settings .exit)) ⌝ }
+{
+    let mut checker = Checker::fresh(figures, settings);
+    let mut at: usize = 0;
+    while at < plan.len() {
+        let end = line_end(plan, at);
+        let taken = checker.take(r, &plan[at..end], figures, settings);
+        let answer = taken.answer;
+        checker = taken.checker;
+        if let LineAnswer::Refused(f) = answer {
+            return TestAnswer::Refused(f);
+        }
+        at = end;
+    }
+    let tested = checker.test(r, figures, settings);
+    tested.answer
+}
+
+// The end of the line that begins at a place: behind its line end, or the end of the text.
+fn line_end(text: &[u8], at: usize) -> usize
+    ensures { λ e. ⌜ e ≡ at + lineBytes (drop at (now (text .entry))) ⌝ }
+{
+    let mut end = at;
+    while end < text.len() {
+        if text[end] == b'\n' {
+            return end + 1;
+        }
+        end += 1;
+    }
+    end
+}
