@@ -16,6 +16,7 @@ ghost use Rattle.tables.specs.Tables.{noFigure, figureIn};
 ghost use Rattle.tables.specs.Solver.{figureGiven, refusalGiven, RoundTables, SolverTables, SolverPost};
 ghost use Rattle.tables.specs.Rounds.{firstFigure};
 ghost use Rattle.compiled.specs.Table.{Compiled};
+ghost use Rattle.moves.specs.Answers.{homeCode};
 ghost use Rattle.moves.specs.Steps.{On};
 ghost use Rattle.predecessors.specs.Behind.{Behind};
 ghost use Rattle.solver.specs.Sweeps.{Visited, After, RoundPost};
@@ -30,9 +31,9 @@ use settings::NO_FIGURE;
 use tables::SolverAnswer;
 
 // How many codes a stretch has, and how many stretches there are: as many as the largest table needs.
-const STRETCH: u32 = 1296;
+const STRETCH: u32 = 324;
 
-const MARKS: usize = 4096;
+const MARKS: usize = 16384;
 
 // THE SOLVER: both tables of a case and the start's figure, or a refusal and the tables as they were.
 pub fn solve(r: Railway, figures: &mut [u32], settings: &mut [u32]) -> SolverAnswer
@@ -81,16 +82,28 @@ fn clear(table: &[u8; TABLE], figures: &mut [u32], settings: &mut [u32], m: u32)
     requires { ⌜ (m ≤ length (now figures)) × (m ≤ length (now settings)) ⌝ }
     ensures { λ u. ⌜ ((r : Railway) → Compiled r (now (table .entry)) → m ≡ placements r → After r 0 (now (figures .entry)) (now (settings .entry)) (now (figures .exit)) (now (settings .exit))) ⌝ }
 {
+    let home = moves::home_code(table);
     let mut p: u32 = 0;
     while p < m {
         let at = p as usize;
-        figures[at] = first_figure(table, p);
+        figures[at] = first_entry(table, home, p);
         settings[at] = 0;
         p += 1;
     }
 }
 
-// The figure of a placement before the first round.
+// The figure of a placement before the first round. Only the placement of home's code is looked at.
+fn first_entry(table: &[u8; TABLE], home: u32, p: u32) -> u32
+    ensures { λ f. ⌜ ((r : Railway) → Compiled r (now (table .entry)) → home ≡ homeCode r → p < placements r → f ≡ firstFigure r p) ⌝ }
+{
+    if p == home {
+        first_figure(table, p)
+    } else {
+        NO_FIGURE
+    }
+}
+
+// .. of any placement.
 fn first_figure(table: &[u8; TABLE], p: u32) -> u32
     ensures { λ f. ⌜ ((r : Railway) → Compiled r (now (table .entry)) → f ≡ firstFigure r p) ⌝ }
 {
@@ -131,7 +144,7 @@ fn one_round(
 // Where the stretch of code c ends, the last one at m.
 fn stretch_end(c: u32, m: u32) -> u32
     requires { ⌜ c < m ⌝ }
-    ensures { λ e. ⌜ (c < e) × (e ≤ m) × ((q : ℕ) → c ≤ q → q < e → q / 1296 ≡ c / 1296) ⌝ }
+    ensures { λ e. ⌜ (c < e) × (e ≤ m) × ((q : ℕ) → c ≤ q → q < e → q / 324 ≡ c / 324) ⌝ }
 {
     let left = STRETCH - c % STRETCH;
     if m - c <= left {
@@ -153,7 +166,7 @@ fn visit_stretch(
     upto: u32,
 ) -> bool
     requires { ⌜ (m ≤ length (now figures)) × (m ≤ length (now settings)) × (upto ≤ m) ⌝ }
-    ensures { λ b. ⌜ ((r : Railway) → Behind r (now (behind .entry)) → Round r (now (table .entry)) m n (now (figures .entry)) (now (marks .entry)) → ((q : ℕ) → from ≤ q → q < upto → q / 1296 ≡ from / 1296) → Swept r n (Before r n (now (figures .entry)) from upto) (now (figures .entry)) (now (settings .entry)) (now (figures .exit)) (now (settings .exit)) (now (marks .exit)) b) ⌝ }
+    ensures { λ b. ⌜ ((r : Railway) → Behind r (now (behind .entry)) → Round r (now (table .entry)) m n (now (figures .entry)) (now (marks .entry)) → ((q : ℕ) → from ≤ q → q < upto → q / 324 ≡ from / 324) → Swept r n (Before r n (now (figures .entry)) from upto) (now (figures .entry)) (now (settings .entry)) (now (figures .exit)) (now (settings .exit)) (now (marks .exit)) b) ⌝ }
 {
     let f = mark_at(marks, from);
     if n <= f {
@@ -167,7 +180,7 @@ fn visit_stretch(
 
 // The mark of the stretch of code c.
 fn mark_at(marks: &[u32], c: u32) -> u32
-    ensures { λ f. ⌜ f ≡ getD (now (marks .entry)) (c / 1296) 0 ⌝ }
+    ensures { λ f. ⌜ f ≡ getD (now (marks .entry)) (c / 324) 0 ⌝ }
 {
     let i = (c / STRETCH) as usize;
     if i < marks.len() { marks[i] } else { 0 }
@@ -175,7 +188,7 @@ fn mark_at(marks: &[u32], c: u32) -> u32
 
 // The mark of the stretch of code c is n at least.
 fn mark(marks: &mut [u32], c: u32, n: u32)
-    ensures { λ u. ⌜ ((i : ℕ) → getD (now (marks .entry)) i 0 ≤ getD (now (marks .exit)) i 0) × (c / 1296 < length (now (marks .entry)) → n ≤ getD (now (marks .exit)) (c / 1296) 0) ⌝ }
+    ensures { λ u. ⌜ ((i : ℕ) → getD (now (marks .entry)) i 0 ≤ getD (now (marks .exit)) i 0) × (c / 324 < length (now (marks .entry)) → n ≤ getD (now (marks .exit)) (c / 324) 0) ⌝ }
 {
     let i = (c / STRETCH) as usize;
     if i < marks.len() {
