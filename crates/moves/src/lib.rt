@@ -4,14 +4,13 @@
 ghost use mathlib.Core.Path.{_≡_};
 ghost use mathlib.Core.Bool.{false, cond};
 ghost use mathlib.Core.Option.{some};
-ghost use Prim.Native.Nat.{ℕ, _+_, _*_, _^_, _≤_, _<_};
+ghost use Prim.Native.Nat.{ℕ, _+_, _*_, _/_, _%_, _^_, _≤_, _<_};
 ghost use lib.Dec.{ltb};
-ghost use lib.ListN.{getD};
 ghost use Rattle.laws.specs.Below.{anyBelow};
 ghost use Rattle.laws.specs.Bits.{bit};
 ghost use Rattle.railway.specs.declared.Railway.{Railway};
 ghost use Rattle.game.specs.Game.{may};
-ghost use Rattle.game.specs.Placement.{sectionsIn, placements, standsOn, startCode, atHome, shared};
+ghost use Rattle.game.specs.Placement.{placements, startCode, atHome, shared};
 ghost use Rattle.game.specs.Setting.{headsFor, held};
 ghost use Rattle.game.specs.Moves.{passes, moveOf, gameOf};
 ghost use Rattle.tables.specs.Entries.{opensEnd, settingAt};
@@ -61,47 +60,45 @@ pub fn power(s: u8, k: u8) -> u32
     }
 }
 
-// The placement of a code.
+// The placement of a code: section after section, by dividing.
 pub fn placement_of(table: &[u8; TABLE], p: u32) -> Placement
     ensures { λ q. ⌜ ((r : Railway) → Compiled r (now (table .entry)) → On r p (now (table .entry)) q) ⌝ }
 {
+    let s = compiled::count_in(table, 0);
+    let k = compiled::count_in(table, 2);
+    let b = without_first(s, p);
+    let c = without_first(s, b);
+    let d = without_first(s, c);
     let sections = [
-        section_of(table, p, 0),
-        section_of(table, p, 1),
-        section_of(table, p, 2),
-        section_of(table, p, 3),
+        first_section(s, k, p, 0),
+        first_section(s, k, b, 1),
+        first_section(s, k, c, 2),
+        first_section(s, k, d, 3),
     ];
     Placement { sections: sections }
 }
 
-// The section of train t in the placement of code p; 0 for a train that is not there.
-fn section_of(table: &[u8; TABLE], p: u32, t: u8) -> u8
-    ensures { λ x. ⌜ ((r : Railway) → Compiled r (now (table .entry)) → x ≡ standsOn r p t) ⌝ }
+// What is left of a code without its first train.
+fn without_first(s: u8, p: u32) -> u32
+    ensures { λ q. ⌜ (0 < s → q ≡ p / s) ⌝ }
 {
-    let s = compiled::count_in(table, 0);
-    let k = compiled::count_in(table, 2);
+    if s == 0 {
+        return 0;
+    }
+    p / (s as u32)
+}
+
+// The first section of what is left of a code without its first t trains; 0 for a train that is not there.
+fn first_section(s: u8, k: u8, p: u32, t: u8) -> u8
+    ensures { λ x. ⌜ (0 < s → x ≡ cond (ltb t k) (p % s) 0) ⌝ }
+{
     if s == 0 {
         return 0;
     }
     if k <= t {
         return 0;
     }
-    digit(s, k, p, t)
-}
-
-// Section after section, by dividing.
-fn digit(s: u8, k: u8, p: u32, t: u8) -> u8
-    requires { ⌜ (0 < s) × (t < k) ⌝ }
-    ensures { λ x. ⌜ x ≡ getD (sectionsIn s k p) t 0 ⌝ }
-{
-    let d = s as u32;
-    let mut rest = p;
-    let mut i: u8 = 0;
-    while i < t {
-        rest = rest / d;
-        i += 1;
-    }
-    (rest % d) as u8
+    (p % (s as u32)) as u8
 }
 
 // The section of a train; 0 past the last.
