@@ -169,13 +169,12 @@ fn visit_stretch(
     ensures { λ b. ⌜ ((r : Railway) → Behind r (now (behind .entry)) → Round r (now (table .entry)) m n (now (figures .entry)) (now (marks .entry)) → ((q : ℕ) → from ≤ q → q < upto → q / 324 ≡ from / 324) → Swept r n (Before r n (now (figures .entry)) from upto) (now (figures .entry)) (now (settings .entry)) (now (figures .exit)) (now (settings .exit)) (now (marks .exit)) b) ⌝ }
 {
     let f = mark_at(marks, from);
-    if n <= f {
-        return visit_codes(table, behind, figures, settings, marks, m, n, from, upto);
+    if f < n {
+        if 1 < n - f {
+            return false;
+        }
     }
-    if n - f <= 1 {
-        return visit_codes(table, behind, figures, settings, marks, m, n, from, upto);
-    }
-    false
+    visit_codes(table, behind, figures, settings, marks, m, n, from, upto)
 }
 
 // The mark of the stretch of code c.
