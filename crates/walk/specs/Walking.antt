@@ -11,14 +11,14 @@ use Rattle.drafts.specs.declared.Draft.{Draft}
 use Rattle.drafts.specs.declared.Kind.{Kind}
 use Rattle.drafts.specs.declared.Kind.the-variants.{P, J, G, T}
 use Rattle.drafts.specs.declared.Lines.{Lines}
-use Rattle.drafts.specs.Drafting.{lineInto, fed, manyInto, linesGot}
+use Rattle.drafts.specs.Drafting.{lineInto, letter, fed, manyInto, linesGot}
 use Rattle.walk.specs.declared.Walk.{Walk}
 
 -- ANOTHER LINE: of a kind with a count one is due; of the others one begins at the place.
 abbrev pub another : List ℕ → ℕ → ℕ → ℕ → Kind → Bool
 another s at read count P = ltb read count
-another s at read count J = eqb (getD s at 0) 74
-another s at read count G = eqb (getD s at 0) 71
+another s at read count J = eqb (getD s at 0) (letter J)
+another s at read count G = eqb (getD s at 0) (letter G)
 another s at read count T = ltb read count
 
 abbrev pub goesOn : List ℕ → ℕ → Walk → Bool
