@@ -144,7 +144,7 @@ struct Graph {
     }
 };
 
-Graph* last = nullptr;
+Graph* last = nullptr;                              // freed for the next one
 
 }
 
