@@ -88,6 +88,18 @@ module _ (r : Railway) (accepted : recordRefusal r ≡ none) (figs sets : List �
   unfolding lineFor
   line-code p l = code-sections (r .sections) (r .trains) p (ok .one-section) l
 
+  -- that line fits the case where there is a figure
+  pub line-fits : (p : ℕ) → getD figs p noFigure ≤ noFigure → hasFigure figs p ≡ true → fits r (placementLine (lineFor r figs sets p)) ≡ true
+  unfolding fits lineFor
+  line-fits p l e =
+      let f = some-is (figureIn figs p) e in
+      let a : eqb (length (sectionsOf r p)) (r .trains) ≡ true = eq-eqb _ _ (sections-length (r .sections) (r .trains) p) in
+      let b : all (λ x. ltb x (r .sections)) (sectionsOf r p) ≡ true = all-below (r .sections) (sectionsOf r p) (sections-below (r .sections) (r .trains) p (ok .one-section)) in
+      let c : ltb (getD figs p noFigure) noFigure ≡ true = lt-ltb _ _ (entry-below (getD figs p noFigure) (f .0) l (f .1)) in
+      let d : eqb (length (listBelow (opensIn (getD sets p 0)) (r .trains))) (r .trains) ≡ true = eq-eqb _ _ (list-length (opensIn (getD sets p 0)) (r .trains)) in
+      let g : eqb (length (listBelow (bit (getD sets p 0)) (r .points))) (r .points) ≡ true = eq-eqb _ _ (list-length (bit (getD sets p 0)) (r .points)) in
+      rw (a, b, c, d, g)
+
   abbrev listedCodes : ℕ → List ℕ
   listedCodes k = whichBelow (hasFigure figs) k
 
@@ -211,17 +223,6 @@ module _ (r : Railway) (accepted : recordRefusal r ≡ none) (figs sets : List �
         not-home false v e = e
 
     -- THE PLAN is in form and passes
-    line-fits : (p : ℕ) → p < placements r → hasFigure figs p ≡ true → fits r (placementLine (lineFor r figs sets p)) ≡ true
-    unfolding fits lineFor
-    line-fits p l e =
-        let f = some-is (figureIn figs p) e in
-        let a : eqb (length (sectionsOf r p)) (r .trains) ≡ true = eq-eqb _ _ (sections-length (r .sections) (r .trains) p) in
-        let b : all (λ x. ltb x (r .sections)) (sectionsOf r p) ≡ true = all-below (r .sections) (sectionsOf r p) (sections-below (r .sections) (r .trains) p (ok .one-section)) in
-        let c : ltb (getD figs p noFigure) noFigure ≡ true = lt-ltb _ _ (entry-below (getD figs p noFigure) (f .0) (filled .entries p l) (f .1)) in
-        let d : eqb (length (listBelow (opensIn (getD sets p 0)) (r .trains))) (r .trains) ≡ true = eq-eqb _ _ (list-length (opensIn (getD sets p 0)) (r .trains)) in
-        let g : eqb (length (listBelow (bit (getD sets p 0)) (r .points))) (r .points) ≡ true = eq-eqb _ _ (list-length (bit (getD sets p 0)) (r .points)) in
-        rw (a, b, c, d, g)
-
     module _ (n : ℕ) (start : figureIn figs (startCode r) ≡ some n) where
       start-fits : getD figs (startCode r) noFigure < noFigure
       start-fits = entry-below (getD figs (startCode r) noFigure) n (filled .entries (startCode r) (start-below r ok)) start
@@ -231,7 +232,7 @@ module _ (r : Railway) (accepted : recordRefusal r ≡ none) (figs sets : List �
       plan-fits =
           and-both (ltb (getD figs (startCode r) noFigure) noFigure) (all (fits r) (map placementLine planPlacements)) (lt-ltb (getD figs (startCode r) noFigure) noFigure start-fits)
           (ap (all (fits r)) (map-twice placementLine (lineFor r figs sets) (listedCodes (placements r)))
-          ∙ all-which (fits r) (λ p. placementLine (lineFor r figs sets p)) (hasFigure figs) (placements r) line-fits)
+          ∙ all-which (fits r) (λ p. placementLine (lineFor r figs sets p)) (hasFigure figs) (placements r) (λ p l. line-fits p (filled .entries p l)))
 
       plan-form : Form r (planTexts r figs sets) (getD figs (startCode r) noFigure) planPlacements
       unfolding planTexts planLines

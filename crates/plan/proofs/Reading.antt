@@ -77,7 +77,7 @@ sections-plain [] = refl
 sections-plain (x ∷ xs) = and-both (all isPlain (decimal (suc x))) (all (all isPlain) (map sectionField xs)) (decimal-plain (suc x)) (sections-plain xs)
 
 -- the fields behind the sections
-abbrev lastFields : PlacementLine → List (List ℕ)
+abbrev pub lastFields : PlacementLine → List (List ℕ)
 lastFields d = decimal (d .figure) ∷ openField (d .opens) ∷ pointField (d .plus) ∷ []
 
 last-plain : (d : PlacementLine) → all (all isPlain) (lastFields d) ≡ true
@@ -100,7 +100,7 @@ unfolding all isPlain
 cut-start n = cut-line planWord (decimal n ∷ []) refl (rw (decimal-plain n))
 
 -- WHAT FIELDS GIVE BACK. A list, by its members.
-list-is : {A : Type 0} (f : ℕ → A) (xs : List A) (k : ℕ) (d : A) → length xs ≡ k → ((i : ℕ) → i < k → f i ≡ getD xs i d) → listBelow f k ≡ xs
+pub list-is : {A : Type 0} (f : ℕ → A) (xs : List A) (k : ℕ) (d : A) → length xs ≡ k → ((i : ℕ) → i < k → f i ≡ getD xs i d) → listBelow f k ≡ xs
 list-is f xs k d n h = ext-getD d (listBelow f k) xs (list-length f k ∙ sym n) (λ i l. let m : i < k = rw (list-length f k) at l in list-get f k i d m ∙ h i m)
 
 -- open trains
@@ -126,7 +126,7 @@ open-back os k n =
     (λ t l. or-byte (map (λ u. 49 + u) (whichBelow (λ u. getD os u false) (length os))) t ∙ open-digit (λ u. getD os u false) (length os) t (omega arith))
 
 -- points
-sign-at : (ps : List Bool) (i : ℕ) → i < length ps → eqb (getD (map sign ps) i 0) 43 ≡ getD ps i false
+pub sign-at : (ps : List Bool) (i : ℕ) → i < length ps → eqb (getD (map sign ps) i 0) 43 ≡ getD ps i false
 sign-at [] i l = absurd (omega arith)
 sign-at (true ∷ ps) zero l = refl
 sign-at (false ∷ ps) zero l = refl

@@ -79,6 +79,12 @@ pub open-digit : (v t : ℕ) (b : Bool) → v < 4294967296 → b ≡ opensIn v t
 open-digit v t b l is e = elim (lt? t 16) [ inl h ↦ h | inr h ↦ clash (sym is ∙ e) (sym (bit-high v (16 + t) l (omega arith))) ]
 
 -- POINTS
+pub sign-plus : (plus : Bool) → plus ≡ true → 43 ≡ sign plus
+sign-plus plus e = rw e
+
+pub sign-minus : (plus : Bool) → plus ≡ false → 45 ≡ sign plus
+sign-minus plus e = rw e
+
 module _ (f : ℕ → Bool) where
   sign-pieces : (m : ℕ) → map sign (listBelow f m) ≡ gatherBelow (pointPiece f) m
   unfolding listBelow gatherBelow
@@ -110,7 +116,7 @@ module _ (g : ℕ → ℕ) where
   unfolding listBelow gatherBelow line
   section-pieces zero f fs = refl
   section-pieces (suc k) f fs =
-      rw (map-append sectionField (listBelow g k) (g k ∷ []), append-assoc)
+      rw (map-append sectionField (listBelow g k) (g k ∷ []), append-assoc (map sectionField (listBelow g k)) (sectionField (g k) ∷ []) (f ∷ fs))
       (section-pieces k (sectionField (g k)) (f ∷ fs)
       ∙ rw (append-assoc (gatherBelow sectionsPiece k) (sectionsPiece k) (line (f ∷ fs)), append-assoc (sectionField (g k)) (9 ∷ []) (line (f ∷ fs))))
 

@@ -1,9 +1,9 @@
 -- The test of a plan by the tests that code makes, one law for each return. Assumes nothing.
-use mathlib.Core.Path.{_≡_, refl, sym, _∙_, ap}
-use mathlib.Core.Bool.{Bool, true, false, cond, not, _&&_, _||_}
+use mathlib.Core.Path.{_≡_, sym, _∙_}
+use mathlib.Core.Bool.{Bool, true, false, cond}
 use mathlib.Core.List.{List}
-use mathlib.Core.Option.{Option, none, some}
-use Prim.Native.Nat.{ℕ, _+_, _≤_, _<_}
+use mathlib.Core.Option.{none, some}
+use Prim.Native.Nat.{ℕ, _≤_, _<_}
 use lib.Dec.{eqb}
 use lib.ListN.{getD}
 use borrow.Author.Tests.{eq-eqb, ne-eqb}
@@ -19,7 +19,7 @@ use Rattle.game.specs.Moves.{moveOf, gameOf}
 use Rattle.tables.specs.Entries.{opensIn, settingAt}
 use Rattle.tables.specs.Tables.{noFigure, figureIn}
 use Rattle.plan.specs.Test.{byTables, listedSetting}
-use Rattle.plan.specs.Computed.{isFigure, trainFine, listedFine, fineIf, placementFine, testHolds}
+use Rattle.plan.specs.Computed.{trainFine, listedFine, fineIf, placementFine, testHolds}
 use Rattle.compiled.specs.Table.{countByte}
 use Rattle.moves.specs.declared.Move.{Move}
 use Rattle.moves.specs.Answers.{ended, moveUnder}

@@ -2,9 +2,8 @@
 use mathlib.Core.Path.{_≡_, refl, sym, _∙_, ap}
 use mathlib.Core.List.{List}
 use mathlib.Core.Option.{none, some}
-use Prim.Native.Nat.{ℕ, _+_, _^_, _≤_, _<_}
+use Prim.Native.Nat.{ℕ, _+_, _≤_, _<_}
 use native.Mathlib.Omega.{arith}
-use native.Mathlib.Nat.{pow-le-pow-left, pow-le-pow-right}
 use lib.ListN.{length, getD}
 use Rattle.railway.specs.declared.Railway.{Railway}
 use Rattle.railway.specs.declared.Refusal.{Refusal}
@@ -12,11 +11,11 @@ use Rattle.railway.specs.Refusals.{numberOf}
 use Rattle.acceptance.specs.declared.Tested.the-variants.{Accepted, Refused}
 use Rattle.acceptance.specs.Answers.{refusalGiven as refusalTested}
 use Rattle.game.specs.Placement.{placements, startCode}
-use Rattle.game.proofs.Accepted.{Facts, facts}
 use Rattle.tables.specs.declared.SolverAnswer.{SolverAnswer}
 use Rattle.tables.specs.declared.SolverAnswer.the-variants.{Refused as Refuses}
 use Rattle.tables.specs.Tables.{noFigure, figureIn, caseRefusal}
 use Rattle.tables.specs.Solver.{refusalGiven, figureGiven, SolverTables, SolverPost}
+use Rattle.tables.proofs.Exists.{few-placements}
 use Rattle.compiled.specs.declared.Compilation.{Compilation}
 use Rattle.compiled.specs.Table.{Compiled}
 use Rattle.cases.specs.Cases.{CasePost}
@@ -29,13 +28,6 @@ module _ (r : Railway) (figs : List ℕ) (at f : ℕ) (start : at ≡ startCode 
 
   pub start-some : (f ≡ noFigure → ⊥) → some f ≡ figureIn figs (startCode r)
   start-some h = rw (← start, ← entry) (sym (entry-some f h))
-
--- an accepted railway has few enough placements for every round to have a number
-few-placements : (r : Railway) → Facts r → placements r ≤ 5308416
-few-placements r ok =
-    let a : (r .sections) ^ (r .trains) ≤ 48 ^ (r .trains) = pow-le-pow-left (ok .few-sections) (r .trains) in
-    let b : 48 ^ (r .trains) ≤ 48 ^ 4 = pow-le-pow-right {n = 48} (omega arith) (ok .few-trains) in
-    omega arith
 
 -- THE ANSWER
 module _ (r : Railway) (figs sets : List ℕ) (c : Compilation) (p : CasePost r figs sets c) where
@@ -51,10 +43,11 @@ module _ (r : Railway) (figs sets : List ℕ) (c : Compilation) (p : CasePost r 
     its-table : Compiled r (c .table)
     its-table = p .compiled fine
 
+    -- few enough placements for every round to have a number, and an entry for each
     pub room : (m + 1 < noFigure) × ((m ≤ length figs) × (m ≤ length sets))
     room =
         let n : m ≡ placements r = counts r its-table in
-        let few = few-placements r (facts r (its-table .accepted)) in
+        let few = few-placements r (its-table .accepted) in
         (omega arith, (omega (arith, p .room fine .0), omega (arith, p .room fine .1)))
 
     pub answer-solved : (a : SolverAnswer) (figs′ sets′ : List ℕ) → ((q : Railway) → Compiled q (c .table) → m ≡ placements q → SolverTables q figs sets figs′ sets′)

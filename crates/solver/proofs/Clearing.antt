@@ -11,7 +11,7 @@ use Rattle.railway.specs.declared.Railway.{Railway}
 use Rattle.game.specs.Placement.{placements}
 use Rattle.tables.specs.Tables.{noFigure}
 use Rattle.tables.specs.Solver.{Kept}
-use Rattle.tables.specs.Rounds.{firstFigure, Cleared}
+use Rattle.tables.specs.Rounds.{firstFigure}
 use Rattle.tables.proofs.Steps.{cleared-round}
 use Rattle.compiled.specs.Table.{Compiled}
 use Rattle.solver.specs.Sweeps.{After}
@@ -59,14 +59,14 @@ module _ (table : List ℕ) (m : ℕ) (figs₀ sets₀ : List ℕ) where
       }
 
   module _ (figs sets : List ℕ) (p : ℕ) (c : Clearing table m figs₀ sets₀ figs sets p) where
-    pub clearing-next : (f : ℕ) → p < m → m ≤ length figs₀ → m ≤ length sets₀ → ((r : Railway) → Compiled r table → f ≡ firstFigure r p)
-        → Clearing table m figs₀ sets₀ (set figs p f) (set sets p 0) (p + 1)
-    clearing-next f l lf ls e =
+    pub clearing-next : (f v : ℕ) → p < m → m ≤ length figs₀ → m ≤ length sets₀ → ((r : Railway) → Compiled r table → f ≡ firstFigure r p) → v ≡ 0
+        → Clearing table m figs₀ sets₀ (set figs p f) (set sets p v) (p + 1)
+    clearing-next f v l lf ls e z =
         record {
           within = omega arith;
           long-figs = length-set figs p f ∙ c .long-figs;
-          long-sets = length-set sets p 0 ∙ c .long-sets;
-          unset = written-one (λ q. 0) p sets₀ sets 0 (c .unset) (omega arith) refl;
+          long-sets = length-set sets p v ∙ c .long-sets;
+          unset = written-one (λ q. 0) p sets₀ sets v (c .unset) (omega arith) z;
           first = λ r h. written-one (firstFigure r) p figs₀ figs f (c .first r h) (omega arith) (e r h);
         }
 

@@ -74,11 +74,11 @@ module _ (table : List ℕ) (m : ℕ) (figs sets figs₀ sets₀ : List ℕ) (cl
                 let y = post r h e in
                 record {
                   after =
-                    record {
-                      tables = y .after .tables;
-                      kept-figs = kept-on r figs₀ figs₁ figs′ (x .played r h e .after .kept-figs) (y .after .kept-figs);
-                      kept-sets = kept-on r sets₀ sets₁ sets′ (x .played r h e .after .kept-sets) (y .after .kept-sets);
-                    };
+                      record {
+                        tables = y .after .tables;
+                        kept-figs = kept-on r figs₀ figs₁ figs′ (x .played r h e .after .kept-figs) (y .after .kept-figs);
+                        kept-sets = kept-on r sets₀ sets₁ sets′ (x .played r h e .after .kept-sets) (y .after .kept-sets);
+                      };
                   left = omega (arith, x .played r h e .left, y .fewer on);
                 };
           }

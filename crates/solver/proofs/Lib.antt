@@ -3,3 +3,4 @@ pub mod Clearing
 pub mod Sweeping
 pub mod Filling
 pub mod Answering
+pub mod Claims

@@ -7,10 +7,10 @@ use mathlib.Core.List.{List}
 use mathlib.Core.Option.{Option, none, some}
 use Prim.Native.Nat.{ℕ, suc, _+_, _≤_, _<_}
 use native.Mathlib.Omega.{arith}
-use lib.ListN.{length, getD, set, length-set}
+use lib.ListN.{length, getD, set}
 use lib.Dec.{eqb}
 use lib.Seq.{getD-set-same, getD-set-other}
-use borrow.Author.Tests.{eq-eqb, ne-eqb, le-leb}
+use borrow.Author.Tests.{ne-eqb, le-leb}
 use Rattle.laws.proofs.Bools.{bool?, lt?, clash, some-none, some-one}
 use Rattle.laws.proofs.Below.{count-more}
 use Rattle.railway.specs.declared.Railway.{Railway}
@@ -21,15 +21,14 @@ use Rattle.game.specs.Moves.{gameOf}
 use Rattle.game.proofs.Accepted.{facts}
 use Rattle.game.proofs.Figures.{home-forced}
 use Rattle.tables.specs.Entries.{settingAt}
-use Rattle.tables.specs.Tables.{noFigure, figureEntry, figureIn, Filled}
-use Rattle.tables.specs.Solver.{Kept, RoundTables}
+use Rattle.tables.specs.Tables.{noFigure, figureEntry, figureIn}
+use Rattle.tables.specs.Solver.{RoundTables}
 use Rattle.tables.specs.Find.{find}
-use Rattle.tables.specs.Rounds.{Step, stays, gains, Stepped}
+use Rattle.tables.specs.Rounds.{Step, stays, gains}
 use Rattle.tables.proofs.Carry.{Carries, find-carry}
 use Rattle.tables.proofs.Steps.{next-round, last-round}
 use Rattle.compiled.specs.Table.{Compiled}
-use Rattle.solver.specs.Sweeps.{Visited, rests, enters, After, unfigured, unfiguredIn, RoundPost}
-use Rattle.solver.proofs.Visiting.{entry-some}
+use Rattle.solver.specs.Sweeps.{Visited, rests, enters, unfigured, RoundPost}
 
 -- Home has its figure from the start.
 abbrev pub Homed : Railway → List ℕ → Type 0
@@ -162,11 +161,11 @@ module _ (r : Railway) (accepted : recordRefusal r ≡ none) (k : ℕ) (small : 
   round-over =
       record {
         after =
-          record {
-            tables = next-round r accepted k figs₀ sets₀ before figs sets (part .done) small;
-            kept-figs = record { as-long = long-figs; past = λ q l. part .ahead-figs q 0 l };
-            kept-sets = record { as-long = long-sets; past = λ q l. part .ahead-sets q 0 l };
-          };
+            record {
+              tables = next-round r accepted k figs₀ sets₀ before figs sets (part .done) small;
+              kept-figs = record { as-long = long-figs; past = λ q l. part .ahead-figs q 0 l };
+              kept-sets = record { as-long = long-sets; past = λ q l. part .ahead-sets q 0 l };
+            };
         unchanged = part .unchanged;
         last = λ e. rw (part .unchanged e .0, part .unchanged e .1) (last-round r accepted k figs₀ sets₀ before figs sets (part .done) small (quiet e));
         fewer = λ e.

@@ -1,24 +1,23 @@
 -- Round n at one placement, and what it begins with. A placement that is home has figure 0 already, so one without a figure at which something is found is neither
 -- home nor lost. Assumes nothing.
 use mathlib.Core.Path.{_≡_, refl, sym, _∙_, ap}
-use mathlib.Core.Logic.{inl, inr}
 use mathlib.Core.Bool.{Bool, true, false}
 use mathlib.Core.List.{List}
 use mathlib.Core.Option.{Option, none, some}
 use Prim.Native.Nat.{ℕ, _<_}
 use lib.ListN.{length, getD, set}
-use lib.Dec.{eqb}
 use borrow.Author.Tests.{eq-eqb, ne-eqb}
-use Rattle.laws.proofs.Bools.{bool?, clash, some-none, not-true, or-false, or-none}
+use Rattle.laws.proofs.Bools.{some-none, not-true, or-false, or-none}
 use Rattle.laws.proofs.Lists.{getD-inside}
 use Rattle.railway.specs.declared.Railway.{Railway}
-use Rattle.game.specs.Game.{home, over}
+use Rattle.game.specs.Game.{home}
 use Rattle.game.specs.Placement.{atHome, shared}
 use Rattle.game.specs.Moves.{gameOf}
 use Rattle.tables.specs.Tables.{noFigure, figureEntry, figureIn}
 use Rattle.tables.specs.Find.{find}
 use Rattle.tables.specs.Rounds.{firstFigure}
 use Rattle.settings.specs.Answers.{firstKeeping}
+use Rattle.settings.proofs.Exactly.{keeping-lost}
 use Rattle.solver.specs.Sweeps.{Visited, rests, enters}
 
 pub entry-some : (x : ℕ) → (x ≡ noFigure → ⊥) → figureEntry x ≡ some x
@@ -49,10 +48,6 @@ module _ (r : Railway) (n p : ℕ) (figs sets : List ℕ) (inside : p < length f
     unfolding firstKeeping
     apart-find e = rw e
 
-    lost-find : shared r p ≡ true → firstKeeping r (figureIn figs) p n ≡ none
-    unfolding firstKeeping
-    lost-find e = rw e
-
     pub finds-nothing : found ≡ none → Visited r n p figs sets figs sets false
     finds-nothing e = rests refl refl (λ y o. sym (apart-find (or-false (shared r p) (atHome r p) o .0)) ∙ sym searched ∙ e)
 
@@ -60,8 +55,8 @@ module _ (r : Railway) (n p : ℕ) (figs sets : List ℕ) (inside : p < length f
       no-figure : figureIn figs p ≡ none
       no-figure = entry-none (getD figs p noFigure) (getD-inside figs p noFigure 0 inside ∙ empty)
 
-      pub finds-entry : (v : ℕ) → found ≡ some v → Visited r n p figs sets (set figs p n) (set sets p v) true
-      finds-entry v e =
-          let apart : shared r p ≡ false = not-true (shared r p) (λ y. some-none (sym searched ∙ e) (lost-find y)) in
+      pub finds-entry : (x v : ℕ) → x ≡ n → found ≡ some v → Visited r n p figs sets (set figs p x) (set sets p v) true
+      finds-entry x v ex e =
+          let apart : shared r p ≡ false = not-true (shared r p) (λ y. some-none (sym searched ∙ e) (keeping-lost r (figureIn figs) p n y)) in
           let away : atHome r p ≡ false = not-true (atHome r p) (λ y. let h : home (gameOf r) p ≡ true = rw (apart, y) in some-none (homed h) no-figure) in
-          enters v no-figure (or-none (shared r p) (atHome r p) apart away) (sym (apart-find apart) ∙ sym searched ∙ e) refl refl
+          enters v no-figure (or-none (shared r p) (atHome r p) apart away) (sym (apart-find apart) ∙ sym searched ∙ e) (ap (set figs p) ex) refl

@@ -59,7 +59,7 @@ module _ (r : Railway) (accepted : recordRefusal r ≡ none) where
   agrees : Solved (gameOf r) G (λ p. settingAt r p (W p))
   agrees = rounds-solved (gameOf r) (settingAt r) (find r) searches
 
-  few-placements : placements r ≤ mostSections ^ mostTrains
+  pub few-placements : placements r ≤ mostSections ^ mostTrains
   few-placements = omega (arith, pow-le-pow-left (ok .few-sections) (r .trains), pow-le-pow-right {n = mostSections} (omega arith) {i = r .trains} {j = mostTrains} (ok .few-trains))
 
   small-figure : (p j : ℕ) → G p ≡ some j → j < noFigure

@@ -4,3 +4,4 @@ pub mod Lines
 pub mod Appending
 pub mod Examples
 pub mod Numbers
+pub mod Chain

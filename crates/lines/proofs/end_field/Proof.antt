@@ -6,7 +6,8 @@ use mathlib.Core.Path.{sym, _∙_, ap}
 use Rattle.text.specs.Answers.{numberGot}
 use Rattle.casefile.specs.Reading.{endFieldAt}
 use Rattle.lines.specs.Answers.{sideGot, legGot}
-use Rattle.lines.proofs.Chain.{fails, goes, mark-side, mark-leg, mark-none}
+use Rattle.text.proofs.Chain.{fails, goes}
+use Rattle.lines.proofs.Chain.{mark-side, mark-leg, mark-none}
 use Rattle.lines.proofs.end_field.Statement.{statement}
 use Rattle.lines.proofs.end_field.Tie as tie
 

@@ -6,7 +6,8 @@ use denote.Ref.{now}
 use mathlib.Core.Path.{refl, sym, _∙_, ap}
 use Rattle.casefile.specs.Reading.{joinLineAt}
 use Rattle.lines.specs.Answers.{endGot}
-use Rattle.lines.proofs.Chain.{tab-fails, tab-goes, byte-fails, byte-goes}
+use Rattle.text.proofs.Chain.{byte-fails, byte-goes}
+use Rattle.lines.proofs.Chain.{tab-fails, tab-goes}
 use Rattle.lines.proofs.join_line.Statement.{statement}
 use Rattle.lines.proofs.join_line.Tie as tie
 

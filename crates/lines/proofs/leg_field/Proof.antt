@@ -3,7 +3,8 @@
 use borrow.Author.Needs.{needs}
 use native.Mathlib.Omega.{arith}
 use denote.Ref.{now}
-use Rattle.lines.proofs.Chain.{byte-miss, byte-hit, leg-stem, leg-plus, leg-minus, leg-none}
+use Rattle.text.proofs.Chain.{byte-miss, byte-hit}
+use Rattle.lines.proofs.Chain.{leg-stem, leg-plus, leg-minus, leg-none}
 use Rattle.lines.proofs.leg_field.Statement.{statement}
 use Rattle.lines.proofs.leg_field.Tie as tie
 

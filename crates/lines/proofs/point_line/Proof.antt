@@ -7,7 +7,8 @@ use mathlib.Core.Path.{sym, _∙_, ap}
 use Rattle.text.specs.Answers.{numberGot}
 use Rattle.casefile.specs.Reading.{pointLineAt}
 use Rattle.lines.specs.Answers.{sideGot}
-use Rattle.lines.proofs.Chain.{tab-fails, tab-goes, byte-fails, byte-goes, number-due, number-other}
+use Rattle.text.proofs.Chain.{byte-fails, byte-goes}
+use Rattle.lines.proofs.Chain.{tab-fails, tab-goes, number-due, number-other}
 use Rattle.lines.proofs.point_line.Statement.{statement}
 use Rattle.lines.proofs.point_line.Tie as tie
 

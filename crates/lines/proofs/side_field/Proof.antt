@@ -3,7 +3,8 @@
 use borrow.Author.Needs.{needs}
 use native.Mathlib.Omega.{arith}
 use denote.Ref.{now}
-use Rattle.lines.proofs.Chain.{byte-miss, byte-hit, side-up, side-down, side-none}
+use Rattle.text.proofs.Chain.{byte-miss, byte-hit}
+use Rattle.lines.proofs.Chain.{side-up, side-down, side-none}
 use Rattle.lines.proofs.side_field.Statement.{statement}
 use Rattle.lines.proofs.side_field.Tie as tie
 

@@ -7,7 +7,8 @@ use mathlib.Core.Path.{refl, sym, _∙_, ap}
 use Rattle.text.specs.Answers.{numberGot}
 use Rattle.casefile.specs.Reading.{signalLineAt}
 use Rattle.lines.specs.Answers.{sideGot}
-use Rattle.lines.proofs.Chain.{fails, goes, tab-fails, tab-goes, byte-fails, byte-goes}
+use Rattle.text.proofs.Chain.{fails, goes, byte-fails, byte-goes}
+use Rattle.lines.proofs.Chain.{tab-fails, tab-goes}
 use Rattle.lines.proofs.signal_line.Statement.{statement}
 use Rattle.lines.proofs.signal_line.Tie as tie
 

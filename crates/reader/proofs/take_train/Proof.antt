@@ -5,7 +5,7 @@ use mathlib.Core.Path.{sym, _∙_, ap}
 use Rattle.drafts.specs.Drafting.{linesGot}
 use Rattle.reader.proofs.Parts.{put-same}
 use Rattle.lines.specs.Answers.{trainGot}
-use Rattle.lines.proofs.Chain.{fails, goes}
+use Rattle.text.proofs.Chain.{fails, goes}
 use Rattle.reader.proofs.take_train.Statement.{statement}
 use Rattle.reader.proofs.take_train.Tie as tie
 

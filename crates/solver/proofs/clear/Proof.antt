@@ -2,8 +2,8 @@
 -- Assumes nothing.
 use borrow.Author.Needs.{needs}
 use native.Mathlib.Omega.{arith}
+use mathlib.Core.Path.{refl}
 use Prim.Native.Nat.{_-_}
-use lib.ListN.{length-set}
 use Rattle.solver.proofs.Clearing.{Clearing, clearing-start, clearing-next, clearing-end}
 use Rattle.solver.proofs.clear.Statement.{statement}
 use Rattle.solver.proofs.clear.Tie as tie
@@ -42,7 +42,10 @@ loop-less : tie.Need-loop-less Inv-loop μ-loop
 loop-less c = omega arith
 
 loop-again : tie.Need-loop-again Inv-loop μ-loop
-loop-again c = let l = c .before .before in let a = l .before .before .before in clearing-next (a .args .table .now) (a .args .m) (a .args .figures .now) (a .args .settings .now) _ _ (l .loop .p) (l .loop .inv) _ (c .before .loop-test .taken) (a .pre .0) (a .pre .1) (c .first-figure .ensures)
+loop-again c =
+    let l = c .before .before in
+    let a = l .before .before .before in
+    clearing-next (a .args .table .now) (a .args .m) (a .args .figures .now) (a .args .settings .now) _ _ (l .loop .p) (l .loop .inv) _ _ (omega arith) (a .pre .0) (a .pre .1) (c .first-figure .ensures) refl
 
 same-length : tie.Need-same-length Inv-loop μ-loop
 same-length c = c .before .loop .inv .long-figs
@@ -51,7 +54,10 @@ same-length-2 : tie.Need-same-length-2 Inv-loop μ-loop
 same-length-2 c = c .before .loop .inv .long-sets
 
 returns : tie.Need-returns Inv-loop μ-loop
-returns c = let l = c .before in let a = l .before .before .before in clearing-end (a .args .table .now) (a .args .m) (a .args .figures .now) (a .args .settings .now) _ _ _ (l .loop .inv) (c .loop-test .left)
+returns c =
+    let l = c .before in
+    let a = l .before .before .before in
+    clearing-end (a .args .table .now) (a .args .m) (a .args .figures .now) (a .args .settings .now) _ _ _ (l .loop .inv) (omega arith)
 
 pub clear-spec : {M : Type 1} → statement M
 clear-spec =

@@ -19,37 +19,66 @@ clear-requires : tie.Need-clear-requires Inv-loop μ-loop
 clear-requires c κs = search needs
 
 loop-holds : tie.Need-loop-holds Inv-loop μ-loop
-loop-holds c = let k = c .before .before .before .before in let a = k .before .before .before .before .before in filling-start (a .args .table .now) (a .args .m) (a .args .figures .now) (a .args .settings .now) _ _ (k .clear .ensures)
+loop-holds c =
+    let k = c .before .before .before .before in
+    let a = k .before .before .before .before .before in
+    filling-start (a .args .table .now) (a .args .m) (a .args .figures .now) (a .args .settings .now) _ _ (k .clear .ensures)
 
 add-n : tie.Need-add-n Inv-loop μ-loop
 add-n c = omega arith
 
 one-round-requires : tie.Need-one-round-requires Inv-loop μ-loop
-one-round-requires c κs = let l = c .before .before .before in let k = l .before .before .before .before .before in let a = k .before .before .before .before .before in (omega (arith, a .pre .1 .0, k .clear .kept .1 .0, l .loop .inv .long-figs), omega (arith, a .pre .1 .1, k .clear .kept .1 .1 .0, l .loop .inv .long-sets))
+one-round-requires c κs =
+    let l = c .before .before .before in
+    let k = l .before .before .before .before .before in
+    let a = k .before .before .before .before .before in
+    (omega (arith, a .pre .1 .0, k .clear .kept .1 .0, l .loop .inv .long-figs), omega (arith, a .pre .1 .1, k .clear .kept .1 .1 .0, l .loop .inv .long-sets))
 
 same-length : tie.Need-same-length Inv-loop μ-loop
-same-length c = let o = c .before .before .before .before .before in let l = o .before .before .before .before in let k = l .before .before .before .before .before in let a = k .before .before .before .before .before in o .one-round .kept .1 .0 ∙ l .loop .inv .long-figs ∙ k .clear .kept .1 .0
+same-length c =
+    let o = c .before .before .before .before .before in
+    let l = o .before .before .before .before in
+    let k = l .before .before .before .before .before in
+    o .one-round .kept .1 .0 ∙ l .loop .inv .long-figs ∙ k .clear .kept .1 .0
 
 same-length-2 : tie.Need-same-length-2 Inv-loop μ-loop
-same-length-2 c = let o = c .before .before .before .before .before in let l = o .before .before .before .before in let k = l .before .before .before .before .before in let a = k .before .before .before .before .before in o .one-round .kept .1 .1 .0 ∙ l .loop .inv .long-sets ∙ k .clear .kept .1 .1 .0
+same-length-2 c =
+    let o = c .before .before .before .before .before in
+    let l = o .before .before .before .before in
+    let k = l .before .before .before .before .before in
+    o .one-round .kept .1 .1 .0 ∙ l .loop .inv .long-sets ∙ k .clear .kept .1 .1 .0
 
 returns : tie.Need-returns Inv-loop μ-loop
-returns c = let o = c .before .before .before .before .before in let l = o .before .before .before .before in let k = l .before .before .before .before .before in let a = k .before .before .before .before .before in filling-end (a .args .table .now) (a .args .m) (a .args .figures .now) (a .args .settings .now) _ _ (k .clear .ensures) (l .loop .figures) (l .loop .settings) (l .loop .n) (l .loop .inv) (a .pre .0) (o .before .before .before .loop-test .taken) _ _ _ (o .one-round .ensures) (not-true _ (c .if1 .taken))
+returns c =
+    let o = c .before .before .before .before .before in
+    let l = o .before .before .before .before in
+    let k = l .before .before .before .before .before in
+    let a = k .before .before .before .before .before in
+    filling-end (a .args .table .now) (a .args .m) (a .args .figures .now) (a .args .settings .now) _ _ (k .clear .ensures) _ _ _ (l .loop .inv) (a .pre .0) (omega (arith, o .before .before .before .loop-test .taken)) _ _ _ (o .one-round .ensures) (not-true _ (c .if1 .taken))
 
 loop-less : tie.Need-loop-less Inv-loop μ-loop
-loop-less c = let o = c .before .before .before .before .before in let l = o .before .before .before .before in let k = l .before .before .before .before .before in let a = k .before .before .before .before .before in omega (arith, o .before .before .before .loop-test .taken)
+loop-less c = let o = c .before .before .before .before .before in omega (arith, o .before .before .before .loop-test .taken)
 
 loop-again : tie.Need-loop-again Inv-loop μ-loop
-loop-again c = let o = c .before .before .before .before .before in let l = o .before .before .before .before in let k = l .before .before .before .before .before in let a = k .before .before .before .before .before in filling-next (a .args .table .now) (a .args .m) (a .args .figures .now) (a .args .settings .now) _ _ (k .clear .ensures) (l .loop .figures) (l .loop .settings) (l .loop .n) (l .loop .inv) (a .pre .0) (o .before .before .before .loop-test .taken) _ _ _ (o .one-round .ensures) (o .one-round .kept .1 .0) (o .one-round .kept .1 .1 .0) (not-false _ (c .if1 .left))
+loop-again c =
+    let o = c .before .before .before .before .before in
+    let l = o .before .before .before .before in
+    let k = l .before .before .before .before .before in
+    let a = k .before .before .before .before .before in
+    filling-next (a .args .table .now) (a .args .m) (a .args .figures .now) (a .args .settings .now) _ _ (k .clear .ensures) _ _ _ (l .loop .inv) (a .pre .0) (omega (arith, o .before .before .before .loop-test .taken)) _ _ _ (o .one-round .ensures) (o .one-round .kept .1 .0) (o .one-round .kept .1 .1 .0) (not-false _ (c .if1 .left))
 
 same-length-3 : tie.Need-same-length-3 Inv-loop μ-loop
-same-length-3 c = let l = c .before in let k = l .before .before .before .before .before in let a = k .before .before .before .before .before in l .loop .inv .long-figs ∙ k .clear .kept .1 .0
+same-length-3 c = let l = c .before in let k = l .before .before .before .before .before in l .loop .inv .long-figs ∙ k .clear .kept .1 .0
 
 same-length-4 : tie.Need-same-length-4 Inv-loop μ-loop
-same-length-4 c = let l = c .before in let k = l .before .before .before .before .before in let a = k .before .before .before .before .before in l .loop .inv .long-sets ∙ k .clear .kept .1 .1 .0
+same-length-4 c = let l = c .before in let k = l .before .before .before .before .before in l .loop .inv .long-sets ∙ k .clear .kept .1 .1 .0
 
 returns-2 : tie.Need-returns-2 Inv-loop μ-loop
-returns-2 c = let l = c .before in let k = l .before .before .before .before .before in let a = k .before .before .before .before .before in filling-over (a .args .table .now) (a .args .m) (a .args .figures .now) (a .args .settings .now) _ _ (k .clear .ensures) (l .loop .figures) (l .loop .settings) (l .loop .n) (l .loop .inv) (c .loop-test .left)
+returns-2 c =
+    let l = c .before in
+    let k = l .before .before .before .before .before in
+    let a = k .before .before .before .before .before in
+    filling-over (a .args .table .now) (a .args .m) (a .args .figures .now) (a .args .settings .now) _ _ (k .clear .ensures) _ _ _ (l .loop .inv) (omega arith)
 
 pub fill-spec : {M : Type 1} → statement M
 fill-spec =

@@ -1,6 +1,6 @@
 -- `solver::visit` meets its contract: it has a figure, or nothing is found, or what is found is entered.
 -- Assumes nothing.
-use mathlib.Core.Path.{ap}
+use mathlib.Core.Path.{refl, ap}
 use Rattle.settings.specs.Answers.{entryFound}
 use Rattle.solver.proofs.Visiting.{has-figure, finds-nothing, finds-entry}
 use borrow.Author.Needs.{needs}
@@ -14,7 +14,9 @@ slice-read-if1 : tie.Need-slice-read-if1
 slice-read-if1 c = search needs
 
 returns : tie.Need-returns
-returns c = λ r h homed. let a = c .before .before .before .before in has-figure r (a .args .n) (a .args .p) (a .args .figures .now) (a .args .settings .now) (a .pre .0) (c .if1 .taken)
+returns c = λ r h homed.
+    let a = c .before .before .before .before in
+    has-figure r (a .args .n) (a .args .p) (a .args .figures .now) (a .args .settings .now) (a .pre .0) (c .if1 .taken)
 
 find-setting-requires : tie.Need-find-setting-requires
 find-setting-requires c κs = search needs
@@ -29,7 +31,10 @@ same-length : tie.Need-same-length
 same-length c = search needs
 
 returns-2 : tie.Need-returns-2
-returns-2 c = λ r h homed. let f = c .before .before in let a = f .before .before .before .before .before .before in finds-nothing r (a .args .n) (a .args .p) (a .args .figures .now) (a .args .settings .now) (a .pre .0) _ (f .find-setting .ensures r h) (ap entryFound (c .enum-told .given .1))
+returns-2 c = λ r h homed.
+    let f = c .before .before in
+    let a = f .before .before .before .before .before .before in
+    finds-nothing r (a .args .n) (a .args .p) (a .args .figures .now) (a .args .settings .now) (a .pre .0) _ (f .find-setting .ensures r h) (ap entryFound (c .enum-told .given .1))
 
 mul-figures : tie.Need-mul-figures
 mul-figures c = search needs
@@ -50,7 +55,10 @@ same-length-3 : tie.Need-same-length-3
 same-length-3 c = search needs
 
 returns-3 : tie.Need-returns-3
-returns-3 c = λ r h homed. let f = c .before .before .before in let a = f .before .before .before .before .before .before in finds-entry r (a .args .n) (a .args .p) (a .args .figures .now) (a .args .settings .now) (a .pre .0) _ (f .find-setting .ensures r h) homed (f .before .before .if1 .left) _ (ap entryFound (c .before .found .given .1))
+returns-3 c = λ r h homed.
+    let f = c .before .before .before in
+    let a = f .before .before .before .before .before .before in
+    finds-entry r (a .args .n) (a .args .p) (a .args .figures .now) (a .args .settings .now) (a .pre .0) _ (f .find-setting .ensures r h) homed (f .before .before .if1 .left) _ _ refl (ap entryFound (c .before .found .given .1))
 
 pub visit-spec : {M : Type 1} → statement M
 visit-spec =

@@ -1,0 +1,117 @@
+-- The checker's calls for a line and for the test, from what the case, the line and the test of a plan answer. What was entered is what the line read
+-- says, and the code of a line that fits the case is a placement's: an accepted railway has few of them. Assumes nothing.
+use mathlib.Core.Path.{_≡_, refl, sym, _∙_, ap}
+use mathlib.Core.Bool.{Bool, true, false}
+use mathlib.Core.List.{List}
+use mathlib.Core.Option.{Option, none, some}
+use Prim.Native.Nat.{ℕ}
+use native.Mathlib.Omega.{arith}
+use native.Mathlib.Numerals.{add-one}
+use Rattle.railway.specs.declared.Railway.{Railway}
+use Rattle.railway.specs.declared.Refusal.{Refusal}
+use Rattle.railway.specs.declared.Refusal.the-variants.{PlanForm, PlanFault}
+use Rattle.railway.specs.Rows.{recordRefusal}
+use Rattle.acceptance.specs.declared.Tested.the-variants.{Accepted, Refused}
+use Rattle.acceptance.specs.Answers.{refusalGiven}
+use Rattle.game.proofs.Accepted.{Facts, facts}
+use Rattle.tables.specs.Tables.{caseRefusal}
+use Rattle.tables.proofs.Exists.{few-placements}
+use Rattle.plan.specs.declared.CheckerState.{CheckerState}
+use Rattle.plan.specs.declared.CheckerState.the-variants.{Fresh, Begun}
+use Rattle.plan.specs.declared.LineAnswer.{LineAnswer}
+use Rattle.plan.specs.declared.TestAnswer.{TestAnswer}
+use Rattle.plan.specs.declared.TestAnswer.the-variants.{Pass, Refused as TestRefused}
+use Rattle.plan.specs.Lines.{PlanLine, startLine, placementLine, lineCode}
+use Rattle.plan.specs.Reading.{readLine}
+use Rattle.plan.specs.Test.{byTables}
+use Rattle.plan.specs.Computed.{testHolds}
+use Rattle.plan.specs.Checker.{lineNumber, testNumber, Checking, Left, refuse, takes, takesIf, takeLine, tests, testPlan}
+use Rattle.plan.specs.Promises.{LinePost, TestPost}
+use Rattle.plan.proofs.Reading.{reads-line}
+use Rattle.plan.proofs.Checks.{code-in}
+use Rattle.compiled.specs.declared.Compilation.{Compilation}
+use Rattle.compiled.specs.Table.{Compiled}
+use Rattle.cases.specs.Cases.{CasePost}
+use Rattle.planreader.specs.declared.LineRead.{LineRead}
+use Rattle.planreader.specs.Told.{told}
+use Rattle.checker.specs.declared.Checker.{Checker}
+use Rattle.checker.specs.Answers.{checking}
+use Rattle.checker.specs.Steps.{takesRead, CodeSmall}
+
+-- WHAT A LINE READ SAYS is what the line says
+told-takes : (r : Railway) (c : Checking) (s : CheckerState) (o : Option PlanLine) → takesRead c s (told r o) ≡ takes r c s o
+told-takes r c s none = refl
+told-takes r c Fresh (some (startLine n)) = refl
+told-takes r c (Begun m from) (some (startLine n)) = refl
+told-takes r c Fresh (some (placementLine d)) = refl
+told-takes r c (Begun m from) (some (placementLine d)) = rw (add-one (lineCode r d))
+
+module _ (r : Railway) (accepted : recordRefusal r ≡ none) where
+  ok : Facts r
+  ok = facts r accepted
+
+  code-small : (text : List ℕ) (o : Option PlanLine) → readLine r text ≡ o → CodeSmall (told r o)
+  code-small text none e = tt
+  code-small text (some (startLine n)) e = tt
+  code-small text (some (placementLine d)) e =
+      let f = reads-line r (omega (arith, ok .few-sections)) text (placementLine d) .0 e .fit in omega (arith, code-in r accepted d f, few-placements r accepted)
+
+-- THE CALL FOR A LINE, by the case
+module _ (r : Railway) (c : Checking) (k : Compilation) (case : CasePost r (c .figs) (c .sets) k) where
+  refused-as : (f : Refusal) → k .tested ≡ Refused f → caseRefusal r (c .figs) (c .sets) ≡ some f
+  refused-as f e = sym (case .refusal) ∙ ap refusalGiven e
+
+  nothing-refused : k .tested ≡ Accepted → caseRefusal r (c .figs) (c .sets) ≡ none
+  nothing-refused e = sym (case .refusal) ∙ ap refusalGiven e
+
+  pub compiled-if : k .tested ≡ Accepted → Compiled r (k .table)
+  compiled-if e = case .compiled (nothing-refused e)
+
+  module _ (text : List ℕ) where
+    post : (w : Left LineAnswer) → w ≡ takeLine r c text → LinePost r c text (w .answer) (w .checking)
+    post w e =
+        record {
+          answer = ap (λ (x : Left LineAnswer). x .answer) e;
+          numbered = ap (λ (x : Left LineAnswer). lineNumber (x .answer)) e;
+          checking = ap (λ (x : Left LineAnswer). x .checking) e;
+        }
+
+    pub line-refused : (f : Refusal) → k .tested ≡ Refused f → (w : Left LineAnswer) → w ≡ refuse c f → LinePost r c text (w .answer) (w .checking)
+    unfolding takeLine
+    line-refused f e w h = post w (h ∙ sym (ap (takesIf r c text) (refused-as f e)))
+
+    module _ (e : k .tested ≡ Accepted) (line : LineRead) (is : line ≡ told r (readLine r text)) where
+      pub line-small : CodeSmall line
+      line-small = rw is (code-small r (compiled-if e .accepted) text (readLine r text) refl)
+
+      pub line-entered : (w : Left LineAnswer) → w ≡ takesRead c (c .state) line → LinePost r c text (w .answer) (w .checking)
+      unfolding takeLine
+      line-entered w h = post w (h ∙ ap (takesRead c (c .state)) is ∙ told-takes r c (c .state) (readLine r text) ∙ sym (ap (takesIf r c text) (nothing-refused e)))
+
+  -- THE CALL FOR THE TEST
+  tested-as : (a : TestAnswer) → a ≡ tests r c (caseRefusal r (c .figs) (c .sets)) (c .state) → TestPost r c a c
+  unfolding testPlan
+  tested-as a h = record { answer = h; numbered = ap testNumber h; checking = refl }
+
+  pub test-refused : (f : Refusal) → k .tested ≡ Refused f → TestPost r c (TestRefused f) c
+  test-refused f e = tested-as (TestRefused f) (ap (λ (o : Option Refusal). tests r c o (c .state)) (sym (refused-as f e)))
+
+  pub test-judged : k .tested ≡ Accepted → (a : TestAnswer) → a ≡ tests r c none (c .state) → TestPost r c a c
+  test-judged e a h = tested-as a (h ∙ ap (λ (o : Option Refusal). tests r c o (c .state)) (sym (nothing-refused e)))
+
+-- what is handed back is an equal answer and checker
+pub test-handed : (r : Railway) (k : Checker) (figs sets : List ℕ) (a b : TestAnswer) (j : Checker) → b ≡ a → j .state ≡ k .state
+    → TestPost r (checking k figs sets) a (checking k figs sets) → TestPost r (checking k figs sets) b (checking j figs sets)
+test-handed r k figs sets a b j e h p = rw (e, h) p
+
+-- THE VERDICT: before the first line, and after it
+module _ (r : Railway) (c : Checking) (s : CheckerState) where
+  pub verdict-early : s ≡ Fresh → TestRefused PlanForm ≡ tests r c none s
+  verdict-early e = rw e
+
+  module _ (m from : ℕ) (e : s ≡ Begun m from) (b : Bool) (is : b ≡ testHolds r m (byTables (c .figs) (c .sets))) where
+    pub verdict-pass : b ≡ true → Pass ≡ tests r c none s
+    verdict-pass y = rw (e, sym is ∙ y)
+
+    pub verdict-fault : b ≡ false → TestRefused PlanFault ≡ tests r c none s
+    verdict-fault y = rw (e, sym is ∙ y)

@@ -1,0 +1,34 @@
+-- `checker::Checker::begin` meets its contract, by the state.
+-- Assumes nothing.
+use borrow.Author.Needs.{needs}
+use Rattle.checker.specs.Answers.{checking}
+use Rattle.checker.proofs.Entering.{start-first, start-again}
+use Rattle.checker.proofs.Checker.begin.Statement.{statement}
+use Rattle.checker.proofs.Checker.begin.Tie as tie
+
+enum-told : tie.Need-enum-told
+enum-told c = search needs
+
+begun-requires : tie.Need-begun-requires
+begun-requires c κs = search needs
+
+enum-told-2 : tie.Need-enum-told-2
+enum-told-2 c = search needs
+
+refused-requires : tie.Need-refused-requires
+refused-requires c κs = search needs
+
+returns : tie.Need-returns
+returns c =
+    λ figs sets.
+    let a = c .before .before .before .args in
+    start-first (checking (a .self) figs sets) (a .self .state) _ (a .n) (c .before .enum-told .given .1) (c .begun .ensures figs sets)
+
+returns-2 : tie.Need-returns-2
+returns-2 c =
+    λ figs sets.
+    let a = c .before .before .before .args in
+    start-again (checking (a .self) figs sets) (a .self .state) _ (a .n) _ _ (c .before .enum-told2 .given .1) (c .refused .ensures figs sets)
+
+pub begin-spec : {M : Type 1} → statement M
+begin-spec = tie.close (tie.spec enum-told begun-requires enum-told-2 refused-requires returns returns-2)

@@ -1,0 +1,56 @@
+-- `checker::Checker::test` meets its contract: the case is refused, or the lines taken are tested. The checker handed back is the one handed in.
+-- Assumes nothing.
+use borrow.Author.Needs.{needs}
+use Rattle.checker.specs.Answers.{checking}
+use Rattle.checker.proofs.Calling.{compiled-if, test-refused, test-judged, test-handed}
+use Rattle.checker.proofs.Checker.test.Statement.{statement}
+use Rattle.checker.proofs.Checker.test.Tie as tie
+
+open-case-requires : tie.Need-open-case-requires
+open-case-requires c κs = search needs
+
+enum-known-tested : tie.Need-enum-known-tested
+enum-known-tested c = search needs
+
+tested-requires : tie.Need-tested-requires
+tested-requires c κs = search needs
+
+enum-told : tie.Need-enum-told
+enum-told c = search needs
+
+verdict-requires : tie.Need-verdict-requires
+verdict-requires c κs = search needs
+
+tested-requires-2 : tie.Need-tested-requires-2
+tested-requires-2 c κs = search needs
+
+returns : tie.Need-returns
+returns c =
+    let t = c .before .before in
+    let o = t .before .before in
+    let a = o .before .before .before .args in
+    test-handed (a .r) (a .self) (a .figures .now) (a .settings .now) _ _ _ (c .tested2 .ensures .0) (c .tested2 .ensures .1)
+    (test-refused (a .r) (checking (a .self) (a .figures .now) (a .settings .now)) _ (o .open-case .ensures) _ (t .tested .given .1))
+
+returns-2 : tie.Need-returns-2
+returns-2 c =
+    let v = c .before in
+    let e = v .before .before .before in
+    let o = e .before .before in
+    let a = o .before .before .before .args in
+    let k = checking (a .self) (a .figures .now) (a .settings .now) in
+    test-handed (a .r) (a .self) (a .figures .now) (a .settings .now) _ _ _ (c .tested3 .ensures .0) (c .tested3 .ensures .1)
+    (test-judged (a .r) k _ (o .open-case .ensures) (e .enum-told .given .1) _ (v .verdict .ensures (a .r) (a .self) (compiled-if (a .r) k _ (o .open-case .ensures) (e .enum-told .given .1))))
+
+pub test-spec : {M : Type 1} → statement M
+test-spec =
+    tie.close
+    (tie.spec
+    open-case-requires
+    enum-known-tested
+    tested-requires
+    enum-told
+    verdict-requires
+    tested-requires-2
+    returns
+    returns-2)

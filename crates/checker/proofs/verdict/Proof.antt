@@ -1,0 +1,39 @@
+-- `checker::verdict` meets its contract, by the state and the test of a plan.
+-- Assumes nothing.
+use borrow.Author.Needs.{needs}
+use Rattle.checker.specs.Answers.{checking}
+use Rattle.checker.proofs.Calling.{verdict-early, verdict-pass, verdict-fault}
+use Rattle.checker.proofs.verdict.Statement.{statement}
+use Rattle.checker.proofs.verdict.Tie as tie
+
+enum-told : tie.Need-enum-told
+enum-told c = search needs
+
+enum-known-state : tie.Need-enum-known-state
+enum-known-state c = search needs
+
+test-holds-requires : tie.Need-test-holds-requires
+test-holds-requires c κs = search needs
+
+returns : tie.Need-returns
+returns c =
+    λ r k h.
+    let t = c .before in
+    let a = t .before .before .before .before .before .before .args in
+    verdict-pass r (checking k (a .figures .now) (a .settings .now)) (a .state) _ _ (t .before .before .state .given .1) _ (t .test-holds .ensures r h) (c .if1 .taken)
+
+returns-2 : tie.Need-returns-2
+returns-2 c =
+    λ r k h.
+    let a = c .before .before .before .before .args in
+    verdict-early r (checking k (a .figures .now) (a .settings .now)) (a .state) (c .enum-told .given .1)
+
+returns-3 : tie.Need-returns-3
+returns-3 c =
+    λ r k h.
+    let t = c .before in
+    let a = t .before .before .before .before .before .before .args in
+    verdict-fault r (checking k (a .figures .now) (a .settings .now)) (a .state) _ _ (t .before .before .state .given .1) _ (t .test-holds .ensures r h) (c .if1 .left)
+
+pub verdict-spec : {M : Type 1} → statement M
+verdict-spec = tie.close (tie.spec enum-told enum-known-state test-holds-requires returns returns-2 returns-3)

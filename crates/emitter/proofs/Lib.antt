@@ -1,0 +1,3 @@
+pub mod Next
+pub mod Copying
+pub mod Emitting

@@ -1,0 +1,67 @@
+-- `emitter::emit_placement` meets its contract: the line in a buffer of its own, and the copy. A compiled railway's line has room there.
+-- Assumes nothing.
+use native.Mathlib.Omega.{arith}
+use borrow.Author.Needs.{needs}
+use mathlib.Core.Path.{refl}
+use denote.Ref.{now}
+use Rattle.emitter.proofs.Copying.{own-fits, own-cut}
+use Rattle.emitter.proofs.Emitting.{placement-written}
+use Rattle.emitter.proofs.emit_placement.Statement.{statement}
+use Rattle.emitter.proofs.emit_placement.Tie as tie
+
+entry-requires : tie.Need-entry-requires
+entry-requires c κs = search needs
+
+entry-requires-2 : tie.Need-entry-requires-2
+entry-requires-2 c κs = search needs
+
+placement-of-requires : tie.Need-placement-of-requires
+placement-of-requires c κs = search needs
+
+count-in-requires : tie.Need-count-in-requires
+count-in-requires c κs = search needs
+
+count-in-requires-2 : tie.Need-count-in-requires-2
+count-in-requires-2 c κs = search needs
+
+slice-aggregate-placement-line : tie.Need-slice-aggregate-placement-line
+slice-aggregate-placement-line c = search needs
+
+placement-line-requires : tie.Need-placement-line-requires
+placement-line-requires c κs = search needs
+
+array-share-prefix-text : tie.Need-array-share-prefix-text
+array-share-prefix-text c = own-fits refl (c .before .before .placement-line .ensures) (c .before .before .placement-line .kept .0)
+
+slice-aggregate-put-line : tie.Need-slice-aggregate-put-line
+slice-aggregate-put-line c = own-cut refl (c .before .before .before .placement-line .ensures) (c .before .before .before .placement-line .kept .0)
+
+add-t19 : tie.Need-add-t19
+add-t19 c = search needs
+
+put-line-requires : tie.Need-put-line-requires
+put-line-requires c κs = search needs
+
+same-length : tie.Need-same-length
+same-length c = search needs
+
+returns : tie.Need-returns
+returns c = λ r h has. let a = c .before .before .before .before .before .before .before .before .before .before .before .before .before .before .before .before .args in placement-written r (now (a .figures)) (now (a .settings)) (a .p) (now (a .out)) h has (c .before .before .before .before .before .before .before .before .before .before .before .before .entry .ensures) (omega arith) (c .before .before .before .before .before .before .before .before .before .before .before .entry2 .ensures) (c .before .before .before .before .before .before .before .before .before .before .placement-of .ensures r h) (c .before .before .before .before .before .before .before .before .before .count-in .ensures r h (omega arith)) (c .before .before .before .before .before .before .before .before .count-in2 .ensures r h (omega arith)) refl (c .before .before .before .before .before .before .placement-line .ensures) (c .before .before .put-line .ensures)
+
+pub emit-placement-spec : {M : Type 1} → statement M
+emit-placement-spec =
+    tie.close
+    (tie.spec
+    entry-requires
+    entry-requires-2
+    placement-of-requires
+    count-in-requires
+    count-in-requires-2
+    slice-aggregate-placement-line
+    placement-line-requires
+    array-share-prefix-text
+    slice-aggregate-put-line
+    add-t19
+    put-line-requires
+    same-length
+    returns)

@@ -1,0 +1,4 @@
+pub mod Taking
+pub mod Complete
+pub mod Compared
+pub mod Answered

@@ -1,0 +1,31 @@
+-- `planreader::figure_at` meets its contract: a number, and the test that it is a figure.
+-- Assumes nothing.
+use borrow.Author.Needs.{needs}
+use native.Mathlib.Omega.{arith}
+use mathlib.Core.Path.{sym, _∙_, ap}
+use Rattle.text.specs.Answers.{numberGot}
+use Rattle.planreader.proofs.Taking.{figure-none, figure-there, figure-high}
+use Rattle.planreader.proofs.figure_at.Statement.{statement}
+use Rattle.planreader.proofs.figure_at.Tie as tie
+
+number-at-requires : tie.Need-number-at-requires
+number-at-requires c κs = search needs
+
+enum-known-n : tie.Need-enum-known-n
+enum-known-n c = search needs
+
+enum-told : tie.Need-enum-told
+enum-told c = search needs
+
+returns : tie.Need-returns
+returns c = figure-none _ _ (sym (c .before .before .number-at .ensures) ∙ ap numberGot (c .enum-told .given .1))
+
+returns-2 : tie.Need-returns-2
+returns-2 c = let n = c .before .before in figure-there _ _ (sym (n .before .before .number-at .ensures) ∙ ap numberGot (n .n .given .1)) (omega (arith, c .if1 .taken))
+
+returns-3 : tie.Need-returns-3
+returns-3 c = let n = c .before .before in figure-high _ _ (sym (n .before .before .number-at .ensures) ∙ ap numberGot (n .n .given .1)) (c .if1 .left)
+
+pub figure-at-spec : {M : Type 1} → statement M
+figure-at-spec =
+    tie.close (tie.spec number-at-requires enum-known-n enum-told returns returns-2 returns-3)
