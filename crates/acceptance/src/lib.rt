@@ -59,7 +59,7 @@ pub fn test_record(r: Railway) -> Tested
 pub fn counts_outside(s: u8, p: u8, k: u8) -> bool
     ensures { λ b. ⌜ b ≡ outside s p k ⌝ }
 {
-    if s < 1 {
+    if s < Railway::FEWEST_SECTIONS {
         return true;
     }
     if Railway::SECTIONS < s {
@@ -68,7 +68,7 @@ pub fn counts_outside(s: u8, p: u8, k: u8) -> bool
     if Railway::POINTS < p {
         return true;
     }
-    if k < 1 {
+    if k < Railway::FEWEST_TRAINS {
         return true;
     }
     Railway::TRAINS < k

@@ -4,20 +4,18 @@ use mathlib.Core.Path.{_≡_, refl, sym, _∙_, ap}
 use mathlib.Core.Bool.{Bool, true, false}
 use mathlib.Core.List.{List}
 use mathlib.Core.Option.{Option, none, some}
-use Prim.Native.Nat.{ℕ, _^_, _≤_}
+use Prim.Native.Nat.{ℕ}
 use native.Mathlib.Omega.{arith}
-use native.Mathlib.Nat.{pow-le-pow-left, pow-le-pow-right}
 use native.Mathlib.Numerals.{add-one}
 use Rattle.railway.specs.declared.Railway.{Railway}
 use Rattle.railway.specs.declared.Refusal.{Refusal}
 use Rattle.railway.specs.declared.Refusal.the-variants.{PlanForm, PlanFault}
-use Rattle.railway.specs.Bounds.{mostSections, mostTrains}
 use Rattle.railway.specs.Rows.{recordRefusal}
 use Rattle.acceptance.specs.declared.Tested.the-variants.{Accepted, Refused}
 use Rattle.acceptance.specs.Answers.{refusalGiven}
-use Rattle.game.specs.Placement.{placements}
 use Rattle.game.proofs.Accepted.{Facts, facts}
 use Rattle.tables.specs.Tables.{caseRefusal}
+use Rattle.tables.proofs.Exists.{few-placements}
 use Rattle.plan.specs.declared.CheckerState.{CheckerState}
 use Rattle.plan.specs.declared.CheckerState.the-variants.{Fresh, Begun}
 use Rattle.plan.specs.declared.LineAnswer.{LineAnswer}
@@ -52,14 +50,11 @@ module _ (r : Railway) (accepted : recordRefusal r ≡ none) where
   ok : Facts r
   ok = facts r accepted
 
-  few-placements : placements r ≤ mostSections ^ mostTrains
-  few-placements = omega (arith, pow-le-pow-left (ok .few-sections) (r .trains), pow-le-pow-right {n = mostSections} (omega arith) {i = r .trains} {j = mostTrains} (ok .few-trains))
-
   code-small : (text : List ℕ) (o : Option PlanLine) → readLine r text ≡ o → CodeSmall (told r o)
   code-small text none e = tt
   code-small text (some (startLine n)) e = tt
   code-small text (some (placementLine d)) e =
-      let f = reads-line r (omega (arith, ok .few-sections)) text (placementLine d) .0 e .fit in omega (arith, code-in r accepted d f, few-placements)
+      let f = reads-line r (omega (arith, ok .few-sections)) text (placementLine d) .0 e .fit in omega (arith, code-in r accepted d f, few-placements r accepted)
 
 -- THE CALL FOR A LINE, by the case
 module _ (r : Railway) (c : Checking) (k : Compilation) (case : CasePost r (c .figs) (c .sets) k) where

@@ -28,6 +28,7 @@ abbrev pub takesPlacement : Checking → CheckerState → ℕ → ℕ → ℕ �
 takesPlacement c Fresh code n v = refuse c PlanForm
 takesPlacement c (Begun m from) code n v = cond (ltb code from) (refuse c PlanForm) (takenWith m (code + 1) (set (c .figs) code n) (set (c .sets) code v))
 
+-- Any line, by what was read.
 abbrev pub takesRead : Checking → CheckerState → LineRead → Left LineAnswer
 takesRead c state NoLine = refuse c PlanForm
 takesRead c state (Start n) = takesStart c state n

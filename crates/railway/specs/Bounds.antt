@@ -2,15 +2,23 @@
 -- `Railway::empty` promises that the associated constants of the type are these numbers. Assumes nothing.
 use Prim.Native.Nat.{ℕ, _+_, _*_}
 
--- Sections.
+-- Sections: from so many to so many.
+abbrev pub fewestSections : ℕ
+fewestSections = 1
+
+-- .. at most.
 abbrev pub mostSections : ℕ
 mostSections = 48
 
--- Points.
+-- Points, of which there need be none.
 abbrev pub mostPoints : ℕ
 mostPoints = 16
 
--- Trains.
+-- Trains: from so many to so many.
+abbrev pub fewestTrains : ℕ
+fewestTrains = 1
+
+-- .. at most.
 abbrev pub mostTrains : ℕ
 mostTrains = 4
 

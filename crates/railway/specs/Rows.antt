@@ -18,14 +18,14 @@ use Rattle.railway.specs.declared.Train.{Train}
 use Rattle.railway.specs.declared.Railway.{Railway}
 use Rattle.railway.specs.declared.Refusal.{Refusal}
 use Rattle.railway.specs.declared.Refusal.the-variants.{Count, Unknown, Join, Loose, Double, Place}
-use Rattle.railway.specs.Bounds.{mostSections, mostPoints, mostTrains, sectionEnds, allEnds}
+use Rattle.railway.specs.Bounds.{fewestSections, fewestTrains, mostSections, mostPoints, mostTrains, sectionEnds, allEnds}
 use Rattle.railway.specs.Ends.{sameSide, endIndex, endAt}
 use Rattle.railway.specs.Refusals.{Row, row, first}
 use Rattle.railway.specs.Record.{linkAt, flagAt, joined, runOf, sideOf}
 
 -- 3, count: too few or too many sections, points or trains.
 abbrev pub outside : ℕ → ℕ → ℕ → Bool
-outside s p k = ltb s 1 || ltb mostSections s || ltb mostPoints p || ltb k 1 || ltb mostTrains k
+outside s p k = ltb s fewestSections || ltb mostSections s || ltb mostPoints p || ltb k fewestTrains || ltb mostTrains k
 
 -- Row 3.
 abbrev pub countRow : Railway → Bool

@@ -4,7 +4,7 @@
 ghost use mathlib.Core.Path.{_≡_};
 ghost use lib.ListN.{set};
 ghost use Rattle.railway.specs.declared.Joined.the-variants.{With};
-ghost use Rattle.railway.specs.Bounds.{mostSections, mostPoints, mostTrains, sectionEnds, allEnds};
+ghost use Rattle.railway.specs.Bounds.{fewestSections, fewestTrains, mostSections, mostPoints, mostTrains, sectionEnds, allEnds};
 ghost use Rattle.railway.specs.Ends.{sideIndex, legIndex, endIndex, sideAt, legAt, endAt, portSide};
 ghost use Rattle.railway.specs.Record.{noTrain, emptyRailway, joined, hasSignal, legsOf, runOf, sideOf, withLinks, withJoin, withSignal, withLegs, withTrain};
 ghost use Rattle.railway.specs.Refusals.{number};
@@ -80,9 +80,13 @@ pub struct Railway {
 
 impl Railway {
     // The bounds of a railway.
+    pub const FEWEST_SECTIONS: u8 = 1;
+
     pub const SECTIONS: u8 = 48;
 
     pub const POINTS: u8 = 16;
+
+    pub const FEWEST_TRAINS: u8 = 1;
 
     pub const TRAINS: u8 = 4;
 
@@ -93,9 +97,9 @@ impl Railway {
     // The record with nothing in it. Its promise also ties the constants to the bounds that the definitions speak of.
     pub fn empty() -> Railway
         ensures empty { λ r. ⌜ r ≡ emptyRailway ⌝ }
-        ensures sections { λ r. do ⌜ (← ⟦Railway::SECTIONS⟧ .entry) ≡ mostSections ⌝ }
+        ensures sections { λ r. do ⌜ ((← ⟦Railway::FEWEST_SECTIONS⟧ .entry) ≡ fewestSections) × ((← ⟦Railway::SECTIONS⟧ .entry) ≡ mostSections) ⌝ }
         ensures points { λ r. do ⌜ (← ⟦Railway::POINTS⟧ .entry) ≡ mostPoints ⌝ }
-        ensures trains { λ r. do ⌜ (← ⟦Railway::TRAINS⟧ .entry) ≡ mostTrains ⌝ }
+        ensures trains { λ r. do ⌜ ((← ⟦Railway::FEWEST_TRAINS⟧ .entry) ≡ fewestTrains) × ((← ⟦Railway::TRAINS⟧ .entry) ≡ mostTrains) ⌝ }
         ensures ends { λ r. do ⌜ (← ⟦Railway::ENDS⟧ .entry) ≡ allEnds ⌝ }
     {
         let none = Link {

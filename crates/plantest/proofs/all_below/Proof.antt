@@ -43,10 +43,16 @@ loop-again : tie.Need-loop-again Inv-loop μ-loop
 loop-again c = let l = c .before .before .before in (omega arith, λ r h. all-next _ _ (l .loop .inv .1 r h) (sym (c .before .goes-below .ensures r h) ∙ c .if1 .taken))
 
 returns : tie.Need-returns Inv-loop μ-loop
-returns c = λ r h. let l = c .before .before .before in but-a-train r _ (l .before .count-in .ensures r h (omega arith)) _ (l .loop .t) (c .before .before .loop-test .taken) (sym (c .before .goes-below .ensures r h) ∙ c .if1 .left)
+returns c =
+    λ r h.
+    let l = c .before .before .before in
+    but-a-train r _ (l .before .count-in .ensures r h (omega arith)) _ (l .loop .t) (c .before .before .loop-test .taken) (sym (c .before .goes-below .ensures r h) ∙ c .if1 .left)
 
 returns-2 : tie.Need-returns-2 Inv-loop μ-loop
-returns-2 c = λ r h. let l = c .before in every-train r _ (l .before .count-in .ensures r h (omega arith)) _ (l .loop .t) (l .loop .inv .0) (c .loop-test .left) (l .loop .inv .1 r h)
+returns-2 c =
+    λ r h.
+    let l = c .before in
+    every-train r _ (l .before .count-in .ensures r h (omega arith)) _ (l .loop .t) (l .loop .inv .0) (c .loop-test .left) (l .loop .inv .1 r h)
 
 pub all-below-spec : {M : Type 1} → statement M
 all-below-spec =

@@ -15,10 +15,16 @@ is-below-requires : tie.Need-is-below-requires
 is-below-requires c κs = search needs
 
 returns : tie.Need-returns
-returns c = λ r h. let a = c .before .before .before .before .before .args in moves-below r (a .figures .now) (a .p) (a .v) (a .n) (a .t) _ (c .before .before .before .may-move .ensures r h) (c .before .move-of .result) _ (c .before .before .if1 .taken) (c .before .move-of .ensures r h) (c .is-below .ensures)
+returns c =
+    λ r h.
+    let a = c .before .before .before .before .before .args in
+    moves-below r (a .figures .now) (a .p) (a .v) (a .n) (a .t) _ (c .before .before .before .may-move .ensures r h) (c .before .move-of .result) _ (c .before .before .if1 .taken) (c .before .move-of .ensures r h) (c .is-below .ensures)
 
 returns-2 : tie.Need-returns-2
-returns-2 c = λ r h. let a = c .before .before .before .args in stays-below r (a .figures .now) (a .p) (a .v) (a .n) (a .t) _ (c .before .may-move .ensures r h) (c .if1 .left)
+returns-2 c =
+    λ r h.
+    let a = c .before .before .before .args in
+    stays-below r (a .figures .now) (a .p) (a .v) (a .n) (a .t) _ (c .before .may-move .ensures r h) (c .if1 .left)
 
 pub goes-below-spec : {M : Type 1} → statement M
 goes-below-spec = tie.close (tie.spec may-move-requires move-of-requires is-below-requires returns returns-2)

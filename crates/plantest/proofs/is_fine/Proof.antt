@@ -9,13 +9,19 @@ figure-at-requires : tie.Need-figure-at-requires
 figure-at-requires c κs = search needs
 
 returns : tie.Need-returns
-returns c = λ r h. let a = c .before .before .before .before .args in unlisted-fine r (a .figures .now) (a .settings .now) (a .p) _ (c .before .figure-at .ensures) (c .if1 .taken)
+returns c =
+    λ r h.
+    let a = c .before .before .before .before .args in
+    unlisted-fine r (a .figures .now) (a .settings .now) (a .p) _ (c .before .figure-at .ensures) (c .if1 .taken)
 
 listed-fine-requires : tie.Need-listed-fine-requires
 listed-fine-requires c κs = search needs
 
 returns-2 : tie.Need-returns-2
-returns-2 c = λ r h. let a = c .before .before .before .before .before .args in listed-is-fine r (a .figures .now) (a .settings .now) (a .p) _ (c .before .before .figure-at .ensures) _ (c .before .if1 .left) (c .listed-fine .ensures r h)
+returns-2 c =
+    λ r h.
+    let a = c .before .before .before .before .before .args in
+    listed-is-fine r (a .figures .now) (a .settings .now) (a .p) _ (c .before .before .figure-at .ensures) _ (c .before .if1 .left) (c .listed-fine .ensures r h)
 
 pub is-fine-spec : {M : Type 1} → statement M
 is-fine-spec = tie.close (tie.spec figure-at-requires returns listed-fine-requires returns-2)

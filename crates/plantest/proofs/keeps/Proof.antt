@@ -12,7 +12,10 @@ all-below-requires : tie.Need-all-below-requires
 all-below-requires c κs = search needs
 
 returns : tie.Need-returns
-returns c = λ r h. let a = c .before .before .before .before .args in some-keeps r (a .figures .now) (a .p) (a .v) (a .n) _ (c .before .before .some-may .ensures r h) _ (c .before .if1 .taken) (c .all-below .ensures r h)
+returns c =
+    λ r h.
+    let a = c .before .before .before .before .args in
+    some-keeps r (a .figures .now) (a .p) (a .v) (a .n) _ (c .before .before .some-may .ensures r h) _ (c .before .if1 .taken) (c .all-below .ensures r h)
 
 returns-2 : tie.Need-returns-2
 returns-2 c = λ r h. let a = c .before .before .before .args in none-keeps r (a .figures .now) (a .p) (a .v) (a .n) _ (c .before .some-may .ensures r h) (c .if1 .left)

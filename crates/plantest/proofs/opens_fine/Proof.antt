@@ -37,13 +37,23 @@ loop-less : tie.Need-loop-less Inv-loop μ-loop
 loop-less c = omega arith
 
 loop-again : tie.Need-loop-again Inv-loop μ-loop
-loop-again c = let l = c .before .before .before in (omega arith, λ r p on. let there = train-there r _ (l .before .count-in .ensures r (on .compiled) (omega arith)) _ (c .before .before .loop-test .taken) in all-next _ _ (l .loop .inv .1 r p on) (sym (c .before .train-fine .ensures r p on there) ∙ c .if1 .taken))
+loop-again c =
+    let l = c .before .before .before in
+    (omega arith, λ r p on. let there = train-there r _ (l .before .count-in .ensures r (on .compiled) (omega arith)) _ (c .before .before .loop-test .taken) in all-next _ _ (l .loop .inv .1 r p on) (sym (c .before .train-fine .ensures r p on there) ∙ c .if1 .taken))
 
 returns : tie.Need-returns Inv-loop μ-loop
-returns c = λ r p on. let l = c .before .before .before in let e = l .before .count-in .ensures r (on .compiled) (omega arith) in let there = train-there r _ e _ (c .before .before .loop-test .taken) in but-a-train r _ e _ (l .loop .t) (c .before .before .loop-test .taken) (sym (c .before .train-fine .ensures r p on there) ∙ c .if1 .left)
+returns c =
+    λ r p on.
+    let l = c .before .before .before in
+    let e = l .before .count-in .ensures r (on .compiled) (omega arith) in
+    let there = train-there r _ e _ (c .before .before .loop-test .taken) in
+    but-a-train r _ e _ (l .loop .t) (c .before .before .loop-test .taken) (sym (c .before .train-fine .ensures r p on there) ∙ c .if1 .left)
 
 returns-2 : tie.Need-returns-2 Inv-loop μ-loop
-returns-2 c = λ r p on. let l = c .before in every-train r _ (l .before .count-in .ensures r (on .compiled) (omega arith)) _ (l .loop .t) (l .loop .inv .0) (c .loop-test .left) (l .loop .inv .1 r p on)
+returns-2 c =
+    λ r p on.
+    let l = c .before in
+    every-train r _ (l .before .count-in .ensures r (on .compiled) (omega arith)) _ (l .loop .t) (l .loop .inv .0) (c .loop-test .left) (l .loop .inv .1 r p on)
 
 pub opens-fine-spec : {M : Type 1} → statement M
 opens-fine-spec =

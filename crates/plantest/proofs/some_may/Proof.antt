@@ -33,7 +33,10 @@ may-move-requires : tie.Need-may-move-requires Inv-loop μ-loop
 may-move-requires c κs = search needs
 
 returns : tie.Need-returns Inv-loop μ-loop
-returns c = λ r h. let l = c .before .before .before in one-of-trains r _ (l .before .count-in .ensures r h (omega arith)) _ (l .loop .t) (c .before .before .loop-test .taken) (sym (c .before .may-move .ensures r h) ∙ c .if1 .taken)
+returns c =
+    λ r h.
+    let l = c .before .before .before in
+    one-of-trains r _ (l .before .count-in .ensures r h (omega arith)) _ (l .loop .t) (c .before .before .loop-test .taken) (sym (c .before .may-move .ensures r h) ∙ c .if1 .taken)
 
 add-t : tie.Need-add-t Inv-loop μ-loop
 add-t c = omega arith
@@ -45,7 +48,10 @@ loop-again : tie.Need-loop-again Inv-loop μ-loop
 loop-again c = let l = c .before .before .before in (omega arith, λ r h. any-next _ _ (l .loop .inv .1 r h) (sym (c .before .may-move .ensures r h) ∙ c .if1 .left))
 
 returns-2 : tie.Need-returns-2 Inv-loop μ-loop
-returns-2 c = λ r h. let l = c .before in none-of-trains r _ (l .before .count-in .ensures r h (omega arith)) _ (l .loop .t) (l .loop .inv .0) (c .loop-test .left) (l .loop .inv .1 r h)
+returns-2 c =
+    λ r h.
+    let l = c .before in
+    none-of-trains r _ (l .before .count-in .ensures r h (omega arith)) _ (l .loop .t) (l .loop .inv .0) (c .loop-test .left) (l .loop .inv .1 r h)
 
 pub some-may-spec : {M : Type 1} → statement M
 some-may-spec =

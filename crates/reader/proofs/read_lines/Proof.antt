@@ -1,17 +1,17 @@
--- `reader::read_lines` meets its contract: the lines of each kind are read where those before them end, and the first that is not in form ends
--- the reading.
+-- `reader::read_lines` meets its contract: the lines of each kind are read where those before them end, and what is not in form stays so.
 -- Assumes nothing.
 use borrow.Author.Needs.{needs}
 use denote.Ref.{now}
 use mathlib.Core.Path.{sym, _∙_, ap}
 use Rattle.drafts.specs.Drafting.{linesGot}
 use Rattle.lines.specs.Answers.{countsGot}
-use Rattle.reader.proofs.Parts.{header-bad, points-bad, joins-bad, signals-bad, trains-bad, more-left, all-read}
+use Rattle.walk.proofs.Turns.{lines-as}
+use Rattle.reader.proofs.Parts.{header-bad, whole}
 use Rattle.reader.proofs.read_lines.Statement.{statement}
 use Rattle.reader.proofs.read_lines.Tie as tie
 
-header-line-requires : tie.Need-header-line-requires
-header-line-requires c κs = search needs
+first-line-requires : tie.Need-first-line-requires
+first-line-requires c κs = search needs
 
 enum-known-s : tie.Need-enum-known-s
 enum-known-s c = search needs
@@ -26,43 +26,31 @@ not-in-form-requires : tie.Need-not-in-form-requires
 not-in-form-requires c κs = search needs
 
 returns : tie.Need-returns
-returns c = let t = c .before .before in ap linesGot (c .not-in-form .ensures) ∙ header-bad _ (sym (t .before .before .header-line .ensures) ∙ ap countsGot (t .enum-told .given .1))
+returns c = let t = c .before .before in ap linesGot (c .not-in-form .ensures) ∙ header-bad _ (sym (t .before .before .first-line .ensures) ∙ ap countsGot (t .enum-told .given .1))
 
 begin-requires-2 : tie.Need-begin-requires-2
 begin-requires-2 c κs = search needs
 
-counted-lines-requires : tie.Need-counted-lines-requires
-counted-lines-requires c κs = search needs
+in-form-requires : tie.Need-in-form-requires
+in-form-requires c κs = search needs
 
-many-lines-requires : tie.Need-many-lines-requires
-many-lines-requires c κs = search needs
+lines-of-requires : tie.Need-lines-of-requires
+lines-of-requires c κs = search needs
 
-many-lines-requires-2 : tie.Need-many-lines-requires-2
-many-lines-requires-2 c κs = search needs
+lines-of-requires-2 : tie.Need-lines-of-requires-2
+lines-of-requires-2 c κs = search needs
 
-counted-lines-requires-2 : tie.Need-counted-lines-requires-2
-counted-lines-requires-2 c κs = search needs
+lines-of-requires-3 : tie.Need-lines-of-requires-3
+lines-of-requires-3 c κs = search needs
 
-not-in-form-requires-2 : tie.Need-not-in-form-requires-2
-not-in-form-requires-2 c κs = search needs
+lines-of-requires-4 : tie.Need-lines-of-requires-4
+lines-of-requires-4 c κs = search needs
+
+to-end-requires : tie.Need-to-end-requires
+to-end-requires c κs = search needs
 
 returns-2 : tie.Need-returns-2
-returns-2 c = let y5 = c .before in let y4 = y5 .before .before in let t = y4 .before in let y3 = t .before in let g = y3 .before in let y2 = g .before in let j = y2 .before in let y1 = j .before in let m = y1 .before in let v = m .before in let h = v .before in let x = h .before .before .before in ap linesGot (c .not-in-form2 .ensures) ∙ more-left (now (x .before .before .args .text)) _ _ (sym (x .header-line .ensures) ∙ ap countsGot (h .before .s .given .1)) _ (v .begin2 .ensures) _ (m .counted-lines .ensures) (y1 .if1 .taken) _ (j .many-lines .ensures) (y2 .if2 .taken) _ (g .many-lines2 .ensures) (y3 .if3 .taken) _ (t .counted-lines2 .ensures) (y4 .if4 .taken) (y5 .if5 .taken)
-
-returns-3 : tie.Need-returns-3
-returns-3 c = let y4 = c .before .before in let t = y4 .before in let y3 = t .before in let g = y3 .before in let y2 = g .before in let j = y2 .before in let y1 = j .before in let m = y1 .before in let v = m .before in let h = v .before in let x = h .before .before .before in all-read (now (x .before .before .args .text)) _ _ (sym (x .header-line .ensures) ∙ ap countsGot (h .before .s .given .1)) _ (v .begin2 .ensures) _ (m .counted-lines .ensures) (y1 .if1 .taken) _ (j .many-lines .ensures) (y2 .if2 .taken) _ (g .many-lines2 .ensures) (y3 .if3 .taken) _ (t .counted-lines2 .ensures) (y4 .if4 .taken) (c .if5 .left)
-
-returns-4 : tie.Need-returns-4
-returns-4 c = let t = c .before in let y3 = t .before in let g = y3 .before in let y2 = g .before in let j = y2 .before in let y1 = j .before in let m = y1 .before in let v = m .before in let h = v .before in let x = h .before .before .before in trains-bad (now (x .before .before .args .text)) _ _ (sym (x .header-line .ensures) ∙ ap countsGot (h .before .s .given .1)) _ (v .begin2 .ensures) _ (m .counted-lines .ensures) (y1 .if1 .taken) _ (j .many-lines .ensures) (y2 .if2 .taken) _ (g .many-lines2 .ensures) (y3 .if3 .taken) _ (t .counted-lines2 .ensures) (c .if4 .left)
-
-returns-5 : tie.Need-returns-5
-returns-5 c = let g = c .before in let y2 = g .before in let j = y2 .before in let y1 = j .before in let m = y1 .before in let v = m .before in let h = v .before in let x = h .before .before .before in signals-bad (now (x .before .before .args .text)) _ _ (sym (x .header-line .ensures) ∙ ap countsGot (h .before .s .given .1)) _ (v .begin2 .ensures) _ (m .counted-lines .ensures) (y1 .if1 .taken) _ (j .many-lines .ensures) (y2 .if2 .taken) _ (g .many-lines2 .ensures) (c .if3 .left)
-
-returns-6 : tie.Need-returns-6
-returns-6 c = let j = c .before in let y1 = j .before in let m = y1 .before in let v = m .before in let h = v .before in let x = h .before .before .before in joins-bad (now (x .before .before .args .text)) _ _ (sym (x .header-line .ensures) ∙ ap countsGot (h .before .s .given .1)) _ (v .begin2 .ensures) _ (m .counted-lines .ensures) (y1 .if1 .taken) _ (j .many-lines .ensures) (c .if2 .left)
-
-returns-7 : tie.Need-returns-7
-returns-7 c = let m = c .before in let v = m .before in let h = v .before in let x = h .before .before .before in points-bad (now (x .before .before .args .text)) _ _ (sym (x .header-line .ensures) ∙ ap countsGot (h .before .s .given .1)) _ (v .begin2 .ensures) _ (m .counted-lines .ensures) (c .if1 .left)
+returns-2 c = let t = c .before in let g = t .before in let j = g .before in let p = j .before in let f = p .before in let b = f .before in let k = b .before in let h = k .before .before .before in whole (now (h .before .before .args .text)) _ _ (sym (h .first-line .ensures) ∙ ap countsGot (k .before .s .given .1)) _ (b .begin2 .ensures) _ (f .in-form .ensures) (p .lines-of .result) (j .lines-of2 .result) (g .lines-of3 .result) (t .lines-of4 .result) (c .to-end .result) (ap linesGot (p .lines-of .ensures) ∙ lines-as _ _) (ap linesGot (j .lines-of2 .ensures) ∙ lines-as _ _) (ap linesGot (g .lines-of3 .ensures) ∙ lines-as _ _) (ap linesGot (t .lines-of4 .ensures) ∙ lines-as _ _) (c .to-end .ensures)
 
 pub read-lines-spec : {M : Type 1} → statement M
-read-lines-spec = tie.close (tie.spec header-line-requires enum-known-s enum-told begin-requires not-in-form-requires returns begin-requires-2 counted-lines-requires many-lines-requires many-lines-requires-2 counted-lines-requires-2 not-in-form-requires-2 returns-2 returns-3 returns-4 returns-5 returns-6 returns-7)
+read-lines-spec = tie.close (tie.spec first-line-requires enum-known-s enum-told begin-requires not-in-form-requires returns begin-requires-2 in-form-requires lines-of-requires lines-of-requires-2 lines-of-requires-3 lines-of-requires-4 to-end-requires returns-2)

@@ -19,10 +19,16 @@ refused-requires : tie.Need-refused-requires
 refused-requires c κs = search needs
 
 returns : tie.Need-returns
-returns c = λ figs sets. let a = c .before .before .before .args in start-first (checking (a .self) figs sets) (a .self .state) _ (a .n) (c .before .enum-told .given .1) (c .begun .ensures figs sets)
+returns c =
+    λ figs sets.
+    let a = c .before .before .before .args in
+    start-first (checking (a .self) figs sets) (a .self .state) _ (a .n) (c .before .enum-told .given .1) (c .begun .ensures figs sets)
 
 returns-2 : tie.Need-returns-2
-returns-2 c = λ figs sets. let a = c .before .before .before .args in start-again (checking (a .self) figs sets) (a .self .state) _ (a .n) _ _ (c .before .enum-told2 .given .1) (c .refused .ensures figs sets)
+returns-2 c =
+    λ figs sets.
+    let a = c .before .before .before .args in
+    start-again (checking (a .self) figs sets) (a .self .state) _ (a .n) _ _ (c .before .enum-told2 .given .1) (c .refused .ensures figs sets)
 
 pub begin-spec : {M : Type 1} → statement M
 begin-spec = tie.close (tie.spec enum-told begun-requires enum-told-2 refused-requires returns returns-2)

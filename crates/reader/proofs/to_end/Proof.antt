@@ -1,0 +1,21 @@
+-- `reader::to_end` meets its contract: bytes are left behind the lines, or none are.
+-- Assumes nothing.
+use borrow.Author.Needs.{needs}
+use denote.Ref.{now}
+use mathlib.Core.Path.{_∙_, ap}
+use Rattle.drafts.specs.Drafting.{linesGot}
+use Rattle.reader.proofs.Parts.{more-left, all-read}
+use Rattle.reader.proofs.to_end.Statement.{statement}
+use Rattle.reader.proofs.to_end.Tie as tie
+
+not-in-form-requires : tie.Need-not-in-form-requires
+not-in-form-requires c κs = search needs
+
+returns : tie.Need-returns
+returns c = let t = c .before in let a = t .before .before .before .before .args in ap linesGot (c .not-in-form .ensures) ∙ more-left (now (a .text)) (a .all) (t .if1 .taken)
+
+returns-2 : tie.Need-returns-2
+returns-2 c = let a = c .before .before .before .before .args in all-read (now (a .text)) (a .all) (c .if1 .left)
+
+pub to-end-spec : {M : Type 1} → statement M
+to-end-spec = tie.close (tie.spec not-in-form-requires returns returns-2)
