@@ -12,6 +12,7 @@ use Rattle.plan.specs.declared.TestAnswer.the-variants.{Pass}
 use Rattle.plan.specs.Checked.{Passing}
 use Rattle.verdict.specs.Verdict.{linesOf, checkText}
 
+-- Pass is answered exactly to the lines of a plan that passes.
 abbrev pub VerdictHolds : Type 0
 VerdictHolds =
     (r : Railway) → recordRefusal r ≡ none → (n m : ℕ) → placements r ≤ n → placements r ≤ m
