@@ -42,7 +42,8 @@ fn show(text: &[u8]) {
     match answer {
         CaseAnswer::Accepted => again(read.railway),
         CaseAnswer::Refused(f) => {
-            output::refusal(f);
+            let mut line = [0u8; output::LINE];
+            output::refusal(f, &mut line);
         }
     }
 }
@@ -60,7 +61,7 @@ fn write(r: Railway, out: &mut [u8]) {
             }
         }
         Written::Refused(f) => {
-            output::refusal(f);
+            output::refusal(f, out);
         }
     }
 }

@@ -56,7 +56,8 @@ fn show(case: &[u8], plan: &[u8]) {
     let answer = read.answer;
     match answer {
         CaseAnswer::Refused(f) => {
-            output::refusal(f);
+            let mut line = [0u8; output::LINE];
+            output::refusal(f, &mut line);
         }
         CaseAnswer::Accepted => check(read.railway, plan),
     }
@@ -66,5 +67,6 @@ fn check(r: Railway, plan: &[u8]) {
     let mut figures = [0u32; ENTRIES];
     let mut settings = [0u32; ENTRIES];
     let answer = verdict::check_plan(r, plan, &mut figures, &mut settings);
-    output::test_answer(answer);
+    let mut line = [0u8; output::LINE];
+    output::test_answer(answer, &mut line);
 }

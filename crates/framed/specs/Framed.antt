@@ -14,5 +14,6 @@ KeptBy Whole n old new = drop n new ≡ drop n old
 KeptBy Ended n old new = (n ≡ 0) × (new ≡ old)
 KeptBy Broken n old new = (n ≡ 0) × (length new ≡ length old)
 
+-- .. by what was read.
 abbrev pub Kept : Record → List ℕ → List ℕ → Type 0
 Kept r old new = KeptBy (r .reading) (r .bytes) old new

@@ -1,21 +1,64 @@
-// What programs write on standard output for an answer: a line each, ended by byte 10. Each function answers whether all of it was written.
+// The lines that programs write for an answer. Each is made at the front of a lent buffer, and what stands there is written on standard
+// output: the promise is about the buffer, since no contract can speak of what leaves the program. Each function answers whether all of it
+// was written.
+ghost use Rattle.text.specs.Appending.{Appended};
+ghost use Rattle.output.specs.Lines.{refusalLine, passLine, testLine, Fronted};
 use libc::STDOUT_FILENO;
 use plan::TestAnswer;
 use railway::Refusal;
+use text::append;
 
-// `refused`, a tab and the number in the table.
-pub fn refusal(f: Refusal) -> bool {
-    let word = io::write_all(STDOUT_FILENO, b"refused\t");
-    let n = f.number();
-    let number = io::print_decimal(STDOUT_FILENO, n as u64);
-    let end = io::write_all(STDOUT_FILENO, b"\n");
-    word && number && end
+// Room enough for every line here.
+pub const LINE: usize = 16;
+
+const TAB: u8 = 9;
+
+const LINE_END: u8 = 10;
+
+// A refusal, by its number in the table.
+pub fn refusal(f: Refusal, out: &mut [u8]) -> bool
+    ensures { λ b. ⌜ Fronted (now (out .entry)) (refusalLine f) (now (out .exit)) ⌝ }
+{
+    let n = put_refusal(out, f);
+    write_front(out, n)
 }
 
 // The answer to the call for the test.
-pub fn test_answer(a: TestAnswer) -> bool {
+pub fn test_answer(a: TestAnswer, out: &mut [u8]) -> bool
+    ensures { λ b. ⌜ Fronted (now (out .entry)) (testLine a) (now (out .exit)) ⌝ }
+{
     match a {
-        TestAnswer::Pass => io::write_all(STDOUT_FILENO, b"pass\n"),
-        TestAnswer::Refused(f) => refusal(f),
+        TestAnswer::Pass => {
+            let n = put_pass(out);
+            write_front(out, n)
+        }
+        TestAnswer::Refused(f) => refusal(f, out),
+    }
+}
+
+fn put_refusal(out: &mut [u8], f: Refusal) -> usize
+    ensures { λ n. ⌜ Appended (now (out .entry)) 0 (refusalLine f) (now (out .exit)) n ⌝ }
+{
+    let a = append::two(out, 0, b'r', b'e');
+    let b = append::two(out, a, b'f', b'u');
+    let c = append::two(out, b, b's', b'e');
+    let d = append::two(out, c, b'd', TAB);
+    append::number(out, d, f.number() as u32, LINE_END)
+}
+
+fn put_pass(out: &mut [u8]) -> usize
+    ensures { λ n. ⌜ Appended (now (out .entry)) 0 passLine (now (out .exit)) n ⌝ }
+{
+    let a = append::two(out, 0, b'p', b'a');
+    let b = append::two(out, a, b's', b's');
+    append::byte(out, b, LINE_END)
+}
+
+// The first n bytes of a buffer, written on standard output.
+fn write_front(out: &[u8], n: usize) -> bool {
+    if n <= out.len() {
+        io::write_all(STDOUT_FILENO, &out[..n])
+    } else {
+        false
     }
 }

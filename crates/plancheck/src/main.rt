@@ -21,7 +21,8 @@ fn main() {
     let answer = read.answer;
     match answer {
         CaseAnswer::Refused(f) => {
-            output::refusal(f);
+            let mut line = [0u8; output::LINE];
+            output::refusal(f, &mut line);
         }
         CaseAnswer::Accepted => check(read.railway),
     }
@@ -46,5 +47,6 @@ fn check(r: Railway) {
     let mut figures = [0u32; ENTRIES];
     let mut settings = [0u32; ENTRIES];
     let answer = verdict::check_plan(r, &plan[..n], &mut figures, &mut settings);
-    output::test_answer(answer);
+    let mut line = [0u8; output::LINE];
+    output::test_answer(answer, &mut line);
 }

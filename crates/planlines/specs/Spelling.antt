@@ -21,12 +21,14 @@ lineOf k m q n v =
       plus = listBelow (bit v) m;
     }
 
--- What is written for train t, its section and then its digit where it is open, and for point n.
+-- What is written of train t: its section, and a tab.
 abbrev pub sectionPiece : Placement → ℕ → List ℕ
 sectionPiece q t = sectionField (sectionIn q t) ++ (tab ∷ [])
 
+-- .. its digit, where it is open.
 abbrev pub openPiece : (ℕ → Bool) → ℕ → List ℕ
 openPiece opens t = cond (opens t) ((49 + t) ∷ []) []
 
+-- What is written of point n: its sign.
 abbrev pub pointPiece : (ℕ → Bool) → ℕ → List ℕ
 pointPiece plus n = sign (plus n) ∷ []

@@ -4,6 +4,7 @@ use libc::STDOUT_FILENO;
 use plan::Emitted;
 use plan::PlanPlace;
 use railway::Railway;
+use railway::Refusal;
 use tables::SolverAnswer;
 
 // No line of a plan has more bytes.
@@ -16,7 +17,7 @@ pub fn write_plan(r: Railway, figures: &mut [u32], settings: &mut [u32]) -> Solv
     let answer = solver::solve(r, figures, settings);
     match answer {
         SolverAnswer::Refused(f) => {
-            output::refusal(f);
+            write_refusal(f);
         }
         SolverAnswer::Unsolvable => {
             io::write_all(STDOUT_FILENO, b"none\n");
@@ -24,6 +25,11 @@ pub fn write_plan(r: Railway, figures: &mut [u32], settings: &mut [u32]) -> Solv
         SolverAnswer::Figure(_) => write_lines(r, figures, settings),
     }
     answer
+}
+
+fn write_refusal(f: Refusal) {
+    let mut line = [0u8; output::LINE];
+    output::refusal(f, &mut line);
 }
 
 fn write_lines(r: Railway, figures: &[u32], settings: &[u32]) {

@@ -49,7 +49,8 @@ fn show(text: &[u8]) {
     match answer {
         CaseAnswer::Accepted => accepted(read.railway),
         CaseAnswer::Refused(f) => {
-            output::refusal(f);
+            let mut line = [0u8; output::LINE];
+            output::refusal(f, &mut line);
         }
     }
 }
@@ -123,7 +124,8 @@ fn lend(r: Railway, figures: &mut [u32], settings: &mut [u32], n: usize, m: usiz
 fn answer(a: SolverAnswer) {
     match a {
         SolverAnswer::Refused(f) => {
-            output::refusal(f);
+            let mut line = [0u8; output::LINE];
+            output::refusal(f, &mut line);
         }
         SolverAnswer::Unsolvable => {
             io::write_all(STDOUT_FILENO, b"none\n");

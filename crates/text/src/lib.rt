@@ -2,8 +2,9 @@
 // was read. Past the end of a text stands byte 0, which begins no field, so any cursor may come in. Writing is in `append`. specs/ has the
 // definitions, proofs/ the laws.
 ghost use mathlib.Core.Path.{_≡_};
-ghost use lib.ListN.{getD};
-ghost use Rattle.text.specs.Reading.{isDigit, numberAt};
+ghost use Prim.Native.Nat.{_-_, _^_, _≤_, _<_};
+ghost use lib.ListN.{length, getD};
+ghost use Rattle.text.specs.Reading.{isDigit, digitsAt, numberAt};
 ghost use Rattle.text.specs.Answers.{moreDigits, numberGot, byteGot, byteInside};
 
 pub mod append; // append.rt: bytes and numbers put into a lent buffer, one behind the other
@@ -78,24 +79,32 @@ pub fn number_at(text: &[u8], c: Cursor, w: Width) -> Number
 {
     let first = peek(text, c);
     if is_digit(first) {
-        let mut at = c.at + 1;
+        let at = c.at + 1;
         if first == 48 {
             return Number::Value(0, Cursor { at: at });
         }
-        let mut n = (first - 48) as u64;
-        let mut left = more_digits(w);
-        while 0 < left {
-            let b = peek(text, Cursor { at: at });
-            if is_digit(b) {
-                n = n * 10 + (b - 48) as u64;
-                at += 1;
-                left -= 1;
-            } else {
-                return Number::Value(n, Cursor { at: at });
-            }
-        }
-        Number::Value(n, Cursor { at: at })
-    } else {
-        Number::None
+        return digits_at(text, at, (first - 48) as u64, more_digits(w));
     }
+    Number::None
+}
+
+// So many digits more at most, behind those of the number so far.
+fn digits_at(text: &[u8], from: usize, value: u64, most: u8) -> Number
+    requires { ⌜ (value < 10 ^ (10 - most)) × (most ≤ 9) × (from ≤ length (now text)) ⌝ }
+    ensures { λ r. ⌜ numberGot r ≡ digitsAt (now (text .entry)) most value from ⌝ }
+{
+    let mut at = from;
+    let mut n = value;
+    let mut left = most;
+    while 0 < left {
+        let b = peek(text, Cursor { at: at });
+        if is_digit(b) {
+            n = n * 10 + (b - 48) as u64;
+            at += 1;
+            left -= 1;
+        } else {
+            return Number::Value(n, Cursor { at: at });
+        }
+    }
+    Number::Value(n, Cursor { at: at })
 }

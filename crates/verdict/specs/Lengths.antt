@@ -5,6 +5,7 @@ use Prim.Native.Nat.{ℕ, suc}
 use lib.Dec.{eqb}
 use Rattle.text.specs.Text.{lineEnd}
 
+-- Up to the first line end, or to the end of the text.
 unfoldable pub lineBytes : List ℕ → ℕ
 lineBytes [] = 0
 lineBytes (b ∷ bs) = cond (eqb b lineEnd) 1 (suc (lineBytes bs))

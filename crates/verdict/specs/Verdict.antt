@@ -14,11 +14,12 @@ use Rattle.plan.specs.declared.TestAnswer.{TestAnswer}
 use Rattle.plan.specs.declared.TestAnswer.the-variants.{Refused as TestRefused}
 use Rattle.plan.specs.Checker.{Checking, Left, left, freshChecking, takeLine, testPlan, testNumber}
 
--- THE LINES OF A TEXT, each with its line end; bytes behind the last line end are a line as they stand.
+-- A byte more in front of the first line.
 abbrev pub begun : ℕ → List (List ℕ) → List (List ℕ)
 begun b [] = (b ∷ []) ∷ []
 begun b (l ∷ ls) = (b ∷ l) ∷ ls
 
+-- THE LINES OF A TEXT, each with its line end; bytes behind the last line end are a line as they stand.
 unfoldable pub linesOf : List ℕ → List (List ℕ)
 linesOf [] = []
 linesOf (b ∷ bs) = cond (eqb b lineEnd) ((b ∷ []) ∷ linesOf bs) (begun b (linesOf bs))

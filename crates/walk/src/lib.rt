@@ -135,8 +135,8 @@ fn goes_on_at(text: &[u8], at: usize, w: Walk) -> bool
         let here = text::peek(text, Cursor { at: at });
         match kind {
             Kind::P => w.read < w.count,
-            Kind::J => here == 74,
-            Kind::G => here == 71,
+            Kind::J => here == b'J',
+            Kind::G => here == b'G',
             Kind::T => w.read < w.count,
         }
     } else {

@@ -10,8 +10,8 @@ solve-requires c κs = search needs
 enum-known-answer : tie.Need-enum-known-answer
 enum-known-answer c = search needs
 
-refusal-requires : tie.Need-refusal-requires
-refusal-requires c κs = search needs
+write-refusal-requires : tie.Need-write-refusal-requires
+write-refusal-requires c κs = search needs
 
 enum-told : tie.Need-enum-told
 enum-told c = search needs
@@ -61,7 +61,7 @@ write-plan-spec =
     (tie.spec
     solve-requires
     enum-known-answer
-    refusal-requires
+    write-refusal-requires
     enum-told
     slice-aggregate-write-all
     write-all-requires

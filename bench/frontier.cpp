@@ -1,0 +1,164 @@
+// The frontier: round n looks only at placements from which a move leads to one of figure n - 1. Besides the tables it has two buffers of a fixed
+// size for the placements of this round and the last; a round that does not fit is found again by flags for stretches of the table.
+#include "solvers.hpp"
+#include <algorithm>
+#include <utility>
+
+namespace {
+
+constexpr u32 BUFFER = 1 << 16, STRETCHES = 1 << 12;
+
+// The placements that got their figure in one round.
+struct Round {
+    u32 code[BUFFER], count = 0;
+    u8 stretch[STRETCHES] = {};
+
+    bool fits() const { return count <= BUFFER; }
+    void add(u32 c, int shift) {
+        stretch[c >> shift] = 1;
+        if (count < BUFFER) code[count] = c;
+        count++;
+    }
+};
+Round rounds[2];
+
+// A move into a section, backwards.
+struct Back {
+    int32_t change;                                 // of the code, from after the move to before it
+    u32 from;                                       // the section before
+    u32 entry;                                      // the setting that lets this train make this move and opens nothing else
+    bool signal;
+};
+
+template <int K> struct Frontier {
+    const Yard& y;
+    u32 *figures, *settings;
+    Back back[K][SECTIONS][2];
+    int backs[K][SECTIONS] = {};
+    u32 inverse;                                    // of the number of sections, times 2^32, rounded up: exact for codes below 2^26
+    int shift = 0;                                  // from codes to stretches
+    u32 stretches;
+    Round *last = rounds, *next = rounds + 1;
+
+    Frontier(const Yard& yard, u32* f, u32* s) : y(yard), figures(f), settings(s) {
+        inverse = (u32)(((u64(1) << 32) + y.sections - 1) / y.sections);
+        while ((y.placements - 1) >> shift >= STRETCHES) shift++;
+        stretches = ((y.placements - 1) >> shift) + 1;
+        for (int t = 0; t < K; t++)
+            for (int x = 0; x < y.sections; x++) {
+                const Step& step = y.step[t][x];
+                add_back(t, x, step.minus, 0);
+                if (step.point) add_back(t, x, step.plus, step.point);
+            }
+    }
+    void add_back(int t, int x, int32_t change, u32 plus) {
+        if (change == 0) return;
+        int z = x + change / (int32_t)y.weight[t];
+        bool signal = y.step[t][x].signal;
+        back[t][z][backs[t][z]++] = {-change, (u32)x, plus | (signal ? open_bit(t) : 0), signal};
+    }
+
+    void decode(u32 code, u32* x) const {
+        for (int t = 0; t < K - 1; t++) {
+            u32 rest = (u32)((u64)code * inverse >> 32);
+            x[t] = code - rest * y.sections;
+            code = rest;
+        }
+        x[K - 1] = code;
+    }
+
+    // The points that bring each free train below n, or NONE. Two free trains that meet the same point are lost.
+    u32 guide(u32 code, const u32* x, u32 n) const {
+        u32 plus = 0, met = 0;
+        for (int t = 0; t < K; t++) {
+            const Step& s = y.step[t][x[t]];
+            if (s.signal) continue;
+            if (met & s.point) return NONE;
+            met |= s.point;
+            if (figures[code + s.minus] < n) continue;
+            if (figures[code + s.plus] >= n) return NONE;
+            plus |= s.point;
+        }
+        return plus;
+    }
+
+    void add(u32 code, u32 n, u32 entry) {
+        figures[code] = n;
+        settings[code] = entry;
+        next->add(code, shift);
+    }
+
+    // The placements from which train t moves into placement q of figure n - 1. If no other train is free the move is a setting's only one, and the
+    // least such setting stays. If others are, a train that a signal holds is not let go.
+    void look_back(u32 q, u32* x, int t, bool others_free, u64 taken, u32 n) {
+        u32 z = x[t];
+        for (int i = 0; i < backs[t][z]; i++) {
+            const Back& b = back[t][z][i];
+            if (others_free && b.signal) continue;
+            u32 p = q + b.change, figure = figures[p];
+            if (figure == n && !others_free && b.entry < settings[p]) settings[p] = b.entry;
+            if (figure != NONE || (taken >> b.from & 1)) continue;
+            if (!others_free) {
+                add(p, n, b.entry);
+                continue;
+            }
+            x[t] = b.from;
+            u32 entry = guide(p, x, n);
+            x[t] = z;
+            if (entry != NONE) add(p, n, entry);
+        }
+    }
+
+    void expand(u32 q, u32 n) {
+        u32 x[K];
+        u64 taken = 0;
+        int free = 0;
+        decode(q, x);
+        for (int t = 0; t < K; t++) {
+            taken |= u64(1) << x[t];
+            free += !y.step[t][x[t]].signal;
+        }
+        for (int t = 0; t < K; t++) look_back(q, x, t, free > !y.step[t][x[t]].signal, taken, n);
+    }
+
+    void expand_stretch(u32 i, u32 n) {
+        u32 from = i << shift, to = std::min((i + 1) << shift, y.placements);
+        for (u32 q = from; q < to; q++) if (figures[q] == n - 1) expand(q, n);
+    }
+
+    void round(u32 n) {
+        if (last->fits()) {
+            for (u32 i = 0; i < last->count; i++) expand(last->code[i], n);
+        } else {
+            for (u32 i = 0; i < stretches; i++) if (last->stretch[i]) expand_stretch(i, n);
+        }
+    }
+
+    void solve() {
+        for (u32 code = 0; code < y.placements; code++) figures[code] = NONE, settings[code] = 0;
+        clear(*next);
+        add(y.home, 0, 0);
+        for (u32 n = 1; next->count > 0; n++) {
+            std::swap(last, next);
+            clear(*next);
+            round(n);
+        }
+    }
+    void clear(Round& r) const {
+        std::fill(r.stretch, r.stretch + stretches, 0);
+        r.count = 0;
+    }
+};
+
+}
+
+void solve_frontier(std::string_view text, Tables& tables) {
+    Yard y = read_yard(text);
+    u32 *figures = tables.figures.data(), *settings = tables.settings.data();
+    switch (y.trains) {
+        case 1: Frontier<1>(y, figures, settings).solve(); break;
+        case 2: Frontier<2>(y, figures, settings).solve(); break;
+        case 3: Frontier<3>(y, figures, settings).solve(); break;
+        default: Frontier<4>(y, figures, settings).solve();
+    }
+}

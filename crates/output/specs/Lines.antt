@@ -1,0 +1,31 @@
+-- The lines that programs write for an answer (document 01, end of "The two tables and the plan": what the two programs write). Assumes nothing.
+use mathlib.Core.Path.{_≡_}
+use mathlib.Core.List.{List, [], _∷_}
+use Prim.Native.Nat.{ℕ}
+use Rattle.text.specs.Text.{decimal, line}
+use Rattle.text.specs.Appending.{bytesAfter}
+use Rattle.railway.specs.declared.Refusal.{Refusal}
+use Rattle.railway.specs.Refusals.{number}
+use Rattle.plan.specs.declared.TestAnswer.{TestAnswer}
+use Rattle.plan.specs.declared.TestAnswer.the-variants.{Pass, Refused}
+
+-- The word `refused`.
+abbrev pub refusedWord : List ℕ
+refusedWord = 114 ∷ 101 ∷ 102 ∷ 117 ∷ 115 ∷ 101 ∷ 100 ∷ []
+
+-- A refusal: the word, and its number in the table.
+abbrev pub refusalLine : Refusal → List ℕ
+refusalLine f = line (refusedWord ∷ decimal (number f) ∷ [])
+
+-- The word `pass`.
+abbrev pub passLine : List ℕ
+passLine = line ((112 ∷ 97 ∷ 115 ∷ 115 ∷ []) ∷ [])
+
+-- The answer to the call for the test of a plan.
+abbrev pub testLine : TestAnswer → List ℕ
+testLine Pass = passLine
+testLine (Refused f) = refusalLine f
+
+-- A text at the front of a buffer, the rest as it was; what finds no room is lost.
+abbrev pub Fronted : List ℕ → List ℕ → List ℕ → Type 0
+Fronted old text new = new ≡ bytesAfter old 0 text

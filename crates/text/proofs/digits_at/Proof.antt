@@ -1,0 +1,88 @@
+-- `text::digits_at` meets its contract. The loop's invariant: what is to be read from here on is what was to be read where the loop began,
+-- and the number so far has no more digits than were read. The measure is the digits that may still come.
+-- Assumes nothing.
+use borrow.Author.Needs.{needs}
+use native.Mathlib.Omega.{arith}
+use denote.Ref.{now}
+use mathlib.Core.Path.{_≡_, refl, sym, _∙_}
+use Prim.Native.Nat.{_≤_, _<_, _-_, _^_}
+use lib.ListN.{length}
+use Rattle.text.specs.Reading.{digitsAt}
+use Rattle.text.proofs.Decimal.{digit-is}
+use Rattle.text.proofs.Numbers.{digit-inside, digits-next, digits-stop, digits-out, small-next, small-enough}
+use Rattle.text.proofs.digits_at.Statement.{statement}
+use Rattle.text.proofs.digits_at.Tie as tie
+
+abbrev Inv-loop : tie.InvT-loop
+Inv-loop text from value most at₀ n₀ left₀ at n left = (digitsAt text most value from ≡ digitsAt text left n at) × (n < 10 ^ (10 - left)) × (left ≤ 9) × (at ≤ length text)
+
+abbrev μ-loop : tie.MeasureT-loop
+μ-loop text from value most at₀ n₀ left₀ at n left = left
+
+loop-holds : tie.Need-loop-holds Inv-loop μ-loop
+loop-holds c = let p = c .before .pre in (refl, p .0, p .1, p .2)
+
+peek-requires : tie.Need-peek-requires Inv-loop μ-loop
+peek-requires c κs = search needs
+
+is-digit-requires : tie.Need-is-digit-requires Inv-loop μ-loop
+is-digit-requires c κs = search needs
+
+mul-n : tie.Need-mul-n Inv-loop μ-loop
+mul-n c = let d = digit-is _ (sym (c .before .is-digit .ensures) ∙ c .if1 .taken) in let l = c .before .before .before .before in let q = small-enough _ _ (c .before .before .before .loop-test .taken) (l .loop .inv .1) in omega arith
+
+sub-n : tie.Need-sub-n Inv-loop μ-loop
+sub-n c = let d = digit-is _ (sym (c .before .is-digit .ensures) ∙ c .if1 .taken) in omega arith
+
+cast-n : tie.Need-cast-n Inv-loop μ-loop
+cast-n c = let d = digit-is _ (sym (c .before .is-digit .ensures) ∙ c .if1 .taken) in omega arith
+
+add-n : tie.Need-add-n Inv-loop μ-loop
+add-n c = let d = digit-is _ (sym (c .before .is-digit .ensures) ∙ c .if1 .taken) in let l = c .before .before .before .before in let q = small-enough _ _ (c .before .before .before .loop-test .taken) (l .loop .inv .1) in omega arith
+
+add-at : tie.Need-add-at Inv-loop μ-loop
+add-at c = let l = c .before .before .before .before in omega (arith, digit-inside (now (l .before .before .args .text)) _ _ (c .before .before .peek .ensures) (sym (c .before .is-digit .ensures) ∙ c .if1 .taken))
+
+sub-left : tie.Need-sub-left Inv-loop μ-loop
+sub-left c = omega arith
+
+loop-less : tie.Need-loop-less Inv-loop μ-loop
+loop-less c = omega arith
+
+loop-again : tie.Need-loop-again Inv-loop μ-loop
+loop-again c =
+    let is = sym (c .before .is-digit .ensures) ∙ c .if1 .taken in
+    let d = digit-is _ is in
+    let l = c .before .before .before .before in
+    let text = now (l .before .before .args .text) in
+    let i = digit-inside text _ _ (c .before .before .peek .ensures) is in
+    let o = c .before .before .before .loop-test .taken in
+    (l .loop .inv .0 ∙ digits-next text _ _ _ _ (c .before .before .peek .ensures) o is, small-next _ _ _ o (l .loop .inv .2) (omega arith) (l .loop .inv .1), omega arith, omega arith)
+
+returns : tie.Need-returns Inv-loop μ-loop
+returns c =
+    let l = c .before .before .before .before in
+    digits-stop (now (l .before .before .args .text)) _ _ _ _ (c .before .before .peek .ensures) (sym (c .before .is-digit .ensures) ∙ c .if1 .left) ∙ sym (l .loop .inv .0)
+
+returns-2 : tie.Need-returns-2 Inv-loop μ-loop
+returns-2 c = let l = c .before in digits-out (now (l .before .before .args .text)) _ _ _ (c .loop-test .left) ∙ sym (l .loop .inv .0)
+
+pub digits-at-spec : {M : Type 1} → statement M
+digits-at-spec =
+    tie.close
+    (tie.spec
+    Inv-loop
+    μ-loop
+    loop-holds
+    peek-requires
+    is-digit-requires
+    mul-n
+    sub-n
+    cast-n
+    add-n
+    add-at
+    sub-left
+    loop-less
+    loop-again
+    returns
+    returns-2)
