@@ -6,10 +6,10 @@ use mathlib.Core.List.{List, [], _∷_}
 use mathlib.Core.Option.{Option, none, some}
 use Prim.Native.Nat.{ℕ, zero, suc, _+_, _*_, _^_, _/_, _%_, _≤_, _<_}
 use native.Mathlib.Omega.{arith}
-use native.Mathlib.Nat.{mul-one, mul-comm, mul-assoc, pow-zero, pow-succ', mul-add}
+use native.Mathlib.Nat.{mul-comm, mul-assoc, pow-zero, pow-succ', mul-add}
 use lib.ListN.{length, getD, set, replicate, length-replicate, length-set}
 use lib.Seq.{getD-set-same, getD-set-other}
-use Rattle.laws.proofs.Bools.{eq?, some-none}
+use Rattle.laws.proofs.Bools.{eq?}
 use mathlib.Core.Logic.{inl, inr}
 use Rattle.railway.specs.declared.Side.{Side}
 use Rattle.railway.specs.declared.End.the-variants.{Section}
@@ -19,7 +19,7 @@ use Rattle.railway.specs.Ends.{opposite}
 use Rattle.railway.specs.Record.{runOf}
 use Rattle.railway.specs.Rows.{recordRefusal}
 use Rattle.railway.proofs.Accepted.{accepted-facts}
-use Rattle.game.specs.Game.{Outcome, lost, at, collision, derailment}
+use Rattle.game.specs.Game.{lost, at, collision}
 use Rattle.game.specs.Placement.{codeOf, sectionsOf, standsOn, placements}
 use Rattle.game.specs.Setting.{headsFor}
 use Rattle.game.specs.Moves.{passes, occupied, codeWith, enters, moveOf}
@@ -27,7 +27,7 @@ use Rattle.game.proofs.Codes.{code-cons, code-sections, sections-length}
 use Rattle.game.proofs.Accepted.{Facts, facts}
 use Rattle.game.proofs.Moves.{section-below, passes-below, sections-with}
 use Rattle.tables.proofs.Exists.{few-placements}
-use Rattle.compiled.specs.Table.{sectionByte, wayByte, countByte, Compiled}
+use Rattle.compiled.specs.Table.{wayByte, countByte}
 use Rattle.moves.specs.declared.Placement.{Placement}
 use Rattle.moves.specs.Steps.{sectionIn, On, allAt}
 use Rattle.moves.proofs.Placing.{sections-are}

@@ -1,7 +1,7 @@
 -- A way is the same back: joins are returned and tie an up side to a down side, and a point that lets a train through from one port to another lets it through back.
 -- So who comes to a section by an end comes, going back by that end with the points as they lie, to where the train was. Assumes nothing.
 use mathlib.Core.Path.{_≡_, refl, sym, _∙_, ap}
-use mathlib.Core.Bool.{Bool, true, false, cond}
+use mathlib.Core.Bool.{Bool, true, false}
 use mathlib.Core.Option.{Option, none, some}
 use Prim.Native.Nat.{ℕ}
 use Rattle.laws.proofs.Bools.{clash, some-none, some-one}
@@ -11,7 +11,6 @@ use Rattle.railway.specs.declared.Leg.{Leg}
 use Rattle.railway.specs.declared.Leg.the-variants.{Stem, Plus, Minus}
 use Rattle.railway.specs.declared.SectionNo.{SectionNo}
 use Rattle.railway.specs.declared.PointNo.{PointNo}
-use Rattle.railway.specs.declared.End.{End}
 use Rattle.railway.specs.declared.End.the-variants.{Section, Port}
 use Rattle.railway.specs.declared.Joined.{Joined}
 use Rattle.railway.specs.declared.Joined.the-variants.{Nothing, With}
@@ -19,7 +18,7 @@ use Rattle.railway.specs.declared.Railway.{Railway}
 use Rattle.railway.specs.Ends.{opposite, sameSide, portSide}
 use Rattle.railway.specs.Record.{joined, legsOf}
 use Rattle.railway.proofs.Accepted.{Accepted, joined-right, joined-back}
-use Rattle.game.specs.Moves.{legSet, through, behindPort, pastPoint, pastJoin, passes}
+use Rattle.game.specs.Moves.{through, behindPort, pastPoint, pastJoin, passes}
 
 -- sides
 other-side : (a b : Side) → sameSide a b ≡ false → b ≡ opposite a

@@ -1,7 +1,7 @@
 // Where trains can have come from. Going back from a section a train meets the same join and the same point as coming to it, so it has come from
 // one section if that point lies at minus and from one if it lies at plus. Read off a record once, into a table of bytes, for loops that ask often.
 ghost use mathlib.Core.Path.{_≡_};
-ghost use mathlib.Core.Bool.{Bool, cond};
+ghost use mathlib.Core.Bool.{cond};
 ghost use Prim.Native.Nat.{ℕ, _+_, _*_, _<_};
 ghost use Rattle.railway.specs.declared.Railway.{Railway};
 ghost use Rattle.railway.specs.Ends.{opposite};

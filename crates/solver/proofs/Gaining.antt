@@ -5,12 +5,12 @@ use mathlib.Core.Logic.{inl, inr}
 use mathlib.Core.Bool.{Bool, true, false, not, _&&_}
 use mathlib.Core.List.{List}
 use mathlib.Core.Option.{Option, none, some}
-use Prim.Native.Nat.{ℕ, suc, _≤_, _<_}
+use Prim.Native.Nat.{ℕ, suc, _<_}
 use native.Mathlib.Omega.{arith}
 use lib.Dec.{ltb}
 use borrow.Author.Tests.{lt-ltb}
 use Rattle.laws.specs.Below.{anyBelow}
-use Rattle.laws.proofs.Bools.{bool?, option?, lt?, clash, some-one, and-true, and-both, not-true, not-is}
+use Rattle.laws.proofs.Bools.{bool?, option?, lt?, clash, and-true, and-both}
 use Rattle.laws.proofs.Below.{any-at, any-false}
 use Rattle.railway.specs.declared.Railway.{Railway}
 use Rattle.railway.specs.Rows.{recordRefusal}
@@ -30,9 +30,8 @@ use Rattle.tables.specs.Find.{find}
 use Rattle.tables.proofs.Find.{find-sound}
 use Rattle.tables.proofs.Steps.{gains-late}
 use Rattle.compiled.specs.Table.{pointByte}
-use Rattle.moves.specs.Steps.{allAt}
 use Rattle.moves.proofs.Moving.{by-point}
-use Rattle.solver.specs.Waves.{By, Comes, Before}
+use Rattle.solver.specs.Waves.{By, Before}
 
 -- a move of some train to a placement of figure k
 record Newest {S : Type 0} (g : Game S) (F : ℕ → Option ℕ) (p : ℕ) (s : S) (k : ℕ) : Type 0 where

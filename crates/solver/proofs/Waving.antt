@@ -4,11 +4,11 @@ use mathlib.Core.Path.{_≡_, refl, sym, _∙_, ap}
 use mathlib.Core.Logic.{_⊎_, inl, inr}
 use mathlib.Core.Bool.{Bool, true, false, cond}
 use mathlib.Core.List.{List}
-use mathlib.Core.Option.{Option, none, some}
+use mathlib.Core.Option.{none, some}
 use Prim.Native.Nat.{ℕ, suc, _+_, _-_, _/_, _≤_, _<_}
 use native.Mathlib.Omega.{arith}
 use lib.ListN.{length, getD}
-use Rattle.laws.proofs.Bools.{lt?, eq?, option?, clash}
+use Rattle.laws.proofs.Bools.{lt?, eq?, option?}
 use Rattle.laws.proofs.Below.{count-more}
 use Rattle.railway.specs.declared.Railway.{Railway}
 use Rattle.railway.specs.Rows.{recordRefusal}
@@ -21,8 +21,7 @@ use Rattle.tables.specs.Find.{find}
 use Rattle.tables.specs.Rounds.{Step, stays, gains}
 use Rattle.tables.proofs.Steps.{next-round, last-round}
 use Rattle.compiled.specs.Table.{countByte, Compiled}
-use Rattle.moves.specs.declared.Placement.{Placement}
-use Rattle.moves.specs.Steps.{On, allAt}
+use Rattle.moves.specs.Steps.{allAt}
 use Rattle.moves.proofs.Placing.{trains-are}
 use Rattle.predecessors.specs.Behind.{Behind}
 use Rattle.solver.specs.Sweeps.{unfigured, RoundPost}

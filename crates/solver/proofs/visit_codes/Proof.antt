@@ -1,6 +1,5 @@
 -- `solver::visit_codes` meets its contract. The loop's invariant: what is before the codes below c has been visited.
 -- Assumes nothing.
-use borrow.Author.Needs.{needs}
 use native.Mathlib.Omega.{arith}
 use mathlib.Core.Logic.{⊎-elim}
 use Prim.Native.Nat.{_+_, _-_}
