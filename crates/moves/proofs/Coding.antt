@@ -2,7 +2,7 @@
 -- the first's. Nothing runs over: sections and counts are bytes. Assumes nothing.
 use mathlib.Core.Path.{_≡_, refl, sym, _∙_, ap}
 use mathlib.Core.Logic.{inl, inr}
-use mathlib.Core.Bool.{false, cond}
+use mathlib.Core.Bool.{Bool, false, cond}
 use mathlib.Core.List.{List, [], _∷_}
 use Prim.Native.Nat.{ℕ, zero, suc, _+_, _-_, _*_, _/_, _%_, _^_, _≤_, _<_}
 use native.Mathlib.Omega.{arith}
@@ -71,24 +71,28 @@ module _ (s : ℕ) where
       pub second-fits : s * (b + s * (c + s * d)) ≤ 4244897025
       second-fits = times-fits 255 16646655 (omega arith) (omega (arith, third-fits))
 
--- SECTIONS by dividing
-module _ (s k t i rest : ℕ) (lt : t < k) where
-  pub digit-step : i < t → getD (sectionsIn s (k - i) rest) (t - i) 0 ≡ getD (sectionsIn s (k - (i + 1)) (rest / s)) (t - (i + 1)) 0
-  unfolding sectionsIn
-  digit-step l =
-      let a : k - i ≡ suc (k - (i + 1)) = omega arith in
-      let b : t - i ≡ suc (t - (i + 1)) = omega arith in
-      rw (a, b)
+-- SECTIONS by dividing: what is left of a code without its first t trains
+unfoldable pub without : ℕ → ℕ → ℕ → ℕ
+without s zero p = p
+without s (suc t) p = without s t (p / s)
 
-  pub digit-end : i ≤ t → t ≤ i → rest % s ≡ getD (sectionsIn s (k - i) rest) (t - i) 0
-  unfolding sectionsIn
-  digit-end h l =
-      let a : k - i ≡ suc (k - (i + 1)) = omega arith in
-      let b : t - i ≡ 0 = omega arith in
-      rw (a, b)
+pub section-left : (s k p t : ℕ) → getD (sectionsIn s k p) t 0 ≡ cond (ltb t k) (without s t p % s) 0
+unfolding sectionsIn without
+section-left s zero p t = rw (le-ltb t 0 (omega arith))
+section-left s (suc k) p zero = rw (lt-ltb 0 (suc k) (omega arith))
+section-left s (suc k) p (suc t) = section-left s k (p / s) t ∙ ap (λ (b : Bool). cond b (without s t (p / s) % s) 0) one-less
+  where
+    one-less : ltb t k ≡ ltb (suc t) (suc k)
+    one-less = elim (lt? t k) [
+      | inl l ↦ lt-ltb t k l ∙ sym (lt-ltb (suc t) (suc k) (omega arith))
+      | inr l ↦ le-ltb t k l ∙ sym (le-ltb (suc t) (suc k) (omega arith))
+    ]
 
-pub digit-start : (s k p t : ℕ) → getD (sectionsIn s (k - 0) p) (t - 0) 0 ≡ getD (sectionsIn s k p) t 0
-digit-start s k p t = let a : k - 0 ≡ k = omega arith in let b : t - 0 ≡ t = omega arith in rw (a, b)
+pub past-trains : (k t x : ℕ) → k ≤ t → 0 ≡ cond (ltb t k) x 0
+past-trains k t x l = rw (le-ltb t k l)
+
+pub among-trains : (k t x : ℕ) → t < k → x ≡ cond (ltb t k) x 0
+among-trains k t x l = rw (lt-ltb t k l)
 
 pub rest-small : (s rest : ℕ) → 0 < s → s < 256 → rest % s < 256
 rest-small s rest p l = omega (arith, mod-lt rest p)

@@ -4,7 +4,7 @@ use mathlib.Core.Path.{_≡_, refl, sym, _∙_, ap}
 use mathlib.Core.Logic.{inl, inr}
 use mathlib.Core.Bool.{Bool, true, false, cond, not, _&&_}
 use mathlib.Core.List.{List, [], _∷_}
-use Prim.Native.Nat.{ℕ, _+_, _*_, _^_, _≤_, _<_}
+use Prim.Native.Nat.{ℕ, _+_, _*_, _/_, _%_, _^_, _≤_, _<_}
 use native.Mathlib.Omega.{arith}
 use lib.Dec.{ltb, eqb}
 use lib.ListN.{length, length-map, getD, List·getD-eq-default}
@@ -26,7 +26,7 @@ use Rattle.moves.specs.declared.Placement.{Placement}
 use Rattle.moves.specs.Answers.{codeOn, homeCode}
 use Rattle.moves.specs.Steps.{sectionIn, On, movedTo, otherIn}
 use Rattle.moves.proofs.Placement as T
-use Rattle.moves.proofs.Coding.{code-four}
+use Rattle.moves.proofs.Coding.{without, section-left, code-four}
 
 -- what holding a placement tells: it has a place for each train a railway can have
 pub placement-length : (q : Placement) (vs : List Val) → Is T.the-row q vs → length (q .sections) ≡ mostTrains
@@ -60,16 +60,33 @@ module _ (r : Railway) (table : List ℕ) (h : Compiled r table) where
   unfolding standsOn
   past-trains p t l = sym (List·getD-eq-default (sectionsOf r p) 0 (rw (sections-length (r .sections) (r .trains) p) l))
 
-  module _ (p t s k : ℕ) (es : s ≡ countByte r 0) (ek : k ≡ countByte r 2) where
-    pub no-sections : s ≡ 0 → 0 ≡ standsOn r p t
-    no-sections z = absurd (omega (arith, ok .one-section, sym (sections-are r s es) ∙ z))
+  module _ (p s k : ℕ) (es : s ≡ countByte r 0) (ek : k ≡ countByte r 2) where
+    some-section : 0 < s
+    some-section = rw (sections-are r s es) (ok .one-section)
 
-    pub no-train : k ≤ t → 0 ≡ standsOn r p t
-    no-train l = past-trains p t (omega (arith, trains-are r k ek))
-
-    pub section-there : (x : ℕ) → x ≡ getD (sectionsIn s k p) t 0 → x ≡ standsOn r p t
+    -- the first section of what is left without t trains
+    stands-left : (t q x : ℕ) → q ≡ without s t p → (0 < s → x ≡ cond (ltb t k) (q % s) 0) → x ≡ standsOn r p t
     unfolding standsOn
-    section-there x e = let a : s ≡ r .sections = sections-are r s es in let b : k ≡ r .trains = trains-are r k ek in rw (a, b) at e
+    stands-left t q x e h =
+        let a : s ≡ r .sections = sections-are r s es in
+        let b : k ≡ r .trains = trains-are r k ek in
+        let z : x ≡ cond (ltb t k) (without s t p % s) 0 = rw (← e) (h some-section) in
+        z ∙ sym (section-left s k p t) ∙ rw (a, b)
+
+    module _ (b c d : ℕ) (eb : 0 < s → b ≡ p / s) (ec : 0 < s → c ≡ b / s) (ed : 0 < s → d ≡ c / s) where
+      one-left : b ≡ p / s
+      one-left = eb some-section
+
+      two-left : c ≡ p / s / s
+      two-left = ec some-section ∙ ap (λ (q : ℕ). q / s) one-left
+
+      three-left : d ≡ p / s / s / s
+      three-left = ed some-section ∙ ap (λ (q : ℕ). q / s) two-left
+
+      pub stands-four : (v w x y : ℕ) → (0 < s → v ≡ cond (ltb 0 k) (p % s) 0) → (0 < s → w ≡ cond (ltb 1 k) (b % s) 0) → (0 < s → x ≡ cond (ltb 2 k) (c % s) 0) → (0 < s → y ≡ cond (ltb 3 k) (d % s) 0)
+          → (v ≡ standsOn r p 0) × (w ≡ standsOn r p 1) × (x ≡ standsOn r p 2) × (y ≡ standsOn r p 3)
+      unfolding without
+      stands-four v w x y hv hw hx hy = (stands-left 0 p v refl hv, stands-left 1 b w one-left hw, stands-left 2 c x two-left hx, stands-left 3 d y three-left hy)
 
   pub placed : (p a b c d : ℕ) → a ≡ standsOn r p 0 → b ≡ standsOn r p 1 → c ≡ standsOn r p 2 → d ≡ standsOn r p 3 → On r p table (record { sections = a ∷ b ∷ c ∷ d ∷ [] })
   placed p a b c d ea eb ec ed =

@@ -10,21 +10,28 @@ use native.Mathlib.Numerals.{add-one}
 use native.Mathlib.Nat.{pow-le-pow-right, mod-eq-of-lt}
 use lib.Dec.{ltb, eqb}
 use lib.ListN.{getD}
-use borrow.Author.Tests.{lt-ltb, le-ltb, eq-eqb, ne-eqb}
+use borrow.Author.Tests.{lt-ltb, le-ltb, ltb-true, eq-eqb, ne-eqb}
 use Rattle.laws.specs.Below.{allBelow, anyBelow}
 use Rattle.laws.specs.Bits.{bit, fromBits}
 use Rattle.laws.proofs.Bools.{bool?, lt?, clash, some-none}
 use Rattle.laws.proofs.Below.{all-but}
 use Rattle.laws.proofs.Bits.{bits-same, bits-plain, bits-below, bits-none, bits-add, bits-again, bits-past}
 use mathlib.Core.Logic.{_⊎_, inl, inr}
+use Rattle.railway.specs.declared.End.the-variants.{Section, Port}
+use Rattle.railway.specs.declared.Joined.{Joined}
+use Rattle.railway.specs.declared.Joined.the-variants.{Nothing, With}
 use Rattle.railway.specs.declared.Railway.{Railway}
+use Rattle.railway.specs.Record.{joined}
+use Rattle.railway.specs.Rows.{recordRefusal}
 use Rattle.game.specs.Game.{derailment, collision, Outcome, lost, at}
 use Rattle.game.specs.Claim.{figureOf}
 use Rattle.game.specs.Local.{isBelow}
 use Rattle.game.specs.Setting.{headsFor, held}
-use Rattle.game.specs.Moves.{passes, moveOf}
+use Rattle.game.specs.Moves.{Passage, pastJoin, passes, enters, moveOf}
+use Rattle.game.proofs.Accepted.{Known, Facts, facts}
 use Rattle.tables.specs.Tables.{noFigure, figureIn}
 use Rattle.compiled.specs.Table.{pointByte}
+use Rattle.compiled.proofs.Table.{met-port}
 use Rattle.moves.specs.declared.Move.{Move}
 use Rattle.moves.specs.declared.Move.the-variants.{NotAllowed, Derails, Collides, At}
 use Rattle.moves.specs.Answers.{ended}
@@ -60,13 +67,30 @@ module _ (figs : List ℕ) (n : ℕ) (m : Move) where
     figure-some z = rw (← arrives, ← is, ne-eqb f noFigure z)
 
 -- A TRAIN'S WAYS
-pub way-is : (r : Railway) (F : ℕ → Option ℕ) (p n t : ℕ) (h : Bool) (x : ℕ) (a b : Move) (minus plus : Bool)
+pub way-is : (r : Railway) (F : ℕ → Option ℕ) (p n t : ℕ) (h : Bool) (x : ℕ) (a : Move) (minus plus : Bool)
     → h ≡ held r p t → x ≡ pointByte (passes r (λ i. false) (headsFor r p t) .met)
-    → ended a ≡ some (moveOf r p (allAt false) t) → ended b ≡ some (moveOf r p (allAt true) t)
-    → ((o : Outcome) → ended a ≡ some o → minus ≡ isBelow n (figureOf F o)) → ((o : Outcome) → ended b ≡ some o → plus ≡ isBelow n (figureOf F o))
+    → ended a ≡ some (moveOf r p (allAt false) t) → ((o : Outcome) → ended a ≡ some o → minus ≡ isBelow n (figureOf F o))
+    → (x ≡ pointByte (passes r (λ i. false) (headsFor r p t) .met) → minus ≡ isBelow n (figureOf F (moveOf r p (allAt false) t)) → plus ≡ isBelow n (figureOf F (moveOf r p (allAt true) t)))
     → WayOf r F p n t (record { free = not h; point = x; minus = minus; plus = plus })
-way-is r F p n t h x a b minus plus eh ex ea eb em ep =
-    record { free = ap not eh; point = ex; minus = em (moveOf r p (allAt false) t) ea; plus = ep (moveOf r p (allAt true) t) eb }
+way-is r F p n t h x a minus plus eh ex ea em ep =
+    let z : minus ≡ isBelow n (figureOf F (moveOf r p (allAt false) t)) = em (moveOf r p (allAt false) t) ea in
+    record { free = ap not eh; point = ex; minus = z; plus = ep ex z }
+
+-- who meets no point goes the same way however the points lie
+no-point : (r : Railway) → Facts r → (j : Joined) → Known r j → pointByte (pastJoin r (λ i. false) j .met) ≡ 255 → pastJoin r (λ i. true) j ≡ pastJoin r (λ i. false) j
+no-point r ok Nothing k e = refl
+no-point r ok (With (Section n s)) k e = refl
+no-point r ok (With (Port n l)) k e =
+    let m : n .0 ≡ 255 = met-port r (With (Port n l)) (Port n l) n l refl refl ∙ e in
+    absurd (omega (arith, ltb-true (n .0) (r .points) k, ok .few-points))
+
+module _ (r : Railway) (accepted : recordRefusal r ≡ none) (F : ℕ → Option ℕ) (p n t x : ℕ) (minus : Bool) (met : x ≡ pointByte (passes r (λ i. false) (headsFor r p t) .met)) (none-met : x ≡ 255) where
+  one-way : moveOf r p (allAt true) t ≡ moveOf r p (allAt false) t
+  unfolding moveOf passes
+  one-way = ap (λ (w : Passage). enters r p t (w .reached)) (no-point r (facts r accepted) (joined r (headsFor r p t)) (facts r accepted .joins (headsFor r p t)) (sym met ∙ none-met))
+
+  pub same-below : minus ≡ isBelow n (figureOf F (moveOf r p (allAt false) t)) → minus ≡ isBelow n (figureOf F (moveOf r p (allAt true) t))
+  same-below e = rw one-way e
 
 -- WHO MAY MOVE, with train u open
 module _ (ws : List Way) (u t : ℕ) (w : Way) (is : w ≡ wayIn ws t) where

@@ -1,7 +1,7 @@
 // The first setting that keeps a placement below a figure, or nothing: what one step of a solver asks. It looks at each train's two
 // ways once, and then at nothing else, so that its time goes with the trains and not with the settings.
 ghost use mathlib.Core.Path.{_≡_};
-ghost use mathlib.Core.Bool.{Bool};
+ghost use mathlib.Core.Bool.{Bool, true, false};
 ghost use mathlib.Core.Option.{Option, some};
 ghost use Prim.Native.Nat.{ℕ, _≤_, _<_};
 ghost use lib.Dec.{eqb};
@@ -12,14 +12,16 @@ ghost use Rattle.railway.specs.declared.Railway.{Railway};
 ghost use Rattle.game.specs.Game.{Outcome};
 ghost use Rattle.game.specs.Claim.{figureOf};
 ghost use Rattle.game.specs.Local.{isBelow};
+ghost use Rattle.game.specs.Setting.{headsFor};
+ghost use Rattle.game.specs.Moves.{passes, moveOf};
 ghost use Rattle.tables.specs.Tables.{noFigure, figureIn};
 ghost use Rattle.tables.specs.Find.{tryMet, findMet};
-ghost use Rattle.compiled.specs.Table.{Compiled};
+ghost use Rattle.compiled.specs.Table.{pointByte, Compiled};
 ghost use Rattle.moves.specs.Answers.{ended};
-ghost use Rattle.moves.specs.Steps.{On};
+ghost use Rattle.moves.specs.Steps.{On, allAt};
 ghost use Rattle.settings.specs.Answers.{entryFound, firstKeeping};
 ghost use Rattle.settings.specs.Ways.{WayOf, wayIn, WaysOf, runsWith, needsWith, goodWay, keepsWith, withBit};
-use compiled::TABLE;
+use compiled::Table;
 use moves::Move;
 use moves::Placement;
 use railway::Railway;
@@ -44,7 +46,7 @@ pub struct Way {
 
 // THE FIRST SETTING that keeps a placement below figure n, in the plan's order: no signal open, else that of the lowest train
 // that works; each point at minus unless a train that may move needs it at plus.
-pub fn find_setting(table: &[u8; TABLE], figures: &[u32], p: u32, n: u32) -> Found
+pub fn find_setting(table: &Table, figures: &[u32], p: u32, n: u32) -> Found
     ensures { λ f. ⌜ ((r : Railway) → Compiled r (now (table .entry)) → entryFound f ≡ firstKeeping r (figureIn (now (figures .entry))) p n) ⌝ }
 {
     let k = compiled::count_in(table, 2);
@@ -63,7 +65,7 @@ pub fn find_setting(table: &[u8; TABLE], figures: &[u32], p: u32, n: u32) -> Fou
 }
 
 // Every train's ways. The search looks at nothing else.
-fn ways_of(table: &[u8; TABLE], figures: &[u32], q: Placement, n: u32) -> [Way; 4]
+fn ways_of(table: &Table, figures: &[u32], q: Placement, n: u32) -> [Way; 4]
     ensures { λ ws. ⌜ ((r : Railway) (p t : ℕ) → On r p (now (table .entry)) q → t < r .trains → WayOf r (figureIn (now (figures .entry))) p n t (wayIn ws t)) ⌝ }
 {
     let a = way_of(table, figures, q, n, 0);
@@ -73,19 +75,37 @@ fn ways_of(table: &[u8; TABLE], figures: &[u32], q: Placement, n: u32) -> [Way; 
     [a, b, c, d]
 }
 
-fn way_of(table: &[u8; TABLE], figures: &[u32], q: Placement, n: u32, t: u8) -> Way
+fn way_of(table: &Table, figures: &[u32], q: Placement, n: u32, t: u8) -> Way
     ensures { λ w. ⌜ ((r : Railway) (p : ℕ) → On r p (now (table .entry)) q → t < r .trains → WayOf r (figureIn (now (figures .entry))) p n t w) ⌝ }
 {
     let held = moves::held_in(table, q, t);
     let point = moves::point_in(table, q, t);
     let minus = is_below(figures, moves::end_of(table, q, t, false), n);
-    let plus = is_below(figures, moves::end_of(table, q, t, true), n);
+    let plus = plus_below(table, figures, q, n, t, point, minus);
     Way {
         free: !held,
         point: point,
         minus: minus,
         plus: plus,
     }
+}
+
+// .. with the point at plus. A train that meets no point has one way only, and its figure is not looked up again.
+fn plus_below(
+    table: &Table,
+    figures: &[u32],
+    q: Placement,
+    n: u32,
+    t: u8,
+    point: u8,
+    minus: bool,
+) -> bool
+    ensures { λ b. ⌜ ((r : Railway) (p : ℕ) → On r p (now (table .entry)) q → t < r .trains → point ≡ pointByte (passes r (λ i. false) (headsFor r p t) .met) → minus ≡ isBelow n (figureOf (figureIn (now (figures .entry))) (moveOf r p (allAt false) t)) → b ≡ isBelow n (figureOf (figureIn (now (figures .entry))) (moveOf r p (allAt true) t))) ⌝ }
+{
+    if point == compiled::NO_BYTE {
+        return minus;
+    }
+    is_below(figures, moves::end_of(table, q, t, true), n)
 }
 
 // What a move ends in has a figure below n.

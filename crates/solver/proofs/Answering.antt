@@ -50,9 +50,9 @@ module _ (r : Railway) (figs sets : List ℕ) (c : Compilation) (p : CasePost r 
         let few = few-placements r (its-table .accepted) in
         (omega arith, (omega (arith, p .room fine .0), omega (arith, p .room fine .1)))
 
-    pub answer-solved : (a : SolverAnswer) (figs′ sets′ : List ℕ) → ((q : Railway) → Compiled q (c .table) → m ≡ placements q → SolverTables q figs sets figs′ sets′)
+    pub answer-solved : (a : SolverAnswer) (figs′ sets′ : List ℕ) → (Compiled r (c .table) → m ≡ placements r → SolverTables r figs sets figs′ sets′)
         → ((q : Railway) → Compiled q (c .table) → (refusalGiven a ≡ none) × (figureGiven a ≡ figureIn figs′ (startCode q))) → SolverPost r a figs sets figs′ sets′
     answer-solved a figs′ sets′ fills starts =
         let s = starts r its-table in
         let given : refusalGiven a ≡ caseRefusal r figs sets = s .0 ∙ sym fine in
-        record { refusal = given; numbered = ap numberOf given; leaves = rw fine (fills r its-table (counts r its-table), s .1) }
+        record { refusal = given; numbered = ap numberOf given; leaves = rw fine (fills its-table (counts r its-table), s .1) }

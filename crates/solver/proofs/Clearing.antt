@@ -45,7 +45,7 @@ pub record Clearing (table : List ℕ) (m : ℕ) (figs₀ sets₀ figs sets : Li
   pub long-figs : length figs ≡ length figs₀
   pub long-sets : length sets ≡ length sets₀
   pub unset : Written (λ q. 0) p sets₀ sets
-  pub first : (r : Railway) → Compiled r table → Written (firstFigure r) p figs₀ figs
+  pub first : (r : Railway) → Compiled r table → m ≡ placements r → Written (firstFigure r) p figs₀ figs
 
 module _ (table : List ℕ) (m : ℕ) (figs₀ sets₀ : List ℕ) where
   pub clearing-start : Clearing table m figs₀ sets₀ figs₀ sets₀ 0
@@ -55,11 +55,11 @@ module _ (table : List ℕ) (m : ℕ) (figs₀ sets₀ : List ℕ) where
         long-figs = refl;
         long-sets = refl;
         unset = written-none (λ q. 0) sets₀;
-        first = λ r h. written-none (firstFigure r) figs₀;
+        first = λ r h k. written-none (firstFigure r) figs₀;
       }
 
   module _ (figs sets : List ℕ) (p : ℕ) (c : Clearing table m figs₀ sets₀ figs sets p) where
-    pub clearing-next : (f v : ℕ) → p < m → m ≤ length figs₀ → m ≤ length sets₀ → ((r : Railway) → Compiled r table → f ≡ firstFigure r p) → v ≡ 0
+    pub clearing-next : (f v : ℕ) → p < m → m ≤ length figs₀ → m ≤ length sets₀ → ((r : Railway) → Compiled r table → p < placements r → f ≡ firstFigure r p) → v ≡ 0
         → Clearing table m figs₀ sets₀ (set figs p f) (set sets p v) (p + 1)
     clearing-next f v l lf ls e z =
         record {
@@ -67,13 +67,13 @@ module _ (table : List ℕ) (m : ℕ) (figs₀ sets₀ : List ℕ) where
           long-figs = length-set figs p f ∙ c .long-figs;
           long-sets = length-set sets p v ∙ c .long-sets;
           unset = written-one (λ q. 0) p sets₀ sets v (c .unset) (omega arith) z;
-          first = λ r h. written-one (firstFigure r) p figs₀ figs f (c .first r h) (omega arith) (e r h);
+          first = λ r h k. written-one (firstFigure r) p figs₀ figs f (c .first r h k) (omega arith) (e r h (omega arith));
         }
 
     pub clearing-end : m ≤ p → (r : Railway) → Compiled r table → m ≡ placements r → After r 0 figs₀ sets₀ figs sets
     clearing-end l r h e =
         let z : p ≡ placements r = omega (arith, c .within) in
-        let wf : Written (firstFigure r) (placements r) figs₀ figs = rw z at (c .first r h) in
+        let wf : Written (firstFigure r) (placements r) figs₀ figs = rw z at (c .first r h e) in
         let ws : Written (λ q. 0) (placements r) sets₀ sets = rw z at (c .unset) in
         record {
           tables = cleared-round r (h .accepted) figs sets (record { first = λ q b. wf .behind q noFigure b; unset = λ q b. ws .behind q 0 b });

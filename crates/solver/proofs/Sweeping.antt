@@ -1,21 +1,20 @@
--- A round in place. The search for figure n looks at figures below n alone, and what the round enters is n: so it finds at each placement what it would have found in the
--- tables as they were when the round began. Assumes nothing.
+-- A round in place. The search for figure n looks at figures below n alone, and what the round enters is n: so a visit finds what it would have found in the tables as
+-- they were when the round began, and visits may be made one after another, in any order and more than once. Assumes nothing.
 use mathlib.Core.Path.{_≡_, refl, sym, _∙_, ap}
-use mathlib.Core.Logic.{inl, inr}
+use mathlib.Core.Logic.{_⊎_, inl, inr}
 use mathlib.Core.Bool.{Bool, true, false, cond}
 use mathlib.Core.List.{List}
 use mathlib.Core.Option.{Option, none, some}
-use Prim.Native.Nat.{ℕ, suc, _+_, _≤_, _<_}
+use Prim.Native.Nat.{ℕ, suc, _+_, _/_, _≤_, _<_}
 use native.Mathlib.Omega.{arith}
 use lib.ListN.{length, getD, set}
 use lib.Dec.{eqb}
 use lib.Seq.{getD-set-same, getD-set-other}
-use borrow.Author.Tests.{ne-eqb, le-leb}
-use Rattle.laws.proofs.Bools.{bool?, lt?, clash, some-none, some-one}
-use Rattle.laws.proofs.Below.{count-more}
+use borrow.Author.Tests.{le-leb}
+use Rattle.laws.proofs.Bools.{lt?, eq?, clash, some-none, not-true}
 use Rattle.railway.specs.declared.Railway.{Railway}
 use Rattle.railway.specs.Rows.{recordRefusal}
-use Rattle.game.specs.Game.{home, over, IsFigure}
+use Rattle.game.specs.Game.{over, IsFigure}
 use Rattle.game.specs.Placement.{placements}
 use Rattle.game.specs.Moves.{gameOf}
 use Rattle.game.proofs.Accepted.{facts}
@@ -24,190 +23,203 @@ use Rattle.tables.specs.Entries.{settingAt}
 use Rattle.tables.specs.Tables.{noFigure, figureEntry, figureIn}
 use Rattle.tables.specs.Solver.{RoundTables}
 use Rattle.tables.specs.Find.{find}
-use Rattle.tables.specs.Rounds.{Step, stays, gains}
 use Rattle.tables.proofs.Carry.{Carries, find-carry}
-use Rattle.tables.proofs.Steps.{next-round, last-round}
-use Rattle.compiled.specs.Table.{Compiled}
-use Rattle.solver.specs.Sweeps.{Visited, rests, enters, unfigured, RoundPost}
-
--- Home has its figure from the start.
-abbrev pub Homed : Railway → List ℕ → Type 0
-Homed r figs = (p : ℕ) → p < placements r → home (gameOf r) p ≡ true → figureIn figs p ≡ some 0
+use Rattle.solver.specs.Sweeps.{Visited, rests, enters, unfigured}
+use Rattle.solver.specs.Waves.{Homed, Marked, Round, Changed, same, gained, Swept, One}
+use Rattle.solver.proofs.Visiting.{entry-some, entry-is, entry-empty}
 
 pub round-homed : (r : Railway) (n : ℕ) (figs sets : List ℕ) → RoundTables r n figs sets → Homed r figs
 round-homed r n figs sets t p l h =
     let z : IsFigure (gameOf r) p (some 0) = (home-forced (gameOf r) (settingAt r p 0) p h, λ m f. omega arith) in
     t .figures p l (some 0) z ∙ rw (le-leb 0 n (omega arith))
 
--- entries
-entry-is : (x j : ℕ) → figureEntry x ≡ some j → x ≡ j
-entry-is x j e = elim (bool? (eqb x noFigure)) [
-  | inl y ↦ let s : figureEntry x ≡ none = rw y in some-none e s
-  | inr y ↦ let s : figureEntry x ≡ some x = rw y in some-one (sym s ∙ e)
-]
+-- ONE PLACEMENT, before and after
+module _ (r : Railway) (F : ℕ → Option ℕ) (n q f v f′ v′ : ℕ) where
+  -- it keeps a figure that it has
+  changed-onward : F q ≡ figureEntry f → Changed r F n q f v f′ v′ → (j : ℕ) → F q ≡ some j → figureEntry f′ ≡ some j
+  changed-onward e (same ef ev) j x = ap figureEntry ef ∙ sym e ∙ x
+  changed-onward e (gained empty o ef h) j x = some-none (sym e ∙ x) empty
 
-entry-empty : (x : ℕ) → figureEntry x ≡ none → eqb x noFigure ≡ true
-entry-empty x e = elim (bool? (eqb x noFigure)) [ inl y ↦ y | inr y ↦ let s : figureEntry x ≡ some x = rw y in some-none s e ]
+  -- and has gained no figure but n
+  changed-back : F q ≡ figureEntry f → Changed r F n q f v f′ v′ → (j : ℕ) → j < n → figureEntry f′ ≡ some j → F q ≡ some j
+  changed-back e (same ef ev) j l x = e ∙ ap figureEntry (sym ef) ∙ x
+  changed-back e (gained empty o ef h) j l x = let y : f′ ≡ j = entry-is f′ j x in absurd (omega arith)
 
-module _ (r : Railway) (F : ℕ → Option ℕ) (n p f v f′ v′ : ℕ) (e : F p ≡ figureEntry f) where
-  -- a step leaves the figures below n as they are
-  step-onward : (b : Bool) → Step r F n p f v f′ v′ b → (j : ℕ) → F p ≡ some j → figureEntry f′ ≡ some j
-  step-onward b (stays ef ev h) j x = ap figureEntry ef ∙ sym e ∙ x
-  step-onward b (gains empty o ef h) j x = some-none (sym e ∙ x) empty
+  changed-none : Changed r F n q f v f′ v′ → figureEntry f′ ≡ none → figureEntry f ≡ none
+  changed-none (same ef ev) x = ap figureEntry (sym ef) ∙ x
+  changed-none (gained empty o ef h) x = empty
 
-  step-back : (b : Bool) → Step r F n p f v f′ v′ b → (j : ℕ) → j < n → figureEntry f′ ≡ some j → F p ≡ some j
-  step-back b (stays ef ev h) j l x = e ∙ ap figureEntry (sym ef) ∙ x
-  step-back b (gains empty o ef h) j l x = let y : f′ ≡ j = entry-is f′ j x in absurd (omega arith)
+changed-then : (r : Railway) (F F₁ : ℕ → Option ℕ) (n q f v f₁ v₁ f₂ v₂ : ℕ) → n < noFigure → find r F₁ q n ≡ find r F q n
+    → Changed r F n q f v f₁ v₁ → Changed r F₁ n q f₁ v₁ f₂ v₂ → Changed r F n q f v f₂ v₂
+changed-then r F F₁ n q f v f₁ v₁ f₂ v₂ small finds (same a b) (same c d) = same (c ∙ a) (d ∙ b)
+changed-then r F F₁ n q f v f₁ v₁ f₂ v₂ small finds (same a b) (gained e o c h) = gained (ap figureEntry (sym a) ∙ e) o c (sym finds ∙ h)
+changed-then r F F₁ n q f v f₁ v₁ f₂ v₂ small finds (gained e o a h) (same c d) = gained e o (c ∙ a) (h ∙ ap (λ (x : ℕ). some x) (sym d))
+changed-then r F F₁ n q f v f₁ v₁ f₂ v₂ small finds (gained e o a h) (gained e′ o′ c h′) = some-none (ap figureEntry a ∙ entry-some n (λ z. omega arith)) e′
 
-  -- .. and takes none away
-  step-keeps : (b : Bool) → Step r F n p f v f′ v′ b → eqb f′ noFigure ≡ true → eqb f noFigure ≡ true
-  step-keeps b (stays ef ev h) x = rw ef at x
-  step-keeps b (gains empty o ef h) x = entry-empty f empty
+empty-entry : (x : ℕ) → eqb x noFigure ≡ true → figureEntry x ≡ none
+empty-entry x e = rw e
 
--- A ROUND THAT HAS COME TO placement p
-pub record Part (r : Railway) (n : ℕ) (figs₀ sets₀ figs sets : List ℕ) (added : Bool) (p : ℕ) : Type 0 where
-  pub done : (q : ℕ) → q < p → (b : Bool) × Step r (figureIn figs₀) n q (getD figs₀ q noFigure) (getD sets₀ q 0) (getD figs q noFigure) (getD sets q 0) b
-  pub ahead-figs : (q d : ℕ) → p ≤ q → getD figs q d ≡ getD figs₀ q d
-  pub ahead-sets : (q d : ℕ) → p ≤ q → getD sets q d ≡ getD sets₀ q d
-  pub unchanged : added ≡ false → (figs ≡ figs₀) × (sets ≡ sets₀)
-  pub gained : added ≡ true → (q : ℕ) × (q < p) × (unfigured figs q ≡ false) × (unfigured figs₀ q ≡ true)
+-- ANY VISITS
+module _ (r : Railway) (n : ℕ) (S : ℕ → Type 0) (figs sets figs′ sets′ marks′ : List ℕ) (a : Bool) (s : Swept r n S figs sets figs′ sets′ marks′ a) where
+  pub swept-onward : (q j : ℕ) → q < placements r → figureIn figs q ≡ some j → figureIn figs′ q ≡ some j
+  swept-onward q j l = changed-onward r (figureIn figs) n q _ _ _ _ refl (s .each q l) j
 
-part-start : (r : Railway) (n : ℕ) (figs sets : List ℕ) → Part r n figs sets figs sets false 0
-part-start r n figs sets =
+  swept-back : Carries r (figureIn figs′) (figureIn figs) n
+  swept-back q j l = changed-back r (figureIn figs) n q _ _ _ _ refl (s .each q l) j
+
+  swept-finds : recordRefusal r ≡ none → (q : ℕ) → q < placements r → find r (figureIn figs′) q n ≡ find r (figureIn figs) q n
+  swept-finds accepted q l = find-carry r (facts r accepted) (figureIn figs′) (figureIn figs) q n l swept-back (λ p j lp b e. swept-onward p j lp e)
+
+  swept-none-yet : (q : ℕ) → q < placements r → figureIn figs′ q ≡ none → figureIn figs q ≡ none
+  swept-none-yet q l = changed-none r (figureIn figs) n q _ _ _ _ (s .each q l)
+
+  pub swept-keeps : (q : ℕ) → unfigured figs′ q ≡ true → unfigured figs q ≡ true
+  swept-keeps q x = elim (lt? q (placements r)) [
+    | inl l ↦ entry-empty (getD figs q noFigure) (swept-none-yet q l (empty-entry (getD figs′ q noFigure) x))
+    | inr l ↦ rw (s .past-figs q noFigure l) at x
+  ]
+
+  -- for fewer kinds
+  pub swept-less : (U : ℕ → Type 0) → ((q : ℕ) → q < placements r → U q → S q) → Swept r n U figs sets figs′ sets′ marks′ a
+  swept-less U h =
+      record {
+        each = s .each;
+        past-figs = s .past-figs;
+        past-sets = s .past-sets;
+        unchanged = s .unchanged;
+        more = s .more;
+        settled = λ q l u. s .settled q l (h q l u);
+        marked = s .marked;
+      }
+
+  -- the round goes on
+  pub round-on : (table : List ℕ) (m : ℕ) (marks : List ℕ) → Round r table m n figs marks → Round r table m n figs′ marks′
+  round-on table m marks o =
+      record {
+        compiled = o .compiled;
+        counted = o .counted;
+        small = o .small;
+        homed = λ p l h. swept-onward p 0 l (o .homed p l h);
+        marked = s .marked;
+      }
+
+-- NO VISIT
+pub swept-none : (r : Railway) (n : ℕ) (S : ℕ → Type 0) (figs sets marks : List ℕ) → Marked r figs marks → ((q : ℕ) → q < placements r → S q → ⊥) → Swept r n S figs sets figs sets marks false
+swept-none r n S figs sets marks k h =
     record {
-      done = λ q h. absurd (omega arith);
-      ahead-figs = λ q d h. refl;
-      ahead-sets = λ q d h. refl;
+      each = λ q l. same refl refl;
+      past-figs = λ q d l. refl;
+      past-sets = λ q d l. refl;
       unchanged = λ e. (refl, refl);
-      gained = λ e. clash e refl;
+      more = λ e. clash e refl;
+      settled = λ q l u. absurd (h q l u);
+      marked = k;
     }
 
-module _ (r : Railway) (accepted : recordRefusal r ≡ none) (n : ℕ) (small : n < noFigure) (figs₀ sets₀ figs sets : List ℕ) (added : Bool) (p : ℕ)
-    (l : p < placements r) (inside-figs : p < length figs) (inside-sets : p < length sets) (part : Part r n figs₀ sets₀ figs sets added p) where
-  -- what the search sees has not changed
-  here : figureIn figs p ≡ figureIn figs₀ p
-  here = ap figureEntry (part .ahead-figs p noFigure (omega arith))
+-- SOME VISITS, AND SOME MORE
+module _ (r : Railway) (accepted : recordRefusal r ≡ none) (n : ℕ) (small : n < noFigure) (S T U : ℕ → Type 0) (figs sets figs₁ sets₁ marks₁ figs₂ sets₂ marks₂ : List ℕ) (a b : Bool)
+    (x : Swept r n S figs sets figs₁ sets₁ marks₁ a) (y : Swept r n T figs₁ sets₁ figs₂ sets₂ marks₂ b) (covers : (q : ℕ) → q < placements r → U q → S q ⊎ T q) where
+  finds : (q : ℕ) → q < placements r → find r (figureIn figs₁) q n ≡ find r (figureIn figs) q n
+  finds = swept-finds r n S figs sets figs₁ sets₁ marks₁ a x accepted
 
-  to : Carries r (figureIn figs) (figureIn figs₀) n
-  to q j lq b e = elim (lt? q p) [
-    | inl m ↦ step-back r (figureIn figs₀) n q (getD figs₀ q noFigure) (getD sets₀ q 0) (getD figs q noFigure) (getD sets q 0) refl (part .done q m .0) (part .done q m .1) j b e
-    | inr m ↦ sym (ap figureEntry (part .ahead-figs q noFigure m)) ∙ e
-  ]
+  both-unchanged : (c d : Bool) → (d ≡ false → (figs₁ ≡ figs) × (sets₁ ≡ sets)) → (c ≡ false → (figs₂ ≡ figs₁) × (sets₂ ≡ sets₁)) → cond c true d ≡ false → (figs₂ ≡ figs) × (sets₂ ≡ sets)
+  both-unchanged true d h k e = clash refl e
+  both-unchanged false d h k e = (k refl .0 ∙ h e .0, k refl .1 ∙ h e .1)
 
-  from : Carries r (figureIn figs₀) (figureIn figs) n
-  from q j lq b e = elim (lt? q p) [
-    | inl m ↦ step-onward r (figureIn figs₀) n q (getD figs₀ q noFigure) (getD sets₀ q 0) (getD figs q noFigure) (getD sets q 0) refl (part .done q m .0) (part .done q m .1) j e
-    | inr m ↦ ap figureEntry (part .ahead-figs q noFigure m) ∙ e
-  ]
+  Gain : List ℕ → List ℕ → Type 0
+  Gain old new = (q : ℕ) × (q < placements r) × (unfigured new q ≡ false) × (unfigured old q ≡ true)
 
-  same-find : find r (figureIn figs) p n ≡ find r (figureIn figs₀) p n
-  same-find = find-carry r (facts r accepted) (figureIn figs) (figureIn figs₀) p n l to from
+  either-more : (c d : Bool) → (d ≡ true → Gain figs figs₁) → (c ≡ true → Gain figs₁ figs₂) → cond c true d ≡ true → Gain figs figs₂
+  unfolding Gain
+  either-more true d h k e =
+      let g : (q : ℕ) × (q < placements r) × (unfigured figs₂ q ≡ false) × (unfigured figs₁ q ≡ true) = k refl in
+      (g .0, g .1, g .2, swept-keeps r n S figs sets figs₁ sets₁ marks₁ a x (g .0) (g .3))
+  either-more false d h k e =
+      let g : (q : ℕ) × (q < placements r) × (unfigured figs₁ q ≡ false) × (unfigured figs q ≡ true) = h e in
+      (g .0, g .1, not-true (unfigured figs₂ (g .0)) (λ z. clash (swept-keeps r n T figs₁ sets₁ figs₂ sets₂ marks₂ b y (g .0) z) (g .2)), g .3)
 
-  part-rests : (figureIn figs p ≡ none → over (gameOf r) p ≡ false → find r (figureIn figs) p n ≡ none) → Part r n figs₀ sets₀ figs sets added (p + 1)
-  part-rests h =
+  pub swept-then : Swept r n U figs sets figs₂ sets₂ marks₂ (cond b true a)
+  unfolding Gain
+  swept-then =
       record {
-        done = λ q b. elim (lt? q p) [
-          | inl m ↦ part .done q m
-          | inr m ↦
-              let z : q ≡ p = omega arith in
-              rw z (false, stays (part .ahead-figs p noFigure (omega arith)) (part .ahead-sets p 0 (omega arith)) (λ e o. sym same-find ∙ h (here ∙ e) o))
+        each = λ q l. changed-then r (figureIn figs) (figureIn figs₁) n q _ _ _ _ _ _ small (finds q l) (x .each q l) (y .each q l);
+        past-figs = λ q d l. y .past-figs q d l ∙ x .past-figs q d l;
+        past-sets = λ q d l. y .past-sets q d l ∙ x .past-sets q d l;
+        unchanged = both-unchanged b a (x .unchanged) (y .unchanged);
+        more = either-more b a (x .more) (y .more);
+        settled = λ q l u e o. elim (covers q l u) [
+          | inl s ↦ x .settled q l s (swept-none-yet r n T figs₁ sets₁ figs₂ sets₂ marks₂ b y q l e) o
+          | inr t ↦ sym (finds q l) ∙ y .settled q l t e o
         ];
-        ahead-figs = λ q d b. part .ahead-figs q d (omega arith);
-        ahead-sets = λ q d b. part .ahead-sets q d (omega arith);
-        unchanged = part .unchanged;
-        gained = λ e. let g : (q : ℕ) × (q < p) × (unfigured figs q ≡ false) × (unfigured figs₀ q ≡ true) = part .gained e in (g .0, omega (arith, g .1), g .2, g .3);
+        marked = y .marked;
       }
 
-  module _ (v : ℕ) (empty : figureIn figs p ≡ none) (going : over (gameOf r) p ≡ false) (found : find r (figureIn figs) p n ≡ some v) where
-    new-figure : getD (set figs p n) p noFigure ≡ n
-    new-figure = getD-set-same figs p n noFigure inside-figs
+-- ONE VISIT
+module _ (r : Railway) (table : List ℕ) (m n p : ℕ) (figs sets marks : List ℕ) (o : Round r table m n figs marks) where
+  pub visit-outside : m ≤ p → Swept r n (One p) figs sets figs sets marks false
+  visit-outside l = swept-none r n (One p) figs sets marks (o .marked) (λ q lq e. omega (arith, o .counted))
 
-    new-setting : getD (set sets p v) p 0 ≡ v
-    new-setting = getD-set-same sets p v 0 inside-sets
+  module _ (figs′ sets′ : List ℕ) where
+    pub visit-rests : (b : Bool) → Visited r n p figs sets figs′ sets′ b → b ≡ false → Swept r n (One p) figs sets figs′ sets′ marks false
+    visit-rests b (enters v empty going found ef es) e = clash refl e
+    visit-rests b (rests ef es h) e =
+        rw (ef, es)
+        (record {
+          each = λ q l. same refl refl;
+          past-figs = λ q d l. refl;
+          past-sets = λ q d l. refl;
+          unchanged = λ y. (refl, refl);
+          more = λ y. clash y refl;
+          settled = λ q l u y g. rw u (h (rw u at y) (rw u at g));
+          marked = o .marked;
+        })
 
-    now-figured : unfigured (set figs p n) p ≡ false
-    now-figured = rw new-figure (ne-eqb n noFigure (λ z. omega arith))
+    module _ (l : p < m) (inside-figs : p < length figs) (inside-sets : p < length sets) (marks′ : List ℕ) (as-long : length marks′ ≡ length marks)
+        (grow : (i : ℕ) → getD marks i 0 ≤ getD marks′ i 0) (marks-it : p / 324 < length marks → n ≤ getD marks′ (p / 324) 0) where
+      entered : (v : ℕ) → figureIn figs p ≡ none → over (gameOf r) p ≡ false → find r (figureIn figs) p n ≡ some v → Swept r n (One p) figs sets (set figs p n) (set sets p v) marks′ true
+      entered v empty going found =
+          record {
+            each = λ q lq. elim (eq? q p) [
+              | inl z ↦
+                  rw z
+                  (gained empty going (getD-set-same figs p n noFigure inside-figs)
+                  (found ∙ ap (λ (x : ℕ). some x) (sym (getD-set-same sets p v 0 inside-sets))))
+              | inr z ↦ same (getD-set-other figs p q n noFigure z) (getD-set-other sets p q v 0 z)
+            ];
+            past-figs = λ q d lq. getD-set-other figs p q n d (λ z. omega (arith, o .counted));
+            past-sets = λ q d lq. getD-set-other sets p q v d (λ z. omega (arith, o .counted));
+            unchanged = λ y. clash refl y;
+            more = λ y.
+                (p, omega (arith, o .counted), not-true (unfigured (set figs p n) p) (λ z. some-none figure-now (empty-entry (getD (set figs p n) p noFigure) z)), entry-empty (getD figs p noFigure) empty);
+            settled = λ q lq u y g. some-none figure-now (rw u at y);
+            marked = record { room = omega (arith, o .marked .room); most = most };
+          }
+        where
+          most : (q j : ℕ) → q < placements r → figureIn (set figs p n) q ≡ some j → j ≤ getD marks′ (q / 324) 0
+          most q j lq e = elim (eq? q p) [
+            | inl z ↦
+                let a : figureIn (set figs p n) p ≡ some j = rw z at e in
+                let b : n ≡ j = sym (getD-set-same figs p n noFigure inside-figs) ∙ entry-is (getD (set figs p n) p noFigure) j a in
+                rw (z, ← b) (marks-it (omega (arith, o .counted, o .marked .room)))
+            | inr z ↦
+                let a : figureIn figs q ≡ some j = sym (ap figureEntry (getD-set-other figs p q n noFigure z)) ∙ e in
+                omega (arith, o .marked .most q j lq a, grow (q / 324))
+          ]
 
-    part-enters : Part r n figs₀ sets₀ (set figs p n) (set sets p v) true (p + 1)
-    part-enters =
-        record {
-          done = λ q b. elim (lt? q p) [
-            | inl m ↦ rw (getD-set-other figs p q n noFigure (λ z. omega arith), getD-set-other sets p q v 0 (λ z. omega arith)) (part .done q m)
-            | inr m ↦ let z : q ≡ p = omega arith in rw z (true, gains (sym here ∙ empty) going new-figure (sym same-find ∙ found ∙ ap (λ (x : ℕ). some x) (sym new-setting)))
-          ];
-          ahead-figs = λ q d b. getD-set-other figs p q n d (λ z. omega arith) ∙ part .ahead-figs q d (omega arith);
-          ahead-sets = λ q d b. getD-set-other sets p q v d (λ z. omega arith) ∙ part .ahead-sets q d (omega arith);
-          unchanged = λ e. clash refl e;
-          gained = λ e. (p, omega arith, now-figured, entry-empty (getD figs₀ p noFigure) (sym here ∙ empty));
-        }
+          figure-now : figureIn (set figs p n) p ≡ some n
+          figure-now = ap figureEntry (getD-set-same figs p n noFigure inside-figs) ∙ entry-some n (λ z. omega (arith, o .small))
 
-  part-next : (figs′ sets′ : List ℕ) (b : Bool) → Visited r n p figs sets figs′ sets′ b → Part r n figs₀ sets₀ figs′ sets′ (cond b true added) (p + 1)
-  part-next figs′ sets′ b (rests ef es h) = rw (ef, es) (part-rests h)
-  part-next figs′ sets′ b (enters v empty going found ef es) = rw (ef, es) (part-enters v empty going found)
+      pub visit-gains : (b : Bool) → Visited r n p figs sets figs′ sets′ b → b ≡ true → Swept r n (One p) figs sets figs′ sets′ marks′ true
+      visit-gains b (rests ef es h) e = clash e refl
+      visit-gains b (enters v empty going found ef es) e = rw (ef, es) (entered v empty going found)
 
--- THE ROUND IS OVER
-module _ (r : Railway) (accepted : recordRefusal r ≡ none) (k : ℕ) (small : suc k < noFigure) (figs₀ sets₀ figs sets : List ℕ) (added : Bool)
-    (long-figs : length figs ≡ length figs₀) (long-sets : length sets ≡ length sets₀) (before : RoundTables r k figs₀ sets₀) (part : Part r (suc k) figs₀ sets₀ figs sets added (placements r)) where
-  keeps : (q : ℕ) → unfigured figs q ≡ true → unfigured figs₀ q ≡ true
-  keeps q x = elim (lt? q (placements r)) [
-    | inl m ↦ step-keeps r (figureIn figs₀) (suc k) q (getD figs₀ q noFigure) (getD sets₀ q 0) (getD figs q noFigure) (getD sets q 0) refl (part .done q m .0) (part .done q m .1) x
-    | inr m ↦ rw (part .ahead-figs q noFigure m) at x
-  ]
-
-  quiet : added ≡ false → (q : ℕ) → q < placements r → figureIn figs q ≡ figureIn figs₀ q
-  quiet e q l = ap (λ (t : List ℕ). figureIn t q) (part .unchanged e .0)
-
-  round-over : RoundPost r (suc k) figs₀ sets₀ figs sets added
-  round-over =
-      record {
-        after =
-            record {
-              tables = next-round r accepted k figs₀ sets₀ before figs sets (part .done) small;
-              kept-figs = record { as-long = long-figs; past = λ q l. part .ahead-figs q 0 l };
-              kept-sets = record { as-long = long-sets; past = λ q l. part .ahead-sets q 0 l };
-            };
-        unchanged = part .unchanged;
-        last = λ e. rw (part .unchanged e .0, part .unchanged e .1) (last-round r accepted k figs₀ sets₀ before figs sets (part .done) small (quiet e));
-        fewer = λ e.
-            let g : (q : ℕ) × (q < placements r) × (unfigured figs q ≡ false) × (unfigured figs₀ q ≡ true) = part .gained e in
-            count-more (unfigured figs) (unfigured figs₀) keeps (placements r) (g .0) (g .1) (g .2) (g .3);
-      }
-
--- AS THE LOOP HAS IT: of every railway that has m placements and this table
-pub record Sweeping (table : List ℕ) (m n : ℕ) (figs₀ sets₀ figs sets : List ℕ) (added : Bool) (p : ℕ) : Type 0 where
-  pub within : p ≤ m
-  pub long-figs : length figs ≡ length figs₀
-  pub long-sets : length sets ≡ length sets₀
-  pub parts : (r : Railway) → Compiled r table → m ≡ placements r → n < noFigure → Homed r figs₀ → Part r n figs₀ sets₀ figs sets added p
-
-module _ (table : List ℕ) (m n : ℕ) (figs₀ sets₀ : List ℕ) where
-  pub sweeping-start : Sweeping table m n figs₀ sets₀ figs₀ sets₀ false 0
-  sweeping-start = record { within = omega arith; long-figs = refl; long-sets = refl; parts = λ r h e small homed. part-start r n figs₀ sets₀ }
-
-  module _ (figs sets : List ℕ) (added : Bool) (p : ℕ) (s : Sweeping table m n figs₀ sets₀ figs sets added p) where
-    pub sweeping-next : (figs′ sets′ : List ℕ) (b : Bool) (added′ : Bool) → p < m → m ≤ length figs₀ → m ≤ length sets₀ → length figs′ ≡ length figs → length sets′ ≡ length sets
-        → ((r : Railway) → Compiled r table → (home (gameOf r) p ≡ true → figureIn figs p ≡ some 0) → Visited r n p figs sets figs′ sets′ b) → added′ ≡ cond b true added
-        → Sweeping table m n figs₀ sets₀ figs′ sets′ added′ (p + 1)
-    sweeping-next figs′ sets′ b added′ l lf ls ef es visited e =
-        record {
-          within = omega arith;
-          long-figs = ef ∙ s .long-figs;
-          long-sets = es ∙ s .long-sets;
-          parts = λ r h em small homed.
-              let part : Part r n figs₀ sets₀ figs sets added p = s .parts r h em small homed in
-              let lp : p < placements r = omega arith in
-              let now : figureIn figs p ≡ figureIn figs₀ p = ap figureEntry (part .ahead-figs p noFigure (omega arith)) in
-              rw e (part-next r (h .accepted) n small figs₀ sets₀ figs sets added p lp (omega (arith, s .long-figs)) (omega (arith, s .long-sets)) part figs′ sets′ b (visited r h (λ y. now ∙ homed p lp y)));
-        }
-
-    pub sweeping-end : m ≤ p → (r : Railway) (k : ℕ) → Compiled r table → m ≡ placements r → n ≡ suc k → n < noFigure → RoundTables r k figs₀ sets₀ → RoundPost r n figs₀ sets₀ figs sets added
-    sweeping-end l r k h em en small t =
-        let z : p ≡ placements r = omega (arith, s .within) in
-        let part : Part r n figs₀ sets₀ figs sets added p = s .parts r h em small (round-homed r k figs₀ sets₀ t) in
-        rw en (round-over r (h .accepted) k (omega arith) figs₀ sets₀ figs sets added (s .long-figs) (s .long-sets) t (rw (en, z) at part))
-
-pub joined-added : (b a x : Bool) → b ≡ true → x ≡ true → x ≡ cond b true a
-joined-added b a x eb ex = rw eb ex
-
-pub joined-same : (b a x : Bool) → b ≡ false → x ≡ a → x ≡ cond b true a
-joined-same b a x eb ex = rw eb ex
+-- MARKS: one is raised, the others stay
+module _ (marks : List ℕ) (c n : ℕ) (inside : c / 324 < length marks) (lower : getD marks (c / 324) 0 < n) where
+  pub mark-raised : ((i : ℕ) → getD marks i 0 ≤ getD (set marks (c / 324) n) i 0) × (c / 324 < length marks → n ≤ getD (set marks (c / 324) n) (c / 324) 0)
+  mark-raised = (
+    λ i. elim (eq? i (c / 324)) [
+      | inl z ↦ rw (z, getD-set-same marks (c / 324) n 0 inside) (omega arith)
+      | inr z ↦ rw (getD-set-other marks (c / 324) i n 0 z) (omega arith)
+    ],
+    λ l. rw (getD-set-same marks (c / 324) n 0 inside) (omega arith),
+  )

@@ -1,21 +1,27 @@
 -- Round n at one placement, and what it begins with. A placement that is home has figure 0 already, so one without a figure at which something is found is neither
 -- home nor lost. Assumes nothing.
 use mathlib.Core.Path.{_≡_, refl, sym, _∙_, ap}
-use mathlib.Core.Bool.{Bool, true, false}
+use mathlib.Core.Logic.{inl, inr}
+use mathlib.Core.Bool.{Bool, true, false, not}
 use mathlib.Core.List.{List}
 use mathlib.Core.Option.{Option, none, some}
 use Prim.Native.Nat.{ℕ, _<_}
 use lib.ListN.{length, getD, set}
+use lib.Dec.{eqb}
 use borrow.Author.Tests.{eq-eqb, ne-eqb}
-use Rattle.laws.proofs.Bools.{some-none, not-true, or-false, or-none}
+use Rattle.laws.proofs.Bools.{bool?, some-none, some-one, not-true, or-false, or-none, and-off}
 use Rattle.laws.proofs.Lists.{getD-inside}
 use Rattle.railway.specs.declared.Railway.{Railway}
 use Rattle.game.specs.Game.{home}
-use Rattle.game.specs.Placement.{atHome, shared}
+use Rattle.railway.specs.Rows.{recordRefusal}
+use Rattle.game.specs.Placement.{placements, atHome, shared}
 use Rattle.game.specs.Moves.{gameOf}
+use Rattle.game.proofs.Accepted.{facts}
 use Rattle.tables.specs.Tables.{noFigure, figureEntry, figureIn}
 use Rattle.tables.specs.Find.{find}
 use Rattle.tables.specs.Rounds.{firstFigure}
+use Rattle.moves.specs.Answers.{homeCode}
+use Rattle.moves.proofs.Round.{home-has-code}
 use Rattle.settings.specs.Answers.{firstKeeping}
 use Rattle.settings.proofs.Exactly.{keeping-lost}
 use Rattle.solver.specs.Sweeps.{Visited, rests, enters}
@@ -25,6 +31,15 @@ entry-some x h = rw (ne-eqb x noFigure h)
 
 pub entry-none : (x : ℕ) → x ≡ noFigure → figureEntry x ≡ none
 entry-none x h = rw (eq-eqb x noFigure h)
+
+pub entry-is : (x j : ℕ) → figureEntry x ≡ some j → x ≡ j
+entry-is x j e = elim (bool? (eqb x noFigure)) [
+  | inl y ↦ let s : figureEntry x ≡ none = rw y in some-none e s
+  | inr y ↦ let s : figureEntry x ≡ some x = rw y in some-one (sym s ∙ e)
+]
+
+pub entry-empty : (x : ℕ) → figureEntry x ≡ none → eqb x noFigure ≡ true
+entry-empty x e = elim (bool? (eqb x noFigure)) [ inl y ↦ y | inr y ↦ let s : figureEntry x ≡ some x = rw y in some-none s e ]
 
 -- BEFORE THE FIRST ROUND
 module _ (r : Railway) (p : ℕ) (lost at-home : Bool) (el : lost ≡ shared r p) where
@@ -37,6 +52,11 @@ module _ (r : Railway) (p : ℕ) (lost at-home : Bool) (el : lost ≡ shared r p
 
     pub first-away : at-home ≡ false → noFigure ≡ firstFigure r p
     first-away e = let s : shared r p ≡ false = sym el ∙ apart in let h : atHome r p ≡ false = sym eh ∙ e in rw (s, h)
+
+pub first-other : (r : Railway) (home p : ℕ) → recordRefusal r ≡ none → home ≡ homeCode r → p < placements r → (p ≡ home → ⊥) → noFigure ≡ firstFigure r p
+first-other r home p accepted e l other =
+    let away : atHome r p ≡ false = not-true (atHome r p) (λ y. other (home-has-code r (facts r accepted) p l y ∙ sym e)) in
+    rw (away, and-off (not (shared r p)))
 
 -- ONE PLACEMENT
 module _ (r : Railway) (n p : ℕ) (figs sets : List ℕ) (inside : p < length figs) where

@@ -1,2 +1,3 @@
 pub mod Sweeps
+pub mod Waves
 pub mod Claims

@@ -16,10 +16,10 @@ use Rattle.railway.specs.declared.Railway.{Railway}
 use Rattle.railway.specs.Rows.{recordRefusal}
 use Rattle.game.specs.Game.{home, over, IsFigure}
 use Rattle.game.specs.Claim.{Keeps}
-use Rattle.game.specs.Local.{Solved}
+use Rattle.game.specs.Local.{Solved, keepsTest}
 use Rattle.game.specs.Placement.{placements, atHome, shared}
 use Rattle.game.specs.Moves.{gameOf}
-use Rattle.game.proofs.Turns.{no-keeps-zero, keeps-map, not-over}
+use Rattle.game.proofs.Turns.{no-keeps-zero, test-keeps, keeps-map, not-over}
 use Rattle.game.proofs.Accepted.{Facts, facts}
 use Rattle.game.proofs.Moves.{inside}
 use Rattle.game.proofs.Figures.{figure-one, figures-solved}
@@ -113,6 +113,19 @@ module _ (r : Railway) (accepted : recordRefusal r ≡ none) where
           | inl b ↦ let z : x .0 ≡ suc n = omega (arith, x .2) in rw z at (x .1)
           | inr b ↦ some-none (back n F upto p (x .0) l b (x .1)) e
         ]
+
+    -- .. and not all moves under it end below n: the figure would be there already
+    not-sooner : (v : ℕ) → F p ≡ none → over (gameOf r) p ≡ false → find r F p (suc n) ≡ some v → keepsTest (gameOf r) F p (settingAt r p v) n ≡ false
+    not-sooner v e o f =
+        not-true (keepsTest (gameOf r) F p (settingAt r p v) n) (λ y.
+        let k = keeps-carry r ok F G p l n (sees n F upto n) (settingAt r p v) (test-keeps (gameOf r) F p (settingAt r p v) n y) in
+        let x : (j : ℕ) × (G p ≡ some j) × (j ≤ n) = agrees .least p (settingAt r p v) n l o k in
+        some-none (back n F upto p (x .0) l (x .2) (x .1)) e)
+
+  -- WHO GAINS in round n + 1 does so by a setting that would not have kept n
+  pub gains-late : (n : ℕ) (figs sets : List ℕ) → RoundTables r n figs sets → (p v : ℕ) → p < placements r → figureIn figs p ≡ none → over (gameOf r) p ≡ false
+      → find r (figureIn figs) p (suc n) ≡ some v → keepsTest (gameOf r) (figureIn figs) p (settingAt r p v) n ≡ false
+  gains-late n figs sets t p v l = not-sooner n (figureIn figs) (λ q m. t .figures q m (G q) (has q m)) p l v
 
   -- ROUND 0
   pub cleared-round : (figs sets : List ℕ) → Cleared r figs sets → RoundTables r 0 figs sets

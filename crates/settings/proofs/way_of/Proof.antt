@@ -1,7 +1,7 @@
 -- `settings::way_of` meets its contract, by the table and the two ends.
 -- Assumes nothing.
-use borrow.Author.Needs.{needs}
 use Rattle.settings.proofs.Ways.{way-is}
+use borrow.Author.Needs.{needs}
 use Rattle.settings.proofs.way_of.Statement.{statement}
 use Rattle.settings.proofs.way_of.Tie as tie
 
@@ -17,14 +17,15 @@ end-of-requires c κs = search needs
 is-below-requires : tie.Need-is-below-requires
 is-below-requires c κs = search needs
 
-end-of-requires-2 : tie.Need-end-of-requires-2
-end-of-requires-2 c κs = search needs
-
-is-below-requires-2 : tie.Need-is-below-requires-2
-is-below-requires-2 c κs = search needs
+plus-below-requires : tie.Need-plus-below-requires
+plus-below-requires c κs = search needs
 
 returns : tie.Need-returns
-returns c = λ r p h l. way-is r _ p _ _ _ _ (c .before .before .before .end-of .result) (c .before .end-of2 .result) _ _ (c .before .before .before .before .before .held-in .ensures r p h l) (c .before .before .before .before .point-in .ensures r p h l) (c .before .before .before .end-of .ensures r p h l) (c .before .end-of2 .ensures r p h l) (c .before .before .is-below .ensures) (c .is-below2 .ensures)
+returns c =
+    let b = c .before in
+    let e = b .before in
+    let o = e .before in
+    λ r p h l. way-is r _ p _ _ _ _ (e .end-of .result) _ _ (o .before .held-in .ensures r p h l) (o .point-in .ensures r p h l) (e .end-of .ensures r p h l) (b .is-below .ensures) (c .plus-below .ensures r p h l)
 
 pub way-of-spec : {M : Type 1} → statement M
 way-of-spec =
@@ -34,6 +35,5 @@ way-of-spec =
     point-in-requires
     end-of-requires
     is-below-requires
-    end-of-requires-2
-    is-below-requires-2
+    plus-below-requires
     returns)

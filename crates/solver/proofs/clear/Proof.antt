@@ -9,19 +9,22 @@ use Rattle.solver.proofs.clear.Statement.{statement}
 use Rattle.solver.proofs.clear.Tie as tie
 
 abbrev Inv-loop : tie.InvT-loop
-Inv-loop table figures₀ settings₀ m p₀ figures settings p = Clearing table m figures₀ settings₀ figures settings p
+Inv-loop table figures₀ settings₀ m home p₀ figures settings p = Clearing table m figures₀ settings₀ figures settings p
 
 abbrev μ-loop : tie.MeasureT-loop
-μ-loop table figures₀ settings₀ m p₀ figures settings p = m - p
+μ-loop table figures₀ settings₀ m home p₀ figures settings p = m - p
+
+home-code-requires : tie.Need-home-code-requires Inv-loop μ-loop
+home-code-requires c κs = search needs
 
 loop-holds : tie.Need-loop-holds Inv-loop μ-loop
-loop-holds c = let a = c .before .before in clearing-start (a .args .table .now) (a .args .m) (a .args .figures .now) (a .args .settings .now)
+loop-holds c = let a = c .before .before .before in clearing-start (a .args .table .now) (a .args .m) (a .args .figures .now) (a .args .settings .now)
 
 cast-at : tie.Need-cast-at Inv-loop μ-loop
 cast-at c = omega arith
 
-first-figure-requires : tie.Need-first-figure-requires Inv-loop μ-loop
-first-figure-requires c κs = search needs
+first-entry-requires : tie.Need-first-entry-requires Inv-loop μ-loop
+first-entry-requires c κs = search needs
 
 mul-figures : tie.Need-mul-figures Inv-loop μ-loop
 mul-figures c = search needs
@@ -36,7 +39,7 @@ slice-write-settings : tie.Need-slice-write-settings Inv-loop μ-loop
 slice-write-settings c = let l = c .before .before in omega (arith, l .loop .inv .long-sets)
 
 add-p : tie.Need-add-p Inv-loop μ-loop
-add-p c = let a = c .before .before .before .before .before in omega (arith, a .fits .m)
+add-p c = let a = c .before .before .before .before .before .before in omega (arith, a .fits .m)
 
 loop-less : tie.Need-loop-less Inv-loop μ-loop
 loop-less c = omega arith
@@ -44,8 +47,9 @@ loop-less c = omega arith
 loop-again : tie.Need-loop-again Inv-loop μ-loop
 loop-again c =
     let l = c .before .before in
-    let a = l .before .before .before in
-    clearing-next (a .args .table .now) (a .args .m) (a .args .figures .now) (a .args .settings .now) _ _ (l .loop .p) (l .loop .inv) _ _ (omega arith) (a .pre .0) (a .pre .1) (c .first-figure .ensures) refl
+    let k = l .before in
+    let a = k .before .before .before in
+    clearing-next (a .args .table .now) (a .args .m) (a .args .figures .now) (a .args .settings .now) _ _ (l .loop .p) (l .loop .inv) _ _ (omega arith) (a .pre .0) (a .pre .1) (λ r h lp. c .first-entry .ensures r h (k .home-code .ensures r h) lp) refl
 
 same-length : tie.Need-same-length Inv-loop μ-loop
 same-length c = c .before .loop .inv .long-figs
@@ -56,7 +60,7 @@ same-length-2 c = c .before .loop .inv .long-sets
 returns : tie.Need-returns Inv-loop μ-loop
 returns c =
     let l = c .before in
-    let a = l .before .before .before in
+    let a = l .before .before .before .before in
     clearing-end (a .args .table .now) (a .args .m) (a .args .figures .now) (a .args .settings .now) _ _ _ (l .loop .inv) (omega arith)
 
 pub clear-spec : {M : Type 1} → statement M
@@ -65,9 +69,10 @@ clear-spec =
     (tie.spec
     Inv-loop
     μ-loop
+    home-code-requires
     loop-holds
     cast-at
-    first-figure-requires
+    first-entry-requires
     mul-figures
     slice-write-figures
     mul-settings

@@ -1,19 +1,19 @@
--- `solver::fill` meets its contract: cleared tables, then rounds until one adds nothing.
+-- `solver::fill` meets its contract. The loop's invariant: n rounds have been played, and each gave a figure to some placement.
 -- Assumes nothing.
 use borrow.Author.Needs.{needs}
 use native.Mathlib.Omega.{arith}
-use mathlib.Core.Path.{_∙_}
+use mathlib.Core.Path.{sym, _∙_}
 use Prim.Native.Nat.{_+_, _-_}
 use borrow.Author.Tests.{not-true, not-false}
-use Rattle.solver.proofs.Filling.{Filling, filling-start, filling-next, filling-end, filling-over}
+use Rattle.solver.proofs.Filling.{Filling, filling-start, filling-next, filling-over, filling-end}
 use Rattle.solver.proofs.fill.Statement.{statement}
 use Rattle.solver.proofs.fill.Tie as tie
 
 abbrev Inv-loop : tie.InvT-loop
-Inv-loop table figures₀ settings₀ m n₀ figures settings n = Filling table m figures₀ settings₀ figures settings n
+Inv-loop table behind figures₀ settings₀ m marks₀ n₀ figures settings marks n = Filling table behind m figures₀ settings₀ figures settings marks n
 
 abbrev μ-loop : tie.MeasureT-loop
-μ-loop table figures₀ settings₀ m n₀ figures settings n = m + 1 - n
+μ-loop table behind figures₀ settings₀ m marks₀ n₀ figures settings marks n = m + 1 - n
 
 clear-requires : tie.Need-clear-requires Inv-loop μ-loop
 clear-requires c κs = search needs
@@ -22,63 +22,78 @@ loop-holds : tie.Need-loop-holds Inv-loop μ-loop
 loop-holds c =
     let k = c .before .before .before .before in
     let a = k .before .before .before .before .before in
-    filling-start (a .args .table .now) (a .args .m) (a .args .figures .now) (a .args .settings .now) _ _ (k .clear .ensures)
+    filling-start (a .args .table .now) (a .args .behind .now) (a .args .m) (a .args .figures .now) (a .args .settings .now) _ _ (k .clear .ensures)
 
 add-n : tie.Need-add-n Inv-loop μ-loop
 add-n c = omega arith
 
+slice-aggregate-one-round : tie.Need-slice-aggregate-one-round Inv-loop μ-loop
+slice-aggregate-one-round c = sym (c .before .before .before .before .loop .inv .long-marks)
+
 one-round-requires : tie.Need-one-round-requires Inv-loop μ-loop
 one-round-requires c κs =
-    let l = c .before .before .before in
+    let l = c .before .before .before .before in
     let k = l .before .before .before .before .before in
     let a = k .before .before .before .before .before in
     (omega (arith, a .pre .1 .0, k .clear .kept .1 .0, l .loop .inv .long-figs), omega (arith, a .pre .1 .1, k .clear .kept .1 .1 .0, l .loop .inv .long-sets))
 
 same-length : tie.Need-same-length Inv-loop μ-loop
 same-length c =
-    let o = c .before .before .before .before .before in
-    let l = o .before .before .before .before in
+    let o = c .before .before .before .before .before .before in
+    let i = o .before .before .before .before in
+    let l = i .before in
     let k = l .before .before .before .before .before in
-    o .one-round .kept .1 .0 ∙ l .loop .inv .long-figs ∙ k .clear .kept .1 .0
+    let a = k .before .before .before .before .before in
+    o .one-round .kept .1 .1 .0 ∙ l .loop .inv .long-figs ∙ k .clear .kept .1 .0
 
 same-length-2 : tie.Need-same-length-2 Inv-loop μ-loop
 same-length-2 c =
-    let o = c .before .before .before .before .before in
-    let l = o .before .before .before .before in
+    let o = c .before .before .before .before .before .before in
+    let i = o .before .before .before .before in
+    let l = i .before in
     let k = l .before .before .before .before .before in
-    o .one-round .kept .1 .1 .0 ∙ l .loop .inv .long-sets ∙ k .clear .kept .1 .1 .0
+    let a = k .before .before .before .before .before in
+    o .one-round .kept .1 .1 .1 .0 ∙ l .loop .inv .long-sets ∙ k .clear .kept .1 .1 .0
 
 returns : tie.Need-returns Inv-loop μ-loop
 returns c =
-    let o = c .before .before .before .before .before in
-    let l = o .before .before .before .before in
+    let o = c .before .before .before .before .before .before in
+    let i = o .before .before .before .before in
+    let l = i .before in
     let k = l .before .before .before .before .before in
     let a = k .before .before .before .before .before in
-    filling-end (a .args .table .now) (a .args .m) (a .args .figures .now) (a .args .settings .now) _ _ (k .clear .ensures) _ _ _ (l .loop .inv) (a .pre .0) (omega (arith, o .before .before .before .loop-test .taken)) _ _ _ (o .one-round .ensures) (not-true _ (c .if1 .taken))
+    filling-end (a .args .table .now) (a .args .behind .now) (a .args .m) (a .args .figures .now) (a .args .settings .now) _ _ (k .clear .ensures) (l .loop .figures) (l .loop .settings) (l .loop .marks) (l .loop .n) (l .loop .inv) (a .pre .0) (i .loop-test .taken) _ _ _ _ (o .one-round .ensures) (not-true _ (c .if1 .taken))
 
 loop-less : tie.Need-loop-less Inv-loop μ-loop
-loop-less c = let o = c .before .before .before .before .before in omega (arith, o .before .before .before .loop-test .taken)
+loop-less c =
+    let o = c .before .before .before .before .before .before in
+    let i = o .before .before .before .before in
+    let l = i .before in
+    let k = l .before .before .before .before .before in
+    let a = k .before .before .before .before .before in
+    omega (arith, i .loop-test .taken)
 
 loop-again : tie.Need-loop-again Inv-loop μ-loop
 loop-again c =
-    let o = c .before .before .before .before .before in
-    let l = o .before .before .before .before in
+    let o = c .before .before .before .before .before .before in
+    let i = o .before .before .before .before in
+    let l = i .before in
     let k = l .before .before .before .before .before in
     let a = k .before .before .before .before .before in
-    filling-next (a .args .table .now) (a .args .m) (a .args .figures .now) (a .args .settings .now) _ _ (k .clear .ensures) _ _ _ (l .loop .inv) (a .pre .0) (omega (arith, o .before .before .before .loop-test .taken)) _ _ _ (o .one-round .ensures) (o .one-round .kept .1 .0) (o .one-round .kept .1 .1 .0) (not-false _ (c .if1 .left))
+    filling-next (a .args .table .now) (a .args .behind .now) (a .args .m) (a .args .figures .now) (a .args .settings .now) _ _ (k .clear .ensures) (l .loop .figures) (l .loop .settings) (l .loop .marks) (l .loop .n) (l .loop .inv) (a .pre .0) (i .loop-test .taken) _ _ _ _ (o .one-round .ensures) (o .one-round .kept .1 .1 .0) (o .one-round .kept .1 .1 .1 .0) (o .one-round .kept .1 .1 .1 .1 .0) (not-false _ (c .if1 .left))
 
 same-length-3 : tie.Need-same-length-3 Inv-loop μ-loop
-same-length-3 c = let l = c .before in let k = l .before .before .before .before .before in l .loop .inv .long-figs ∙ k .clear .kept .1 .0
+same-length-3 c = let l = c .before in l .loop .inv .long-figs ∙ l .before .before .before .before .before .clear .kept .1 .0
 
 same-length-4 : tie.Need-same-length-4 Inv-loop μ-loop
-same-length-4 c = let l = c .before in let k = l .before .before .before .before .before in l .loop .inv .long-sets ∙ k .clear .kept .1 .1 .0
+same-length-4 c = let l = c .before in l .loop .inv .long-sets ∙ l .before .before .before .before .before .clear .kept .1 .1 .0
 
 returns-2 : tie.Need-returns-2 Inv-loop μ-loop
 returns-2 c =
     let l = c .before in
     let k = l .before .before .before .before .before in
     let a = k .before .before .before .before .before in
-    filling-over (a .args .table .now) (a .args .m) (a .args .figures .now) (a .args .settings .now) _ _ (k .clear .ensures) _ _ _ (l .loop .inv) (omega arith)
+    filling-over (a .args .table .now) (a .args .behind .now) (a .args .m) (a .args .figures .now) (a .args .settings .now) _ _ (k .clear .ensures) (l .loop .figures) (l .loop .settings) (l .loop .marks) (l .loop .n) (l .loop .inv) (c .loop-test .left)
 
 pub fill-spec : {M : Type 1} → statement M
 fill-spec =
@@ -89,6 +104,7 @@ fill-spec =
     clear-requires
     loop-holds
     add-n
+    slice-aggregate-one-round
     one-round-requires
     same-length
     same-length-2

@@ -1,42 +1,78 @@
--- `solver::one_round` meets its contract: each placement is visited once, and what is found is what the tables had when the round began.
+-- `solver::one_round` meets its contract. The loop's invariant: what is before the codes below c has been visited.
 -- Assumes nothing.
 use native.Mathlib.Omega.{arith}
-use mathlib.Core.Logic.{⊎-elim}
+use mathlib.Core.Path.{refl}
 use Prim.Native.Nat.{_-_}
-use Rattle.solver.proofs.Sweeping.{Sweeping, sweeping-start, sweeping-next, sweeping-end, joined-added, joined-same}
+use Rattle.solver.specs.Waves.{Before}
+use Rattle.solver.proofs.Waving.{Sweeping, sweeping-start, sweeping-next, joined-added, joined-same, no-code, codes-next, round-end}
 use Rattle.solver.proofs.one_round.Statement.{statement}
 use Rattle.solver.proofs.one_round.Tie as tie
 
 abbrev Inv-loop : tie.InvT-loop
-Inv-loop table figures₀ settings₀ m n added₀ p₀ figures settings added p = Sweeping table m n figures₀ settings₀ figures settings added p
+Inv-loop table behind figures₀ settings₀ marks₀ m n added₀ c₀ figures settings marks added c =
+    Sweeping table behind m n (λ r i. Before r n figures₀ 0 i) figures₀ settings₀ marks₀ figures settings marks added c
 
 abbrev μ-loop : tie.MeasureT-loop
-μ-loop table figures₀ settings₀ m n added₀ p₀ figures settings added p = m - p
+μ-loop table behind figures₀ settings₀ marks₀ m n added₀ c₀ figures settings marks added c = m - c
 
 loop-holds : tie.Need-loop-holds Inv-loop μ-loop
-loop-holds c = let a = c .before .before in sweeping-start (a .args .table .now) (a .args .m) (a .args .n) (a .args .figures .now) (a .args .settings .now)
+loop-holds c =
+    let a = c .before .before .before in
+    sweeping-start (a .args .table .now) (a .args .behind .now) (a .args .m) (a .args .n) (λ r i. Before r (a .args .n) (a .args .figures .now) 0 i) (a .args .figures .now) (a .args .settings .now) (a .args .marks .now) 0 (λ r q k. no-code r (a .args .n) (a .args .figures .now) 0 q k)
 
-visit-requires : tie.Need-visit-requires Inv-loop μ-loop
-visit-requires c κs = let l = c .before .before .before in (omega (arith, l .loop .inv .long-figs), omega (arith, l .loop .inv .long-sets))
+stretch-end-requires : tie.Need-stretch-end-requires Inv-loop μ-loop
+stretch-end-requires c κs = c .loop-test .taken
 
-add-p : tie.Need-add-p Inv-loop μ-loop
-add-p c =
-    let v = c .before .before .before .before .before in
-    let l = v .before .before .before .before in
-    let a = l .before .before .before in
-    omega (arith, a .fits .m, v .before .before .before .loop-test .taken)
+visit-stretch-requires : tie.Need-visit-stretch-requires Inv-loop μ-loop
+visit-stretch-requires c κs =
+    let u = c .before .before .before in
+    let l = u .before .before in
+    let a = l .before .before .before .before in
+    (omega (arith, a .pre .0, l .loop .inv .long-figs), omega (arith, a .pre .1, l .loop .inv .long-sets), u .stretch-end .ensures .1)
 
 loop-less : tie.Need-loop-less Inv-loop μ-loop
-loop-less c = let v = c .before .before .before .before .before in omega (arith, v .before .before .before .loop-test .taken)
+loop-less c =
+    let v = c .before .before .before .before .before .before .before in
+    let u = v .before .before .before .before in
+    let i = u .before in
+    let l = i .before in
+    let a = l .before .before .before .before in
+    omega (arith, i .loop-test .taken, u .stretch-end .ensures .0, u .stretch-end .ensures .1)
 
 loop-again : tie.Need-loop-again Inv-loop μ-loop
 loop-again c =
-    let v = c .before .before .before .before .before in
-    let l = v .before .before .before .before in
-    let a = l .before .before .before in
-    sweeping-next (a .args .table .now) (a .args .m) (a .args .n) (a .args .figures .now) (a .args .settings .now) _ _ _ _ (l .loop .inv)
-    _ _ (v .visit .result) (c .if1 .added) (omega (arith, v .before .before .before .loop-test .taken)) (a .pre .0) (a .pre .1) (v .visit .kept .1 .0) (v .visit .kept .1 .1 .0) (v .visit .ensures)
-    (⊎-elim (λ w. joined-added (v .visit .result) (l .loop .added) _ (w .0 .taken) (w .1)) (λ w. joined-same (v .visit .result) (l .loop .added) _ (w .0 .left) (w .1)) (c .if1 .came))
+    let v = c .before .before .before .before .before .before .before in
+    let u = v .before .before .before .before in
+    let i = u .before in
+    let l = i .before in
+    let a = l .before .before .before .before in
+    sweeping-next (a .args .table .now) (a .args .behind .now) (a .args .m) (a .args .n) (λ r i. Before r (a .args .n) (a .args .figures .now) 0 i) (a .args .figures .now) (a .args .settings .now) (a .args .marks .now) (l .loop .figures) (l .loop .settings) (l .loop .marks) (l .loop .added) (l .loop .c) (l .loop .inv)
+    (λ r. Before r (a .args .n) (l .loop .figures) (l .loop .c) (u .stretch-end .result)) (u .stretch-end .result) _ _ _ (v .visit-stretch .result) _ (v .visit-stretch .kept .1 .1 .0) (v .visit-stretch .kept .1 .1 .1 .0) (v .visit-stretch .kept .1 .1 .1 .1 .0)
+    (λ r h o. v .visit-stretch .ensures r h o (u .stretch-end .ensures .2))
+    (λ r s o q lq x. codes-next r (a .args .n) (a .args .figures .now) _ _ _ _ _ _ s 0 (l .loop .c) (u .stretch-end .result) q (omega (arith, u .stretch-end .ensures .1, o .counted)) x)
+    (joined-added (v .visit-stretch .result) (l .loop .added) _ (c .if1 .taken) refl)
+
+loop-less-2 : tie.Need-loop-less-2 Inv-loop μ-loop
+loop-less-2 c =
+    let v = c .before .before .before .before .before .before .before in
+    let u = v .before .before .before .before in
+    let i = u .before in
+    let l = i .before in
+    let a = l .before .before .before .before in
+    omega (arith, i .loop-test .taken, u .stretch-end .ensures .0, u .stretch-end .ensures .1)
+
+loop-again-2 : tie.Need-loop-again-2 Inv-loop μ-loop
+loop-again-2 c =
+    let v = c .before .before .before .before .before .before .before in
+    let u = v .before .before .before .before in
+    let i = u .before in
+    let l = i .before in
+    let a = l .before .before .before .before in
+    sweeping-next (a .args .table .now) (a .args .behind .now) (a .args .m) (a .args .n) (λ r i. Before r (a .args .n) (a .args .figures .now) 0 i) (a .args .figures .now) (a .args .settings .now) (a .args .marks .now) (l .loop .figures) (l .loop .settings) (l .loop .marks) (l .loop .added) (l .loop .c) (l .loop .inv)
+    (λ r. Before r (a .args .n) (l .loop .figures) (l .loop .c) (u .stretch-end .result)) (u .stretch-end .result) _ _ _ (v .visit-stretch .result) _ (v .visit-stretch .kept .1 .1 .0) (v .visit-stretch .kept .1 .1 .1 .0) (v .visit-stretch .kept .1 .1 .1 .1 .0)
+    (λ r h o. v .visit-stretch .ensures r h o (u .stretch-end .ensures .2))
+    (λ r s o q lq x. codes-next r (a .args .n) (a .args .figures .now) _ _ _ _ _ _ s 0 (l .loop .c) (u .stretch-end .result) q (omega (arith, u .stretch-end .ensures .1, o .counted)) x)
+    (joined-same (v .visit-stretch .result) (l .loop .added) _ (c .if1 .left) refl)
 
 same-length : tie.Need-same-length Inv-loop μ-loop
 same-length c = c .before .loop .inv .long-figs
@@ -44,11 +80,14 @@ same-length c = c .before .loop .inv .long-figs
 same-length-2 : tie.Need-same-length-2 Inv-loop μ-loop
 same-length-2 c = c .before .loop .inv .long-sets
 
+same-length-3 : tie.Need-same-length-3 Inv-loop μ-loop
+same-length-3 c = c .before .loop .inv .long-marks
+
 returns : tie.Need-returns Inv-loop μ-loop
 returns c =
     let l = c .before in
-    let a = l .before .before .before in
-    sweeping-end (a .args .table .now) (a .args .m) (a .args .n) (a .args .figures .now) (a .args .settings .now) _ _ _ _ (l .loop .inv) (omega arith)
+    let a = l .before .before .before .before in
+    round-end (a .args .table .now) (a .args .behind .now) (a .args .m) (a .args .n) (a .args .figures .now) (a .args .settings .now) (a .args .marks .now) _ _ _ _ _ (l .loop .inv) (c .loop-test .left)
 
 pub one-round-spec : {M : Type 1} → statement M
 one-round-spec =
@@ -57,10 +96,13 @@ one-round-spec =
     Inv-loop
     μ-loop
     loop-holds
-    visit-requires
-    add-p
+    stretch-end-requires
+    visit-stretch-requires
     loop-less
     loop-again
+    loop-less-2
+    loop-again-2
     same-length
     same-length-2
+    same-length-3
     returns)

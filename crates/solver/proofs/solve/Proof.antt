@@ -17,9 +17,12 @@ enum-told c = search needs
 placements-requires : tie.Need-placements-requires
 placements-requires c κs = search needs
 
+sections-behind-requires : tie.Need-sections-behind-requires
+sections-behind-requires c κs = search needs
+
 fill-requires : tie.Need-fill-requires
 fill-requires c κs =
-    let n = c .before .before .before in
+    let n = c .before .before .before .before .before in
     let t = n .before .before in
     let o = t .before .before .before in
     let a = o .before .before .before .before .before in
@@ -35,10 +38,7 @@ same-length-2 : tie.Need-same-length-2
 same-length-2 c = search needs
 
 returns : tie.Need-returns
-returns c =
-    let o = c .before .before .before .before in
-    let a = o .before .before .before .before .before in
-    answer-refused (a .args .r) (a .args .figures .now) (a .args .settings .now) _ (o .open-case .ensures) _ (c .before .tested .given .1)
+returns c = let o = c .before .before .before .before in let a = o .before .before .before .before .before in answer-refused (a .args .r) (a .args .figures .now) (a .args .settings .now) _ (o .open-case .ensures) _ (c .before .tested .given .1)
 
 same-length-3 : tie.Need-same-length-3
 same-length-3 c = search needs
@@ -49,11 +49,13 @@ same-length-4 c = search needs
 returns-2 : tie.Need-returns-2
 returns-2 c =
     let f = c .before .before .before .before .before .before .before in
-    let n = f .before .before .before .before in
+    let s = f .before .before .before .before .before in
+    let n = s .before in
     let t = n .before .before in
     let o = t .before .before .before in
     let a = o .before .before .before .before .before in
-    answer-solved (a .args .r) (a .args .figures .now) (a .args .settings .now) _ (o .open-case .ensures) (t .enum-told .given .1) _ (n .placements .ensures) _ _ _ (f .fill .ensures) (c .start-answer .ensures)
+    answer-solved (a .args .r) (a .args .figures .now) (a .args .settings .now) _ (o .open-case .ensures) (t .enum-told .given .1) _ (n .placements .ensures) _ _ _
+    (λ h e. f .fill .ensures (a .args .r) h (s .sections-behind .ensures) e) (c .start-answer .ensures)
 
 pub solve-spec : {M : Type 1} → statement M
 solve-spec =
@@ -63,6 +65,7 @@ solve-spec =
     enum-known-tested
     enum-told
     placements-requires
+    sections-behind-requires
     fill-requires
     start-answer-requires
     same-length

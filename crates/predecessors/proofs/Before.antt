@@ -1,0 +1,181 @@
+-- The code before a move. A move that ends in a placement has put one train on the section where it stands there and left the others: so the placement before has the
+-- train on the section behind, and its code differs by the train's weight times the difference of the sections. Assumes nothing.
+use mathlib.Core.Path.{_≡_, refl, sym, _∙_, ap}
+use mathlib.Core.Bool.{Bool, true, false, cond}
+use mathlib.Core.List.{List, [], _∷_}
+use mathlib.Core.Option.{Option, none, some}
+use Prim.Native.Nat.{ℕ, zero, suc, _+_, _*_, _^_, _/_, _%_, _≤_, _<_}
+use native.Mathlib.Omega.{arith}
+use native.Mathlib.Nat.{mul-one, mul-comm, mul-assoc, pow-zero, pow-succ', mul-add}
+use lib.ListN.{length, getD, set, replicate, length-replicate, length-set}
+use lib.Seq.{getD-set-same, getD-set-other}
+use Rattle.laws.proofs.Bools.{eq?, some-none}
+use mathlib.Core.Logic.{inl, inr}
+use Rattle.railway.specs.declared.Side.{Side}
+use Rattle.railway.specs.declared.End.the-variants.{Section}
+use Rattle.railway.specs.declared.Train.{Train}
+use Rattle.railway.specs.declared.Railway.{Railway}
+use Rattle.railway.specs.Ends.{opposite}
+use Rattle.railway.specs.Record.{runOf}
+use Rattle.railway.specs.Rows.{recordRefusal}
+use Rattle.railway.proofs.Accepted.{accepted-facts}
+use Rattle.game.specs.Game.{Outcome, lost, at, collision, derailment}
+use Rattle.game.specs.Placement.{codeOf, sectionsOf, standsOn, placements}
+use Rattle.game.specs.Setting.{headsFor}
+use Rattle.game.specs.Moves.{passes, occupied, codeWith, enters, moveOf}
+use Rattle.game.proofs.Codes.{code-cons, code-sections, sections-length}
+use Rattle.game.proofs.Accepted.{Facts, facts}
+use Rattle.game.proofs.Moves.{section-below, passes-below, sections-with}
+use Rattle.tables.proofs.Exists.{few-placements}
+use Rattle.compiled.specs.Table.{sectionByte, wayByte, countByte, Compiled}
+use Rattle.moves.specs.declared.Placement.{Placement}
+use Rattle.moves.specs.Steps.{sectionIn, On, allAt}
+use Rattle.moves.proofs.Placing.{sections-are}
+use Rattle.predecessors.specs.Behind.{behindBytes, endBehind, behindByte, Behind}
+use Rattle.predecessors.proofs.Reversing.{goes-back}
+
+-- THE TABLE, byte after byte
+pub record FilledTo (r : Railway) (behind : List ℕ) (i : ℕ) : Type 0 where
+  pub within : i ≤ behindBytes
+  pub sized : length behind ≡ behindBytes
+  pub below : (j : ℕ) → j < i → getD behind j 0 ≡ behindByte r j
+
+module _ (r : Railway) where
+  pub fill-start : FilledTo r (replicate behindBytes 0) 0
+  fill-start = record { within = omega arith; sized = length-replicate {A = ℕ} behindBytes 0; below = λ j l. absurd (omega arith) }
+
+  pub fill-next : (behind : List ℕ) (i x : ℕ) → FilledTo r behind i → i < behindBytes → x ≡ behindByte r i → FilledTo r (set behind i x) (i + 1)
+  fill-next behind i x h l e =
+      record {
+        within = omega arith;
+        sized = length-set behind i x ∙ h .sized;
+        below = λ j m. elim (eq? j i) [
+          | inl z ↦ rw z (getD-set-same behind i x 0 (rw (h .sized) l) ∙ e)
+          | inr z ↦ getD-set-other behind i j x 0 z ∙ h .below j (omega arith)
+        ];
+      }
+
+  pub fill-end : (behind : List ℕ) (i : ℕ) → FilledTo r behind i → behindBytes ≤ i → Behind r behind
+  fill-end behind i h l = record { bytes = λ j m. h .below j (omega arith) }
+
+  pub byte-is : (i y : ℕ) (run : Train) (s : Side) → run ≡ runOf r (i / 96) → s ≡ opposite (run .heading) → y ≡ wayByte r (Section (record { 0 = i / 2 % 48 }) s) (2 + i % 2) → y ≡ behindByte r i
+  unfolding behindByte
+  byte-is i y run s is e h = let z : s ≡ opposite (runOf r (i / 96) .heading) = e ∙ ap (λ (a : Train). opposite (a .heading)) is in rw z at h
+
+  -- read again
+  module _ (t x y : ℕ) (lt : t < 4) (lx : x < 48) where
+    at-minus : behindByte r (2 * (48 * t + x)) ≡ wayByte r (endBehind r t x) 2
+    unfolding behindByte
+    at-minus =
+        let a : 2 * (48 * t + x) / 96 ≡ t = omega arith in
+        let b : 2 * (48 * t + x) / 2 % 48 ≡ x = omega arith in
+        let d : 2 + 2 * (48 * t + x) % 2 ≡ 2 = omega arith in
+        rw (a, b, d)
+
+    at-plus : behindByte r (2 * (48 * t + x) + 1) ≡ wayByte r (endBehind r t x) 3
+    unfolding behindByte
+    at-plus =
+        let a : (2 * (48 * t + x) + 1) / 96 ≡ t = omega arith in
+        let b : (2 * (48 * t + x) + 1) / 2 % 48 ≡ x = omega arith in
+        let d : 2 + (2 * (48 * t + x) + 1) % 2 ≡ 3 = omega arith in
+        rw (a, b, d)
+
+    pub minus-behind : (plus : Bool) → plus ≡ false → y ≡ behindByte r (2 * (48 * t + x)) → y ≡ wayByte r (endBehind r t x) (cond plus 3 2)
+    minus-behind plus z e = rw z (e ∙ at-minus)
+
+    pub plus-behind : (plus : Bool) → plus ≡ true → y ≡ behindByte r (2 * (48 * t + x) + 1) → y ≡ wayByte r (endBehind r t x) (cond plus 3 2)
+    plus-behind plus z e = rw z (e ∙ at-plus)
+
+-- CODES: one train put elsewhere
+pub code-move : (s : ℕ) (xs : List ℕ) (t x : ℕ) → t < length xs → codeOf s (set xs t x) + getD xs t 0 * s ^ t ≡ codeOf s xs + x * s ^ t
+code-move s [] t x l = absurd (omega arith)
+code-move s (z ∷ zs) zero x l =
+    let one : s ^ 0 ≡ 1 = pow-zero s in
+    rw (code-cons s x zs, code-cons s z zs, one) (omega arith)
+code-move s (z ∷ zs) (suc t) x l =
+    let ih : codeOf s (set zs t x) + getD zs t 0 * s ^ t ≡ codeOf s zs + x * s ^ t = code-move s zs t x (omega arith) in
+    let both : s * (codeOf s (set zs t x) + getD zs t 0 * s ^ t) ≡ s * (codeOf s zs + x * s ^ t) = ap (λ (y : ℕ). s * y) ih in
+    let a : s * (codeOf s (set zs t x) + getD zs t 0 * s ^ t) ≡ s * codeOf s (set zs t x) + s * (getD zs t 0 * s ^ t) = mul-add s (codeOf s (set zs t x)) (getD zs t 0 * s ^ t) in
+    let b : s * (codeOf s zs + x * s ^ t) ≡ s * codeOf s zs + s * (x * s ^ t) = mul-add s (codeOf s zs) (x * s ^ t) in
+    let c : s * (getD zs t 0 * s ^ t) ≡ getD zs t 0 * s ^ suc t = swap (getD zs t 0) in
+    let d : s * (x * s ^ t) ≡ x * s ^ suc t = swap x in
+    rw (code-cons s z (set zs t x), code-cons s z zs) (omega arith)
+  where
+    swap : (y : ℕ) → s * (y * s ^ t) ≡ y * s ^ suc t
+    swap y = sym (mul-assoc s y (s ^ t)) ∙ ap (λ (z : ℕ). z * s ^ t) (mul-comm s y) ∙ mul-assoc y s (s ^ t) ∙ ap (λ (z : ℕ). y * z) (sym (pow-succ' s t))
+
+-- A MOVE THAT ENDS in placement c: the train has entered a section
+record Entered (r : Railway) (p t c : ℕ) (o : Option ℕ) : Type 0 where
+  section : ℕ
+  reached : o ≡ some section
+  code : c ≡ codeWith r p t section
+
+entered : (r : Railway) (p t c : ℕ) (o : Option ℕ) → enters r p t o ≡ at c → Entered r p t c o
+entered r p t c none e = let z : _≡_ {A = ℕ} 0 1 = cc in absurd (omega arith)
+entered r p t c (some x) e = go (occupied r p t x) e
+  where
+    go : (b : Bool) → cond b (lost collision) (at (codeWith r p t x)) ≡ at c → Entered r p t c (some x)
+    go true e = let z : _≡_ {A = ℕ} 0 1 = cc in absurd (omega arith)
+    go false e = let z : codeWith r p t x ≡ c = cc in record { section = x; reached = refl; code = sym z }
+
+exchanged : (c c′ y y′ w w′ p p′ x x′ : ℕ) → c ≡ c′ → y ≡ y′ → w ≡ w′ → p′ ≡ p → x ≡ x′ → c′ + y′ * w′ ≡ p′ + x′ * w′ → c + y * w ≡ p + x * w
+exchanged c c′ y y′ w w′ p p′ x x′ ec ey ew ep ex e = rw (ec, ey, ew, ← ep, ex) e
+
+-- BACK FROM placement c
+module _ (r : Railway) (c : ℕ) (table : List ℕ) (q : Placement) (on : On r c table q) (p t : ℕ) (plus : Bool) (l : p < placements r) (lt : t < r .trains)
+    (moved : moveOf r p (allAt plus) t ≡ at c) (x : ℕ) (here : x ≡ sectionIn q t) where
+  accepted : recordRefusal r ≡ none
+  accepted = on .compiled .accepted
+
+  ok : Facts r
+  ok = facts r accepted
+
+  into : Entered r p t c (passes r (λ i. plus) (headsFor r p t) .reached)
+  unfolding moveOf
+  into = entered r p t c (passes r (λ i. plus) (headsFor r p t) .reached) moved
+
+  into-below : into .section < r .sections
+  into-below = passes-below r ok (λ i. plus) (headsFor r p t) (into .section) (into .reached)
+
+  inside : t < length (sectionsOf r p)
+  inside = rw (sections-length (r .sections) (r .trains) p) lt
+
+  -- it is where the train stands now
+  section-is : x ≡ into .section
+  unfolding standsOn
+  section-is =
+      let a : sectionsOf r c ≡ set (sectionsOf r p) t (into .section) = ap (sectionsOf r) (into .code) ∙ sections-with r ok p t (into .section) into-below in
+      let b : standsOn r c t ≡ into .section = rw a (getD-set-same (sectionsOf r p) t (into .section) 0 inside) in
+      here ∙ on .stands t ∙ b
+
+  pub section-small : x < 48
+  section-small = rw section-is (omega (arith, into-below, ok .few-sections))
+
+  pub train-small : t < 4
+  train-small = omega (arith, ok .few-trains)
+
+  -- behind it is where the train stood
+  module _ (y : ℕ) (behind : y ≡ wayByte r (endBehind r t x) (cond plus 3 2)) where
+    back-at : (b : Bool) → passes r (λ i. b) (endBehind r t x) .reached ≡ some (standsOn r p t) → wayByte r (endBehind r t x) (cond b 3 2) ≡ standsOn r p t
+    unfolding wayByte
+    back-at true e = rw e
+    back-at false e = rw e
+
+    behind-is : y ≡ standsOn r p t
+    unfolding headsFor
+    behind-is =
+        let way : passes r (λ i. plus) (Section (record { 0 = standsOn r p t }) (runOf r t .heading)) .reached ≡ some x = into .reached ∙ ap (λ (a : ℕ). some a) (sym section-is) in
+        behind ∙ back-at plus (goes-back r (accepted-facts r accepted) plus (runOf r t .heading) (standsOn r p t) x way)
+
+    pub some-behind : y ≡ 255 → ⊥
+    some-behind e = omega (arith, behind-is, section-below r ok p t lt, ok .few-sections)
+
+    pub before-is : (s w b : ℕ) → s ≡ countByte r 0 → (t ≤ 4 → w ≡ s ^ t) → ((p : ℕ) → p < 4294967295 → c + y * w ≡ p + x * w → b ≡ p) → b ≡ p
+    unfolding standsOn
+    before-is s w b es ew put =
+        let weight : w ≡ r .sections ^ t = ew (omega (arith, train-small)) ∙ ap (λ (a : ℕ). a ^ t) (sections-are r s es) in
+        let codes : codeOf (r .sections) (sectionsOf r p) ≡ p = code-sections (r .sections) (r .trains) p (ok .one-section) l in
+        let m : codeWith r p t (into .section) + standsOn r p t * r .sections ^ t ≡ codeOf (r .sections) (sectionsOf r p) + into .section * r .sections ^ t =
+        code-move (r .sections) (sectionsOf r p) t (into .section) inside in
+        let n : c + y * w ≡ p + x * w = exchanged c _ y _ w _ p _ x _ (into .code) behind-is weight codes section-is m in
+        put p (omega (arith, few-placements r accepted)) n

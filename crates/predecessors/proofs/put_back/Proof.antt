@@ -1,0 +1,36 @@
+-- `predecessors::put_back` meets its contract: nothing runs over, for a byte times a number of 32 bits is one of 40.
+-- Assumes nothing.
+use native.Mathlib.Omega.{arith}
+use Rattle.moves.proofs.Coding.{times-fits}
+use borrow.Author.Needs.{needs}
+use Rattle.predecessors.proofs.put_back.Statement.{statement}
+use Rattle.predecessors.proofs.put_back.Tie as tie
+
+mul-more : tie.Need-mul-more
+mul-more c = omega (arith, times-fits 255 4294967295 {a = c .args .y} {b = c .args .w} (omega (arith, c .fits .y)) (omega (arith, c .fits .w)))
+
+add-more : tie.Need-add-more
+add-more c = omega (arith, c .fits .c, times-fits 255 4294967295 {a = c .args .y} {b = c .args .w} (omega (arith, c .fits .y)) (omega (arith, c .fits .w)))
+
+mul-less : tie.Need-mul-less
+mul-less c = omega (arith, times-fits 255 4294967295 {a = c .args .x} {b = c .args .w} (omega (arith, c .fits .x)) (omega (arith, c .fits .w)))
+
+returns : tie.Need-returns
+returns c = search needs
+
+cast-if2 : tie.Need-cast-if2
+cast-if2 c = search needs
+
+cast-result : tie.Need-cast-result
+cast-result c = search needs
+
+returns-2 : tie.Need-returns-2
+returns-2 c = search needs
+
+returns-3 : tie.Need-returns-3
+returns-3 c = search needs
+
+pub put-back-spec : {M : Type 1} → statement M
+put-back-spec =
+    tie.close
+    (tie.spec mul-more add-more mul-less returns cast-if2 cast-result returns-2 returns-3)

@@ -1,0 +1,29 @@
+-- The sections behind each section, as a table of bytes: where a train that went back would come to. Nothing of document 01 rests on this file: contracts cite it, and the
+-- laws in proofs/ say that every move into a section comes from one of these. Assumes nothing.
+use mathlib.Core.Path.{_≡_}
+use mathlib.Core.List.{List}
+use Prim.Native.Nat.{ℕ, _+_, _*_, _/_, _%_, _<_}
+use lib.ListN.{getD}
+use Rattle.railway.specs.declared.End.{End}
+use Rattle.railway.specs.declared.End.the-variants.{Section}
+use Rattle.railway.specs.declared.Railway.{Railway}
+use Rattle.railway.specs.Bounds.{mostSections, mostTrains}
+use Rattle.railway.specs.Ends.{opposite}
+use Rattle.railway.specs.Record.{runOf}
+use Rattle.compiled.specs.Table.{wayByte}
+
+-- How long the table is: two bytes for each train and section.
+abbrev pub behindBytes : ℕ
+behindBytes = 2 * (mostTrains * mostSections)
+
+-- The end of section x that train t comes in by: it lies against its heading.
+abbrev pub endBehind : Railway → ℕ → ℕ → End
+endBehind r t x = Section (record { 0 = x }) (opposite (runOf r t .heading))
+
+-- The byte at index i: the section that a train leaving by that end enters, with the point at minus at even indices and at plus at odd ones.
+unfoldable pub behindByte : Railway → ℕ → ℕ
+behindByte r i = wayByte r (endBehind r (i / (2 * mostSections)) (i / 2 % mostSections)) (2 + i % 2)
+
+-- The table of a railway.
+pub record Behind (r : Railway) (behind : List ℕ) : Type 0 where
+  pub bytes : (i : ℕ) → i < behindBytes → getD behind i 0 ≡ behindByte r i

@@ -1,0 +1,122 @@
+// Where trains can have come from. Going back from a section a train meets the same join and the same point as coming to it, so it has come from
+// one section if that point lies at minus and from one if it lies at plus. Read off a record once, into a table of bytes, for loops that ask often.
+ghost use mathlib.Core.Path.{_≡_};
+ghost use mathlib.Core.Bool.{Bool, cond};
+ghost use Prim.Native.Nat.{ℕ, _+_, _*_, _<_};
+ghost use Rattle.railway.specs.declared.Railway.{Railway};
+ghost use Rattle.railway.specs.Ends.{opposite};
+ghost use Rattle.game.specs.Game.{at};
+ghost use Rattle.game.specs.Placement.{placements};
+ghost use Rattle.game.specs.Moves.{moveOf};
+ghost use Rattle.compiled.specs.Table.{wayByte};
+ghost use Rattle.moves.specs.Steps.{On, allAt};
+ghost use Rattle.predecessors.specs.Behind.{endBehind, behindByte, Behind};
+use compiled::NO_BYTE;
+use compiled::Table;
+use moves::Placement;
+use railway::End;
+use railway::Railway;
+use railway::SectionNo;
+use railway::Side;
+
+// Bytes of a table: two for each train and section.
+pub const BEHIND: usize = 384;
+
+// The table of a railway's sections behind each section.
+pub type SectionsBehind = [u8; BEHIND];
+
+// What stands for no code. No table is long enough to have an entry there.
+pub const NO_CODE: u32 = 4294967295;
+
+// The sections behind each section, for each train.
+pub fn sections_behind(r: Railway) -> SectionsBehind
+    ensures { λ b. ⌜ Behind r b ⌝ }
+{
+    let mut behind = [0u8; BEHIND];
+    let mut i: usize = 0;
+    while i < BEHIND {
+        let b = byte_behind(r, i);
+        behind[i] = b;
+        i += 1;
+    }
+    behind
+}
+
+// The byte at an index.
+fn byte_behind(r: Railway, i: usize) -> u8
+    requires { ⌜ i < 384 ⌝ }
+    ensures { λ b. ⌜ b ≡ behindByte r i ⌝ }
+{
+    let t = (i / 96) as u8;
+    let x = (i / 2 % 48) as u8;
+    let j = 2 + (i % 2) as u8;
+    let run = r.run_of(t);
+    let h = run.heading;
+    compiled::way_byte(r, End::Section(SectionNo(x), other_side(h)), j)
+}
+
+fn other_side(s: Side) -> Side
+    ensures { λ o. ⌜ o ≡ opposite s ⌝ }
+{
+    match s {
+        Side::Up => Side::Down,
+        Side::Down => Side::Up,
+    }
+}
+
+// The section behind section x for train t, the point between them lying at plus or not; 255: none.
+fn section_behind(behind: &SectionsBehind, t: u8, x: u8, plus: bool) -> u8
+    ensures { λ y. ⌜ ((r : Railway) → Behind r (now (behind .entry)) → t < 4 → x < 48 → y ≡ wayByte r (endBehind r t x) (cond plus 3 2)) ⌝ }
+{
+    let at = 2 * (48 * (t as usize) + (x as usize));
+    if plus {
+        byte_at(behind, at + 1)
+    } else {
+        byte_at(behind, at)
+    }
+}
+
+fn byte_at(behind: &SectionsBehind, i: usize) -> u8
+    ensures { λ b. ⌜ ((r : Railway) → Behind r (now (behind .entry)) → i < 384 → b ≡ behindByte r i) ⌝ }
+{
+    if i < BEHIND { behind[i] } else { NO_BYTE }
+}
+
+// THE CODE BEFORE A MOVE: that of the one placement from which train t, the point that it meets lying at plus or not, comes to placement q of
+// code c. Where there is none it is any number.
+pub fn code_before(
+    table: &Table,
+    behind: &SectionsBehind,
+    q: Placement,
+    c: u32,
+    t: u8,
+    plus: bool,
+) -> u32
+    ensures { λ b. ⌜ ((r : Railway) (p : ℕ) → On r c (now (table .entry)) q → Behind r (now (behind .entry)) → p < placements r → t < r .trains → moveOf r p (allAt plus) t ≡ at c → b ≡ p) ⌝ }
+{
+    let x = moves::section_at(q, t);
+    let y = section_behind(behind, t, x, plus);
+    if y == NO_BYTE {
+        return NO_CODE;
+    }
+    let w = moves::power(compiled::count_in(table, 0), t);
+    put_back(c, w, x, y)
+}
+
+// A code with a train of weight w put from section x to section y.
+fn put_back(c: u32, w: u32, x: u8, y: u8) -> u32
+    ensures { λ b. ⌜ ((p : ℕ) → p < 4294967295 → c + y * w ≡ p + x * w → b ≡ p) ⌝ }
+{
+    let m = w as u64;
+    let more = (c as u64) + (y as u64) * m;
+    let less = (x as u64) * m;
+    if more < less {
+        return NO_CODE;
+    }
+    let p = more - less;
+    if p < (NO_CODE as u64) {
+        p as u32
+    } else {
+        NO_CODE
+    }
+}

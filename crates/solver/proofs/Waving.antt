@@ -1,0 +1,218 @@
+-- A round's loops, over the trains of a placement, the codes of a stretch and the stretches of the table: each pass visits some more placements. When all stretches are
+-- done, every placement that could gain has been visited. Assumes nothing.
+use mathlib.Core.Path.{_≡_, refl, sym, _∙_, ap}
+use mathlib.Core.Logic.{_⊎_, inl, inr}
+use mathlib.Core.Bool.{Bool, true, false, cond}
+use mathlib.Core.List.{List}
+use mathlib.Core.Option.{Option, none, some}
+use Prim.Native.Nat.{ℕ, suc, _+_, _-_, _/_, _≤_, _<_}
+use native.Mathlib.Omega.{arith}
+use lib.ListN.{length, getD}
+use Rattle.laws.proofs.Bools.{lt?, eq?, option?, clash}
+use Rattle.laws.proofs.Below.{count-more}
+use Rattle.railway.specs.declared.Railway.{Railway}
+use Rattle.railway.specs.Rows.{recordRefusal}
+use Rattle.game.specs.Game.{over, at}
+use Rattle.game.specs.Placement.{placements}
+use Rattle.game.specs.Moves.{moveOf, gameOf}
+use Rattle.tables.specs.Tables.{noFigure, figureEntry, figureIn}
+use Rattle.tables.specs.Solver.{RoundTables}
+use Rattle.tables.specs.Find.{find}
+use Rattle.tables.specs.Rounds.{Step, stays, gains}
+use Rattle.tables.proofs.Steps.{next-round, last-round}
+use Rattle.compiled.specs.Table.{countByte, Compiled}
+use Rattle.moves.specs.declared.Placement.{Placement}
+use Rattle.moves.specs.Steps.{On, allAt}
+use Rattle.moves.proofs.Placing.{trains-are}
+use Rattle.predecessors.specs.Behind.{Behind}
+use Rattle.solver.specs.Sweeps.{unfigured, RoundPost}
+use Rattle.solver.specs.Waves.{Marked, Round, Changed, same, gained, Swept, One, By, Comes, Before}
+use Rattle.solver.proofs.Visiting.{entry-is}
+use Rattle.solver.proofs.Sweeping.{round-homed, swept-onward, swept-keeps, swept-less, round-on, swept-none, swept-then}
+use Rattle.solver.proofs.Gaining.{gains-before}
+
+-- ANSWERS of two calls
+pub joined-added : (b a x : Bool) → b ≡ true → x ≡ true → x ≡ cond b true a
+joined-added b a x eb ex = rw eb ex
+
+pub joined-same : (b a x : Bool) → b ≡ false → x ≡ a → x ≡ cond b true a
+joined-same b a x eb ex = rw eb ex
+
+one-of : (a b : Bool) → a ≡ true → true ≡ cond b true a
+one-of a true e = refl
+one-of a false e = sym e
+
+other-of : (a b : Bool) → a ≡ false → b ≡ cond b true a
+other-of a true e = refl
+other-of a false e = sym e
+
+-- ONE TRAIN, at minus and at plus
+module _ (r : Railway) (table : List ℕ) (m n c t minus plus : ℕ) (figs sets marks figs₁ sets₁ marks₁ figs₂ sets₂ marks₂ : List ℕ) (a b : Bool) (o : Round r table m n figs marks)
+    (at-minus : (p : ℕ) → p < placements r → moveOf r p (allAt false) t ≡ at c → minus ≡ p) (at-plus : (p : ℕ) → p < placements r → moveOf r p (allAt true) t ≡ at c → plus ≡ p)
+    (x : Round r table m n figs marks → Swept r n (One minus) figs sets figs₁ sets₁ marks₁ a) (y : Round r table m n figs₁ marks₁ → Swept r n (One plus) figs₁ sets₁ figs₂ sets₂ marks₂ b) where
+  by-one : (q : ℕ) → q < placements r → (s : Bool) → moveOf r q (allAt s) t ≡ at c → One minus q ⊎ One plus q
+  by-one q l false e = inl (sym (at-minus q l e))
+  by-one q l true e = inr (sym (at-plus q l e))
+
+  by-both : Swept r n (By r c t) figs sets figs₂ sets₂ marks₂ (cond b true a)
+  by-both =
+      swept-then r (o .compiled .accepted) n (o .small) (One minus) (One plus) (By r c t) figs sets figs₁ sets₁ marks₁ figs₂ sets₂ marks₂ a b (x o)
+      (y (round-on r n (One minus) figs sets figs₁ sets₁ marks₁ a (x o) table m marks o)) (λ q l k. by-one q l (k .plus) (k .moves))
+
+  pub train-one : a ≡ true → Swept r n (By r c t) figs sets figs₂ sets₂ marks₂ true
+  train-one e = rw (one-of a b e) by-both
+
+  pub train-other : a ≡ false → Swept r n (By r c t) figs sets figs₂ sets₂ marks₂ b
+  train-other e = rw (← (other-of a b e)) at by-both
+
+-- A LOOP that has come to i, of every railway that has m placements and these tables
+pub record Sweeping (table behind : List ℕ) (m n : ℕ) (Kind : Railway → ℕ → ℕ → Type 0) (figs₀ sets₀ marks₀ figs sets marks : List ℕ) (added : Bool) (i : ℕ) : Type 0 where
+  pub long-figs : length figs ≡ length figs₀
+  pub long-sets : length sets ≡ length sets₀
+  pub long-marks : length marks ≡ length marks₀
+  pub swept : (r : Railway) → Behind r behind → Round r table m n figs₀ marks₀ → Swept r n (Kind r i) figs₀ sets₀ figs sets marks added
+
+module _ (table behind : List ℕ) (m n : ℕ) (Kind : Railway → ℕ → ℕ → Type 0) (figs₀ sets₀ marks₀ : List ℕ) where
+  pub sweeping-start : (i : ℕ) → ((r : Railway) (q : ℕ) → Kind r i q → ⊥) → Sweeping table behind m n Kind figs₀ sets₀ marks₀ figs₀ sets₀ marks₀ false i
+  sweeping-start i h = record { long-figs = refl; long-sets = refl; long-marks = refl; swept = λ r b o. swept-none r n (Kind r i) figs₀ sets₀ marks₀ (o .marked) (λ q l k. h r q k) }
+
+  module _ (figs sets marks : List ℕ) (added : Bool) (i : ℕ) (s : Sweeping table behind m n Kind figs₀ sets₀ marks₀ figs sets marks added i) where
+    pub sweeping-next : (New : Railway → ℕ → Type 0) (j : ℕ) (figs′ sets′ marks′ : List ℕ) (b added′ : Bool) → length figs′ ≡ length figs → length sets′ ≡ length sets → length marks′ ≡ length marks
+        → ((r : Railway) → Behind r behind → Round r table m n figs marks → Swept r n (New r) figs sets figs′ sets′ marks′ b)
+        → ((r : Railway) → Swept r n (Kind r i) figs₀ sets₀ figs sets marks added → Round r table m n figs₀ marks₀ → (q : ℕ) → q < placements r → Kind r j q → Kind r i q ⊎ New r q) → added′ ≡ cond b true added
+        → Sweeping table behind m n Kind figs₀ sets₀ marks₀ figs′ sets′ marks′ added′ j
+    sweeping-next New j figs′ sets′ marks′ b added′ ef es em body covers e =
+        record {
+          long-figs = ef ∙ s .long-figs;
+          long-sets = es ∙ s .long-sets;
+          long-marks = em ∙ s .long-marks;
+          swept = λ r h o.
+              let x : Swept r n (Kind r i) figs₀ sets₀ figs sets marks added = s .swept r h o in
+              rw e
+              (swept-then r (o .compiled .accepted) n (o .small) (Kind r i) (New r) (Kind r j) figs₀ sets₀ figs sets marks figs′ sets′ marks′ added b x
+              (body r h (round-on r n (Kind r i) figs₀ sets₀ figs sets marks added x table m marks₀ o)) (covers r x o));
+        }
+
+    pub sweeping-end : (End : Railway → ℕ → Type 0) → ((r : Railway) → Round r table m n figs₀ marks₀ → (q : ℕ) → End r q → Kind r i q)
+        → (r : Railway) → Behind r behind → Round r table m n figs₀ marks₀ → Swept r n (End r) figs₀ sets₀ figs sets marks added
+    sweeping-end End h r b o = swept-less r n (Kind r i) figs₀ sets₀ figs sets marks added (s .swept r b o) (End r) (λ q l k. h r o q k)
+
+-- THE TRAINS of a placement
+pub no-train : (r : Railway) (c q : ℕ) → Comes r c 0 q → ⊥
+no-train r c q k = omega (arith, k .below)
+
+pub train-next : (r : Railway) (c t q : ℕ) → Comes r c (t + 1) q → Comes r c t q ⊎ By r c t q
+train-next r c t q k = elim (eq? (k .train) t) [
+  | inl z ↦ inr (rw z at (k .by))
+  | inr z ↦ inl (record { train = k .train; below = omega (arith, k .below, z); by = k .by })
+]
+
+pub all-trains : (r : Railway) (k t : ℕ) → k ≡ countByte r 2 → k ≤ t → (c q : ℕ) → Comes r c (r .trains) q → Comes r c t q
+all-trains r k t e l c q x = record { train = x .train; below = omega (arith, x .below, trains-are r k e); by = x .by }
+
+pub train-there : (r : Railway) (k t : ℕ) → k ≡ countByte r 2 → t < k → t < r .trains
+train-there r k t e l = omega (arith, trains-are r k e)
+
+-- CODES in a range
+module _ (r : Railway) (n : ℕ) (figs : List ℕ) where
+  pub no-code : (c q : ℕ) → Before r n figs c c q → ⊥
+  no-code c q k = omega (arith, k .after, k .within)
+
+  pub codes-less : (from a b q : ℕ) → a ≤ b → Before r n figs from a q → Before r n figs from b q
+  codes-less from a b q l k =
+      record { code = k .code; after = k .after; within = omega (arith, k .within); figure = k .figure; last = k .last; stands = k .stands; comes = k .comes }
+
+  pub codes-next : (S : ℕ → Type 0) (sets figs₁ sets₁ marks₁ : List ℕ) (a : Bool) → Swept r n S figs sets figs₁ sets₁ marks₁ a → (from c upto q : ℕ) → upto ≤ placements r
+      → Before r n figs from upto q → Before r n figs from c q ⊎ Before r n figs₁ c upto q
+  codes-next S sets figs₁ sets₁ marks₁ a s from c upto q l k = elim (lt? (k .code) c) [
+    | inl h ↦ inl (record { code = k .code; after = k .after; within = h; figure = k .figure; last = k .last; stands = k .stands; comes = k .comes })
+    | inr h ↦
+        inr
+        (record {
+          code = k .code;
+          after = h;
+          within = k .within;
+          figure = k .figure;
+          last = k .last;
+          stands = swept-onward r n S figs sets figs₁ sets₁ marks₁ a s (k .code) (k .figure) (omega (arith, k .within)) (k .stands);
+          comes = k .comes;
+        })
+  ]
+
+  -- one code
+  module _ (c f : ℕ) (entry : f ≡ getD figs c noFigure) where
+    its-figure : (q : ℕ) → Before r n figs c (c + 1) q → n ≡ suc f
+    its-figure q k =
+        let z : k .code ≡ c = omega (arith, k .after, k .within) in
+        let e : getD figs c noFigure ≡ k .figure = entry-is (getD figs c noFigure) (k .figure) (rw z at (k .stands)) in
+        omega (arith, k .last, e)
+
+    pub not-large : n ≤ f → (q : ℕ) → Before r n figs c (c + 1) q → ⊥
+    not-large l q k = omega (arith, its-figure q k)
+
+    pub not-last : f < n → (n - f ≡ 1 → ⊥) → (q : ℕ) → Before r n figs c (c + 1) q → ⊥
+    not-last l h q k = h (omega (arith, its-figure q k))
+
+    pub before-one : (q : ℕ) → Before r n figs c (c + 1) q → Comes r c (r .trains) q
+    before-one q k = let z : k .code ≡ c = omega (arith, k .after, k .within) in rw z at (k .comes)
+
+  -- a stretch whose mark is too small
+  pub not-marked : (table : List ℕ) (m : ℕ) (marks : List ℕ) (from upto f : ℕ) → Round r table m n figs marks → ((q : ℕ) → from ≤ q → q < upto → q / 324 ≡ from / 324) → upto ≤ m
+      → f ≡ getD marks (from / 324) 0 → f < n → 1 < n - f → (q : ℕ) → Before r n figs from upto q → ⊥
+  not-marked table m marks from upto f o one l e small far q k =
+      let s : k .code / 324 ≡ from / 324 = one (k .code) (k .after) (k .within) in
+      let b : k .figure ≤ getD marks (k .code / 324) 0 = o .marked .most (k .code) (k .figure) (omega (arith, k .within, o .counted)) (k .stands) in
+      let d : k .figure ≤ f = rw (e, ← s) b in
+      omega (arith, k .last)
+
+-- THE ROUND IS OVER
+module _ (r : Railway) (accepted : recordRefusal r ≡ none) (k : ℕ) (small : suc k < noFigure) (figs₀ sets₀ figs sets marks : List ℕ) (added : Bool)
+    (long-figs : length figs ≡ length figs₀) (long-sets : length sets ≡ length sets₀) (before : RoundTables r k figs₀ sets₀)
+    (s : Swept r (suc k) (Before r (suc k) figs₀ 0 (placements r)) figs₀ sets₀ figs sets marks added) where
+  -- what has no figure yet had none to find
+  nothing-left : (q : ℕ) → q < placements r → figureIn figs₀ q ≡ none → over (gameOf r) q ≡ false → figureIn figs q ≡ none → find r (figureIn figs₀) q (suc k) ≡ none
+  nothing-left q l e o e′ = elim (option? (find r (figureIn figs₀) q (suc k))) [
+    | inl y ↦ y
+    | inr y ↦ s .settled q l (gains-before r accepted k figs₀ sets₀ before q (y .0) l e o (y .1)) e′ o
+  ]
+
+  step-of : (q f v f′ v′ : ℕ) → Changed r (figureIn figs₀) (suc k) q f v f′ v′ → (figureEntry f ≡ none → over (gameOf r) q ≡ false → figureEntry f′ ≡ none → find r (figureIn figs₀) q (suc k) ≡ none)
+      → (b : Bool) × Step r (figureIn figs₀) (suc k) q f v f′ v′ b
+  step-of q f v f′ v′ (same ef ev) h = (false, stays ef ev (λ e o. h e o (ap figureEntry ef ∙ e)))
+  step-of q f v f′ v′ (gained empty o ef found) h = (true, gains empty o ef found)
+
+  stepped : (q : ℕ) → q < placements r → (b : Bool) × Step r (figureIn figs₀) (suc k) q (getD figs₀ q noFigure) (getD sets₀ q 0) (getD figs q noFigure) (getD sets q 0) b
+  stepped q l = step-of q _ _ _ _ (s .each q l) (nothing-left q l)
+
+  keeps : (q : ℕ) → unfigured figs q ≡ true → unfigured figs₀ q ≡ true
+  keeps = swept-keeps r (suc k) (Before r (suc k) figs₀ 0 (placements r)) figs₀ sets₀ figs sets marks added s
+
+  quiet : added ≡ false → (q : ℕ) → q < placements r → figureIn figs q ≡ figureIn figs₀ q
+  quiet e q l = ap (λ (t : List ℕ). figureIn t q) (s .unchanged e .0)
+
+  round-over : RoundPost r (suc k) figs₀ sets₀ figs sets added
+  round-over =
+      record {
+        after =
+            record {
+              tables = next-round r accepted k figs₀ sets₀ before figs sets stepped small;
+              kept-figs = record { as-long = long-figs; past = λ q l. s .past-figs q 0 l };
+              kept-sets = record { as-long = long-sets; past = λ q l. s .past-sets q 0 l };
+            };
+        unchanged = s .unchanged;
+        last = λ e. rw (s .unchanged e .0, s .unchanged e .1) (last-round r accepted k figs₀ sets₀ before figs sets stepped small (quiet e));
+        fewer = λ e.
+            let g : (q : ℕ) × (q < placements r) × (unfigured figs q ≡ false) × (unfigured figs₀ q ≡ true) = s .more e in
+            count-more (unfigured figs) (unfigured figs₀) keeps (placements r) (g .0) (g .1) (g .2) (g .3);
+      }
+
+module _ (table behind : List ℕ) (m n : ℕ) (figs₀ sets₀ marks₀ figs sets marks : List ℕ) (added : Bool) (c : ℕ)
+    (s : Sweeping table behind m n (λ r i. Before r n figs₀ 0 i) figs₀ sets₀ marks₀ figs sets marks added c) where
+  pub round-end : m ≤ c → (r : Railway) (k : ℕ) → Compiled r table → Behind r behind → m ≡ placements r → n ≡ suc k → n < noFigure → RoundTables r k figs₀ sets₀ → Marked r figs₀ marks₀
+      → RoundPost r n figs₀ sets₀ figs sets added × Marked r figs marks
+  round-end l r k h b em en small t marked =
+      let o : Round r table m n figs₀ marks₀ = record { compiled = h; counted = em; small = small; homed = round-homed r k figs₀ sets₀ t; marked = marked } in
+      let x : Swept r n (Before r n figs₀ 0 (placements r)) figs₀ sets₀ figs sets marks added =
+      sweeping-end table behind m n (λ r i. Before r n figs₀ 0 i) figs₀ sets₀ marks₀ figs sets marks added c s (λ r. Before r n figs₀ 0 (placements r))
+      (λ r o q k. codes-less r n figs₀ 0 (placements r) c q (omega (arith, o .counted)) k) r b o in
+      (rw en (round-over r (h .accepted) k (omega arith) figs₀ sets₀ figs sets marks added (s .long-figs) (s .long-sets) t (rw en at x)), x .marked)
