@@ -13,7 +13,7 @@ ghost use Rattle.checker.specs.declared.Checker.{Checker};
 ghost use Rattle.checker.specs.Answers.{checking, took};
 ghost use Rattle.checker.specs.Steps.{takesStart, takesPlacement, takesRead, takenWith, CodeSmall};
 use acceptance::Tested;
-use compiled::TABLE;
+use compiled::Table;
 use plan::CheckerState;
 use plan::LineAnswer;
 use plan::TestAnswer;
@@ -147,12 +147,7 @@ impl Checker {
 }
 
 // The test of the lines taken: before the first line there is no plan.
-fn verdict(
-    state: CheckerState,
-    table: &[u8; TABLE],
-    figures: &[u32],
-    settings: &[u32],
-) -> TestAnswer
+fn verdict(state: CheckerState, table: &Table, figures: &[u32], settings: &[u32]) -> TestAnswer
     ensures { λ a. ⌜ ((r : Railway) (c : Checker) → Compiled r (now (table .entry)) → a ≡ tests r (checking c (now (figures .entry)) (now (settings .entry))) none state) ⌝ }
 {
     match state {

@@ -22,13 +22,16 @@ use railway::Side;
 // Bytes of a table: four for each train and section, three counts, three for each train.
 pub const TABLE: usize = 783;
 
+// A railway's table. Of every function that takes one, the promise is about the railways whose table it is.
+pub type Table = [u8; TABLE];
+
 // What stands for no point and for no section.
 pub const NO_BYTE: u8 = 255;
 
 // What compiling a record gives: the answer of its test, and the table; all zero where the record is refused.
 pub struct Compilation {
     pub tested: Tested,
-    pub table: [u8; TABLE],
+    pub table: Table,
 }
 
 // A record is tested, and where it is accepted compiled.
@@ -190,21 +193,21 @@ fn behind(j: Joined) -> u8
 }
 
 // READING THE TABLE. The byte at an index, and past the last.
-pub fn byte_at(table: &[u8; TABLE], i: usize) -> u8
+pub fn byte_at(table: &Table, i: usize) -> u8
     ensures { λ b. ⌜ b ≡ byteIn (now (table .entry)) i ⌝ }
 {
     if i < TABLE { table[i] } else { NO_BYTE }
 }
 
 // The number of sections, points or trains.
-pub fn count_in(table: &[u8; TABLE], i: u8) -> u8
+pub fn count_in(table: &Table, i: u8) -> u8
     ensures { λ b. ⌜ ((r : Railway) → Compiled r (now (table .entry)) → i < 3 → b ≡ countByte r i) ⌝ }
 {
     byte_at(table, 768 + (i as usize))
 }
 
 // A train's heading, start or destination; those of no train past the table.
-pub fn run_in(table: &[u8; TABLE], i: u8, t: u8) -> u8
+pub fn run_in(table: &Table, i: u8, t: u8) -> u8
     ensures { λ b. ⌜ ((r : Railway) → Compiled r (now (table .entry)) → i < 3 → b ≡ runByte r i t) ⌝ }
 {
     if t < Railway::TRAINS {
@@ -216,7 +219,7 @@ pub fn run_in(table: &[u8; TABLE], i: u8, t: u8) -> u8
     }
 }
 
-pub fn heading_in(table: &[u8; TABLE], t: u8) -> Side
+pub fn heading_in(table: &Table, t: u8) -> Side
     ensures { λ h. ⌜ ((r : Railway) → Compiled r (now (table .entry)) → h ≡ runOf r t .heading) ⌝ }
 {
     if run_in(table, 0, t) == 0 {
@@ -227,7 +230,7 @@ pub fn heading_in(table: &[u8; TABLE], t: u8) -> Side
 }
 
 // What there is to know of a train's way from a section.
-pub fn way_in(table: &[u8; TABLE], t: u8, x: u8, j: u8) -> u8
+pub fn way_in(table: &Table, t: u8, x: u8, j: u8) -> u8
     ensures { λ b. ⌜ ((r : Railway) → Compiled r (now (table .entry)) → t < 4 → x < 48 → j < 4 → b ≡ wayByte r (endOn r t x) j) ⌝ }
 {
     byte_at(table, 4 * (48 * (t as usize) + (x as usize)) + (j as usize))

@@ -17,7 +17,7 @@ ghost use Rattle.plan.specs.Promises.{EmitterPost};
 ghost use Rattle.compiled.specs.Table.{Compiled};
 ghost use Rattle.emitter.specs.Emitting.{leaves};
 use acceptance::Tested;
-use compiled::TABLE;
+use compiled::Table;
 use plan::Emitted;
 use plan::PlanPlace;
 use railway::Railway;
@@ -50,7 +50,7 @@ pub fn emit_line(
 
 // What is due at a place, in a case that is not refused.
 fn emit_due(
-    table: &[u8; TABLE],
+    table: &Table,
     figures: &[u32],
     settings: &[u32],
     place: PlanPlace,
@@ -79,13 +79,7 @@ fn emit_start(n: u32, out: &mut [u8]) -> Emitted
 }
 
 // The line of the next placement with a figure, from code c on.
-fn emit_from(
-    table: &[u8; TABLE],
-    figures: &[u32],
-    settings: &[u32],
-    c: u32,
-    out: &mut [u8],
-) -> Emitted
+fn emit_from(table: &Table, figures: &[u32], settings: &[u32], c: u32, out: &mut [u8]) -> Emitted
     ensures { λ a. ⌜ ((r : Railway) → Compiled r (now (table .entry))
         → leaves a (now (out .exit)) ≡ writtenDue (now (out .entry)) (dueFor r (now (figures .entry)) (now (settings .entry)) (nextCode r (now (figures .entry)) c))) ⌝ }
 {
@@ -99,7 +93,7 @@ fn emit_from(
 
 // The line of a placement that has a figure.
 fn emit_placement(
-    table: &[u8; TABLE],
+    table: &Table,
     figures: &[u32],
     settings: &[u32],
     p: u32,

@@ -2,7 +2,7 @@
 // each: what is asked, a tab, and the answer. A move answers `-` (not allowed), `x` (derails), `c` (collides) or the code it leads
 // to; a search answers `none` or the entry. Sections, points and trains are counted from 0 in the code, from 1 in the text.
 use acceptance::Tested;
-use compiled::TABLE;
+use compiled::Table;
 use libc::STDOUT_FILENO;
 use moves::Move;
 use railway::End;
@@ -38,7 +38,7 @@ fn flag(label: &[u8], b: bool) {
     }
 }
 
-fn show_move(label: &[u8], table: &[u8; TABLE], p: u32, v: u32, t: u8) {
+fn show_move(label: &[u8], table: &Table, p: u32, v: u32, t: u8) {
     match moves::move_of(table, p, v, t) {
         Move::NotAllowed => word(label, b"-"),
         Move::Derails => word(label, b"x"),
@@ -47,7 +47,7 @@ fn show_move(label: &[u8], table: &[u8; TABLE], p: u32, v: u32, t: u8) {
     }
 }
 
-fn show_first(label: &[u8], table: &[u8; TABLE], figures: &[u32], p: u32, n: u32) {
+fn show_first(label: &[u8], table: &Table, figures: &[u32], p: u32, n: u32) {
     match settings::find_setting(table, figures, p, n) {
         Found::Nothing => word(label, b"none"),
         Found::Entry(v) => number(label, v),
@@ -63,7 +63,7 @@ fn show_test(label: &[u8], r: Railway) {
     }
 }
 
-fn table_of(r: Railway) -> [u8; TABLE] {
+fn table_of(r: Railway) -> Table {
     let c = compiled::compile(r);
     c.table
 }

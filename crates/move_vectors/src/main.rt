@@ -2,7 +2,7 @@
 // setting table: the code, the entry, and of each train `-` it may not move, `x` it derails, `c` it collides, or the section it then stands on.
 // Standard input is records (crate framed).
 use casefile::CaseAnswer;
-use compiled::TABLE;
+use compiled::Table;
 use framed::Reading;
 use libc::STDOUT_FILENO;
 use moves::Move;
@@ -63,7 +63,7 @@ fn placements(r: Railway) {
 }
 
 // Every set of open trains.
-fn settings(table: &[u8; TABLE], k: u8, q: u8, p: u32) {
+fn settings(table: &Table, k: u8, q: u8, p: u32) {
     let n = power(k);
     let mut mask: u32 = 0;
     while mask < n {
@@ -73,7 +73,7 @@ fn settings(table: &[u8; TABLE], k: u8, q: u8, p: u32) {
 }
 
 // Every way that the points may lie.
-fn points(table: &[u8; TABLE], k: u8, q: u8, p: u32, open: u32) {
+fn points(table: &Table, k: u8, q: u8, p: u32, open: u32) {
     let n = power(q);
     let mut bits: u32 = 0;
     while bits < n {
@@ -87,7 +87,7 @@ fn power(n: u8) -> u32 {
     if n < 17 { 1u32 << n } else { 1 }
 }
 
-fn line(table: &[u8; TABLE], k: u8, p: u32, v: u32) {
+fn line(table: &Table, k: u8, p: u32, v: u32) {
     io::print_decimal(STDOUT_FILENO, p as u64);
     tab();
     io::print_decimal(STDOUT_FILENO, v as u64);
@@ -108,7 +108,7 @@ fn line_end() {
     io::write_all(STDOUT_FILENO, b"\n");
 }
 
-fn outcome(table: &[u8; TABLE], p: u32, v: u32, t: u8) {
+fn outcome(table: &Table, p: u32, v: u32, t: u8) {
     match moves::move_of(table, p, v, t) {
         Move::NotAllowed => {
             io::write_all(STDOUT_FILENO, b"-");

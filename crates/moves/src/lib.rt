@@ -17,7 +17,7 @@ ghost use Rattle.tables.specs.Entries.{opensEnd, settingAt};
 ghost use Rattle.compiled.specs.Table.{pointByte, sectionByte, runByte, Compiled};
 ghost use Rattle.moves.specs.Answers.{codeOn, homeCode, ended, moveUnder};
 ghost use Rattle.moves.specs.Steps.{sectionIn, On, movedTo, otherIn, allAt};
-use compiled::TABLE;
+use compiled::Table;
 use railway::End;
 use railway::Railway;
 use railway::SectionNo;
@@ -36,7 +36,7 @@ pub enum Move {
 }
 
 // PLACEMENTS. How many there are: s to the power k.
-pub fn placements(table: &[u8; TABLE]) -> u32
+pub fn placements(table: &Table) -> u32
     ensures { λ n. ⌜ ((r : Railway) → Compiled r (now (table .entry)) → n ≡ placements r) ⌝ }
 {
     power(compiled::count_in(table, 0), compiled::count_in(table, 2))
@@ -61,7 +61,7 @@ pub fn power(s: u8, k: u8) -> u32
 }
 
 // The placement of a code: section after section, by dividing.
-pub fn placement_of(table: &[u8; TABLE], p: u32) -> Placement
+pub fn placement_of(table: &Table, p: u32) -> Placement
     ensures { λ q. ⌜ ((r : Railway) → Compiled r (now (table .entry)) → On r p (now (table .entry)) q) ⌝ }
 {
     let s = compiled::count_in(table, 0);
@@ -114,14 +114,14 @@ pub fn section_at(q: Placement, t: u8) -> u8
 }
 
 // The code of a placement.
-pub fn code_of(table: &[u8; TABLE], q: Placement) -> u32
+pub fn code_of(table: &Table, q: Placement) -> u32
     ensures { λ p. ⌜ ((r : Railway) → Compiled r (now (table .entry)) → p ≡ codeOn r (sectionIn q)) ⌝ }
 {
     code_with(table, q, Railway::TRAINS, 0)
 }
 
 // The code of a placement with train t put on section x.
-fn code_with(table: &[u8; TABLE], q: Placement, t: u8, x: u8) -> u32
+fn code_with(table: &Table, q: Placement, t: u8, x: u8) -> u32
     ensures { λ p. ⌜ ((r : Railway) → Compiled r (now (table .entry)) → p ≡ codeOn r (movedTo q t x)) ⌝ }
 {
     let s = compiled::count_in(table, 0);
@@ -154,20 +154,20 @@ fn four(s: u8, a: u8, b: u8, c: u8, d: u8) -> u32
 }
 
 // The start's code, and home's.
-pub fn start_code(table: &[u8; TABLE]) -> u32
+pub fn start_code(table: &Table) -> u32
     ensures { λ p. ⌜ ((r : Railway) → Compiled r (now (table .entry)) → p ≡ startCode r) ⌝ }
 {
     code_of(table, runs_in(table, 1))
 }
 
-pub fn home_code(table: &[u8; TABLE]) -> u32
+pub fn home_code(table: &Table) -> u32
     ensures { λ p. ⌜ ((r : Railway) → Compiled r (now (table .entry)) → p ≡ homeCode r) ⌝ }
 {
     code_of(table, runs_in(table, 2))
 }
 
 // All trains on their starts, or on their destinations.
-fn runs_in(table: &[u8; TABLE], i: u8) -> Placement
+fn runs_in(table: &Table, i: u8) -> Placement
     ensures { λ q. ⌜ ((r : Railway) → Compiled r (now (table .entry)) → i < 3 → (t : ℕ) → t < 4 → sectionIn q t ≡ runByte r i t) ⌝ }
 {
     let sections = [
@@ -203,13 +203,13 @@ fn is_other(q: Placement, t: u8, x: u8, u: u8) -> bool
 }
 
 // Lost: two trains share a section.
-pub fn is_lost(table: &[u8; TABLE], p: u32) -> bool
+pub fn is_lost(table: &Table, p: u32) -> bool
     ensures { λ b. ⌜ ((r : Railway) → Compiled r (now (table .entry)) → b ≡ shared r p) ⌝ }
 {
     lost_in(table, placement_of(table, p))
 }
 
-pub fn lost_in(table: &[u8; TABLE], q: Placement) -> bool
+pub fn lost_in(table: &Table, q: Placement) -> bool
     ensures { λ b. ⌜ ((r : Railway) (p : ℕ) → On r p (now (table .entry)) q → b ≡ shared r p) ⌝ }
 {
     let k = compiled::count_in(table, 2);
@@ -224,7 +224,7 @@ pub fn lost_in(table: &[u8; TABLE], q: Placement) -> bool
 }
 
 // Home: each train stands on its destination.
-pub fn is_home(table: &[u8; TABLE], p: u32) -> bool
+pub fn is_home(table: &Table, p: u32) -> bool
     ensures { λ b. ⌜ ((r : Railway) → Compiled r (now (table .entry)) → b ≡ atHome r p) ⌝ }
 {
     let q = placement_of(table, p);
@@ -241,13 +241,13 @@ pub fn is_home(table: &[u8; TABLE], p: u32) -> bool
 }
 
 // MOVES. The end that a train heads for.
-pub fn heads_for(table: &[u8; TABLE], p: u32, t: u8) -> End
+pub fn heads_for(table: &Table, p: u32, t: u8) -> End
     ensures { λ e. ⌜ ((r : Railway) → Compiled r (now (table .entry)) → e ≡ headsFor r p t) ⌝ }
 {
     end_in(table, placement_of(table, p), t)
 }
 
-fn end_in(table: &[u8; TABLE], q: Placement, t: u8) -> End
+fn end_in(table: &Table, q: Placement, t: u8) -> End
     ensures { λ e. ⌜ ((r : Railway) (p : ℕ) → On r p (now (table .entry)) q → e ≡ headsFor r p t) ⌝ }
 {
     let x = section_at(q, t);
@@ -256,13 +256,13 @@ fn end_in(table: &[u8; TABLE], q: Placement, t: u8) -> End
 }
 
 // Whether a train is there and may move under an entry of the setting table.
-pub fn may_move(table: &[u8; TABLE], p: u32, v: u32, t: u8) -> bool
+pub fn may_move(table: &Table, p: u32, v: u32, t: u8) -> bool
     ensures { λ b. ⌜ ((r : Railway) → Compiled r (now (table .entry)) → b ≡ may (gameOf r) p (settingAt r p v) t) ⌝ }
 {
     may_in(table, placement_of(table, p), v, t)
 }
 
-fn may_in(table: &[u8; TABLE], q: Placement, v: u32, t: u8) -> bool
+fn may_in(table: &Table, q: Placement, v: u32, t: u8) -> bool
     ensures { λ b. ⌜ ((r : Railway) (p : ℕ) → On r p (now (table .entry)) q → b ≡ may (gameOf r) p (settingAt r p v) t) ⌝ }
 {
     if compiled::count_in(table, 2) <= t {
@@ -276,14 +276,14 @@ fn may_in(table: &[u8; TABLE], q: Placement, v: u32, t: u8) -> bool
 }
 
 // A signal stands at the end that the train heads for.
-pub fn held_in(table: &[u8; TABLE], q: Placement, t: u8) -> bool
+pub fn held_in(table: &Table, q: Placement, t: u8) -> bool
     ensures { λ b. ⌜ ((r : Railway) (p : ℕ) → On r p (now (table .entry)) q → t < r .trains → b ≡ held r p t) ⌝ }
 {
     compiled::way_in(table, t, section_at(q, t), 0) == 1
 }
 
 // The signal at the section end of this index is open by entry v.
-fn open_in(table: &[u8; TABLE], q: Placement, v: u32, i: u8) -> bool
+fn open_in(table: &Table, q: Placement, v: u32, i: u8) -> bool
     ensures { λ b. ⌜ ((r : Railway) (p : ℕ) → On r p (now (table .entry)) q → b ≡ settingAt r p v .isOpen i) ⌝ }
 {
     let k = compiled::count_in(table, 2);
@@ -297,7 +297,7 @@ fn open_in(table: &[u8; TABLE], q: Placement, v: u32, i: u8) -> bool
     false
 }
 
-fn opens_end(table: &[u8; TABLE], q: Placement, v: u32, i: u8, u: u8) -> bool
+fn opens_end(table: &Table, q: Placement, v: u32, i: u8, u: u8) -> bool
     ensures { λ b. ⌜ ((r : Railway) (p : ℕ) → On r p (now (table .entry)) q → b ≡ opensEnd r p v i u) ⌝ }
 {
     if bit_at(v, 16 + (u as u32)) {
@@ -318,7 +318,7 @@ pub fn bit_at(v: u32, n: u32) -> bool
 }
 
 // What moving a train ends in under an entry of the setting table.
-pub fn move_of(table: &[u8; TABLE], p: u32, v: u32, t: u8) -> Move
+pub fn move_of(table: &Table, p: u32, v: u32, t: u8) -> Move
     ensures { λ m. ⌜ ((r : Railway) → Compiled r (now (table .entry)) → ended m ≡ moveUnder r p v t) ⌝ }
 {
     let q = placement_of(table, p);
@@ -331,14 +331,14 @@ pub fn move_of(table: &[u8; TABLE], p: u32, v: u32, t: u8) -> Move
 }
 
 // The point that a train meets; 255: none.
-pub fn point_in(table: &[u8; TABLE], q: Placement, t: u8) -> u8
+pub fn point_in(table: &Table, q: Placement, t: u8) -> u8
     ensures { λ n. ⌜ ((r : Railway) (p : ℕ) → On r p (now (table .entry)) q → t < r .trains → n ≡ pointByte (passes r (λ i. false) (headsFor r p t) .met)) ⌝ }
 {
     compiled::way_in(table, t, section_at(q, t), 1)
 }
 
 // The section that it enters, that point lying at plus or not; 255: it derails.
-fn leads_to(table: &[u8; TABLE], q: Placement, t: u8, plus: bool) -> u8
+fn leads_to(table: &Table, q: Placement, t: u8, plus: bool) -> u8
     ensures { λ x. ⌜ ((r : Railway) (p : ℕ) → On r p (now (table .entry)) q → t < r .trains → x ≡ sectionByte (passes r (λ i. plus) (headsFor r p t) .reached)) ⌝ }
 {
     let x = section_at(q, t);
@@ -350,7 +350,7 @@ fn leads_to(table: &[u8; TABLE], q: Placement, t: u8, plus: bool) -> u8
 }
 
 // What a move ends in, the point that it meets lying at plus or not.
-pub fn end_of(table: &[u8; TABLE], q: Placement, t: u8, plus: bool) -> Move
+pub fn end_of(table: &Table, q: Placement, t: u8, plus: bool) -> Move
     ensures { λ m. ⌜ ((r : Railway) (p : ℕ) → On r p (now (table .entry)) q → t < r .trains → ended m ≡ some (moveOf r p (allAt plus) t)) ⌝ }
 {
     let x = leads_to(table, q, t, plus);

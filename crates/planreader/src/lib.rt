@@ -20,7 +20,7 @@ ghost use Rattle.compiled.specs.Table.{Compiled};
 ghost use Rattle.planlines.specs.Spelling.{lineOf};
 ghost use Rattle.planreader.specs.Told.{told};
 ghost use Rattle.planreader.specs.Walk.{sameAt, trainBit, openBits, plusAt, numberTab, sectionAt, sectionsAt, figureAt, entryAt, sectionsGot};
-use compiled::TABLE;
+use compiled::Table;
 use moves::Placement;
 use railway::Railway;
 use text::Byte;
@@ -39,7 +39,7 @@ pub enum LineRead {
 }
 
 // One line: what it says, or that it is none.
-pub fn read_line(table: &[u8; TABLE], text: &[u8]) -> LineRead
+pub fn read_line(table: &Table, text: &[u8]) -> LineRead
     ensures { λ a. ⌜ ((r : Railway) → Compiled r (now (table .entry)) → a ≡ told r (readLine r (now (text .entry)))) ⌝ }
 {
     if MOST_BYTES < text.len() {
@@ -248,7 +248,7 @@ fn read_start(text: &[u8]) -> LineRead
 }
 
 // Any other text.
-fn read_placement(table: &[u8; TABLE], text: &[u8]) -> LineRead
+fn read_placement(table: &Table, text: &[u8]) -> LineRead
     ensures { λ a. ⌜ ((r : Railway) → Compiled r (now (table .entry)) → (getD (now (text .entry)) 0 0 ≡ 112 → ⊥) → a ≡ told r (readLine r (now (text .entry)))) ⌝ }
 {
     let m = compiled::count_in(table, 1);

@@ -16,11 +16,11 @@ ghost use Rattle.plan.specs.Computed.{listedFine, placementFine, testHolds};
 ghost use Rattle.compiled.specs.Table.{Compiled};
 ghost use Rattle.moves.specs.Steps.{On};
 ghost use Rattle.plantest.specs.Steps.{entryFine};
-use compiled::TABLE;
+use compiled::Table;
 use moves::Placement;
 
 // THE TEST, m being the first line's figure: the start is listed with it, and every listed placement is as it must be.
-pub fn test_holds(table: &[u8; TABLE], figures: &[u32], settings: &[u32], m: u32) -> bool
+pub fn test_holds(table: &Table, figures: &[u32], settings: &[u32], m: u32) -> bool
     ensures { λ b. ⌜ ((r : Railway) → Compiled r (now (table .entry)) → b ≡ testHolds r m (byTables (now (figures .entry)) (now (settings .entry)))) ⌝ }
 {
     let n = settings::figure_at(figures, moves::start_code(table));
@@ -35,7 +35,7 @@ pub fn test_holds(table: &[u8; TABLE], figures: &[u32], settings: &[u32], m: u32
 }
 
 // Every placement.
-fn all_fine(table: &[u8; TABLE], figures: &[u32], settings: &[u32]) -> bool
+fn all_fine(table: &Table, figures: &[u32], settings: &[u32]) -> bool
     ensures { λ b. ⌜ ((r : Railway) → Compiled r (now (table .entry)) → b ≡ allBelow (placementFine r (byTables (now (figures .entry)) (now (settings .entry)))) (placements r)) ⌝ }
 {
     let m = moves::placements(table);
@@ -51,7 +51,7 @@ fn all_fine(table: &[u8; TABLE], figures: &[u32], settings: &[u32]) -> bool
 }
 
 // One placement: it is not listed, or it is as listed placements must be.
-fn is_fine(table: &[u8; TABLE], figures: &[u32], settings: &[u32], p: u32) -> bool
+fn is_fine(table: &Table, figures: &[u32], settings: &[u32], p: u32) -> bool
     ensures { λ b. ⌜ ((r : Railway) → Compiled r (now (table .entry)) → b ≡ placementFine r (byTables (now (figures .entry)) (now (settings .entry))) p) ⌝ }
 {
     let n = settings::figure_at(figures, p);
@@ -62,7 +62,7 @@ fn is_fine(table: &[u8; TABLE], figures: &[u32], settings: &[u32], p: u32) -> bo
 }
 
 // A placement that is listed with figure n: not lost; its open trains have signals; and it is home, or its setting keeps the figure.
-fn listed_fine(table: &[u8; TABLE], figures: &[u32], settings: &[u32], p: u32, n: u32) -> bool
+fn listed_fine(table: &Table, figures: &[u32], settings: &[u32], p: u32, n: u32) -> bool
     ensures { λ b. ⌜ ((r : Railway) → Compiled r (now (table .entry)) → b ≡ listedFine r (byTables (now (figures .entry)) (now (settings .entry))) p n) ⌝ }
 {
     let q = moves::placement_of(table, p);
@@ -89,7 +89,7 @@ fn entry_at(settings: &[u32], p: u32) -> u32
 }
 
 // No open train lacks a signal at the end that it heads for.
-fn opens_fine(table: &[u8; TABLE], q: Placement, v: u32) -> bool
+fn opens_fine(table: &Table, q: Placement, v: u32) -> bool
     ensures { λ b. ⌜ ((r : Railway) (p : ℕ) → On r p (now (table .entry)) q → b ≡ allBelow (entryFine r p v) (r .trains)) ⌝ }
 {
     let k = compiled::count_in(table, 2);
@@ -104,7 +104,7 @@ fn opens_fine(table: &[u8; TABLE], q: Placement, v: u32) -> bool
     true
 }
 
-fn train_fine(table: &[u8; TABLE], q: Placement, v: u32, t: u8) -> bool
+fn train_fine(table: &Table, q: Placement, v: u32, t: u8) -> bool
     ensures { λ b. ⌜ ((r : Railway) (p : ℕ) → On r p (now (table .entry)) q → t < r .trains → b ≡ entryFine r p v t) ⌝ }
 {
     if moves::bit_at(v, 16 + (t as u32)) {
@@ -115,7 +115,7 @@ fn train_fine(table: &[u8; TABLE], q: Placement, v: u32, t: u8) -> bool
 }
 
 // Under entry v some train may move, and every move allowed ends in a listed placement of a figure below n.
-fn keeps(table: &[u8; TABLE], figures: &[u32], p: u32, v: u32, n: u32) -> bool
+fn keeps(table: &Table, figures: &[u32], p: u32, v: u32, n: u32) -> bool
     ensures { λ b. ⌜ ((r : Railway) → Compiled r (now (table .entry)) → b ≡ keepsTest (gameOf r) (figureIn (now (figures .entry))) p (settingAt r p v) n) ⌝ }
 {
     if some_may(table, p, v) {
@@ -125,7 +125,7 @@ fn keeps(table: &[u8; TABLE], figures: &[u32], p: u32, v: u32, n: u32) -> bool
     }
 }
 
-fn some_may(table: &[u8; TABLE], p: u32, v: u32) -> bool
+fn some_may(table: &Table, p: u32, v: u32) -> bool
     ensures { λ b. ⌜ ((r : Railway) → Compiled r (now (table .entry)) → b ≡ anyBelow (may (gameOf r) p (settingAt r p v)) (r .trains)) ⌝ }
 {
     let k = compiled::count_in(table, 2);
@@ -139,7 +139,7 @@ fn some_may(table: &[u8; TABLE], p: u32, v: u32) -> bool
     false
 }
 
-fn all_below(table: &[u8; TABLE], figures: &[u32], p: u32, v: u32, n: u32) -> bool
+fn all_below(table: &Table, figures: &[u32], p: u32, v: u32, n: u32) -> bool
     ensures { λ b. ⌜ ((r : Railway) → Compiled r (now (table .entry)) → b ≡ allBelow (goesBelow (gameOf r) (figureIn (now (figures .entry))) p (settingAt r p v) n) (r .trains)) ⌝ }
 {
     let k = compiled::count_in(table, 2);
@@ -155,7 +155,7 @@ fn all_below(table: &[u8; TABLE], figures: &[u32], p: u32, v: u32, n: u32) -> bo
 }
 
 // The train may not move, or its move ends below n.
-fn goes_below(table: &[u8; TABLE], figures: &[u32], p: u32, v: u32, n: u32, t: u8) -> bool
+fn goes_below(table: &Table, figures: &[u32], p: u32, v: u32, n: u32, t: u8) -> bool
     ensures { λ b. ⌜ ((r : Railway) → Compiled r (now (table .entry)) → b ≡ goesBelow (gameOf r) (figureIn (now (figures .entry))) p (settingAt r p v) n t) ⌝ }
 {
     if moves::may_move(table, p, v, t) {

@@ -12,7 +12,7 @@ ghost use Rattle.compiled.specs.Table.{wayByte};
 ghost use Rattle.moves.specs.Steps.{On, allAt};
 ghost use Rattle.predecessors.specs.Behind.{endBehind, behindByte, Behind};
 use compiled::NO_BYTE;
-use compiled::TABLE;
+use compiled::Table;
 use moves::Placement;
 use railway::End;
 use railway::Railway;
@@ -22,11 +22,14 @@ use railway::Side;
 // Bytes of a table: two for each train and section.
 pub const BEHIND: usize = 384;
 
+// The table of a railway's sections behind each section.
+pub type SectionsBehind = [u8; BEHIND];
+
 // What stands for no code. No table is long enough to have an entry there.
 pub const NO_CODE: u32 = 4294967295;
 
 // The sections behind each section, for each train.
-pub fn sections_behind(r: Railway) -> [u8; BEHIND]
+pub fn sections_behind(r: Railway) -> SectionsBehind
     ensures { λ b. ⌜ Behind r b ⌝ }
 {
     let mut behind = [0u8; BEHIND];
@@ -62,7 +65,7 @@ fn other_side(s: Side) -> Side
 }
 
 // The section behind section x for train t, the point between them lying at plus or not; 255: none.
-fn section_behind(behind: &[u8; BEHIND], t: u8, x: u8, plus: bool) -> u8
+fn section_behind(behind: &SectionsBehind, t: u8, x: u8, plus: bool) -> u8
     ensures { λ y. ⌜ ((r : Railway) → Behind r (now (behind .entry)) → t < 4 → x < 48 → y ≡ wayByte r (endBehind r t x) (cond plus 3 2)) ⌝ }
 {
     let at = 2 * (48 * (t as usize) + (x as usize));
@@ -73,7 +76,7 @@ fn section_behind(behind: &[u8; BEHIND], t: u8, x: u8, plus: bool) -> u8
     }
 }
 
-fn byte_at(behind: &[u8; BEHIND], i: usize) -> u8
+fn byte_at(behind: &SectionsBehind, i: usize) -> u8
     ensures { λ b. ⌜ ((r : Railway) → Behind r (now (behind .entry)) → i < 384 → b ≡ behindByte r i) ⌝ }
 {
     if i < BEHIND { behind[i] } else { NO_BYTE }
@@ -82,8 +85,8 @@ fn byte_at(behind: &[u8; BEHIND], i: usize) -> u8
 // THE CODE BEFORE A MOVE: that of the one placement from which train t, the point that it meets lying at plus or not, comes to placement q of
 // code c. Where there is none it is any number.
 pub fn code_before(
-    table: &[u8; TABLE],
-    behind: &[u8; BEHIND],
+    table: &Table,
+    behind: &SectionsBehind,
     q: Placement,
     c: u32,
     t: u8,

@@ -21,7 +21,7 @@ ghost use Rattle.moves.specs.Answers.{ended};
 ghost use Rattle.moves.specs.Steps.{On, allAt};
 ghost use Rattle.settings.specs.Answers.{entryFound, firstKeeping};
 ghost use Rattle.settings.specs.Ways.{WayOf, wayIn, WaysOf, runsWith, needsWith, goodWay, keepsWith, withBit};
-use compiled::TABLE;
+use compiled::Table;
 use moves::Move;
 use moves::Placement;
 use railway::Railway;
@@ -46,7 +46,7 @@ pub struct Way {
 
 // THE FIRST SETTING that keeps a placement below figure n, in the plan's order: no signal open, else that of the lowest train
 // that works; each point at minus unless a train that may move needs it at plus.
-pub fn find_setting(table: &[u8; TABLE], figures: &[u32], p: u32, n: u32) -> Found
+pub fn find_setting(table: &Table, figures: &[u32], p: u32, n: u32) -> Found
     ensures { λ f. ⌜ ((r : Railway) → Compiled r (now (table .entry)) → entryFound f ≡ firstKeeping r (figureIn (now (figures .entry))) p n) ⌝ }
 {
     let k = compiled::count_in(table, 2);
@@ -65,7 +65,7 @@ pub fn find_setting(table: &[u8; TABLE], figures: &[u32], p: u32, n: u32) -> Fou
 }
 
 // Every train's ways. The search looks at nothing else.
-fn ways_of(table: &[u8; TABLE], figures: &[u32], q: Placement, n: u32) -> [Way; 4]
+fn ways_of(table: &Table, figures: &[u32], q: Placement, n: u32) -> [Way; 4]
     ensures { λ ws. ⌜ ((r : Railway) (p t : ℕ) → On r p (now (table .entry)) q → t < r .trains → WayOf r (figureIn (now (figures .entry))) p n t (wayIn ws t)) ⌝ }
 {
     let a = way_of(table, figures, q, n, 0);
@@ -75,7 +75,7 @@ fn ways_of(table: &[u8; TABLE], figures: &[u32], q: Placement, n: u32) -> [Way; 
     [a, b, c, d]
 }
 
-fn way_of(table: &[u8; TABLE], figures: &[u32], q: Placement, n: u32, t: u8) -> Way
+fn way_of(table: &Table, figures: &[u32], q: Placement, n: u32, t: u8) -> Way
     ensures { λ w. ⌜ ((r : Railway) (p : ℕ) → On r p (now (table .entry)) q → t < r .trains → WayOf r (figureIn (now (figures .entry))) p n t w) ⌝ }
 {
     let held = moves::held_in(table, q, t);
@@ -92,7 +92,7 @@ fn way_of(table: &[u8; TABLE], figures: &[u32], q: Placement, n: u32, t: u8) -> 
 
 // .. with the point at plus. A train that meets no point has one way only, and its figure is not looked up again.
 fn plus_below(
-    table: &[u8; TABLE],
+    table: &Table,
     figures: &[u32],
     q: Placement,
     n: u32,

@@ -22,11 +22,12 @@ RightForPlays =
     (r : Railway) (a : SolverAnswer) (figs sets figs′ sets′ : List ℕ) → SolverPost r a figs sets figs′ sets′ → refusalGiven a ≡ none
     → Whole (gameOf r) (figureIn figs′) (settingIn r sets′)
 
--- THE ANSWER is the start's figure in whole plays, or that it has none.
+-- THE ANSWER with a figure: it is the start's in whole plays.
 abbrev pub FigureIsStarts : Type 0
 FigureIsStarts =
     (r : Railway) (a : SolverAnswer) (figs sets figs′ sets′ : List ℕ) → SolverPost r a figs sets figs′ sets′ → (n : ℕ) → a ≡ Figure n → IsFigure (gameOf r) (startCode r) (some n)
 
+-- .. none is answered only where it has none.
 abbrev pub UnsolvableIsNone : Type 0
 UnsolvableIsNone =
     (r : Railway) (a : SolverAnswer) (figs sets figs′ sets′ : List ℕ) → SolverPost r a figs sets figs′ sets′ → a ≡ Unsolvable → IsFigure (gameOf r) (startCode r) none

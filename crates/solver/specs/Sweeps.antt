@@ -27,10 +27,11 @@ pub record After (r : Railway) (n : ℕ) (figs sets figs′ sets′ : List ℕ) 
   pub kept-figs : Kept r figs figs′
   pub kept-sets : Kept r sets sets′
 
--- How many placements have no figure.
+-- A placement has no figure.
 abbrev pub unfigured : List ℕ → ℕ → Bool
 unfigured figs p = eqb (getD figs p noFigure) noFigure
 
+-- How many placements have none.
 abbrev pub unfiguredIn : Railway → List ℕ → ℕ
 unfiguredIn r figs = countBelow (unfigured figs) (placements r)
 

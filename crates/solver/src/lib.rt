@@ -22,9 +22,9 @@ ghost use Rattle.predecessors.specs.Behind.{Behind};
 ghost use Rattle.solver.specs.Sweeps.{Visited, After, RoundPost};
 ghost use Rattle.solver.specs.Waves.{Marked, Round, Swept, One, By, Comes, Before};
 use acceptance::Tested;
-use compiled::TABLE;
+use compiled::Table;
 use moves::Placement;
-use predecessors::BEHIND;
+use predecessors::SectionsBehind;
 use railway::Railway;
 use settings::Found;
 use settings::NO_FIGURE;
@@ -54,13 +54,7 @@ pub fn solve(r: Railway, figures: &mut [u32], settings: &mut [u32]) -> SolverAns
 }
 
 // Rounds until one adds nothing. Each round but the last gives a figure to some placement, so there are at most m and one more.
-fn fill(
-    table: &[u8; TABLE],
-    behind: &[u8; BEHIND],
-    figures: &mut [u32],
-    settings: &mut [u32],
-    m: u32,
-)
+fn fill(table: &Table, behind: &SectionsBehind, figures: &mut [u32], settings: &mut [u32], m: u32)
     requires { ⌜ m + 1 < noFigure ⌝ }
     requires { ⌜ (m ≤ length (now figures)) × (m ≤ length (now settings)) ⌝ }
     ensures { λ u. ⌜ ((r : Railway) → Compiled r (now (table .entry)) → Behind r (now (behind .entry)) → m ≡ placements r → SolverTables r (now (figures .entry)) (now (settings .entry)) (now (figures .exit)) (now (settings .exit))) ⌝ }
@@ -78,7 +72,7 @@ fn fill(
 }
 
 // Before the first round: home has figure 0, every other placement none, and no setting is set.
-fn clear(table: &[u8; TABLE], figures: &mut [u32], settings: &mut [u32], m: u32)
+fn clear(table: &Table, figures: &mut [u32], settings: &mut [u32], m: u32)
     requires { ⌜ (m ≤ length (now figures)) × (m ≤ length (now settings)) ⌝ }
     ensures { λ u. ⌜ ((r : Railway) → Compiled r (now (table .entry)) → m ≡ placements r → After r 0 (now (figures .entry)) (now (settings .entry)) (now (figures .exit)) (now (settings .exit))) ⌝ }
 {
@@ -93,7 +87,7 @@ fn clear(table: &[u8; TABLE], figures: &mut [u32], settings: &mut [u32], m: u32)
 }
 
 // The figure of a placement before the first round. Only the placement of home's code is looked at.
-fn first_entry(table: &[u8; TABLE], home: u32, p: u32) -> u32
+fn first_entry(table: &Table, home: u32, p: u32) -> u32
     ensures { λ f. ⌜ ((r : Railway) → Compiled r (now (table .entry)) → home ≡ homeCode r → p < placements r → f ≡ firstFigure r p) ⌝ }
 {
     if p == home {
@@ -104,7 +98,7 @@ fn first_entry(table: &[u8; TABLE], home: u32, p: u32) -> u32
 }
 
 // .. of any placement.
-fn first_figure(table: &[u8; TABLE], p: u32) -> u32
+fn first_figure(table: &Table, p: u32) -> u32
     ensures { λ f. ⌜ ((r : Railway) → Compiled r (now (table .entry)) → f ≡ firstFigure r p) ⌝ }
 {
     if moves::is_lost(table, p) {
@@ -118,8 +112,8 @@ fn first_figure(table: &[u8; TABLE], p: u32) -> u32
 
 // Round n, in place, stretch after stretch. Whether it gave a figure to any placement.
 fn one_round(
-    table: &[u8; TABLE],
-    behind: &[u8; BEHIND],
+    table: &Table,
+    behind: &SectionsBehind,
     figures: &mut [u32],
     settings: &mut [u32],
     marks: &mut [u32],
@@ -155,8 +149,8 @@ fn stretch_end(c: u32, m: u32) -> u32
 
 // Round n for the codes of a stretch, unless its mark says that no figure there is large enough.
 fn visit_stretch(
-    table: &[u8; TABLE],
-    behind: &[u8; BEHIND],
+    table: &Table,
+    behind: &SectionsBehind,
     figures: &mut [u32],
     settings: &mut [u32],
     marks: &mut [u32],
@@ -199,8 +193,8 @@ fn mark(marks: &mut [u32], c: u32, n: u32)
 
 // Round n for the codes in a range.
 fn visit_codes(
-    table: &[u8; TABLE],
-    behind: &[u8; BEHIND],
+    table: &Table,
+    behind: &SectionsBehind,
     figures: &mut [u32],
     settings: &mut [u32],
     marks: &mut [u32],
@@ -225,8 +219,8 @@ fn visit_codes(
 
 // Round n for one code: if its figure is n - 1, what is one move before it.
 fn visit_code(
-    table: &[u8; TABLE],
-    behind: &[u8; BEHIND],
+    table: &Table,
+    behind: &SectionsBehind,
     figures: &mut [u32],
     settings: &mut [u32],
     marks: &mut [u32],
@@ -249,8 +243,8 @@ fn visit_code(
 
 // Round n for what is one move before a code, train by train.
 fn visit_before(
-    table: &[u8; TABLE],
-    behind: &[u8; BEHIND],
+    table: &Table,
+    behind: &SectionsBehind,
     figures: &mut [u32],
     settings: &mut [u32],
     marks: &mut [u32],
@@ -276,8 +270,8 @@ fn visit_before(
 
 // .. by a move of one train, with the point that it meets at minus and at plus.
 fn visit_train(
-    table: &[u8; TABLE],
-    behind: &[u8; BEHIND],
+    table: &Table,
+    behind: &SectionsBehind,
     figures: &mut [u32],
     settings: &mut [u32],
     marks: &mut [u32],
@@ -302,7 +296,7 @@ fn visit_train(
 
 // Round n at one placement, if the code is one; where it gets a figure its stretch is marked.
 fn visit_one(
-    table: &[u8; TABLE],
+    table: &Table,
     figures: &mut [u32],
     settings: &mut [u32],
     marks: &mut [u32],
@@ -324,7 +318,7 @@ fn visit_one(
 }
 
 // Round n at one placement. Whether it got a figure.
-fn visit(table: &[u8; TABLE], figures: &mut [u32], settings: &mut [u32], p: u32, n: u32) -> bool
+fn visit(table: &Table, figures: &mut [u32], settings: &mut [u32], p: u32, n: u32) -> bool
     requires { ⌜ (p < length (now figures)) × (p < length (now settings)) ⌝ }
     ensures { λ b. ⌜ ((r : Railway) → Compiled r (now (table .entry)) → (home (gameOf r) p ≡ true → figureIn (now (figures .entry)) p ≡ some 0) → Visited r n p (now (figures .entry)) (now (settings .entry)) (now (figures .exit)) (now (settings .exit)) b) ⌝ }
 {
@@ -342,7 +336,7 @@ fn visit(table: &[u8; TABLE], figures: &mut [u32], settings: &mut [u32], p: u32,
 }
 
 // The start's figure, as the tables have it.
-fn start_answer(table: &[u8; TABLE], figures: &[u32]) -> SolverAnswer
+fn start_answer(table: &Table, figures: &[u32]) -> SolverAnswer
     ensures { λ a. ⌜ ((r : Railway) → Compiled r (now (table .entry)) → (refusalGiven a ≡ none) × (figureGiven a ≡ figureIn (now (figures .entry)) (startCode r))) ⌝ }
 {
     let f = settings::figure_at(figures, moves::start_code(table));
