@@ -34,7 +34,7 @@ pub record Filling (table behind : List ℕ) (m : ℕ) (figs₀ sets₀ figs set
   pub within : n ≤ m + 1
   pub long-figs : length figs ≡ length figs₀
   pub long-sets : length sets ≡ length sets₀
-  pub long-marks : length marks ≡ 16384
+  pub long-marks : length marks ≡ 12288
   pub played : (r : Railway) → Compiled r table → Behind r behind → m ≡ placements r → Played r m n figs₀ sets₀ figs sets marks
 
 -- what a round promises of every railway of these tables
@@ -51,27 +51,27 @@ kept-self : (r : Railway) (a : List ℕ) → Kept r a a
 kept-self r a = record { as-long = refl; past = λ p l. refl }
 
 -- before the first round no figure is above 0
-first-marked : (r : Railway) (figs sets : List ℕ) → recordRefusal r ≡ none → RoundTables r 0 figs sets → Marked r figs (replicate 16384 0)
+first-marked : (r : Railway) (figs sets : List ℕ) → recordRefusal r ≡ none → RoundTables r 0 figs sets → Marked r figs (replicate 12288 0)
 first-marked r figs sets accepted t =
     record {
-      room = enough (replicate 16384 0) (length-replicate {A = ℕ} 16384 0);
+      room = enough (replicate 12288 0) (length-replicate {A = ℕ} 12288 0);
       most = λ q j l e. omega (arith, none-yet q j l e);
     }
   where
-    enough : (marks : List ℕ) → length marks ≡ 16384 → placements r ≤ 324 * length marks
+    enough : (marks : List ℕ) → length marks ≡ 12288 → placements r ≤ 432 * length marks
     enough marks e = omega (arith, few-placements r accepted)
 
     none-yet : (q j : ℕ) → q < placements r → figureIn figs q ≡ some j → j ≤ 0
     none-yet q j l e = let s = solution r accepted in of-up-to 0 (s .figure q) j (sym (t .figures q l (s .figure q) (s .figures q l)) ∙ e) .1
 
 module _ (table behind : List ℕ) (m : ℕ) (figs sets figs₀ sets₀ : List ℕ) (cleared : Clears table m figs sets figs₀ sets₀) where
-  pub filling-start : Filling table behind m figs₀ sets₀ figs₀ sets₀ (replicate 16384 0) 0
+  pub filling-start : Filling table behind m figs₀ sets₀ figs₀ sets₀ (replicate 12288 0) 0
   filling-start =
       record {
         within = omega arith;
         long-figs = refl;
         long-sets = refl;
-        long-marks = length-replicate {A = ℕ} 16384 0;
+        long-marks = length-replicate {A = ℕ} 12288 0;
         played = λ r h d e.
             record {
               after = record { tables = cleared r h e .tables; kept-figs = kept-self r figs₀; kept-sets = kept-self r sets₀ };

@@ -175,7 +175,7 @@ module _ (r : Railway) (table : List ℕ) (m n p : ℕ) (figs sets marks : List 
         })
 
     module _ (l : p < m) (inside-figs : p < length figs) (inside-sets : p < length sets) (marks′ : List ℕ) (as-long : length marks′ ≡ length marks)
-        (grow : (i : ℕ) → getD marks i 0 ≤ getD marks′ i 0) (marks-it : p / 324 < length marks → n ≤ getD marks′ (p / 324) 0) where
+        (grow : (i : ℕ) → getD marks i 0 ≤ getD marks′ i 0) (marks-it : p / 432 < length marks → n ≤ getD marks′ (p / 432) 0) where
       entered : (v : ℕ) → figureIn figs p ≡ none → over (gameOf r) p ≡ false → find r (figureIn figs) p n ≡ some v → Swept r n (One p) figs sets (set figs p n) (set sets p v) marks′ true
       entered v empty going found =
           record {
@@ -195,7 +195,7 @@ module _ (r : Railway) (table : List ℕ) (m n p : ℕ) (figs sets marks : List 
             marked = record { room = omega (arith, o .marked .room); most = most };
           }
         where
-          most : (q j : ℕ) → q < placements r → figureIn (set figs p n) q ≡ some j → j ≤ getD marks′ (q / 324) 0
+          most : (q j : ℕ) → q < placements r → figureIn (set figs p n) q ≡ some j → j ≤ getD marks′ (q / 432) 0
           most q j lq e = elim (eq? q p) [
             | inl z ↦
                 let a : figureIn (set figs p n) p ≡ some j = rw z at e in
@@ -203,7 +203,7 @@ module _ (r : Railway) (table : List ℕ) (m n p : ℕ) (figs sets marks : List 
                 rw (z, ← b) (marks-it (omega (arith, o .counted, o .marked .room)))
             | inr z ↦
                 let a : figureIn figs q ≡ some j = sym (ap figureEntry (getD-set-other figs p q n noFigure z)) ∙ e in
-                omega (arith, o .marked .most q j lq a, grow (q / 324))
+                omega (arith, o .marked .most q j lq a, grow (q / 432))
           ]
 
           figure-now : figureIn (set figs p n) p ≡ some n
@@ -214,12 +214,12 @@ module _ (r : Railway) (table : List ℕ) (m n p : ℕ) (figs sets marks : List 
       visit-gains b (enters v empty going found ef es) e = rw (ef, es) (entered v empty going found)
 
 -- MARKS: one is raised, the others stay
-module _ (marks : List ℕ) (c n : ℕ) (inside : c / 324 < length marks) (lower : getD marks (c / 324) 0 < n) where
-  pub mark-raised : ((i : ℕ) → getD marks i 0 ≤ getD (set marks (c / 324) n) i 0) × (c / 324 < length marks → n ≤ getD (set marks (c / 324) n) (c / 324) 0)
+module _ (marks : List ℕ) (c n : ℕ) (inside : c / 432 < length marks) (lower : getD marks (c / 432) 0 < n) where
+  pub mark-raised : ((i : ℕ) → getD marks i 0 ≤ getD (set marks (c / 432) n) i 0) × (c / 432 < length marks → n ≤ getD (set marks (c / 432) n) (c / 432) 0)
   mark-raised = (
-    λ i. elim (eq? i (c / 324)) [
-      | inl z ↦ rw (z, getD-set-same marks (c / 324) n 0 inside) (omega arith)
-      | inr z ↦ rw (getD-set-other marks (c / 324) i n 0 z) (omega arith)
+    λ i. elim (eq? i (c / 432)) [
+      | inl z ↦ rw (z, getD-set-same marks (c / 432) n 0 inside) (omega arith)
+      | inr z ↦ rw (getD-set-other marks (c / 432) i n 0 z) (omega arith)
     ],
-    λ l. rw (getD-set-same marks (c / 324) n 0 inside) (omega arith),
+    λ l. rw (getD-set-same marks (c / 432) n 0 inside) (omega arith),
   )

@@ -156,11 +156,11 @@ module _ (r : Railway) (n : ℕ) (figs : List ℕ) where
     before-one q k = let z : k .code ≡ c = omega (arith, k .after, k .within) in rw z at (k .comes)
 
   -- a stretch whose mark is too small
-  pub not-marked : (table : List ℕ) (m : ℕ) (marks : List ℕ) (from upto f : ℕ) → Round r table m n figs marks → ((q : ℕ) → from ≤ q → q < upto → q / 324 ≡ from / 324) → upto ≤ m
-      → f ≡ getD marks (from / 324) 0 → f < n → 1 < n - f → (q : ℕ) → Before r n figs from upto q → ⊥
+  pub not-marked : (table : List ℕ) (m : ℕ) (marks : List ℕ) (from upto f : ℕ) → Round r table m n figs marks → ((q : ℕ) → from ≤ q → q < upto → q / 432 ≡ from / 432) → upto ≤ m
+      → f ≡ getD marks (from / 432) 0 → f < n → 1 < n - f → (q : ℕ) → Before r n figs from upto q → ⊥
   not-marked table m marks from upto f o one l e small far q k =
-      let s : k .code / 324 ≡ from / 324 = one (k .code) (k .after) (k .within) in
-      let b : k .figure ≤ getD marks (k .code / 324) 0 = o .marked .most (k .code) (k .figure) (omega (arith, k .within, o .counted)) (k .stands) in
+      let s : k .code / 432 ≡ from / 432 = one (k .code) (k .after) (k .within) in
+      let b : k .figure ≤ getD marks (k .code / 432) 0 = o .marked .most (k .code) (k .figure) (omega (arith, k .within, o .counted)) (k .stands) in
       let d : k .figure ≤ f = rw (e, ← s) b in
       omega (arith, k .last)
 

@@ -22,8 +22,8 @@ Homed r figs = (p : ℕ) → p < placements r → home (gameOf r) p ≡ true →
 
 -- There is a mark for each stretch, and no figure is larger than the mark of its stretch.
 pub record Marked (r : Railway) (figs marks : List ℕ) : Type 0 where
-  pub room : placements r ≤ 324 * length marks
-  pub most : (q j : ℕ) → q < placements r → figureIn figs q ≡ some j → j ≤ getD marks (q / 324) 0
+  pub room : placements r ≤ 432 * length marks
+  pub most : (q j : ℕ) → q < placements r → figureIn figs q ≡ some j → j ≤ getD marks (q / 432) 0
 
 -- Round n is going on, on the tables of this railway.
 pub record Round (r : Railway) (table : List ℕ) (m n : ℕ) (figs marks : List ℕ) : Type 0 where

@@ -31,9 +31,9 @@ use settings::NO_FIGURE;
 use tables::SolverAnswer;
 
 // How many codes a stretch has, and how many stretches there are: as many as the largest table needs.
-const STRETCH: u32 = 324;
+const STRETCH: u32 = 432;
 
-const MARKS: usize = 16384;
+const MARKS: usize = 12288;
 
 // THE SOLVER: both tables of a case and the start's figure, or a refusal and the tables as they were.
 pub fn solve(r: Railway, figures: &mut [u32], settings: &mut [u32]) -> SolverAnswer
@@ -138,7 +138,7 @@ fn one_round(
 // Where the stretch of code c ends, the last one at m.
 fn stretch_end(c: u32, m: u32) -> u32
     requires { ⌜ c < m ⌝ }
-    ensures { λ e. ⌜ (c < e) × (e ≤ m) × ((q : ℕ) → c ≤ q → q < e → q / 324 ≡ c / 324) ⌝ }
+    ensures { λ e. ⌜ (c < e) × (e ≤ m) × ((q : ℕ) → c ≤ q → q < e → q / 432 ≡ c / 432) ⌝ }
 {
     let left = STRETCH - c % STRETCH;
     if m - c <= left {
@@ -160,7 +160,7 @@ fn visit_stretch(
     upto: u32,
 ) -> bool
     requires { ⌜ (m ≤ length (now figures)) × (m ≤ length (now settings)) × (upto ≤ m) ⌝ }
-    ensures { λ b. ⌜ ((r : Railway) → Behind r (now (behind .entry)) → Round r (now (table .entry)) m n (now (figures .entry)) (now (marks .entry)) → ((q : ℕ) → from ≤ q → q < upto → q / 324 ≡ from / 324) → Swept r n (Before r n (now (figures .entry)) from upto) (now (figures .entry)) (now (settings .entry)) (now (figures .exit)) (now (settings .exit)) (now (marks .exit)) b) ⌝ }
+    ensures { λ b. ⌜ ((r : Railway) → Behind r (now (behind .entry)) → Round r (now (table .entry)) m n (now (figures .entry)) (now (marks .entry)) → ((q : ℕ) → from ≤ q → q < upto → q / 432 ≡ from / 432) → Swept r n (Before r n (now (figures .entry)) from upto) (now (figures .entry)) (now (settings .entry)) (now (figures .exit)) (now (settings .exit)) (now (marks .exit)) b) ⌝ }
 {
     let f = mark_at(marks, from);
     if f < n {
@@ -173,7 +173,7 @@ fn visit_stretch(
 
 // The mark of the stretch of code c.
 fn mark_at(marks: &[u32], c: u32) -> u32
-    ensures { λ f. ⌜ f ≡ getD (now (marks .entry)) (c / 324) 0 ⌝ }
+    ensures { λ f. ⌜ f ≡ getD (now (marks .entry)) (c / 432) 0 ⌝ }
 {
     let i = (c / STRETCH) as usize;
     if i < marks.len() { marks[i] } else { 0 }
@@ -181,7 +181,7 @@ fn mark_at(marks: &[u32], c: u32) -> u32
 
 // The mark of the stretch of code c is n at least.
 fn mark(marks: &mut [u32], c: u32, n: u32)
-    ensures { λ u. ⌜ ((i : ℕ) → getD (now (marks .entry)) i 0 ≤ getD (now (marks .exit)) i 0) × (c / 324 < length (now (marks .entry)) → n ≤ getD (now (marks .exit)) (c / 324) 0) ⌝ }
+    ensures { λ u. ⌜ ((i : ℕ) → getD (now (marks .entry)) i 0 ≤ getD (now (marks .exit)) i 0) × (c / 432 < length (now (marks .entry)) → n ≤ getD (now (marks .exit)) (c / 432) 0) ⌝ }
 {
     let i = (c / STRETCH) as usize;
     if i < marks.len() {
