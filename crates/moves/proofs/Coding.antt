@@ -6,9 +6,9 @@ use mathlib.Core.Bool.{Bool, false, cond}
 use mathlib.Core.List.{List, [], _∷_}
 use Prim.Native.Nat.{ℕ, zero, suc, _+_, _-_, _*_, _/_, _%_, _^_, _≤_, _<_}
 use native.Mathlib.Omega.{arith}
-use native.Mathlib.Nat.{pow-succ', pow-zero, mul-one, mul-assoc, mul-le-mul, mod-lt, pow-le-pow-right, div-eq-of-lt}
+use native.Mathlib.Nat.{pow-succ', pow-zero, mul-one, mul-comm, mul-add, mul-assoc, mul-le-mul, mod-lt, pow-le-pow-right, div-eq-of-lt}
 use lib.Dec.{ltb}
-use lib.ListN.{length, getD, List·getD-eq-default}
+use lib.ListN.{length, getD, set, List·getD-eq-default}
 use borrow.Author.Tests.{lt-ltb, le-ltb}
 use Rattle.laws.specs.Below.{listBelow}
 use Rattle.laws.specs.Bits.{bit}
@@ -130,3 +130,21 @@ code-four s k f a b c d l ea eb ec ed =
 -- a bit past the width
 pub bit-high : (v n : ℕ) → v < 4294967296 → 32 ≤ n → false ≡ bit v n
 bit-high v n l h = let e : v / (2 ^ n) ≡ 0 = div-eq-of-lt (omega (arith, pow-le-pow-right {n = 2} (omega arith) {i = 32} {j = n} h)) in rw e
+
+-- CODES: one train put elsewhere
+pub code-move : (s : ℕ) (xs : List ℕ) (t x : ℕ) → t < length xs → codeOf s (set xs t x) + getD xs t 0 * s ^ t ≡ codeOf s xs + x * s ^ t
+code-move s [] t x l = absurd (omega arith)
+code-move s (z ∷ zs) zero x l =
+    let one : s ^ 0 ≡ 1 = pow-zero s in
+    rw (code-cons s x zs, code-cons s z zs, one) (omega arith)
+code-move s (z ∷ zs) (suc t) x l =
+    let ih : codeOf s (set zs t x) + getD zs t 0 * s ^ t ≡ codeOf s zs + x * s ^ t = code-move s zs t x (omega arith) in
+    let both : s * (codeOf s (set zs t x) + getD zs t 0 * s ^ t) ≡ s * (codeOf s zs + x * s ^ t) = ap (λ (y : ℕ). s * y) ih in
+    let a : s * (codeOf s (set zs t x) + getD zs t 0 * s ^ t) ≡ s * codeOf s (set zs t x) + s * (getD zs t 0 * s ^ t) = mul-add s (codeOf s (set zs t x)) (getD zs t 0 * s ^ t) in
+    let b : s * (codeOf s zs + x * s ^ t) ≡ s * codeOf s zs + s * (x * s ^ t) = mul-add s (codeOf s zs) (x * s ^ t) in
+    let c : s * (getD zs t 0 * s ^ t) ≡ getD zs t 0 * s ^ suc t = swap (getD zs t 0) in
+    let d : s * (x * s ^ t) ≡ x * s ^ suc t = swap x in
+    rw (code-cons s z (set zs t x), code-cons s z zs) (omega arith)
+  where
+    swap : (y : ℕ) → s * (y * s ^ t) ≡ y * s ^ suc t
+    swap y = sym (mul-assoc s y (s ^ t)) ∙ ap (λ (z : ℕ). z * s ^ t) (mul-comm s y) ∙ mul-assoc y s (s ^ t) ∙ ap (λ (z : ℕ). y * z) (sym (pow-succ' s t))

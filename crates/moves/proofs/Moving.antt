@@ -5,7 +5,7 @@ use mathlib.Core.Bool.{Bool, true, false, cond, not, _&&_, _||_}
 use mathlib.Core.Logic.{inl, inr}
 use mathlib.Core.List.{List, []}
 use mathlib.Core.Option.{Option, none, some}
-use Prim.Native.Nat.{ℕ, _+_, _≤_, _<_}
+use Prim.Native.Nat.{ℕ, _+_, _*_, _^_, _≤_, _<_}
 use native.Mathlib.Omega.{arith}
 use lib.Dec.{ltb, eqb}
 use lib.ListN.{length, getD, set, length-set}
@@ -32,7 +32,7 @@ use Rattle.game.specs.Setting.{Setting, headsFor, held, free, opensFor, mayMove
 use Rattle.game.specs.Moves.{Passage, through, pastPoint, pastJoin, passes, otherOn, occupied, codeWith, enters, moveOf, gameOf}
 use Rattle.game.proofs.Codes.{sections-length}
 use Rattle.game.proofs.Accepted.{Facts}
-use Rattle.game.proofs.Moves.{section-below, passes-below}
+use Rattle.game.proofs.Moves.{section-below, passes-below, sections-with}
 use Rattle.tables.specs.Entries.{opensEnd, settingAt}
 use Rattle.compiled.specs.Table.{flagByte, pointByte, sectionByte, endOn, wayByte, countByte}
 use Rattle.moves.specs.declared.Placement.{Placement}
@@ -40,7 +40,8 @@ use Rattle.moves.specs.declared.Move.{Move}
 use Rattle.moves.specs.declared.Move.the-variants.{NotAllowed, Derails, Collides, At}
 use Rattle.moves.specs.Answers.{codeOn, ended, moveUnder}
 use Rattle.moves.specs.Steps.{sectionIn, On, movedTo, otherIn, allAt}
-use Rattle.moves.proofs.Placing.{ok, trains-are}
+use Rattle.moves.proofs.Coding.{code-move}
+use Rattle.moves.proofs.Placing.{ok, sections-are, trains-are, listed}
 
 -- ONE POINT AT MOST: past a join all depends on how the point met lies
 module _ (r : Railway) (plus : ℕ → Bool) where
@@ -136,23 +137,37 @@ module _ (r : Railway) (p : ℕ) (table : List ℕ) (q : Placement) (on : On r p
         let z : k ≡ r .trains = trains-are r k e in
         (rw z at h) ∙ any-same (otherIn q t x) (otherOn r p t x) (r .trains) (λ u l. let a : sectionIn q u ≡ standsOn r p u = on .stands u in rw a)
 
-    pub code-moved : (w : ℕ) → t < r .trains → w ≡ codeOn r (movedTo q t x) → w ≡ codeWith r p t x
+    -- the sections with this train put on this one
+    put-each : t < r .trains → (u : ℕ) → movedTo q t x u ≡ getD (set (sectionsOf r p) t x) u 0
     unfolding standsOn
+    put-each l u = elim (eq? u t) [
+      | inl z ↦ rw (z, eq-eqb t t refl) (sym (getD-set-same (sectionsOf r p) t x 0 (rw (sections-length (r .sections) (r .trains) p) l)))
+      | inr z ↦ rw (ne-eqb u t z) (on .stands u ∙ sym (getD-set-other (sectionsOf r p) t u x 0 z))
+    ]
+
+    pub code-moved : (w : ℕ) → t < r .trains → w ≡ codeOn r (movedTo q t x) → w ≡ codeWith r p t x
     code-moved w l e = e ∙ ap (codeOf (r .sections)) lists
       where
         sized : length (set (sectionsOf r p) t x) ≡ r .trains
         sized = length-set (sectionsOf r p) t x ∙ sections-length (r .sections) (r .trains) p
 
-        each : (u : ℕ) → movedTo q t x u ≡ getD (set (sectionsOf r p) t x) u 0
-        each u = elim (eq? u t) [
-          | inl z ↦ rw (z, eq-eqb t t refl) (sym (getD-set-same (sectionsOf r p) t x 0 (rw (sections-length (r .sections) (r .trains) p) l)))
-          | inr z ↦ rw (ne-eqb u t z) (on .stands u ∙ sym (getD-set-other (sectionsOf r p) t u x 0 z))
-        ]
-
         lists : listBelow (movedTo q t x) (r .trains) ≡ set (sectionsOf r p) t x
         lists =
             ext-getD 0 (listBelow (movedTo q t x) (r .trains)) (set (sectionsOf r p) t x) (list-length (movedTo q t x) (r .trains) ∙ sym sized)
-            (λ u m. list-get (movedTo q t x) (r .trains) u 0 (rw (list-length (movedTo q t x) (r .trains)) at m) ∙ each u)
+            (λ u m. list-get (movedTo q t x) (r .trains) u 0 (rw (list-length (movedTo q t x) (r .trains)) at m) ∙ put-each l u)
+
+    -- THE SAME BY THE WEIGHT of the train: from where it stands, and the placement itself
+    pub code-by-weight : t < r .trains → (c y w s : ℕ) → c ≡ codeOn r (sectionIn q) → y ≡ sectionIn q t → s ≡ countByte r 0 → (t ≤ 4 → w ≡ s ^ t) → c + x * w ≡ codeWith r p t x + y * w
+    unfolding standsOn
+    code-by-weight l c y w s ec ey es ew =
+        let weight : w ≡ r .sections ^ t = ew (omega (arith, facts-of .few-trains)) ∙ ap (λ (a : ℕ). a ^ t) (sections-are r s es) in
+        let here : c ≡ codeOf (r .sections) (sectionsOf r p) = ec ∙ ap (codeOf (r .sections)) (listed r (sectionIn q) p (λ u m. on .stands u)) in
+        let stood : y ≡ getD (sectionsOf r p) t 0 = ey ∙ on .stands t in
+        rw (weight, here, stood) (sym (code-move (r .sections) (sectionsOf r p) t x (rw (sections-length (r .sections) (r .trains) p) l)))
+
+    pub put-on-is : t < r .trains → x < r .sections → (o : Placement) → ((u : ℕ) → sectionIn o u ≡ movedTo q t x u) → On r (codeWith r p t x) table o
+    unfolding standsOn
+    put-on-is l lx o h = record { compiled = on .compiled; stands = λ u. h u ∙ put-each l u ∙ ap (λ (xs : List ℕ). getD xs u 0) (sym (sections-with r facts-of p t x lx)) }
 
   module _ (t : ℕ) (plus : Bool) (x : ℕ) (leads : x ≡ sectionByte (passes r (λ i. plus) (headsFor r p t) .reached)) where
     abbrev way : Option ℕ

@@ -7,14 +7,15 @@ use mathlib.Core.List.{List, [], _∷_}
 use Prim.Native.Nat.{ℕ, _+_, _*_, _/_, _%_, _^_, _≤_, _<_}
 use native.Mathlib.Omega.{arith}
 use lib.Dec.{ltb, eqb}
-use lib.ListN.{length, length-map, getD, List·getD-eq-default}
+use lib.ListN.{length, length-map, getD, set, List·getD-eq-default}
+use lib.Seq.{ext-getD, getD-set-same, getD-set-other}
 use mir.Val.{Val}
 use denote.Laws.{Is}
 use borrow.Author.Tests.{lt-ltb, le-ltb, eq-eqb, ne-eqb}
 use Rattle.laws.specs.Below.{allBelow, anyBelow, listBelow}
-use Rattle.laws.proofs.Bools.{lt?}
+use Rattle.laws.proofs.Bools.{lt?, eq?}
 use Rattle.laws.proofs.Lists.{of-four}
-use Rattle.laws.proofs.Below.{any-same, any-none, any-one, all-each, all-but, list-same}
+use Rattle.laws.proofs.Below.{any-same, any-none, any-one, all-each, all-but, list-length, list-get, list-same}
 use Rattle.railway.specs.declared.Railway.{Railway}
 use Rattle.railway.specs.Bounds.{mostTrains}
 use Rattle.railway.specs.Record.{runOf}
@@ -34,6 +35,20 @@ placement-length q vs p = sym (length-map (q .sections) _) ∙ p .1 .1 .0 .1 .0 
 
 pub section-past : (q : Placement) (t : ℕ) → length (q .sections) ≤ t → 0 ≡ sectionIn q t
 section-past q t l = sym (List·getD-eq-default (q .sections) 0 l)
+
+-- one train put elsewhere
+pub put-section : (q : Placement) (t x : ℕ) → t < length (q .sections) → (u : ℕ) → getD (set (q .sections) t x) u 0 ≡ movedTo q t x u
+put-section q t x l u = elim (eq? u t) [
+  | inl z ↦ rw (z, eq-eqb t t refl) (getD-set-same (q .sections) t x 0 l)
+  | inr z ↦ rw (ne-eqb u t z) (getD-set-other (q .sections) t u x 0 z)
+]
+
+-- the sections of a code, train by train
+pub listed : (r : Railway) (f : ℕ → ℕ) (p : ℕ) → ((t : ℕ) → t < r .trains → f t ≡ standsOn r p t) → listBelow f (r .trains) ≡ sectionsOf r p
+unfolding standsOn
+listed r f p same =
+    ext-getD 0 (listBelow f (r .trains)) (sectionsOf r p) (list-length f (r .trains) ∙ sym (sections-length (r .sections) (r .trains) p))
+    (λ t l. let m : t < r .trains = rw (list-length f (r .trains)) at l in list-get f (r .trains) t 0 m ∙ same t m)
 
 -- THE COUNTS
 module _ (r : Railway) (x : ℕ) where

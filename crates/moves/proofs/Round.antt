@@ -21,18 +21,11 @@ use Rattle.compiled.specs.Table.{Compiled}
 use Rattle.moves.specs.declared.Placement.{Placement}
 use Rattle.moves.specs.Answers.{codeOn, homeCode}
 use Rattle.moves.specs.Steps.{sectionIn, On}
-use Rattle.moves.proofs.Placing.{ok, past-trains}
+use Rattle.moves.proofs.Placing.{ok, past-trains, listed}
 
 module _ (r : Railway) (facts : Facts r) where
-  -- the sections of a code, train by train
-  listed : (f : ℕ → ℕ) (p : ℕ) → ((t : ℕ) → t < r .trains → f t ≡ standsOn r p t) → listBelow f (r .trains) ≡ sectionsOf r p
-  unfolding standsOn
-  listed f p same =
-      ext-getD 0 (listBelow f (r .trains)) (sectionsOf r p) (list-length f (r .trains) ∙ sym (sections-length (r .sections) (r .trains) p))
-      (λ t l. let m : t < r .trains = rw (list-length f (r .trains)) at l in list-get f (r .trains) t 0 m ∙ same t m)
-
   pub code-again : (f : ℕ → ℕ) (p : ℕ) → p < placements r → ((t : ℕ) → t < r .trains → f t ≡ standsOn r p t) → codeOn r f ≡ p
-  code-again f p l same = ap (codeOf (r .sections)) (listed f p same) ∙ code-sections (r .sections) (r .trains) p (facts .one-section) l
+  code-again f p l same = ap (codeOf (r .sections)) (listed r f p same) ∙ code-sections (r .sections) (r .trains) p (facts .one-section) l
 
   pub sections-again : (f : ℕ → ℕ) → ((t : ℕ) → t < r .trains → f t < r .sections) → (t : ℕ) → t < r .trains → standsOn r (codeOn r f) t ≡ f t
   unfolding standsOn

@@ -27,6 +27,9 @@ pub struct Placement {
     pub sections: [u8; Railway::TRAINS as usize],
 }
 
+// What stands for no code. No table is long enough to have an entry there.
+pub const NO_CODE: u32 = 4294967295;
+
 // What comes of a move: it is not allowed, loses, or leads to the next placement.
 pub enum Move {
     NotAllowed,
@@ -153,6 +156,36 @@ fn four(s: u8, a: u8, b: u8, c: u8, d: u8) -> u32
     (a as u32) + m * ((b as u32) + m * ((c as u32) + m * (d as u32)))
 }
 
+// The placement with train t put on section x.
+pub fn put_on(q: Placement, t: u8, x: u8) -> Placement
+    ensures { λ p. ⌜ (t < 4 → (u : ℕ) → sectionIn p u ≡ movedTo q t x u) ⌝ }
+{
+    let at = t as usize;
+    let mut sections = q.sections;
+    if t < Railway::TRAINS {
+        sections[at] = x;
+    }
+    Placement { sections: sections }
+}
+
+// The code of a placement whose code is c, with a train of weight w put from section x to section y.
+pub fn code_put(c: u32, w: u32, x: u8, y: u8) -> u32
+    ensures { λ b. ⌜ ((p : ℕ) → p < 4294967295 → c + y * w ≡ p + x * w → b ≡ p) ⌝ }
+{
+    let m = w as u64;
+    let more = (c as u64) + (y as u64) * m;
+    let less = (x as u64) * m;
+    if more < less {
+        return NO_CODE;
+    }
+    let p = more - less;
+    if p < (NO_CODE as u64) {
+        p as u32
+    } else {
+        NO_CODE
+    }
+}
+
 // The start's code, and home's.
 pub fn start_code(table: &Table) -> u32
     ensures { λ p. ⌜ ((r : Railway) → Compiled r (now (table .entry)) → p ≡ startCode r) ⌝ }
@@ -180,7 +213,7 @@ fn runs_in(table: &Table, i: u8) -> Placement
 }
 
 // Another train than t, of the first n, stands on section x.
-fn other_in(q: Placement, t: u8, x: u8, n: u8) -> bool
+pub fn other_in(q: Placement, t: u8, x: u8, n: u8) -> bool
     ensures { λ b. ⌜ b ≡ anyBelow (otherIn q t x) n ⌝ }
 {
     let mut u: u8 = 0;
@@ -338,7 +371,7 @@ pub fn point_in(table: &Table, q: Placement, t: u8) -> u8
 }
 
 // The section that it enters, that point lying at plus or not; 255: it derails.
-fn leads_to(table: &Table, q: Placement, t: u8, plus: bool) -> u8
+pub fn leads_to(table: &Table, q: Placement, t: u8, plus: bool) -> u8
     ensures { λ x. ⌜ ((r : Railway) (p : ℕ) → On r p (now (table .entry)) q → t < r .trains → x ≡ sectionByte (passes r (λ i. plus) (headsFor r p t) .reached)) ⌝ }
 {
     let x = section_at(q, t);

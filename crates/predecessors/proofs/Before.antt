@@ -30,6 +30,7 @@ use Rattle.tables.proofs.Exists.{few-placements}
 use Rattle.compiled.specs.Table.{wayByte, countByte}
 use Rattle.moves.specs.declared.Placement.{Placement}
 use Rattle.moves.specs.Steps.{sectionIn, On, allAt}
+use Rattle.moves.proofs.Coding.{code-move}
 use Rattle.moves.proofs.Placing.{sections-are}
 use Rattle.predecessors.specs.Behind.{behindBytes, endBehind, behindByte, Behind}
 use Rattle.predecessors.proofs.Reversing.{goes-back}
@@ -85,24 +86,6 @@ module _ (r : Railway) where
 
     pub plus-behind : (plus : Bool) → plus ≡ true → y ≡ behindByte r (2 * (48 * t + x) + 1) → y ≡ wayByte r (endBehind r t x) (cond plus 3 2)
     plus-behind plus z e = rw z (e ∙ at-plus)
-
--- CODES: one train put elsewhere
-pub code-move : (s : ℕ) (xs : List ℕ) (t x : ℕ) → t < length xs → codeOf s (set xs t x) + getD xs t 0 * s ^ t ≡ codeOf s xs + x * s ^ t
-code-move s [] t x l = absurd (omega arith)
-code-move s (z ∷ zs) zero x l =
-    let one : s ^ 0 ≡ 1 = pow-zero s in
-    rw (code-cons s x zs, code-cons s z zs, one) (omega arith)
-code-move s (z ∷ zs) (suc t) x l =
-    let ih : codeOf s (set zs t x) + getD zs t 0 * s ^ t ≡ codeOf s zs + x * s ^ t = code-move s zs t x (omega arith) in
-    let both : s * (codeOf s (set zs t x) + getD zs t 0 * s ^ t) ≡ s * (codeOf s zs + x * s ^ t) = ap (λ (y : ℕ). s * y) ih in
-    let a : s * (codeOf s (set zs t x) + getD zs t 0 * s ^ t) ≡ s * codeOf s (set zs t x) + s * (getD zs t 0 * s ^ t) = mul-add s (codeOf s (set zs t x)) (getD zs t 0 * s ^ t) in
-    let b : s * (codeOf s zs + x * s ^ t) ≡ s * codeOf s zs + s * (x * s ^ t) = mul-add s (codeOf s zs) (x * s ^ t) in
-    let c : s * (getD zs t 0 * s ^ t) ≡ getD zs t 0 * s ^ suc t = swap (getD zs t 0) in
-    let d : s * (x * s ^ t) ≡ x * s ^ suc t = swap x in
-    rw (code-cons s z (set zs t x), code-cons s z zs) (omega arith)
-  where
-    swap : (y : ℕ) → s * (y * s ^ t) ≡ y * s ^ suc t
-    swap y = sym (mul-assoc s y (s ^ t)) ∙ ap (λ (z : ℕ). z * s ^ t) (mul-comm s y) ∙ mul-assoc y s (s ^ t) ∙ ap (λ (z : ℕ). y * z) (sym (pow-succ' s t))
 
 -- A MOVE THAT ENDS in placement c: the train has entered a section
 record Entered (r : Railway) (p t c : ℕ) (o : Option ℕ) : Type 0 where

@@ -25,9 +25,6 @@ pub const BEHIND: usize = 384;
 // The table of a railway's sections behind each section.
 pub type SectionsBehind = [u8; BEHIND];
 
-// What stands for no code. No table is long enough to have an entry there.
-pub const NO_CODE: u32 = 4294967295;
-
 // The sections behind each section, for each train.
 pub fn sections_behind(r: Railway) -> SectionsBehind
     ensures { λ b. ⌜ Behind r b ⌝ }
@@ -97,26 +94,8 @@ pub fn code_before(
     let x = moves::section_at(q, t);
     let y = section_behind(behind, t, x, plus);
     if y == NO_BYTE {
-        return NO_CODE;
+        return moves::NO_CODE;
     }
     let w = moves::power(compiled::count_in(table, 0), t);
-    put_back(c, w, x, y)
-}
-
-// A code with a train of weight w put from section x to section y.
-fn put_back(c: u32, w: u32, x: u8, y: u8) -> u32
-    ensures { λ b. ⌜ ((p : ℕ) → p < 4294967295 → c + y * w ≡ p + x * w → b ≡ p) ⌝ }
-{
-    let m = w as u64;
-    let more = (c as u64) + (y as u64) * m;
-    let less = (x as u64) * m;
-    if more < less {
-        return NO_CODE;
-    }
-    let p = more - less;
-    if p < (NO_CODE as u64) {
-        p as u32
-    } else {
-        NO_CODE
-    }
+    moves::code_put(c, w, x, y)
 }

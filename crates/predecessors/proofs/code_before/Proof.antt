@@ -28,8 +28,8 @@ count-in-requires c κs = search needs
 power-requires : tie.Need-power-requires
 power-requires c κs = search needs
 
-put-back-requires : tie.Need-put-back-requires
-put-back-requires c κs = search needs
+code-put-requires : tie.Need-code-put-requires
+code-put-requires c κs = search needs
 
 returns-2 : tie.Need-returns-2
 returns-2 c =
@@ -41,7 +41,7 @@ returns-2 c =
     let x = s .section-at .ensures in
     before-is r _ _ _ on p _ _ l lt e _ x _
     (b .section-behind .ensures r h (train-small r _ _ _ on p _ _ l lt e _ x) (section-small r _ _ _ on p _ _ l lt e _ x)) _ _ _
-    (k .count-in .ensures r (on .compiled) (omega arith)) (w .power .ensures) (c .put-back .ensures)
+    (k .count-in .ensures r (on .compiled) (omega arith)) (w .power .ensures) (c .code-put .ensures)
 
 pub code-before-spec : {M : Type 1} → statement M
 code-before-spec =
@@ -52,5 +52,5 @@ code-before-spec =
     returns
     count-in-requires
     power-requires
-    put-back-requires
+    code-put-requires
     returns-2)

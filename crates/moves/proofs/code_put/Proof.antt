@@ -1,10 +1,10 @@
--- `predecessors::put_back` meets its contract: nothing runs over, for a byte times a number of 32 bits is one of 40.
+-- `moves::code_put` meets its contract: nothing runs over, for a byte times a number of 32 bits is one of 40.
 -- Assumes nothing.
 use native.Mathlib.Omega.{arith}
 use Rattle.moves.proofs.Coding.{times-fits}
 use borrow.Author.Needs.{needs}
-use Rattle.predecessors.proofs.put_back.Statement.{statement}
-use Rattle.predecessors.proofs.put_back.Tie as tie
+use Rattle.moves.proofs.code_put.Statement.{statement}
+use Rattle.moves.proofs.code_put.Tie as tie
 
 mul-more : tie.Need-mul-more
 mul-more c = omega (arith, times-fits 255 4294967295 {a = c .args .y} {b = c .args .w} (omega (arith, c .fits .y)) (omega (arith, c .fits .w)))
@@ -30,7 +30,7 @@ returns-2 c = search needs
 returns-3 : tie.Need-returns-3
 returns-3 c = search needs
 
-pub put-back-spec : {M : Type 1} → statement M
-put-back-spec =
+pub code-put-spec : {M : Type 1} → statement M
+code-put-spec =
     tie.close
     (tie.spec mul-more add-more mul-less returns cast-if2 cast-result returns-2 returns-3)
