@@ -42,7 +42,7 @@ impl Checker {
     pub fn fresh(figures: &mut [u32], settings: &mut [u32]) -> Checker
         ensures { λ c. ⌜ FreshPost (now (figures .entry)) (now (settings .entry)) (checking c (now (figures .exit)) (now (settings .exit))) ⌝ }
     {
-        fill(figures, settings::NO_FIGURE);
+        fill(figures, tables::NO_FIGURE);
         fill(settings, 0);
         Checker {
             state: CheckerState::Fresh,

@@ -4,7 +4,6 @@ ghost use mathlib.Core.Path.{_≡_};
 ghost use mathlib.Core.Bool.{true};
 ghost use mathlib.Core.Option.{none, Option·getD};
 ghost use Prim.Native.Nat.{suc, _<_};
-ghost use lib.ListN.{getD};
 ghost use Rattle.laws.specs.Below.{lowest};
 ghost use Rattle.railway.specs.declared.Railway.{Railway};
 ghost use Rattle.game.specs.Placement.{startCode};
@@ -22,9 +21,8 @@ use plan::Emitted;
 use plan::PlanPlace;
 use railway::Railway;
 use railway::Refusal;
+use tables::NO_FIGURE;
 use text::append;
-
-const NO_FIGURE: u32 = 4294967295;
 
 // No line of a plan has more bytes.
 const LINE: usize = 45;
@@ -59,7 +57,7 @@ fn emit_due(
     ensures { λ a. ⌜ ((r : Railway) → Compiled r (now (table .entry))
         → leaves a (now (out .exit)) ≡ emitted r (now (figures .entry)) (now (settings .entry)) place (now (out .entry)) none (figureIn (now (figures .entry)) (startCode r))) ⌝ }
 {
-    let n = entry(figures, moves::start_code(table), NO_FIGURE);
+    let n = tables::entry_at(figures, moves::start_code(table), NO_FIGURE);
     if n == NO_FIGURE {
         return Emitted::NoPlan;
     }
@@ -103,8 +101,8 @@ fn emit_placement(
     ensures { λ a. ⌜ ((r : Railway) → Compiled r (now (table .entry)) → hasFigure (now (figures .entry)) p ≡ true
         → leaves a (now (out .exit)) ≡ written (spell (placementLine (lineFor r (now (figures .entry)) (now (settings .entry)) p))) (From (suc p)) (now (out .entry))) ⌝ }
 {
-    let n = entry(figures, p, NO_FIGURE);
-    let v = entry(settings, p, 0);
+    let n = tables::entry_at(figures, p, NO_FIGURE);
+    let v = tables::entry_at(settings, p, 0);
     let q = moves::placement_of(table, p);
     let k = compiled::count_in(table, 2);
     let m = compiled::count_in(table, 1);
@@ -141,16 +139,8 @@ fn next_code(figures: &[u32], c: u32, total: u32) -> u32
 fn has_figure(figures: &[u32], p: u32) -> bool
     ensures { λ b. ⌜ b ≡ hasFigure (now (figures .entry)) p ⌝ }
 {
-    if entry(figures, p, NO_FIGURE) == NO_FIGURE {
+    if tables::entry_at(figures, p, NO_FIGURE) == NO_FIGURE {
         return false;
     }
     true
-}
-
-// The entry of a table at a code, and past its end.
-fn entry(table: &[u32], p: u32, past: u32) -> u32
-    ensures { λ x. ⌜ x ≡ getD (now (table .entry)) p past ⌝ }
-{
-    let at = p as usize;
-    if at < table.len() { table[at] } else { past }
 }

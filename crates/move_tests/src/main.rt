@@ -13,8 +13,7 @@ use railway::SectionNo;
 use railway::Side;
 use railway::Train;
 use settings::Found;
-
-const NONE: u32 = 4294967295;
+use tables::NO_FIGURE;
 
 fn number(label: &[u8], n: u32) {
     io::write_all(STDOUT_FILENO, label);
@@ -161,7 +160,9 @@ fn moves_of_a() {
 fn firsts_of_a() {
     let t = table_of(yard_a_less().with_signal(down(0)));
     let less = table_of(yard_a_less());
-    let figures = [NONE, 1, 0, NONE, NONE, NONE, NONE, NONE, NONE];
+    let mut figures = [NO_FIGURE; 9];
+    figures[1] = 1;
+    figures[2] = 0;
     show_first(
         b"(2,3) below 2: a free train, nothing opened",
         &t,
@@ -192,7 +193,7 @@ fn firsts_of_a() {
 fn firsts_at_legs() {
     let zeros = [0u32; 9];
     let mut most = [0u32; 9];
-    most[5] = NONE;
+    most[5] = NO_FIGURE;
     show_first(
         b"two free trains at one point",
         &table_of(legs()),
@@ -220,7 +221,7 @@ fn firsts_at_legs() {
     show_first(b"both held: below 0", &held, &zeros, 3, 0);
     let stem = table_of(train(fork(1), 0, Side::Down, 2, 0));
     show_first(b"both legs good: minus", &stem, &zeros, 2, 1);
-    show_first(b"minus bad: plus", &stem, &[0, NONE, 0], 2, 1);
+    show_first(b"minus bad: plus", &stem, &[0, NO_FIGURE, 0], 2, 1);
 }
 
 // A loop: 1u leads to the stem, and plus back to 1d.
@@ -232,7 +233,7 @@ fn ring() {
     let t = table_of(train(c, 0, Side::Up, 0, 1));
     show_move(b"round into its own section", &t, 0, 1, 0);
     show_move(b"round the other way", &t, 0, 0, 0);
-    show_first(b"below 1, home being 0", &t, &[NONE, 0], 0, 1);
+    show_first(b"below 1, home being 0", &t, &[NO_FIGURE, 0], 0, 1);
 }
 
 fn main() {

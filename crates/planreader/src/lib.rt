@@ -116,7 +116,7 @@ fn figure_at(text: &[u8], c: Cursor) -> Number
     let Number::Value(n, next) = text::number_at(text, c, Width::Ten) else {
         return Number::None;
     };
-    if n < 4294967295 {
+    if n < tables::NO_FIGURE as u64 {
         return Number::Value(n, next);
     }
     Number::None

@@ -2,7 +2,6 @@
 // total: a code past a table has no figure, and its setting is zero. What they promise, they promise of every railway whose table is handed in.
 ghost use mathlib.Core.Path.{_≡_};
 ghost use Prim.Native.Nat.{ℕ, _<_};
-ghost use lib.ListN.{getD};
 ghost use Rattle.laws.specs.Below.{allBelow, anyBelow};
 ghost use Rattle.railway.specs.declared.Railway.{Railway};
 ghost use Rattle.game.specs.Game.{may};
@@ -18,13 +17,14 @@ ghost use Rattle.moves.specs.Steps.{On};
 ghost use Rattle.plantest.specs.Steps.{entryFine};
 use compiled::Table;
 use moves::Placement;
+use tables::NO_FIGURE;
 
 // THE TEST, m being the first line's figure: the start is listed with it, and every listed placement is as it must be.
 pub fn test_holds(table: &Table, figures: &[u32], settings: &[u32], m: u32) -> bool
     ensures { λ b. ⌜ ((r : Railway) → Compiled r (now (table .entry)) → b ≡ testHolds r m (byTables (now (figures .entry)) (now (settings .entry)))) ⌝ }
 {
-    let n = settings::figure_at(figures, moves::start_code(table));
-    if n == settings::NO_FIGURE {
+    let n = tables::entry_at(figures, moves::start_code(table), NO_FIGURE);
+    if n == NO_FIGURE {
         return false;
     }
     if n == m {
@@ -54,8 +54,8 @@ fn all_fine(table: &Table, figures: &[u32], settings: &[u32]) -> bool
 fn is_fine(table: &Table, figures: &[u32], settings: &[u32], p: u32) -> bool
     ensures { λ b. ⌜ ((r : Railway) → Compiled r (now (table .entry)) → b ≡ placementFine r (byTables (now (figures .entry)) (now (settings .entry))) p) ⌝ }
 {
-    let n = settings::figure_at(figures, p);
-    if n == settings::NO_FIGURE {
+    let n = tables::entry_at(figures, p, NO_FIGURE);
+    if n == NO_FIGURE {
         return true;
     }
     listed_fine(table, figures, settings, p, n)
@@ -69,7 +69,7 @@ fn listed_fine(table: &Table, figures: &[u32], settings: &[u32], p: u32, n: u32)
     if moves::lost_in(table, q) {
         return false;
     }
-    let v = entry_at(settings, p);
+    let v = tables::entry_at(settings, p, 0);
     if opens_fine(table, q, v) {
         if moves::is_home(table, p) {
             return true;
@@ -78,14 +78,6 @@ fn listed_fine(table: &Table, figures: &[u32], settings: &[u32], p: u32, n: u32)
     } else {
         false
     }
-}
-
-// The setting table's entry at a code; zero past its end.
-fn entry_at(settings: &[u32], p: u32) -> u32
-    ensures { λ v. ⌜ v ≡ getD (now (settings .entry)) p 0 ⌝ }
-{
-    let at = p as usize;
-    if at < settings.len() { settings[at] } else { 0 }
 }
 
 // No open train lacks a signal at the end that it heads for.

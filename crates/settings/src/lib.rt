@@ -5,7 +5,6 @@ ghost use mathlib.Core.Bool.{Bool, true, false};
 ghost use mathlib.Core.Option.{Option, some};
 ghost use Prim.Native.Nat.{ℕ, _≤_, _<_};
 ghost use lib.Dec.{eqb};
-ghost use lib.ListN.{getD};
 ghost use Rattle.laws.specs.Below.{anyBelow};
 ghost use Rattle.laws.specs.Bits.{fromBits};
 ghost use Rattle.railway.specs.declared.Railway.{Railway};
@@ -14,7 +13,7 @@ ghost use Rattle.game.specs.Claim.{figureOf};
 ghost use Rattle.game.specs.Local.{isBelow};
 ghost use Rattle.game.specs.Setting.{headsFor};
 ghost use Rattle.game.specs.Moves.{passes, moveOf};
-ghost use Rattle.tables.specs.Tables.{noFigure, figureIn};
+ghost use Rattle.tables.specs.Tables.{figureIn};
 ghost use Rattle.tables.specs.Find.{tryMet, findMet};
 ghost use Rattle.compiled.specs.Table.{pointByte, Compiled};
 ghost use Rattle.moves.specs.Answers.{ended};
@@ -25,9 +24,6 @@ use compiled::Table;
 use moves::Move;
 use moves::Placement;
 use railway::Railway;
-
-// The figure table's entry for none.
-pub const NO_FIGURE: u32 = 4294967295;
 
 // What a search for a setting finds: nothing, or an entry of the setting table.
 pub enum Found {
@@ -117,24 +113,12 @@ pub fn is_below(figures: &[u32], m: Move, n: u32) -> bool
         Move::Derails => false,
         Move::Collides => false,
         Move::At(q) => {
-            let f = figure_at(figures, q);
-            if f == NO_FIGURE {
+            let f = tables::entry_at(figures, q, tables::NO_FIGURE);
+            if f == tables::NO_FIGURE {
                 return false;
             }
             f < n
         }
-    }
-}
-
-// The figure table's entry at a code; none past its end.
-pub fn figure_at(figures: &[u32], p: u32) -> u32
-    ensures { λ f. ⌜ f ≡ getD (now (figures .entry)) p noFigure ⌝ }
-{
-    let at = p as usize;
-    if at < figures.len() {
-        figures[at]
-    } else {
-        NO_FIGURE
     }
 }
 

@@ -27,7 +27,7 @@ use moves::Placement;
 use predecessors::SectionsBehind;
 use railway::Railway;
 use settings::Found;
-use settings::NO_FIGURE;
+use tables::NO_FIGURE;
 use tables::SolverAnswer;
 
 // How many codes a stretch has, and how many stretches there are: as many as the largest table needs.
@@ -231,7 +231,7 @@ fn visit_code(
     requires { ⌜ (m ≤ length (now figures)) × (m ≤ length (now settings)) ⌝ }
     ensures { λ b. ⌜ ((r : Railway) → Behind r (now (behind .entry)) → Round r (now (table .entry)) m n (now (figures .entry)) (now (marks .entry)) → Swept r n (Before r n (now (figures .entry)) c (c + 1)) (now (figures .entry)) (now (settings .entry)) (now (figures .exit)) (now (settings .exit)) (now (marks .exit)) b) ⌝ }
 {
-    let f = settings::figure_at(figures, c);
+    let f = tables::entry_at(figures, c, NO_FIGURE);
     if n <= f {
         return false;
     }
@@ -339,7 +339,7 @@ fn visit(table: &Table, figures: &mut [u32], settings: &mut [u32], p: u32, n: u3
 fn start_answer(table: &Table, figures: &[u32]) -> SolverAnswer
     ensures { λ a. ⌜ ((r : Railway) → Compiled r (now (table .entry)) → (refusalGiven a ≡ none) × (figureGiven a ≡ figureIn (now (figures .entry)) (startCode r))) ⌝ }
 {
-    let f = settings::figure_at(figures, moves::start_code(table));
+    let f = tables::entry_at(figures, moves::start_code(table), NO_FIGURE);
     if f == NO_FIGURE {
         return SolverAnswer::Unsolvable;
     }

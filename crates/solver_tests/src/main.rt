@@ -5,13 +5,12 @@ use casefile::CaseAnswer;
 use framed::Reading;
 use libc::STDOUT_FILENO;
 use railway::Railway;
+use tables::NO_FIGURE;
 use tables::SolverAnswer;
 
 const ENTRIES: usize = 8192;
 
 const MARK: u32 = 7;
-
-const NONE: u32 = 4294967295;
 
 fn main() {
     let mut turns: u64 = 0;
@@ -58,15 +57,15 @@ fn show(text: &[u8]) {
 fn accepted(r: Railway) {
     let c = compiled::compile(r);
     let table = c.table;
-    let n = moves::placements(&table) as usize;
+    let n = moves::placements(&table);
     io::write_all(STDOUT_FILENO, b"case\n");
     solved(r, n);
-    just_long_enough(r, n);
+    just_long_enough(r, n as usize);
     refused_records(r);
 }
 
 // Tables of more entries than there are placements.
-fn solved(r: Railway, n: usize) {
+fn solved(r: Railway, n: u32) {
     let mut figures = [MARK; ENTRIES];
     let mut settings = [MARK; ENTRIES];
     let a = solver::solve(r, &mut figures, &mut settings);
@@ -74,7 +73,7 @@ fn solved(r: Railway, n: usize) {
     entries(&figures, &settings, n);
     flag(
         b"past the last code as before",
-        marked_from(&figures, n) && marked_from(&settings, n),
+        marked_from(&figures, n as usize) && marked_from(&settings, n as usize),
     );
 }
 
@@ -138,18 +137,22 @@ fn answer(a: SolverAnswer) {
     }
 }
 
-fn entries(figures: &[u32], settings: &[u32], n: usize) {
-    let mut p: usize = 0;
+fn entries(figures: &[u32], settings: &[u32], n: u32) {
+    let mut p: u32 = 0;
     while p < n {
-        entry(p, at(figures, p), at(settings, p));
+        entry(
+            p,
+            tables::entry_at(figures, p, NO_FIGURE),
+            tables::entry_at(settings, p, 0),
+        );
         p += 1;
     }
 }
 
-fn entry(p: usize, figure: u32, setting: u32) {
+fn entry(p: u32, figure: u32, setting: u32) {
     io::print_decimal(STDOUT_FILENO, p as u64);
     io::write_all(STDOUT_FILENO, b"\t");
-    if figure == NONE {
+    if figure == NO_FIGURE {
         io::write_all(STDOUT_FILENO, b"none");
     } else {
         io::print_decimal(STDOUT_FILENO, figure as u64);
@@ -157,10 +160,6 @@ fn entry(p: usize, figure: u32, setting: u32) {
     io::write_all(STDOUT_FILENO, b"\t");
     io::print_decimal(STDOUT_FILENO, setting as u64);
     io::write_all(STDOUT_FILENO, b"\n");
-}
-
-fn at(table: &[u32], p: usize) -> u32 {
-    if p < table.len() { table[p] } else { NONE }
 }
 
 // Whether the mark stands in every entry from one on.

@@ -1,4 +1,6 @@
 // The two tables and what a solver promises of them: specs/ has the definitions, proofs/ that the promise can be kept, in one way only.
+ghost use mathlib.Core.Path.{_≡_};
+ghost use lib.ListN.{getD};
 use railway::Refusal;
 
 // What the solver answers: a refusal; that the start has no figure; the start's figure. Both tables are filled in the last two.
@@ -6,4 +8,19 @@ pub enum SolverAnswer {
     Refused(Refusal),
     Unsolvable,
     Figure(u32),
+}
+
+// The figure table's entry for none.
+pub const NO_FIGURE: u32 = 4294967295;
+
+// A table's entry at a code, and what is given for codes past its end.
+pub fn entry_at(entries: &[u32], p: u32, past: u32) -> u32
+    ensures { λ e. ⌜ e ≡ getD (now (entries .entry)) p past ⌝ }
+{
+    let at = p as usize;
+    if at < entries.len() {
+        entries[at]
+    } else {
+        past
+    }
 }

@@ -9,11 +9,11 @@ use Rattle.emitter.proofs.Emitting.{placement-written}
 use Rattle.emitter.proofs.emit_placement.Statement.{statement}
 use Rattle.emitter.proofs.emit_placement.Tie as tie
 
-entry-requires : tie.Need-entry-requires
-entry-requires c κs = search needs
+entry-at-requires : tie.Need-entry-at-requires
+entry-at-requires c κs = search needs
 
-entry-requires-2 : tie.Need-entry-requires-2
-entry-requires-2 c κs = search needs
+entry-at-requires-2 : tie.Need-entry-at-requires-2
+entry-at-requires-2 c κs = search needs
 
 placement-of-requires : tie.Need-placement-of-requires
 placement-of-requires c κs = search needs
@@ -46,14 +46,14 @@ same-length : tie.Need-same-length
 same-length c = search needs
 
 returns : tie.Need-returns
-returns c = λ r h has. let a = c .before .before .before .before .before .before .before .before .before .before .before .before .before .before .before .before .args in placement-written r (now (a .figures)) (now (a .settings)) (a .p) (now (a .out)) h has (c .before .before .before .before .before .before .before .before .before .before .before .before .entry .ensures) (omega arith) (c .before .before .before .before .before .before .before .before .before .before .before .entry2 .ensures) (c .before .before .before .before .before .before .before .before .before .before .placement-of .ensures r h) (c .before .before .before .before .before .before .before .before .before .count-in .ensures r h (omega arith)) (c .before .before .before .before .before .before .before .before .count-in2 .ensures r h (omega arith)) refl (c .before .before .before .before .before .before .placement-line .ensures) (c .before .before .put-line .ensures)
+returns c = λ r h has. let a = c .before .before .before .before .before .before .before .before .before .before .before .before .before .before .before .before .args in placement-written r (now (a .figures)) (now (a .settings)) (a .p) (now (a .out)) h has (c .before .before .before .before .before .before .before .before .before .before .before .before .entry-at .ensures) (omega arith) (c .before .before .before .before .before .before .before .before .before .before .before .entry-at2 .ensures) (c .before .before .before .before .before .before .before .before .before .before .placement-of .ensures r h) (c .before .before .before .before .before .before .before .before .before .count-in .ensures r h (omega arith)) (c .before .before .before .before .before .before .before .before .count-in2 .ensures r h (omega arith)) refl (c .before .before .before .before .before .before .placement-line .ensures) (c .before .before .put-line .ensures)
 
 pub emit-placement-spec : {M : Type 1} → statement M
 emit-placement-spec =
     tie.close
     (tie.spec
-    entry-requires
-    entry-requires-2
+    entry-at-requires
+    entry-at-requires-2
     placement-of-requires
     count-in-requires
     count-in-requires-2

@@ -8,15 +8,15 @@ use Rattle.plantest.proofs.test_holds.Tie as tie
 start-code-requires : tie.Need-start-code-requires
 start-code-requires c κs = search needs
 
-figure-at-requires : tie.Need-figure-at-requires
-figure-at-requires c κs = search needs
+entry-at-requires : tie.Need-entry-at-requires
+entry-at-requires c κs = search needs
 
 returns : tie.Need-returns
 returns c =
     λ r h.
     let f = c .before in
     let a = f .before .before .before .before .args in
-    start-unlisted r (a .figures .now) (a .settings .now) (a .m) _ _ (f .before .start-code .ensures r h) (f .figure-at .ensures) (c .if1 .taken)
+    start-unlisted r (a .figures .now) (a .settings .now) (a .m) _ _ (f .before .start-code .ensures r h) (f .entry-at .ensures) (c .if1 .taken)
 
 all-fine-requires : tie.Need-all-fine-requires
 all-fine-requires c κs = search needs
@@ -27,7 +27,7 @@ returns-2 c =
     let e = c .before .before in
     let f = e .before in
     let a = f .before .before .before .before .args in
-    start-same r (a .figures .now) (a .settings .now) (a .m) _ _ (f .before .start-code .ensures r h) (f .figure-at .ensures) (e .if1 .left) _ (c .before .if2 .taken) (c .all-fine .ensures r h)
+    start-same r (a .figures .now) (a .settings .now) (a .m) _ _ (f .before .start-code .ensures r h) (f .entry-at .ensures) (e .if1 .left) _ (c .before .if2 .taken) (c .all-fine .ensures r h)
 
 returns-3 : tie.Need-returns-3
 returns-3 c =
@@ -35,7 +35,7 @@ returns-3 c =
     let e = c .before in
     let f = e .before in
     let a = f .before .before .before .before .args in
-    start-other r (a .figures .now) (a .settings .now) (a .m) _ _ (f .before .start-code .ensures r h) (f .figure-at .ensures) (e .if1 .left) (c .if2 .left)
+    start-other r (a .figures .now) (a .settings .now) (a .m) _ _ (f .before .start-code .ensures r h) (f .entry-at .ensures) (e .if1 .left) (c .if2 .left)
 
 pub test-holds-spec : {M : Type 1} → statement M
-test-holds-spec = tie.close (tie.spec start-code-requires figure-at-requires returns all-fine-requires returns-2 returns-3)
+test-holds-spec = tie.close (tie.spec start-code-requires entry-at-requires returns all-fine-requires returns-2 returns-3)

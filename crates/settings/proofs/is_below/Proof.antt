@@ -17,11 +17,11 @@ enum-told-3 c = search needs
 enum-known-m : tie.Need-enum-known-m
 enum-known-m c = search needs
 
-figure-at-requires : tie.Need-figure-at-requires
-figure-at-requires c κs = search needs
+entry-at-requires : tie.Need-entry-at-requires
+entry-at-requires c κs = search needs
 
 returns : tie.Need-returns
-returns c = λ o h. figure-none (c .before .before .before .before .before .before .args .figures .now) (c .before .before .before .before .before .before .args .n) _ _ _ (c .before .before .before .m .given .1) (c .before .figure-at .ensures) o h (c .if1 .taken)
+returns c = λ o h. figure-none (c .before .before .before .before .before .before .args .figures .now) (c .before .before .before .before .before .before .args .n) _ _ _ (c .before .before .before .m .given .1) (c .before .entry-at .ensures) o h (c .if1 .taken)
 
 returns-2 : tie.Need-returns-2
 returns-2 c = refused-below (c .before .before .before .args .figures .now) _ _ (c .enum-told .given .1)
@@ -33,7 +33,7 @@ returns-4 : tie.Need-returns-4
 returns-4 c = collided-below (c .before .before .before .args .figures .now) _ _ (c .enum-told3 .given .1)
 
 returns-5 : tie.Need-returns-5
-returns-5 c = λ o h. figure-some (c .before .before .before .before .before .before .args .figures .now) (c .before .before .before .before .before .before .args .n) _ _ _ (c .before .before .before .m .given .1) (c .before .figure-at .ensures) o h (c .if1 .left)
+returns-5 c = λ o h. figure-some (c .before .before .before .before .before .before .args .figures .now) (c .before .before .before .before .before .before .args .n) _ _ _ (c .before .before .before .m .given .1) (c .before .entry-at .ensures) o h (c .if1 .left)
 
 pub is-below-spec : {M : Type 1} → statement M
 is-below-spec =
@@ -43,7 +43,7 @@ is-below-spec =
     enum-told-2
     enum-told-3
     enum-known-m
-    figure-at-requires
+    entry-at-requires
     returns
     returns-2
     returns-3

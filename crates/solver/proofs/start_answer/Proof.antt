@@ -9,14 +9,14 @@ use Rattle.solver.proofs.start_answer.Tie as tie
 start-code-requires : tie.Need-start-code-requires
 start-code-requires c κs = search needs
 
-figure-at-requires : tie.Need-figure-at-requires
-figure-at-requires c κs = search needs
+entry-at-requires : tie.Need-entry-at-requires
+entry-at-requires c κs = search needs
 
 returns : tie.Need-returns
-returns c = λ r h. (refl, start-none r (c .before .before .before .before .args .figures .now) _ _ (c .before .before .start-code .ensures r h) (c .before .figure-at .ensures) (c .if1 .taken))
+returns c = λ r h. (refl, start-none r (c .before .before .before .before .args .figures .now) _ _ (c .before .before .start-code .ensures r h) (c .before .entry-at .ensures) (c .if1 .taken))
 
 returns-2 : tie.Need-returns-2
-returns-2 c = λ r h. (refl, start-some r (c .before .before .before .before .args .figures .now) _ _ (c .before .before .start-code .ensures r h) (c .before .figure-at .ensures) (c .if1 .left))
+returns-2 c = λ r h. (refl, start-some r (c .before .before .before .before .args .figures .now) _ _ (c .before .before .start-code .ensures r h) (c .before .entry-at .ensures) (c .if1 .left))
 
 pub start-answer-spec : {M : Type 1} → statement M
-start-answer-spec = tie.close (tie.spec start-code-requires figure-at-requires returns returns-2)
+start-answer-spec = tie.close (tie.spec start-code-requires entry-at-requires returns returns-2)

@@ -8,8 +8,8 @@ use borrow.Author.Needs.{needs}
 use Rattle.solver.proofs.visit_code.Statement.{statement}
 use Rattle.solver.proofs.visit_code.Tie as tie
 
-figure-at-requires : tie.Need-figure-at-requires
-figure-at-requires c κs = search needs
+entry-at-requires : tie.Need-entry-at-requires
+entry-at-requires c κs = search needs
 
 same-length : tie.Need-same-length
 same-length c = search needs
@@ -20,7 +20,7 @@ returns c =
     let a = g .before .before .before .before .before in
     λ r h o.
     swept-none r (a .args .n) (Before r (a .args .n) (a .args .figures .now) (a .args .c) (a .args .c + 1)) (a .args .figures .now) (a .args .settings .now) (a .args .marks .now) (o .marked)
-    (λ q l k. not-large r (a .args .n) (a .args .figures .now) (a .args .c) _ (g .figure-at .ensures) (c .if1 .taken) q k)
+    (λ q l k. not-large r (a .args .n) (a .args .figures .now) (a .args .c) _ (g .entry-at .ensures) (c .if1 .taken) q k)
 
 sub-if2 : tie.Need-sub-if2
 sub-if2 c = search needs
@@ -44,7 +44,7 @@ returns-2 c =
     let a = g .before .before .before .before .before in
     λ r h o.
     swept-less r (a .args .n) _ _ _ _ _ _ _ (v .visit-before .ensures r h o) (Before r (a .args .n) (a .args .figures .now) (a .args .c) (a .args .c + 1))
-    (λ q l k. before-one r (a .args .n) (a .args .figures .now) (a .args .c) _ (g .figure-at .ensures) q k)
+    (λ q l k. before-one r (a .args .n) (a .args .figures .now) (a .args .c) _ (g .entry-at .ensures) q k)
 
 same-length-5 : tie.Need-same-length-5
 same-length-5 c = search needs
@@ -55,13 +55,13 @@ returns-3 c =
     let a = g .before .before .before .before .before in
     λ r h o.
     swept-none r (a .args .n) (Before r (a .args .n) (a .args .figures .now) (a .args .c) (a .args .c + 1)) (a .args .figures .now) (a .args .settings .now) (a .args .marks .now) (o .marked)
-    (λ q l k. not-last r (a .args .n) (a .args .figures .now) (a .args .c) _ (g .figure-at .ensures) (c .before .if1 .left) (c .if2 .left) q k)
+    (λ q l k. not-last r (a .args .n) (a .args .figures .now) (a .args .c) _ (g .entry-at .ensures) (c .before .if1 .left) (c .if2 .left) q k)
 
 pub visit-code-spec : {M : Type 1} → statement M
 visit-code-spec =
     tie.close
     (tie.spec
-    figure-at-requires
+    entry-at-requires
     same-length
     returns
     sub-if2

@@ -15,11 +15,11 @@ abbrev μ-loop : tie.MeasureT-loop
 loop-holds : tie.Need-loop-holds Inv-loop μ-loop
 loop-holds c = omega arith
 
-at-requires : tie.Need-at-requires Inv-loop μ-loop
-at-requires c κs = search needs
+entry-at-requires : tie.Need-entry-at-requires Inv-loop μ-loop
+entry-at-requires c κs = search needs
 
-at-requires-2 : tie.Need-at-requires-2 Inv-loop μ-loop
-at-requires-2 c κs = search needs
+entry-at-requires-2 : tie.Need-entry-at-requires-2 Inv-loop μ-loop
+entry-at-requires-2 c κs = search needs
 
 entry-requires : tie.Need-entry-requires Inv-loop μ-loop
 entry-requires c κs = search needs
@@ -43,8 +43,8 @@ entries-spec =
     Inv-loop
     μ-loop
     loop-holds
-    at-requires
-    at-requires-2
+    entry-at-requires
+    entry-at-requires-2
     entry-requires
     add-p
     loop-less
