@@ -16,8 +16,8 @@ ghost use Rattle.game.specs.Moves.{passes, moveOf};
 ghost use Rattle.tables.specs.Tables.{figureIn};
 ghost use Rattle.tables.specs.Find.{tryMet, findMet};
 ghost use Rattle.compiled.specs.Table.{pointByte, Compiled};
-ghost use Rattle.moves.specs.Answers.{ended};
-ghost use Rattle.moves.specs.Steps.{On, allAt};
+ghost use Rattle.moves.specs.Answers.{codeOn, ended};
+ghost use Rattle.moves.specs.Steps.{sectionIn, On, allAt};
 ghost use Rattle.settings.specs.Answers.{entryFound, firstKeeping};
 ghost use Rattle.settings.specs.Ways.{WayOf, wayIn, WaysOf, runsWith, needsWith, goodWay, keepsWith, withBit};
 use compiled::Table;
@@ -45,6 +45,14 @@ pub struct Way {
 pub fn find_setting(table: &Table, figures: &[u32], p: u32, n: u32) -> Found
     ensures { λ f. ⌜ ((r : Railway) → Compiled r (now (table .entry)) → entryFound f ≡ firstKeeping r (figureIn (now (figures .entry))) p n) ⌝ }
 {
+    let q = moves::placement_of(table, p);
+    find_in(table, figures, q, moves::code_of(table, q), n)
+}
+
+// .. for a placement by value and its code.
+pub fn find_in(table: &Table, figures: &[u32], q: Placement, c: u32, n: u32) -> Found
+    ensures { λ f. ⌜ ((r : Railway) (p : ℕ) → On r p (now (table .entry)) q → c ≡ codeOn r (sectionIn q) → entryFound f ≡ firstKeeping r (figureIn (now (figures .entry))) p n) ⌝ }
+{
     let k = compiled::count_in(table, 2);
     let m = compiled::count_in(table, 1);
     if Railway::TRAINS < k {
@@ -53,7 +61,6 @@ pub fn find_setting(table: &Table, figures: &[u32], p: u32, n: u32) -> Found
     if Railway::POINTS < m {
         return Found::Nothing;
     }
-    let q = moves::placement_of(table, p);
     if moves::lost_in(table, q) {
         return Found::Nothing;
     }
