@@ -181,7 +181,7 @@ module _ (r : Railway) (p : ℕ) (table : List ℕ) (q : Placement) (on : On r p
         go none b e = refl
         go (some y) b e = absurd (omega (arith, b y refl, facts-of .few-sections))
 
-    arrives : (x ≡ 255 → ⊥) → way ≡ some x
+    pub arrives : (x ≡ 255 → ⊥) → way ≡ some x
     arrives z = go way leads
       where
         go : (o : Option ℕ) → x ≡ sectionByte o → o ≡ some x

@@ -1,3 +1,4 @@
+pub mod Points
 pub mod Ways
 pub mod Trying
 pub mod Exactly

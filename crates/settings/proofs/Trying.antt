@@ -1,205 +1,302 @@
--- A try with some trains open, and the search over tries, are the tables' definitions. What is known of each train's ways decides who may move, which point each
--- needs, and where each move ends once the points lie: a train looks at its own point alone, and reads the same bit in the points and in the whole
--- entry. Assumes nothing.
+-- A try with some trains open, and the search over tries, are the tables' definitions. Who may move, which point each needs, and where each move ends once the
+-- points lie, decide a try: a train looks at its own point alone, and reads the same bit in the points and in the whole entry. Where a train is free
+-- the try with no signal open decides all; where none is, the tries with one open do. Assumes nothing.
 use mathlib.Core.Path.{_≡_, refl, sym, _∙_, ap}
 use mathlib.Core.Logic.{_⊎_, inl, inr}
 use mathlib.Core.Bool.{Bool, true, false, cond, not, _&&_, _||_}
-use mathlib.Core.List.{List, [], _∷_}
+use mathlib.Core.List.{List}
 use mathlib.Core.Option.{Option, none, some}
 use Prim.Native.Nat.{ℕ, zero, suc, _+_, _*_, _^_, _≤_, _<_}
 use native.Mathlib.Omega.{arith}
 use native.Mathlib.Numerals.{add-one}
 use lib.Dec.{ltb, eqb}
-use borrow.Author.Tests.{lt-ltb, ltb-true, eqb-true, eq-eqb, ne-eqb}
+use borrow.Author.Tests.{lt-ltb, eqb-true, eq-eqb, ne-eqb, not-true}
 use Rattle.laws.specs.Below.{allBelow, anyBelow}
-use Rattle.laws.specs.Lists.{any}
 use Rattle.laws.specs.Bits.{bit, fromBits}
-use Rattle.laws.proofs.Bools.{bool?, lt?}
-use Rattle.laws.proofs.Below.{all-same, any-same}
-use Rattle.laws.proofs.Bits.{bits-same, low-bit}
-use Rattle.railway.specs.declared.Leg.{Leg}
-use Rattle.railway.specs.declared.PointNo.{PointNo}
-use Rattle.railway.specs.declared.End.{End}
-use Rattle.railway.specs.declared.End.the-variants.{Section, Port}
-use Rattle.railway.specs.declared.Joined.{Joined}
-use Rattle.railway.specs.declared.Joined.the-variants.{Nothing, With}
+use Rattle.laws.proofs.Bools.{bool?, option?, lt?, eq?, clash, some-none, some-one, and-true, and-both, same-bool}
+use Rattle.laws.proofs.Below.{all-same, any-same, all-at, all-of, all-but, any-at, any-of, any-one, any-false, none-any}
+use Rattle.laws.proofs.Bits.{bits-same, bits-plain, bits-none, bit-none, low-bit}
 use Rattle.railway.specs.declared.Railway.{Railway}
-use Rattle.railway.specs.Record.{joined}
 use Rattle.game.specs.Game.{Outcome, may}
-use Rattle.game.specs.Claim.{figureOf}
+use Rattle.game.specs.Claim.{figureOf, Keeps}
 use Rattle.game.specs.Local.{isBelow, goesBelow, keepsTest}
 use Rattle.game.specs.Placement.{shared}
-use Rattle.game.specs.Setting.{Setting, headsFor, free, mayMove}
-use Rattle.game.specs.Moves.{Passage, through, pastPoint, pastJoin, passes, enters, moveOf, gameOf}
-use Rattle.game.proofs.Accepted.{Known, Facts, facts}
-use Rattle.tables.specs.Entries.{trainBits, settingAt, entryFrom}
-use Rattle.tables.specs.Find.{entryKeeps, atMinus, meetsPoint, needsPlus, somePlus, metEntry, tryMet, firstFound, foundBy, findMet, find}
+use Rattle.game.specs.Setting.{Setting, headsFor, held, free, mayMove}
+use Rattle.game.specs.Moves.{moveOf, gameOf}
+use Rattle.game.proofs.Accepted.{Facts, facts}
+use Rattle.tables.specs.Entries.{settingAt, entryFrom}
+use Rattle.tables.specs.Tables.{pointBits}
+use Rattle.tables.specs.Find.{entryKeeps, meetsPoint, needsPlus, somePlus, metEntry, tryOpen, tryMet, firstFound, findMet, find}
 use Rattle.tables.proofs.Entries.{setting-may}
-use Rattle.tables.proofs.Points.{find-met}
-use Rattle.compiled.specs.Table.{pointByte, countByte, Compiled}
-use Rattle.moves.specs.Steps.{allAt}
+use Rattle.tables.proofs.Fewer.{keeps-closed, bits-small as closed-small}
+use Rattle.tables.proofs.Find.{try-finds, find-sound}
+use Rattle.tables.proofs.Points.{met-try, find-met}
+use Rattle.compiled.specs.Table.{countByte, Compiled}
+use Rattle.moves.specs.declared.Placement.{Placement}
+use Rattle.moves.specs.Answers.{codeOn}
+use Rattle.moves.specs.Steps.{sectionIn, On, allAt}
 use Rattle.moves.proofs.Coding.{bit-high}
 use Rattle.moves.proofs.Placing.{trains-are, few-trains}
-use Rattle.moves.proofs.Moving.{by-point}
-use Rattle.settings.specs.declared.Way.{Way}
-use Rattle.settings.specs.declared.Found.{Found}
-use Rattle.settings.specs.declared.Found.the-variants.{Nothing as NothingFound, Entry}
 use Rattle.settings.specs.Answers.{entryFound, firstKeeping}
-use Rattle.settings.specs.Ways.{WayOf, wayIn, WaysOf, runsWith, needsWith, goodWay, goodWith, keepsWith, withBit}
-use Rattle.settings.proofs.Ways.{open-bits, bits-small, open-small}
+use Rattle.settings.specs.Ways.{Asked, pointMet, endsBelow, harmedAtMinus, beyondHelp, neededPoints, goodAtPlus}
+use Rattle.settings.proofs.Points.{meets-is, met-small, move-by}
+use Rattle.settings.proofs.Ways.{bits-small, one-bit}
 
--- THE POINT that a train meets, by its byte
-eqb-turned : (m n : ℕ) → eqb m n ≡ eqb n m
-eqb-turned m n = elim (bool? (eqb m n)) [
-  | inl e ↦ e ∙ sym (eq-eqb n m (sym (eqb-true m n e)))
-  | inr e ↦ e ∙ sym (ne-eqb n m (λ z. go e (sym z)))
-]
-  where
-    go : {m n : ℕ} → eqb m n ≡ false → m ≡ n → ⊥
-    go {m} {n} e z = let w : _≡_ {A = Bool} true false = sym (eq-eqb m n z) ∙ e in let y : _≡_ {A = ℕ} 0 1 = cc in omega arith
+module _ (r : Railway) (ok : Facts r) (p : ℕ) (apart : shared r p ≡ false) (F : ℕ → Option ℕ) (n : ℕ) where
+  -- A TRY with some trains open
+  module _ (opens : ℕ → Bool) where
+    abbrev runs : ℕ → Bool
+    runs t = free r p t || opens t
 
-met-one : (n q : ℕ) → any (eqb q) (n ∷ []) ≡ eqb n q
-unfolding any
-met-one n q = off (eqb q n) ∙ eqb-turned q n
-  where
-    off : (b : Bool) → (b || false) ≡ b
-    off true = refl
-    off false = refl
+    -- the points that it puts at plus
+    abbrev plusBits : ℕ
+    plusBits = fromBits (somePlus r F p n opens) (r .points)
 
-met-none : (q : ℕ) → q < 16 → any (eqb q) [] ≡ eqb 255 q
-unfolding any
-met-none q l = sym (ne-eqb 255 q (λ z. omega arith))
-
-module _ (r : Railway) where
-  point-meets : (n : PointNo) (o : Option Leg) (q : ℕ) → any (eqb q) (pastPoint r n o .met) ≡ eqb (pointByte (pastPoint r n o .met)) q
-  point-meets n none q = met-one (n .0) q
-  point-meets n (some l) q = met-one (n .0) q
-
-  join-meets : (j : Joined) (q : ℕ) → q < 16 → any (eqb q) (pastJoin r (λ i. false) j .met) ≡ eqb (pointByte (pastJoin r (λ i. false) j .met)) q
-  join-meets Nothing q l = met-none q l
-  join-meets (With (Section n s)) q l = met-none q l
-  join-meets (With (Port n g)) q l = point-meets n (through g false) q
-
-  meets-is : (p t q : ℕ) → q < 16 → meetsPoint r p t q ≡ eqb (pointByte (passes r (λ i. false) (headsFor r p t) .met)) q
-  unfolding passes
-  meets-is p t q l = join-meets (joined r (headsFor r p t)) q l
-
-  -- it is one of the railway's, or none
-  point-small : (n : PointNo) (o : Option Leg) → n .0 < 16 → pointByte (pastPoint r n o .met) < 16
-  point-small n none l = l
-  point-small n (some g) l = l
-
-  join-small : Facts r → (j : Joined) → Known r j → (pointByte (pastJoin r (λ i. false) j .met) < 16) ⊎ (pointByte (pastJoin r (λ i. false) j .met) ≡ 255)
-  join-small ok Nothing k = inr refl
-  join-small ok (With (Section n s)) k = inr refl
-  join-small ok (With (Port n g)) k = inl (point-small n (through g false) (omega (arith, ltb-true (n .0) (r .points) k, ok .few-points)))
-
-  met-small : Facts r → (p t : ℕ) → (pointByte (passes r (λ i. false) (headsFor r p t) .met) < 16) ⊎ (pointByte (passes r (λ i. false) (headsFor r p t) .met) ≡ 255)
-  unfolding passes
-  met-small ok p t = join-small ok (joined r (headsFor r p t)) (ok .joins (headsFor r p t))
-
-  -- where it goes, by how that point lies
-  move-by : (p t : ℕ) (s : Setting) (b : Bool) → b ≡ s .plus (pointByte (passes r (λ i. false) (headsFor r p t) .met)) → moveOf r p s t ≡ moveOf r p (allAt b) t
-  unfolding moveOf
-  move-by p t s b e = ap (λ (w : Passage). enters r p t (w .reached)) (by-point r (s .plus) (headsFor r p t) _ b refl e)
-
-module _ (r : Railway) (F : ℕ → Option ℕ) (p n : ℕ) (ws : List Way) (k m : ℕ) (h : WaysOf r F p n ws k m) where
-  ok : Facts r
-  ok = facts r (h .accepted)
-
-  abbrev way : ℕ → Way
-  way t = wayIn ws t
-
-  -- A TRY: train u open
-  module _ (u : ℕ) (opens : ℕ → Bool) (open-is : (t : ℕ) → t < k → opens t ≡ eqb u t) where
-    here : (t : ℕ) → t < r .trains → t < k
-    here t l = omega (arith, h .trains-there)
-
-    runs-is : (t : ℕ) → t < r .trains → runsWith ws u t ≡ (free r p t || opens t)
-    runs-is t l = let a : way t .free ≡ free r p t = h .ways t l .free in let b : opens t ≡ eqb u t = open-is t (here t l) in rw (a, b)
-
-    needs-is : (t q : ℕ) → t < r .trains → q < 16 → needsWith ws u q t ≡ needsPlus r F p n opens q t
-    needs-is t q l lq =
-        let a : way t .minus ≡ isBelow n (figureOf F (moveOf r p atMinus t)) = h .ways t l .minus in
-        let b : eqb (way t .point) q ≡ meetsPoint r p t q = ap (λ (x : ℕ). eqb x q) (h .ways t l .point) ∙ sym (meets-is r p t q lq) in
-        rw (runs-is t l, b, a)
-
-    -- the bits of the points
-    bits : ℕ
-    bits = fromBits (λ q. anyBelow (needsWith ws u q) k) m
-
-    bits-is : fromBits (λ q. anyBelow (needsWith ws u q) k) m ≡ fromBits (somePlus r F p n opens) (r .points)
-    bits-is = rw (h .trains-there, h .points-there) (bits-same _ _ (r .points) (λ q l. any-same _ _ (r .trains) (λ t lt. needs-is t q lt (omega (arith, ok .few-points)))))
-
-    opens-bits : withBit 0 u k ≡ fromBits opens (r .trains)
-    opens-bits = open-bits u k ∙ (rw (h .trains-there) (bits-same (eqb u) opens (r .trains) (λ t l. sym (open-is t (here t l)))))
-
-    entry-is : (b o : ℕ) → b ≡ fromBits (λ q. anyBelow (needsWith ws u q) k) m → o ≡ withBit 0 u k → b + 65536 * o ≡ metEntry r F p n opens
-    unfolding metEntry entryFrom
-    entry-is b o eb eo = rw (eb ∙ bits-is, eo ∙ opens-bits)
-
-    -- the setting of the entry
+    -- the setting of its entry
     abbrev tried : Setting
     tried = settingAt r p (metEntry r F p n opens)
 
-    may-is : (t : ℕ) → t < r .trains → may (gameOf r) p tried t ≡ runsWith ws u t
+    entry-is : metEntry r F p n opens ≡ fromBits (somePlus r F p n opens) (r .points) + 65536 * fromBits opens (r .trains)
+    unfolding metEntry entryFrom
+    entry-is = refl
+
+    plus-small : fromBits (somePlus r F p n opens) (r .points) < 65536
+    plus-small = bits-small (somePlus r F p n opens) (r .points) (ok .few-points)
+
+    -- a train reads its bit in the points alone
+    same-bit : (x : ℕ) → (x < r .points) ⊎ (x ≡ 255) → bit (metEntry r F p n opens) x ≡ bit (fromBits (somePlus r F p n opens) (r .points)) x
+    same-bit x (inl l) = rw entry-is (low-bit 16 plusBits (fromBits opens (r .trains)) x plus-small (omega (arith, ok .few-points)))
+    same-bit x (inr z) =
+        let o : fromBits opens (r .trains) < 65536 = bits-small opens (r .trains) (omega (arith, ok .few-trains)) in
+        rw (entry-is, z) (sym (bit-high (plusBits + 65536 * fromBits opens (r .trains)) 255 (omega (arith, plus-small)) (omega arith)) ∙ bit-high plusBits 255 (omega (arith, plus-small)) (omega arith))
+
+    may-is : (t : ℕ) → t < r .trains → may (gameOf r) p (settingAt r p (metEntry r F p n opens)) t ≡ (free r p t || opens t)
     unfolding metEntry
-    may-is t l = (rw (lt-ltb t (r .trains) l) (setting-may r p (h .apart) (ok .few-points) (somePlus r F p n opens) opens t l)) ∙ sym (runs-is t l)
+    may-is t l = rw (lt-ltb t (r .trains) l) (setting-may r p apart (ok .few-points) (somePlus r F p n opens) opens t l)
 
-    module _ (b : ℕ) (eb : b ≡ fromBits (λ q. anyBelow (needsWith ws u q) k) m) where
-      small : b < 65536
-      small = rw (eb ∙ bits-is) (bits-small (somePlus r F p n opens) (r .points) (ok .few-points))
+    -- where a move ends, by the bit of its point
+    abbrev good : ℕ → Bool
+    good t = cond (bit (fromBits (somePlus r F p n opens) (r .points)) (pointMet r p t)) (endsBelow r F p n true t) (endsBelow r F p n false t)
 
-      -- a train reads its bit in the points alone
-      same-bit : (x : ℕ) → (x < 16) ⊎ (x ≡ 255) → bit (metEntry r F p n opens) x ≡ bit b x
-      same-bit x (inl l) = let e : b + 65536 * withBit 0 u k ≡ metEntry r F p n opens = entry-is b (withBit 0 u k) eb refl in rw (← e) (low-bit 16 b (withBit 0 u k) x small l)
-      same-bit x (inr z) =
-          let e : b + 65536 * withBit 0 u k ≡ metEntry r F p n opens = entry-is b (withBit 0 u k) eb refl in
-          let o : withBit 0 u k < 16 = open-small u k (omega (arith, h .trains-there, ok .few-trains)) in
-          rw (← e, z) (sym (bit-high (b + 65536 * withBit 0 u k) 255 (omega (arith, small)) (omega arith)) ∙ bit-high b 255 (omega (arith, small)) (omega arith))
+    good-is : (t : ℕ) → isBelow n (figureOf F (moveOf r p (settingAt r p (metEntry r F p n opens)) t)) ≡ good t
+    unfolding settingAt
+    good-is t = go (bit plusBits (pointMet r p t)) refl
+      where
+        lies : settingAt r p (metEntry r F p n opens) .plus (pointMet r p t) ≡ bit (fromBits (somePlus r F p n opens) (r .points)) (pointMet r p t)
+        lies = same-bit (pointMet r p t) (met-small r ok p t)
 
-      abbrev goes : Setting → ℕ → Bool
-      goes s t = isBelow n (figureOf F (moveOf r p s t))
+        go : (c : Bool) → bit (fromBits (somePlus r F p n opens) (r .points)) (pointMet r p t) ≡ c → isBelow n (figureOf F (moveOf r p (settingAt r p (metEntry r F p n opens)) t)) ≡ cond c (endsBelow r F p n true t) (endsBelow r F p n false t)
+        go true e = ap (λ (o : Outcome). isBelow n (figureOf F o)) (move-by r p t tried true (sym (lies ∙ e)))
+        go false e = ap (λ (o : Outcome). isBelow n (figureOf F o)) (move-by r p t tried false (sym (lies ∙ e)))
 
-      good-is : (t : ℕ) → t < r .trains → goes tried t ≡ goodWay b (way t)
-      unfolding settingAt
-      good-is t l = go (bit b (way t .point)) refl
+    -- it keeps the figure if somebody may move and all who may end below it
+    abbrev goodIf : ℕ → Bool
+    goodIf t = not (free r p t || opens t) || good t
+
+    keeps-is : entryKeeps r F p n (metEntry r F p n opens) ≡ (anyBelow (λ t. free r p t || opens t) (r .trains) && allBelow goodIf (r .trains))
+    unfolding keepsTest
+    keeps-is =
+        let a : anyBelow (may (gameOf r) p tried) (r .trains) ≡ anyBelow (λ t. free r p t || opens t) (r .trains) = any-same _ _ (r .trains) may-is in
+        let g : allBelow (goesBelow (gameOf r) F p tried n) (r .trains) ≡ allBelow goodIf (r .trains) =
+        all-same _ _ (r .trains) (λ t l. ap (λ (x : Bool). not x || isBelow n (figureOf F (moveOf r p tried t))) (may-is t l) ∙ ap (λ (x : Bool). not (free r p t || opens t) || x) (good-is t)) in
+        rw (a, g)
+
+    try-found : entryKeeps r F p n (metEntry r F p n opens) ≡ true → tryMet r F p n opens ≡ some (metEntry r F p n opens)
+    unfolding tryMet
+    try-found e = rw e
+
+    try-none : entryKeeps r F p n (metEntry r F p n opens) ≡ false → tryMet r F p n opens ≡ none
+    unfolding tryMet
+    try-none e = rw e
+
+    -- the point of a train that may move and does not end below n at minus is at plus
+    needed-lies : (t : ℕ) → t < r .trains → (free r p t || opens t) ≡ true → endsBelow r F p n false t ≡ false → pointMet r p t < r .points → bit (fromBits (somePlus r F p n opens) (r .points)) (pointMet r p t) ≡ true
+    needed-lies t l e g m =
+        let x : ℕ = pointMet r p t in
+        let meets : meetsPoint r p t x ≡ true = meets-is r p t x (omega (arith, ok .few-points)) ∙ eq-eqb x x refl in
+        bits-plain (somePlus r F p n opens) (r .points) x m ∙ any-of (needsPlus r F p n opens x) (r .trains) t l (and-both (runs t) _ e (and-both (meetsPoint r p t x) (not (endsBelow r F p n false t)) meets (rw g)))
+
+  -- SOME TRAIN FREE: the try with no signal open decides
+  module _ (some-free : anyBelow (free r p) (r .trains) ≡ true) where
+    closed-decides : findMet r F p n ≡ tryMet r F p n (λ t. false)
+    unfolding findMet
+    closed-decides = elim (option? (tryMet r F p n (λ t. false))) [
+      | inr x ↦ found (x .0) (x .1) ∙ sym (x .1)
+      | inl e ↦ elim (option? (find r F p n)) [
+        | inl g ↦ find-met r ok p apart F n ∙ g ∙ sym e
+        | inr x ↦
+            let w = any-at (free r p) (r .trains) some-free in
+            let o : Setting = settingAt r p (x .0) in
+            let kept : Keeps (gameOf r) F p o n = find-sound r F p n (x .0) (x .1) in
+            let c = try-finds r F p n (λ t. false) (pointBits r o) (closed-small r ok p F n o kept) (keeps-closed r ok p F n o kept (w .0) (w .1) (not-true (held r p (w .0)) (w .2))) in
+            some-none (met-try r ok p apart F n (λ t. false) ∙ c .1 .found) e
+      ]
+    ]
+      where
+        found : (v : ℕ) → tryMet r F p n (λ t. false) ≡ some v → findMet r F p n ≡ some v
+        found v e = rw e
+
+    closed-entry : metEntry r F p n (λ t. false) ≡ fromBits (somePlus r F p n (λ t. false)) (r .points)
+    closed-entry = entry-is (λ t. false) ∙ (let z : 0 ≡ fromBits (λ t. false) (r .trains) = bits-none (r .trains) in rw (← z) (omega arith))
+
+    free-runs : anyBelow (λ t. free r p t || false) (r .trains) ≡ true
+    free-runs = any-same (λ t. free r p t || false) (free r p) (r .trains) (λ t l. off (free r p t)) ∙ some-free
+      where
+        off : (b : Bool) → (b || false) ≡ b
+        off true = refl
+        off false = refl
+
+    -- a train beyond help
+    helpless : (t : ℕ) → t < r .trains → beyondHelp r F p n t ≡ true → entryKeeps r F p n (metEntry r F p n (λ t. false)) ≡ false
+    helpless t l e =
+        let a = and-true (harmedAtMinus r F p n t) (eqb (pointMet r p t) 255) e in
+        let b = and-true (free r p t) (not (endsBelow r F p n false t)) (a .0) in
+        let far : pointMet r p t ≡ 255 = eqb-true (pointMet r p t) 255 (a .1) in
+        let out : bit (plusBits (λ t. false)) (pointMet r p t) ≡ false = rw far (bit-past (plusBits (λ t. false)) (plus-small (λ t. false))) in
+        let bad : goodIf (λ t. false) t ≡ false = rw (b .0, out) (not-true (endsBelow r F p n false t) (b .1)) in
+        keeps-is (λ t. false) ∙ (rw (sym (all-but (goodIf (λ t. false)) (r .trains) t l bad)) (off (anyBelow (λ t. free r p t || false) (r .trains))))
+      where
+        bit-past : (b : ℕ) → b < 65536 → bit b 255 ≡ false
+        bit-past b l = sym (bit-high b 255 (omega arith) (omega arith))
+
+        off : (b : Bool) → (b && false) ≡ false
+        off true = refl
+        off false = refl
+
+    -- no train beyond help: what is left to see is who has a point at plus
+    helped-good : anyBelow (beyondHelp r F p n) (r .trains) ≡ false → (t : ℕ) → t < r .trains → goodIf (λ t. false) t ≡ goodAtPlus r F p n (plusBits (λ t. false)) t
+    helped-good none-lost t l = elim (bool? (free r p t)) [
+      | inr f ↦ rw f
+      | inl f ↦ elim (bool? (bit (plusBits (λ t. false)) (pointMet r p t))) [
+        | inl e ↦ rw (f, e)
+        | inr e ↦ rw (f, e) (below f e)
+      ]
+    ]
+      where
+        below : free r p t ≡ true → bit (fromBits (somePlus r F p n (λ t. false)) (r .points)) (pointMet r p t) ≡ false → endsBelow r F p n false t ≡ true
+        below f e = elim (bool? (endsBelow r F p n false t)) [
+          | inl y ↦ y
+          | inr y ↦ elim (met-small r ok p t) [
+            | inl m ↦ clash (needed-lies (λ t. false) t l (rw f) y m) e
+            | inr m ↦ clash (and-both (harmedAtMinus r F p n t) (eqb (pointMet r p t) 255) (and-both (free r p t) (not (endsBelow r F p n false t)) f (rw y)) (eq-eqb (pointMet r p t) 255 m)) (any-false (beyondHelp r F p n) (r .trains) none-lost t l)
+          ]
+        ]
+
+    pub guided-none : none ≡ neededPoints r F p n → none ≡ findMet r F p n
+    guided-none e = sym (closed-decides ∙ try-none (λ t. false) lost)
+      where
+        lost : entryKeeps r F p n (metEntry r F p n (λ t. false)) ≡ false
+        lost = elim (bool? (anyBelow (beyondHelp r F p n) (r .trains))) [
+          | inl y ↦ let w = any-at (beyondHelp r F p n) (r .trains) y in helpless (w .0) (w .1) (w .2)
+          | inr y ↦ let g : neededPoints r F p n ≡ some (fromBits (somePlus r F p n (λ t. false)) (r .points)) = rw y in some-none g (sym e)
+        ]
+
+    module _ (bits : ℕ) (needed : some bits ≡ neededPoints r F p n) where
+      helped : (anyBelow (beyondHelp r F p n) (r .trains) ≡ false) × (bits ≡ fromBits (somePlus r F p n (λ t. false)) (r .points))
+      helped = elim (bool? (anyBelow (beyondHelp r F p n) (r .trains))) [
+        | inl y ↦ let g : neededPoints r F p n ≡ none = rw y in some-none (sym needed) g
+        | inr y ↦ let g : neededPoints r F p n ≡ some (fromBits (somePlus r F p n (λ t. false)) (r .points)) = rw y in (y, some-one (needed ∙ g))
+      ]
+
+      module _ (b : Bool) (is : b ≡ allBelow (goodAtPlus r F p n bits) (r .trains)) where
+        keeps : b ≡ entryKeeps r F p n (metEntry r F p n (λ t. false))
+        keeps =
+            let e : allBelow (goodIf (λ t. false)) (r .trains) ≡ allBelow (goodAtPlus r F p n bits) (r .trains) =
+            rw (helped .1) (all-same (goodIf (λ t. false)) (goodAtPlus r F p n (plusBits (λ t. false))) (r .trains) (helped-good (helped .0))) in
+            is ∙ sym e ∙ sym (keeps-is (λ t. false) ∙ rw free-runs)
+
+        pub guided-found : b ≡ true → some bits ≡ findMet r F p n
+        guided-found e = sym (closed-decides ∙ try-found (λ t. false) (sym keeps ∙ e) ∙ ap (λ (v : ℕ). some v) (closed-entry ∙ sym (helped .1)))
+
+        pub guided-not : b ≡ false → none ≡ findMet r F p n
+        guided-not e = sym (closed-decides ∙ try-none (λ t. false) (sym keeps ∙ e))
+
+  -- NO TRAIN FREE: with no signal open nobody may move
+  module _ (none-free : anyBelow (free r p) (r .trains) ≡ false) where
+    pub closed-none : none ≡ tryMet r F p n (λ t. false)
+    closed-none = sym (try-none (λ t. false) (keeps-is (λ t. false) ∙ (rw (none-any (λ t. free r p t || false) (r .trains) (λ t l. rw (any-false (free r p) (r .trains) none-free t l))))))
+
+    -- with one train open all hangs on that train
+    module _ (u : ℕ) (there : u < r .trains) where
+      alone : (t : ℕ) → t < r .trains → (free r p t || eqb u t) ≡ eqb u t
+      alone t l = rw (any-false (free r p) (r .trains) none-free t l)
+
+      one-keeps : entryKeeps r F p n (metEntry r F p n (eqb u)) ≡ good (eqb u) u
+      one-keeps =
+          let a : anyBelow (λ t. free r p t || eqb u t) (r .trains) ≡ true = any-of (λ t. free r p t || eqb u t) (r .trains) u there (alone u there ∙ eq-eqb u u refl) in
+          keeps-is (eqb u) ∙ (rw a (same-bool (allBelow (goodIf (eqb u)) (r .trains)) (good (eqb u) u) to from))
         where
-          w : WayOf r F p n t (wayIn ws t)
-          w = h .ways t l
+          mine : goodIf (eqb u) u ≡ good (eqb u) u
+          mine = rw (alone u there, eq-eqb u u refl)
 
-          lies : bit b (wayIn ws t .point) ≡ settingAt r p (metEntry r F p n opens) .plus (pointByte (passes r (λ i. false) (headsFor r p t) .met))
-          lies = rw (w .point) (sym (same-bit (pointByte (passes r (λ i. false) (headsFor r p t) .met)) (met-small r ok p t)))
+          to : allBelow (goodIf (eqb u)) (r .trains) ≡ true → good (eqb u) u ≡ true
+          to e = sym mine ∙ all-at (goodIf (eqb u)) (r .trains) e u there
 
-          go : (c : Bool) → bit b (wayIn ws t .point) ≡ c → isBelow n (figureOf F (moveOf r p (settingAt r p (metEntry r F p n opens)) t)) ≡ cond c (wayIn ws t .plus) (wayIn ws t .minus)
-          go true e = ap (λ (o : Outcome). isBelow n (figureOf F o)) (move-by r p t tried true (sym e ∙ lies)) ∙ sym (w .plus)
-          go false e = ap (λ (o : Outcome). isBelow n (figureOf F o)) (move-by r p t tried false (sym e ∙ lies)) ∙ sym (w .minus)
+          from : good (eqb u) u ≡ true → allBelow (goodIf (eqb u)) (r .trains) ≡ true
+          from e = all-of (goodIf (eqb u)) (r .trains) (λ t l. elim (eq? u t) [
+            | inl z ↦ rw (← z) (mine ∙ e)
+            | inr z ↦ rw (alone t l, ne-eqb u t z)
+          ])
 
-      goes-is : (t : ℕ) → t < r .trains → goesBelow (gameOf r) F p tried n t ≡ goodWith ws u b t
-      goes-is t l =
-          let a : may (gameOf r) p tried t ≡ runsWith ws u t = may-is t l in
-          let g : goes tried t ≡ goodWay b (way t) = good-is t l in
-          ap (λ (x : Bool). not x || goes tried t) a ∙ ap (λ (x : Bool). not (runsWith ws u t) || x) g
+      -- the points that it needs
+      asks : (x : ℕ) → x < 16 → somePlus r F p n (eqb u) x ≡ (eqb (pointMet r p u) x && not (endsBelow r F p n false u))
+      asks x l = same-bool _ _ to from
+        where
+          to : somePlus r F p n (eqb u) x ≡ true → (eqb (pointMet r p u) x && not (endsBelow r F p n false u)) ≡ true
+          to e =
+              let w = any-at (needsPlus r F p n (eqb u) x) (r .trains) e in
+              let a = and-true (free r p (w .0) || eqb u (w .0)) _ (w .2) in
+              let z : u ≡ w .0 = eqb-true u (w .0) (sym (alone (w .0) (w .1)) ∙ a .0) in
+              rw z (rw (meets-is r p (w .0) x l) at (a .1))
 
-      keeps-is : keepsWith ws k u b ≡ entryKeeps r F p n (metEntry r F p n opens)
-      unfolding keepsTest
-      keeps-is =
-          let a : anyBelow (runsWith ws u) (r .trains) ≡ anyBelow (may (gameOf r) p tried) (r .trains) = any-same _ _ (r .trains) (λ t l. sym (may-is t l)) in
-          let g : allBelow (goodWith ws u b) (r .trains) ≡ allBelow (goesBelow (gameOf r) F p tried n) (r .trains) = all-same _ _ (r .trains) (λ t l. sym (goes-is t l)) in
-          rw (h .trains-there, a, g)
+          from : (eqb (pointMet r p u) x && not (endsBelow r F p n false u)) ≡ true → somePlus r F p n (eqb u) x ≡ true
+          from e = any-of (needsPlus r F p n (eqb u) x) (r .trains) u there (and-both (free r p u || eqb u u) _ (alone u there ∙ eq-eqb u u refl) (rw (meets-is r p u x l) e))
 
-      module _ (c : Bool) (ec : c ≡ keepsWith ws k u b) where
-        pub try-found : (o : ℕ) → o ≡ withBit 0 u k → c ≡ true → some (b + 65536 * o) ≡ tryMet r F p n opens
-        unfolding tryMet
-        try-found o eo y = rw (sym keeps-is ∙ sym ec ∙ y) (ap (λ (v : ℕ). some v) (entry-is b o eb eo))
+      open-entry : (b : ℕ) → b ≡ fromBits (somePlus r F p n (eqb u)) (r .points) → b + 65536 * 2 ^ u ≡ metEntry r F p n (eqb u)
+      open-entry b e = (rw (e, ← (one-bit u (r .trains) there))) ∙ sym (entry-is (eqb u))
 
-        pub try-none : c ≡ false → none ≡ tryMet r F p n opens
-        unfolding tryMet
-        try-none y = rw (sym keeps-is ∙ sym ec ∙ y)
+      no-points : (endsBelow r F p n false u ≡ true) ⊎ (r .points ≤ pointMet r p u) → 0 ≡ fromBits (somePlus r F p n (eqb u)) (r .points)
+      no-points h = bits-none (r .points) ∙ bits-same (λ x. false) (somePlus r F p n (eqb u)) (r .points) (λ x l. sym (asks x (omega (arith, ok .few-points)) ∙ elim h [
+        | inl y ↦ rw y (off (eqb (pointMet r p u) x))
+        | inr y ↦ rw (ne-eqb (pointMet r p u) x (λ z. omega arith))
+      ]))
+        where
+          off : (b : Bool) → (b && false) ≡ false
+          off true = refl
+          off false = refl
 
-  -- THE SEARCH, train after train
-  abbrev pub tries : ℕ → Option ℕ
-  tries u = tryMet r F p n (eqb u)
+      -- at minus
+      pub open-minus : endsBelow r F p n false u ≡ true → some (65536 * 2 ^ u) ≡ tryMet r F p n (eqb u)
+      open-minus e =
+          let z : 0 ≡ fromBits (somePlus r F p n (eqb u)) (r .points) = no-points (inl e) in
+          let g : good (eqb u) u ≡ true = rw (← z, bit-none (pointMet r p u)) e in
+          sym (try-found (eqb u) (one-keeps ∙ g) ∙ ap (λ (v : ℕ). some v) (sym (open-entry 0 z) ∙ (omega arith)))
+
+      module _ (bad : endsBelow r F p n false u ≡ false) where
+        -- with no point to help
+        pub open-not : r .points ≤ pointMet r p u → none ≡ tryMet r F p n (eqb u)
+        open-not l =
+            let z : 0 ≡ fromBits (somePlus r F p n (eqb u)) (r .points) = no-points (inr l) in
+            let g : good (eqb u) u ≡ false = rw (← z, bit-none (pointMet r p u)) bad in
+            sym (try-none (eqb u) (one-keeps ∙ g))
+
+        -- at plus
+        module _ (x : ℕ) (met : x ≡ pointMet r p u) (l : x < r .points) where
+          one-point : 2 ^ x ≡ fromBits (somePlus r F p n (eqb u)) (r .points)
+          one-point = sym (one-bit x (r .points) l) ∙ bits-same (eqb x) (somePlus r F p n (eqb u)) (r .points) (λ y m. sym (asks y (omega (arith, ok .few-points)) ∙ rw (bad, ← met) (on (eqb x y))))
+            where
+              on : (b : Bool) → (b && true) ≡ b
+              on true = refl
+              on false = refl
+
+          plus-is : good (eqb u) u ≡ endsBelow r F p n true u
+          plus-is = rw (needed-lies (eqb u) u there (alone u there ∙ eq-eqb u u refl) bad (rw met at l))
+
+          pub open-plus : endsBelow r F p n true u ≡ true → some (2 ^ x + 65536 * 2 ^ u) ≡ tryMet r F p n (eqb u)
+          open-plus e = sym (try-found (eqb u) (one-keeps ∙ plus-is ∙ e) ∙ ap (λ (v : ℕ). some v) (sym (open-entry (2 ^ x) one-point)))
+
+          pub open-neither : endsBelow r F p n true u ≡ false → none ≡ tryMet r F p n (eqb u)
+          open-neither e = sym (try-none (eqb u) (one-keeps ∙ plus-is ∙ e))
 
 -- .. of any tries: the first that finds something
 first-here : (f : ℕ → Option ℕ) (k u v : ℕ) → u < k → firstFound f u ≡ none → f u ≡ some v → firstFound f k ≡ some v
@@ -215,13 +312,6 @@ unfolding firstFound
 first-next f u e h = rw (add-one u, e) (sym h)
 
 module _ (r : Railway) (F : ℕ → Option ℕ) (p n k : ℕ) (is : k ≡ r .trains) where
-  pub no-train-open : (t : ℕ) → t < k → false ≡ eqb k t
-  no-train-open t l = sym (ne-eqb k t (λ z. omega arith))
-
-  pub found-closed : (v : ℕ) → some v ≡ tryMet r F p n (λ t. false) → some v ≡ findMet r F p n
-  unfolding findMet
-  found-closed v e = rw (sym e)
-
   module _ (shut : none ≡ tryMet r F p n (λ t. false)) where
     pub found-open : (u v : ℕ) → u < k → firstFound (λ u. tryMet r F p n (eqb u)) u ≡ none → some v ≡ tryMet r F p n (eqb u) → some v ≡ findMet r F p n
     unfolding findMet
@@ -235,11 +325,14 @@ module _ (r : Railway) (F : ℕ → Option ℕ) (p n k : ℕ) (is : k ≡ r .tra
 module _ (r : Railway) (F : ℕ → Option ℕ) (p n : ℕ) (lost : Bool) (is : lost ≡ shared r p) where
   pub lost-none : lost ≡ true → none ≡ firstKeeping r F p n
   unfolding firstKeeping
-  lost-none e = rw (sym is ∙ e)
+  lost-none e = (let g : none ≡ cond lost none (find r F p n) = rw e in g) ∙ ap (λ (b : Bool). cond b none (find r F p n)) is
 
   pub found-first : Facts r → lost ≡ false → (o : Option ℕ) → o ≡ findMet r F p n → o ≡ firstKeeping r F p n
   unfolding firstKeeping
-  found-first f e o h = let a : shared r p ≡ false = sym is ∙ e in rw a (h ∙ find-met r f p a F n)
+  found-first f e o h =
+      let a : shared r p ≡ false = sym is ∙ e in
+      let g : find r F p n ≡ cond lost none (find r F p n) = rw e in
+      h ∙ find-met r f p a F n ∙ g ∙ ap (λ (b : Bool). cond b none (find r F p n)) is
 
 -- .. with the table of an accepted railway
 module _ (r : Railway) (table : List ℕ) (c : Compiled r table) (k m : ℕ) (ek : k ≡ countByte r 2) (em : m ≡ countByte r 1) where
@@ -253,5 +346,5 @@ module _ (r : Railway) (table : List ℕ) (c : Compiled r table) (k m : ℕ) (ek
   pub points-few : 16 < m → (o : Option ℕ) → none ≡ o
   points-few l o = absurd (omega (arith, points-are, facts r (c .accepted) .few-points))
 
-  pub ways-all : (F : ℕ → Option ℕ) (p n : ℕ) (ws : List Way) (lost : Bool) → lost ≡ shared r p → lost ≡ false → ((t : ℕ) → t < r .trains → WayOf r F p n t (wayIn ws t)) → WaysOf r F p n ws k m
-  ways-all F p n ws lost is e w = record { accepted = c .accepted; apart = sym is ∙ e; trains-there = trains-are r k ek; points-there = points-are; ways = w }
+  pub asked : (p c : ℕ) (q : Placement) (lost : Bool) → On r p table q → c ≡ codeOn r (sectionIn q) → lost ≡ shared r p → lost ≡ false → Asked r p table q c k m
+  asked p a q lost on e is z = record { on = on; code = e; trains = trains-are r k ek; points = points-are; apart = sym is ∙ z }

@@ -1,6 +1,7 @@
--- Each train's two ways, and the loops over them as code makes them: who may move, which points are needed at plus, whether every move allowed is good.
--- Each function's answer is the definition's by the tests that it made. Assumes nothing.
+-- Where a train's move ends, by the table and the figures as code looks at them; and the points that free trains need at plus, train after train. Each function's answer is the
+-- definition's by the tests that it made. Assumes nothing.
 use mathlib.Core.Path.{_≡_, refl, sym, _∙_, ap}
+use mathlib.Core.Logic.{_⊎_, inl, inr}
 use mathlib.Core.Bool.{Bool, true, false, cond, not, _&&_, _||_}
 use mathlib.Core.List.{List}
 use mathlib.Core.Option.{Option, none, some}
@@ -10,34 +11,32 @@ use native.Mathlib.Numerals.{add-one}
 use native.Mathlib.Nat.{pow-le-pow-right, mod-eq-of-lt}
 use lib.Dec.{ltb, eqb}
 use lib.ListN.{getD}
-use borrow.Author.Tests.{lt-ltb, le-ltb, ltb-true, eq-eqb, ne-eqb}
+use borrow.Author.Tests.{lt-ltb, le-ltb, eq-eqb, ne-eqb}
 use Rattle.laws.specs.Below.{allBelow, anyBelow}
 use Rattle.laws.specs.Bits.{bit, fromBits}
-use Rattle.laws.proofs.Bools.{bool?, lt?, clash, some-none}
-use Rattle.laws.proofs.Below.{all-but}
-use Rattle.laws.proofs.Bits.{bits-same, bits-plain, bits-below, bits-none, bits-add, bits-again, bits-past}
-use mathlib.Core.Logic.{_⊎_, inl, inr}
-use Rattle.railway.specs.declared.End.the-variants.{Section, Port}
-use Rattle.railway.specs.declared.Joined.{Joined}
-use Rattle.railway.specs.declared.Joined.the-variants.{Nothing, With}
+use Rattle.laws.proofs.Bools.{bool?, lt?, eq?, some-none, some-one, and-off, and-both, test-off}
+use Rattle.laws.proofs.Below.{any-next, any-one, any-none}
+use Rattle.laws.proofs.Bits.{bits-same, bits-plain, bits-below, bits-none, bits-add, bits-again, bits-past, bits-of}
 use Rattle.railway.specs.declared.Railway.{Railway}
-use Rattle.railway.specs.Record.{joined}
-use Rattle.railway.specs.Rows.{recordRefusal}
 use Rattle.game.specs.Game.{derailment, collision, Outcome, lost, at}
 use Rattle.game.specs.Claim.{figureOf}
 use Rattle.game.specs.Local.{isBelow}
-use Rattle.game.specs.Setting.{headsFor, held}
-use Rattle.game.specs.Moves.{Passage, pastJoin, passes, enters, moveOf}
-use Rattle.game.proofs.Accepted.{Known, Facts, facts}
+use Rattle.game.specs.Setting.{headsFor, held, free}
+use Rattle.game.specs.Moves.{passes, occupied, codeWith, moveOf}
+use Rattle.game.proofs.Accepted.{Facts, facts}
+use Rattle.game.proofs.Moves.{passes-below, code-with-below}
 use Rattle.tables.specs.Tables.{noFigure, figureIn}
-use Rattle.compiled.specs.Table.{pointByte}
-use Rattle.compiled.proofs.Table.{met-port}
+use Rattle.tables.specs.Find.{needsPlus}
+use Rattle.tables.proofs.Exists.{few-placements}
+use Rattle.compiled.specs.Table.{sectionByte, countByte}
+use Rattle.moves.specs.declared.Placement.{Placement}
 use Rattle.moves.specs.declared.Move.{Move}
 use Rattle.moves.specs.declared.Move.the-variants.{NotAllowed, Derails, Collides, At}
-use Rattle.moves.specs.Answers.{ended}
-use Rattle.moves.specs.Steps.{allAt}
-use Rattle.settings.specs.declared.Way.{Way}
-use Rattle.settings.specs.Ways.{WayOf, wayIn, runsWith, needsWith, goodWay, goodWith, keepsWith, withBit}
+use Rattle.moves.specs.Answers.{codeOn, ended}
+use Rattle.moves.specs.Steps.{sectionIn, On, otherIn, allAt}
+use Rattle.moves.proofs.Moving.{other-on, code-by-weight, derails, arrives, collides, stands-at}
+use Rattle.settings.specs.Ways.{Asked, pointMet, endsBelow, harmedAtMinus, beyondHelp, neededPoints, goodAtPlus, withBit}
+use Rattle.settings.proofs.Points.{meets-is, met-small}
 
 -- BELOW n: what a move ends in
 module _ (figs : List ℕ) (n : ℕ) (m : Move) where
@@ -45,87 +44,94 @@ module _ (figs : List ℕ) (n : ℕ) (m : Move) where
   refused-below e o h = some-none h (ap ended e)
 
   pub derailed-below : m ≡ Derails → (o : Outcome) → ended m ≡ some o → false ≡ isBelow n (figureOf (figureIn figs) o)
-  derailed-below e o h = let z : lost derailment ≡ o = same (sym (ap ended e) ∙ h) in rw (← z)
-    where
-      same : {a b : Outcome} → some a ≡ some b → a ≡ b
-      same q = cc
+  derailed-below e o h = let z : lost derailment ≡ o = some-one (sym (ap ended e) ∙ h) in rw (← z)
 
   pub collided-below : m ≡ Collides → (o : Outcome) → ended m ≡ some o → false ≡ isBelow n (figureOf (figureIn figs) o)
-  collided-below e o h = let z : lost collision ≡ o = same (sym (ap ended e) ∙ h) in rw (← z)
-    where
-      same : {a b : Outcome} → some a ≡ some b → a ≡ b
-      same q = cc
+  collided-below e o h = let z : lost collision ≡ o = some-one (sym (ap ended e) ∙ h) in rw (← z)
 
   module _ (q f : ℕ) (e : m ≡ At q) (is : f ≡ getD figs q noFigure) (o : Outcome) (h : ended m ≡ some o) where
-    arrives : at q ≡ o
-    arrives = let z : some (at q) ≡ some o = sym (ap ended e) ∙ h in cc
+    comes-to : at q ≡ o
+    comes-to = some-one (sym (ap ended e) ∙ h)
 
     pub figure-none : f ≡ noFigure → false ≡ isBelow n (figureOf (figureIn figs) o)
-    figure-none z = rw (← arrives, ← is, eq-eqb f noFigure z)
+    figure-none z = rw (← comes-to, ← is, eq-eqb f noFigure z)
 
     pub figure-some : (f ≡ noFigure → ⊥) → ltb f n ≡ isBelow n (figureOf (figureIn figs) o)
-    figure-some z = rw (← arrives, ← is, ne-eqb f noFigure z)
+    figure-some z = rw (← comes-to, ← is, ne-eqb f noFigure z)
 
--- A TRAIN'S WAYS
-pub way-is : (r : Railway) (F : ℕ → Option ℕ) (p n t : ℕ) (h : Bool) (x : ℕ) (a : Move) (minus plus : Bool)
-    → h ≡ held r p t → x ≡ pointByte (passes r (λ i. false) (headsFor r p t) .met)
-    → ended a ≡ some (moveOf r p (allAt false) t) → ((o : Outcome) → ended a ≡ some o → minus ≡ isBelow n (figureOf F o))
-    → (x ≡ pointByte (passes r (λ i. false) (headsFor r p t) .met) → minus ≡ isBelow n (figureOf F (moveOf r p (allAt false) t)) → plus ≡ isBelow n (figureOf F (moveOf r p (allAt true) t)))
-    → WayOf r F p n t (record { free = not h; point = x; minus = minus; plus = plus })
-way-is r F p n t h x a minus plus eh ex ea em ep =
-    let z : minus ≡ isBelow n (figureOf F (moveOf r p (allAt false) t)) = em (moveOf r p (allAt false) t) ea in
-    record { free = ap not eh; point = ex; minus = z; plus = ep ex z }
+-- A TRAIN'S MOVE, the figure looked at before the other trains
+module _ (r : Railway) (p : ℕ) (table : List ℕ) (q : Placement) (on : On r p table q) (figs : List ℕ) (n t : ℕ) (plus : Bool) (there : t < r .trains) (y : ℕ) (leads : y ≡ sectionByte (passes r (λ i. plus) (headsFor r p t) .reached)) where
+  pub ends-derailed : y ≡ 255 → false ≡ endsBelow r (figureIn figs) p n plus t
+  ends-derailed z = let e : lost derailment ≡ moveOf r p (allAt plus) t = some-one (derails r p table q on t plus y leads z) in rw (← e)
 
--- who meets no point goes the same way however the points lie
-no-point : (r : Railway) → Facts r → (j : Joined) → Known r j → pointByte (pastJoin r (λ i. false) j .met) ≡ 255 → pastJoin r (λ i. true) j ≡ pastJoin r (λ i. false) j
-no-point r ok Nothing k e = refl
-no-point r ok (With (Section n s)) k e = refl
-no-point r ok (With (Port n l)) k e =
-    let m : n .0 ≡ 255 = met-port r (With (Port n l)) (Port n l) n l refl refl ∙ e in
-    absurd (omega (arith, ltb-true (n .0) (r .points) k, ok .few-points))
+  module _ (z : y ≡ 255 → ⊥) (c s w x b : ℕ) (code : c ≡ codeOn r (sectionIn q)) (sections : s ≡ countByte r 0) (weight : t ≤ 4 → w ≡ s ^ t) (here : x ≡ sectionIn q t)
+      (put : (p : ℕ) → p < 4294967295 → c + y * w ≡ p + x * w → b ≡ p) (f : ℕ) (is : f ≡ getD figs b noFigure) where
+    ok : Facts r
+    ok = facts r (on .compiled .accepted)
 
-module _ (r : Railway) (accepted : recordRefusal r ≡ none) (F : ℕ → Option ℕ) (p n t x : ℕ) (minus : Bool) (met : x ≡ pointByte (passes r (λ i. false) (headsFor r p t) .met)) (none-met : x ≡ 255) where
-  one-way : moveOf r p (allAt true) t ≡ moveOf r p (allAt false) t
-  unfolding moveOf passes
-  one-way = ap (λ (w : Passage). enters r p t (w .reached)) (no-point r (facts r accepted) (joined r (headsFor r p t)) (facts r accepted .joins (headsFor r p t)) (sym met ∙ none-met))
+    inside : y < r .sections
+    inside = passes-below r ok (λ i. plus) (headsFor r p t) y (arrives r p table q on t plus y leads z)
 
-  pub same-below : minus ≡ isBelow n (figureOf F (moveOf r p (allAt false) t)) → minus ≡ isBelow n (figureOf F (moveOf r p (allAt true) t))
-  same-below e = rw one-way e
+    after-is : b ≡ codeWith r p t y
+    after-is = put (codeWith r p t y) (omega (arith, code-with-below r ok p t y inside, few-placements r (on .compiled .accepted))) (code-by-weight r p table q on t y there c x w s code here sections weight)
 
--- WHO MAY MOVE, with train u open
-module _ (ws : List Way) (u t : ℕ) (w : Way) (is : w ≡ wayIn ws t) where
-  pub runs-free : w .free ≡ true → true ≡ runsWith ws u t
-  runs-free e = let f : wayIn ws t .free ≡ true = rw is at e in rw f
+    ends-by : (o : Bool) → o ≡ occupied r p t y → cond o false (isBelow n (figureIn figs b)) ≡ endsBelow r (figureIn figs) p n plus t
+    ends-by true e = let h : lost collision ≡ moveOf r p (allAt plus) t = some-one (collides r p table q on t plus y leads z true e refl) in rw (← h)
+    ends-by false e = let h : at b ≡ moveOf r p (allAt plus) t = some-one (stands-at r p table q on t plus y leads z false e b refl after-is) in rw (← h)
 
-  pub runs-open : w .free ≡ false → eqb u t ≡ runsWith ws u t
-  runs-open e = let f : wayIn ws t .free ≡ false = rw is at e in rw f
+    pub ends-not : n ≤ f → false ≡ endsBelow r (figureIn figs) p n plus t
+    ends-not l = either-way (occupied r p t y) ∙ ends-by (occupied r p t y) refl
+      where
+        far : isBelow n (figureIn figs b) ≡ false
+        far = elim (eq? f noFigure) [
+          | inl e ↦ rw (← is, eq-eqb f noFigure e)
+          | inr e ↦ rw (← is, ne-eqb f noFigure e) (le-ltb f n l)
+        ]
 
-  -- whether it is good
-  module _ (bits : ℕ) (b : Bool) (at-plus : b ≡ bit bits (w .point)) where
-    pub good-plus : b ≡ true → w .plus ≡ goodWay bits (wayIn ws t)
-    good-plus e = let f : bit bits (wayIn ws t .point) ≡ true = rw is at (sym at-plus ∙ e) in rw (f, is)
+        either-way : (o : Bool) → false ≡ cond o false (isBelow n (figureIn figs b))
+        either-way true = refl
+        either-way false = sym far
 
-    pub good-minus : b ≡ false → w .minus ≡ goodWay bits (wayIn ws t)
-    good-minus e = let f : bit bits (wayIn ws t .point) ≡ false = rw is at (sym at-plus ∙ e) in rw (f, is)
+    pub ends-unless : n < 4294967296 → f < n → (k : ℕ) (o : Bool) → k ≡ countByte r 2 → o ≡ anyBelow (otherIn q t y) k → not o ≡ endsBelow r (figureIn figs) p n plus t
+    ends-unless ln l k o ek e = turned o ∙ ends-by o (other-on r p table q on t y k o ek e)
+      where
+        near : isBelow n (figureIn figs b) ≡ true
+        near = rw (← is, ne-eqb f noFigure (λ h. omega arith)) (lt-ltb f n l)
 
-  -- the point that it needs at plus
-  pub needs-point : (b : Bool) → b ≡ runsWith ws u t → b ≡ true → w .minus ≡ false → (q : ℕ) → q < 16 → needsWith ws u q t ≡ eqb (w .point) q
-  needs-point b h e z q l = let f : wayIn ws t .minus ≡ false = rw is at z in rw (sym h ∙ e, f, ← is) (on (eqb (w .point) q))
-    where
-      on : (x : Bool) → (x && true) ≡ x
-      on true = refl
-      on false = refl
+        turned : (o : Bool) → not o ≡ cond o false (isBelow n (figureIn figs b))
+        turned true = refl
+        turned false = sym near
 
-  pub needs-none : w .minus ≡ true → (q : ℕ) → q < 16 → needsWith ws u q t ≡ eqb 255 q
-  needs-none z q l = let f : wayIn ws t .minus ≡ true = rw is at z in rw f (off (runsWith ws u t) (eqb (wayIn ws t .point) q) ∙ sym (ne-eqb 255 q (λ y. omega arith)))
-    where
-      off : (x y : Bool) → (x && (y && false)) ≡ false
-      off true true = refl
-      off true false = refl
-      off false y = refl
+-- WHO IS FREE
+module _ (r : Railway) (p t : ℕ) (h : Bool) (is : h ≡ held r p t) where
+  pub free-as : free r p t ≡ not h
+  free-as = ap not (sym is)
 
-pub needs-nothing : (ws : List Way) (u t : ℕ) (b : Bool) → b ≡ runsWith ws u t → b ≡ false → (q : ℕ) → q < 16 → needsWith ws u q t ≡ eqb 255 q
-needs-nothing ws u t b h e q l = rw (sym h ∙ e) (sym (ne-eqb 255 q (λ y. omega arith)))
+  pub free-is : h ≡ false → free r p t ≡ true
+  free-is e = rw (sym is ∙ e)
+
+  pub free-not : h ≡ true → free r p t ≡ false
+  free-not e = rw (sym is ∙ e)
+
+  module _ (F : ℕ → Option ℕ) (n : ℕ) where
+    pub held-harmed : h ≡ true → false ≡ harmedAtMinus r F p n t
+    held-harmed e = rw (free-not e)
+
+    pub free-harmed : (b : Bool) → h ≡ false → b ≡ endsBelow r F p n false t → not b ≡ harmedAtMinus r F p n t
+    free-harmed b e g = rw (free-is e, g)
+
+    pub held-good : (bits : ℕ) → h ≡ true → true ≡ goodAtPlus r F p n bits t
+    held-good bits e = rw (free-not e)
+
+    module _ (bits x : ℕ) (v : Bool) (met : x ≡ pointMet r p t) (bit-is : v ≡ bit bits x) (e : h ≡ false) where
+      lies : bit bits (pointMet r p t) ≡ v
+      lies = rw (← met) (sym bit-is)
+
+      pub minus-good : v ≡ false → true ≡ goodAtPlus r F p n bits t
+      minus-good g = rw (free-is e, lies ∙ g)
+
+      pub plus-good : (b : Bool) → v ≡ true → b ≡ endsBelow r F p n true t → b ≡ goodAtPlus r F p n bits t
+      plus-good b g k = rw (free-is e, lies ∙ g, k)
 
 -- BITS: one more that is set
 pub power-small : (x : ℕ) → x < 16 → 2 ^ x ≤ 32768
@@ -143,68 +149,76 @@ with-bits f k x = elim (lt? x k) [
   | inr l ↦ rw (le-ltb x k l) (sym (bits-past f k x l))
 ]
 
-pub open-bits : (u k : ℕ) → withBit 0 u k ≡ fromBits (eqb u) k
-open-bits u k = let e : 0 ≡ fromBits (λ n. false) k = bits-none k in let h : withBit (fromBits (λ n. false) k) u k ≡ fromBits (eqb u) k = with-bits (λ n. false) k u in rw (← e) at h
+pub with-small : (b x k : ℕ) → b < 65536 → k ≤ 16 → withBit b x k < 65536
+with-small b x k lb lk = elim (lt? x k) [
+  | inl l ↦ let same : withBit b x k ≡ withBit b x 16 = rw (lt-ltb x k l, lt-ltb x 16 (omega arith)) in rw same sixteen
+  | inr l ↦ rw (le-ltb x k l) lb
+]
+  where
+    sixteen : withBit b x 16 < 65536
+    sixteen = let e : fromBits (bit b) 16 ≡ b = bits-of 16 b lb in let h : withBit (fromBits (bit b) 16) x 16 < 65536 = rw (with-bits (bit b) 16 x) (bits-below (λ n. bit b n || eqb x n) 16) in rw e at h
 
 pub bits-small : (f : ℕ → Bool) (k : ℕ) → k ≤ 16 → fromBits f k < 65536
 bits-small f k l = omega (arith, bits-below f k, pow-le-pow-right {n = 2} (omega arith) {i = k} {j = 16} l)
 
-pub open-small : (u k : ℕ) → k ≤ 4 → withBit 0 u k < 16
-open-small u k l = rw (open-bits u k) (omega (arith, bits-below (eqb u) k, pow-le-pow-right {n = 2} (omega arith) {i = k} {j = 4} l))
+-- one bit alone
+pub one-bit : (u k : ℕ) → u < k → fromBits (eqb u) k ≡ 2 ^ u
+one-bit u k l = bits-add (λ n. false) k u l refl ∙ ap (λ (b : ℕ). b + 2 ^ u) (sym (bits-none k)) ∙ (omega arith)
 
--- the points needed, train after train
-module _ (ws : List Way) (u m : ℕ) (few : m ≤ 16) where
-  -- the points that some train below t needs
-  abbrev pub needsBelow : ℕ → ℕ → Bool
-  needsBelow t q = anyBelow (needsWith ws u q) t
+-- THE POINTS NEEDED, train after train
+pub record NeedsTo (r : Railway) (m : ℕ) (F : ℕ → Option ℕ) (n p t bits : ℕ) : Type 0 where
+  pub helped : anyBelow (beyondHelp r F p n) t ≡ false
+  pub needed : bits ≡ fromBits (λ x. anyBelow (needsPlus r F p n (λ u. false) x) t) m
 
-  pub needs-start : 0 ≡ fromBits (needsBelow 0) m
-  unfolding anyBelow
-  needs-start = bits-none m
+module _ (r : Railway) (table : List ℕ) (q : Placement) (c k m : ℕ) (F : ℕ → Option ℕ) (n : ℕ) (few : m ≤ 16) where
+  module _ (p : ℕ) (h : Asked r p table q c k m) where
+    pub needs-start : NeedsTo r m F n p 0 0
+    unfolding anyBelow
+    needs-start = record { helped = refl; needed = bits-none m }
 
-  pub needs-next : (t bits x : ℕ) → bits ≡ fromBits (needsBelow t) m → ((q : ℕ) → q < 16 → needsWith ws u q t ≡ eqb x q) → withBit bits x m ≡ fromBits (needsBelow (t + 1)) m
-  unfolding anyBelow
-  needs-next t bits x e h = rw (e, add-one t) (with-bits (needsBelow t) m x ∙ bits-same (λ q. needsBelow t q || eqb x q) (λ q. needsBelow t q || needsWith ws u q t) m (λ q l. rw (h q (omega arith))))
-
--- EVERY MOVE GOOD, train after train: some train below t may move, and all that may are good
-pub record KeepsTo (ws : List Way) (k u bits t : ℕ) (some-runs : Bool) : Type 0 where
-  pub within : t ≤ k
-  pub runs : some-runs ≡ anyBelow (runsWith ws u) t
-  pub good : allBelow (goodWith ws u bits) t ≡ true
-
-module _ (ws : List Way) (k u bits : ℕ) where
-  pub keeps-start : KeepsTo ws k u bits 0 false
-  unfolding anyBelow allBelow
-  keeps-start = record { within = omega arith; runs = refl; good = refl }
-
-  module _ (t : ℕ) (b : Bool) (h : KeepsTo ws k u bits t b) (l : t < k) (x : Bool) (is : x ≡ runsWith ws u t) where
-    pub keeps-not : x ≡ false → KeepsTo ws k u bits (t + 1) b
-    unfolding anyBelow allBelow
-    keeps-not e = record { within = omega (arith, h .within); runs = rw (add-one t, ← (h .runs), sym is ∙ e) (sym (off b)); good = rw (add-one t, h .good, sym is ∙ e) }
-      where
-        off : (y : Bool) → (y || false) ≡ y
-        off true = refl
-        off false = refl
-
-    module _ (y : Bool) (good-is : y ≡ goodWay bits (wayIn ws t)) where
-      pub keeps-good : x ≡ true → y ≡ true → KeepsTo ws k u bits (t + 1) true
-      unfolding anyBelow allBelow
-      keeps-good e z = record { within = omega (arith, h .within); runs = rw (add-one t, sym is ∙ e) (sym (on (anyBelow (runsWith ws u) t))); good = rw (add-one t, h .good, sym is ∙ e, sym good-is ∙ z) }
+    module _ (t bits : ℕ) (inv : NeedsTo r m F n p t bits) (b : Bool) (is : b ≡ harmedAtMinus r F p n t) where
+      -- train t as it is asked: whether it needs a point
+      asks : (x : ℕ) → x < 16 → needsPlus r F p n (λ u. false) x t ≡ (b && eqb (pointMet r p t) x)
+      asks x l = rw (meets-is r p t x l, is) (turn (free r p t) (eqb (pointMet r p t) x) (endsBelow r F p n false t))
         where
-          on : (v : Bool) → (v || true) ≡ true
-          on true = refl
-          on false = refl
+          turn : (f e g : Bool) → ((f || false) && (e && not g)) ≡ ((f && not g) && e)
+          turn true true true = refl
+          turn true true false = refl
+          turn true false true = refl
+          turn true false false = refl
+          turn false e g = refl
 
-      pub keeps-bad : x ≡ true → y ≡ false → false ≡ keepsWith ws k u bits
-      keeps-bad e z = rw (sym (all-but (goodWith ws u bits) k t l (rw (sym is ∙ e, sym good-is ∙ z)))) (sym (off (anyBelow (runsWith ws u) k)))
-        where
-          off : (v : Bool) → (v && false) ≡ false
-          off true = refl
-          off false = refl
+      next : (x : ℕ) → ((y : ℕ) → y < 16 → (b && eqb (pointMet r p t) y) ≡ eqb x y) → withBit bits x m ≡ fromBits (λ y. anyBelow (needsPlus r F p n (λ u. false) y) (t + 1)) m
+      unfolding anyBelow
+      next x e =
+          rw (inv .needed, add-one t)
+          (with-bits (λ y. anyBelow (needsPlus r F p n (λ u. false) y) t) m x ∙ bits-same _ _ m (λ y l. ap (λ (v : Bool). anyBelow (needsPlus r F p n (λ u. false) y) t || v) (sym (asks y (omega arith) ∙ e y (omega arith)))))
 
-  pub keeps-end : (t : ℕ) (b : Bool) → KeepsTo ws k u bits t b → k ≤ t → b ≡ keepsWith ws k u bits
-  keeps-end t b h l = let z : t ≡ k = omega (arith, h .within) in let a : b ≡ anyBelow (runsWith ws u) k = rw z at (h .runs) in let g : allBelow (goodWith ws u bits) k ≡ true = rw z at (h .good) in rw (g, ← a) (sym (on b))
-    where
-      on : (v : Bool) → (v && true) ≡ v
-      on true = refl
-      on false = refl
+      pub needs-not : b ≡ false → NeedsTo r m F n p (t + 1) bits
+      needs-not z =
+          record {
+            helped = any-next (beyondHelp r F p n) t (inv .helped) (rw (sym is ∙ z));
+            needed = (let w : withBit bits 255 m ≡ bits = rw (le-ltb 255 m (omega arith)) in sym w) ∙ next 255 (λ y l. rw z (sym (ne-eqb 255 y (λ g. omega arith))));
+          }
+
+      module _ (x : ℕ) (met : x ≡ pointMet r p t) (z : b ≡ true) where
+        pub needs-one : x < m → NeedsTo r m F n p (t + 1) (withBit bits x m)
+        needs-one l =
+            record {
+              helped = any-next (beyondHelp r F p n) t (inv .helped) (rw (← met, ne-eqb x 255 (λ g. omega arith)) (and-off (harmedAtMinus r F p n t)));
+              needed = next x (λ y l. rw (z, met));
+            }
+
+        pub needs-none : t < k → m ≤ x → none ≡ neededPoints r F p n
+        needs-none lt l =
+            let far : x ≡ 255 = elim (met-small r (facts r (h .on .compiled .accepted)) p t) [ inl a ↦ absurd (omega (arith, h .points, rw (← met) at a)) | inr a ↦ met ∙ a ] in
+            let bad : anyBelow (beyondHelp r F p n) (r .trains) ≡ true =
+            sym (any-one (beyondHelp r F p n) (r .trains) t (rw (← (h .trains)) lt) (and-both (harmedAtMinus r F p n t) (eqb (pointMet r p t) 255) (sym is ∙ z) (rw (← met) (eq-eqb x 255 far)))) in
+            rw bad
+
+    pub needs-end : (t bits : ℕ) → t ≤ k → k ≤ t → NeedsTo r m F n p t bits → some bits ≡ neededPoints r F p n
+    needs-end t bits l g inv =
+        let z : t ≡ r .trains = omega (arith, h .trains) in
+        let good : anyBelow (beyondHelp r F p n) (r .trains) ≡ false = rw z at (inv .helped) in
+        let is : bits ≡ fromBits (λ x. anyBelow (needsPlus r F p n (λ u. false) x) (r .trains)) (r .points) = rw (z, h .points) at (inv .needed) in
+        rw (good, is)

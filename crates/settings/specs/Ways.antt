@@ -1,68 +1,56 @@
--- What the search at one placement looks at: each train's two ways, and what they make of open trains and points. Nothing of document 01 rests on
+-- What the search at one placement looks at: where each train's move ends, with the point that it meets at minus and at plus. Nothing of document 01 rests on
 -- this file. Assumes nothing.
 use mathlib.Core.Path.{_≡_}
 use mathlib.Core.Bool.{Bool, true, false, cond, not, _&&_, _||_}
 use mathlib.Core.List.{List}
-use mathlib.Core.Option.{Option, none}
-use Prim.Native.Nat.{ℕ, _+_, _^_, _<_}
+use mathlib.Core.Option.{Option, none, some}
+use Prim.Native.Nat.{ℕ, _+_, _^_}
 use lib.Dec.{ltb, eqb}
-use lib.ListN.{getD}
-use Rattle.laws.specs.Below.{anyBelow, allBelow}
-use Rattle.laws.specs.Bits.{bit}
+use Rattle.laws.specs.Below.{anyBelow}
+use Rattle.laws.specs.Bits.{bit, fromBits}
 use Rattle.railway.specs.declared.Railway.{Railway}
-use Rattle.railway.specs.Rows.{recordRefusal}
 use Rattle.game.specs.Claim.{figureOf}
 use Rattle.game.specs.Local.{isBelow}
 use Rattle.game.specs.Placement.{shared}
 use Rattle.game.specs.Setting.{headsFor, free}
 use Rattle.game.specs.Moves.{passes, moveOf}
+use Rattle.tables.specs.Find.{somePlus}
 use Rattle.compiled.specs.Table.{pointByte}
-use Rattle.moves.specs.Steps.{allAt}
-use Rattle.settings.specs.declared.Way.{Way}
+use Rattle.moves.specs.declared.Placement.{Placement}
+use Rattle.moves.specs.Answers.{codeOn}
+use Rattle.moves.specs.Steps.{sectionIn, On, allAt}
 
--- What is known of train t in placement p, with figures F and a bound n: whether it is free, which point it meets (none: 255), and whether its move
--- ends in a figure below n with that point at minus and at plus.
-pub record WayOf (r : Railway) (F : ℕ → Option ℕ) (p n t : ℕ) (w : Way) : Type 0 where
-  pub free : w .free ≡ free r p t
-  pub point : w .point ≡ pointByte (passes r (λ i. false) (headsFor r p t) .met)
-  pub minus : w .minus ≡ isBelow n (figureOf F (moveOf r p (allAt false) t))
-  pub plus : w .plus ≡ isBelow n (figureOf F (moveOf r p (allAt true) t))
-
--- What stands for the way of a train that is not there.
-abbrev pub noWay : Way
-noWay = record { free = false; point = 0; minus = false; plus = false }
-
--- What is known of train t.
-abbrev pub wayIn : List Way → ℕ → Way
-wayIn ws t = getD ws t noWay
-
--- .. of every train, in an accepted railway and a placement that is not lost.
-pub record WaysOf (r : Railway) (F : ℕ → Option ℕ) (p n : ℕ) (ws : List Way) (trains points : ℕ) : Type 0 where
-  pub accepted : recordRefusal r ≡ none
+-- What is asked about: placement p of an accepted railway with k trains and m points, by value and by the code of that; not lost.
+pub record Asked (r : Railway) (p : ℕ) (table : List ℕ) (q : Placement) (c k m : ℕ) : Type 0 where
+  pub on : On r p table q
+  pub code : c ≡ codeOn r (sectionIn q)
+  pub trains : k ≡ r .trains
+  pub points : m ≡ r .points
   pub apart : shared r p ≡ false
-  pub trains-there : trains ≡ r .trains
-  pub points-there : points ≡ r .points
-  pub ways : (t : ℕ) → t < r .trains → WayOf r F p n t (wayIn ws t)
 
--- With train u open: train t may move.
-abbrev pub runsWith : List Way → ℕ → ℕ → Bool
-runsWith ws u t = wayIn ws t .free || eqb u t
+-- The point that train t meets (none: 255).
+abbrev pub pointMet : Railway → ℕ → ℕ → ℕ
+pointMet r p t = pointByte (passes r (λ i. false) (headsFor r p t) .met)
 
--- .. and needs point q at plus.
-abbrev pub needsWith : List Way → ℕ → ℕ → ℕ → Bool
-needsWith ws u q t = runsWith ws u t && (eqb (wayIn ws t .point) q && not (wayIn ws t .minus))
+-- The move of train t ends in a figure below n, all points lying at plus or all at minus. It looks at the one that it meets only.
+abbrev pub endsBelow : Railway → (ℕ → Option ℕ) → ℕ → ℕ → Bool → ℕ → Bool
+endsBelow r F p n plus t = isBelow n (figureOf F (moveOf r p (allAt plus) t))
 
--- The move is good with these points at plus.
-abbrev pub goodWay : ℕ → Way → Bool
-goodWay bits w = cond (bit bits (w .point)) (w .plus) (w .minus)
+-- Train t is free and its move does not, at minus.
+abbrev pub harmedAtMinus : Railway → (ℕ → Option ℕ) → ℕ → ℕ → ℕ → Bool
+harmedAtMinus r F p n t = free r p t && not (endsBelow r F p n false t)
 
--- Train t may not move, or its move is good.
-abbrev pub goodWith : List Way → ℕ → ℕ → ℕ → Bool
-goodWith ws u bits t = not (runsWith ws u t) || goodWay bits (wayIn ws t)
+-- .. and it meets no point, so that no setting helps.
+abbrev pub beyondHelp : Railway → (ℕ → Option ℕ) → ℕ → ℕ → ℕ → Bool
+beyondHelp r F p n t = harmedAtMinus r F p n t && eqb (pointMet r p t) 255
 
--- Somebody may move, and all who may have a good move.
-abbrev pub keepsWith : List Way → ℕ → ℕ → ℕ → Bool
-keepsWith ws k u bits = anyBelow (runsWith ws u) k && allBelow (goodWith ws u bits) k
+-- The points that free trains need at plus, unless one is beyond help.
+abbrev pub neededPoints : Railway → (ℕ → Option ℕ) → ℕ → ℕ → Option ℕ
+neededPoints r F p n = cond (anyBelow (beyondHelp r F p n) (r .trains)) none (some (fromBits (somePlus r F p n (λ t. false)) (r .points)))
+
+-- Train t is not free, or its point is not among these, or its move ends below n at plus.
+abbrev pub goodAtPlus : Railway → (ℕ → Option ℕ) → ℕ → ℕ → ℕ → ℕ → Bool
+goodAtPlus r F p n bits t = not (free r p t && bit bits (pointMet r p t)) || endsBelow r F p n true t
 
 -- A number of k bits with bit x set.
 abbrev pub withBit : ℕ → ℕ → ℕ → ℕ

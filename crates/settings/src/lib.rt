@@ -1,25 +1,24 @@
-// The first setting that keeps a placement below a figure, or nothing: what one step of a solver asks. It looks at each train's two
-// ways once, and then at nothing else, so that its time goes with the trains and not with the settings.
+// The first setting that keeps a placement below a figure, or nothing: what one step of a solver asks. It looks at no train's way more than twice, so that its
+// time goes with the trains and not with the settings.
 ghost use mathlib.Core.Path.{_≡_};
-ghost use mathlib.Core.Bool.{Bool, true, false};
-ghost use mathlib.Core.Option.{Option, some};
+ghost use mathlib.Core.Bool.{true, false};
+ghost use mathlib.Core.Option.{some};
 ghost use Prim.Native.Nat.{ℕ, _≤_, _<_};
 ghost use lib.Dec.{eqb};
-ghost use Rattle.laws.specs.Below.{anyBelow};
-ghost use Rattle.laws.specs.Bits.{fromBits};
+ghost use Rattle.laws.specs.Below.{anyBelow, allBelow};
 ghost use Rattle.railway.specs.declared.Railway.{Railway};
 ghost use Rattle.game.specs.Game.{Outcome};
 ghost use Rattle.game.specs.Claim.{figureOf};
 ghost use Rattle.game.specs.Local.{isBelow};
-ghost use Rattle.game.specs.Setting.{headsFor};
-ghost use Rattle.game.specs.Moves.{passes, moveOf};
+ghost use Rattle.game.specs.Setting.{free};
 ghost use Rattle.tables.specs.Tables.{figureIn};
 ghost use Rattle.tables.specs.Find.{tryMet, findMet};
-ghost use Rattle.compiled.specs.Table.{pointByte, Compiled};
+ghost use Rattle.compiled.specs.Table.{Compiled};
 ghost use Rattle.moves.specs.Answers.{codeOn, ended};
-ghost use Rattle.moves.specs.Steps.{sectionIn, On, allAt};
+ghost use Rattle.moves.specs.Steps.{sectionIn, On};
 ghost use Rattle.settings.specs.Answers.{entryFound, firstKeeping};
-ghost use Rattle.settings.specs.Ways.{WayOf, wayIn, WaysOf, runsWith, needsWith, goodWay, keepsWith, withBit};
+ghost use Rattle.settings.specs.Ways.{Asked, endsBelow, harmedAtMinus, neededPoints, goodAtPlus, withBit};
+use compiled::NO_BYTE;
 use compiled::Table;
 use moves::Move;
 use moves::Placement;
@@ -31,15 +30,6 @@ pub enum Found {
     Entry(u32),
 }
 
-// A train's two ways: whether it is free, which point it meets (255: none), and whether its move ends below the figure with that
-// point at minus and at plus.
-pub struct Way {
-    pub free: bool,
-    pub point: u8,
-    pub minus: bool,
-    pub plus: bool,
-}
-
 // THE FIRST SETTING that keeps a placement below figure n, in the plan's order: no signal open, else that of the lowest train
 // that works; each point at minus unless a train that may move needs it at plus.
 pub fn find_setting(table: &Table, figures: &[u32], p: u32, n: u32) -> Found
@@ -49,7 +39,7 @@ pub fn find_setting(table: &Table, figures: &[u32], p: u32, n: u32) -> Found
     find_in(table, figures, q, moves::code_of(table, q), n)
 }
 
-// .. for a placement by value and its code.
+// .. for a placement by value and its code. Where a train is free, opening a signal only adds moves, so none is opened; else one must be.
 pub fn find_in(table: &Table, figures: &[u32], q: Placement, c: u32, n: u32) -> Found
     ensures { λ f. ⌜ ((r : Railway) (p : ℕ) → On r p (now (table .entry)) q → c ≡ codeOn r (sectionIn q) → entryFound f ≡ firstKeeping r (figureIn (now (figures .entry))) p n) ⌝ }
 {
@@ -64,51 +54,190 @@ pub fn find_in(table: &Table, figures: &[u32], q: Placement, c: u32, n: u32) -> 
     if moves::lost_in(table, q) {
         return Found::Nothing;
     }
-    search(ways_of(table, figures, q, n), k, m)
-}
-
-// Every train's ways. The search looks at nothing else.
-fn ways_of(table: &Table, figures: &[u32], q: Placement, n: u32) -> [Way; 4]
-    ensures { λ ws. ⌜ ((r : Railway) (p t : ℕ) → On r p (now (table .entry)) q → t < r .trains → WayOf r (figureIn (now (figures .entry))) p n t (wayIn ws t)) ⌝ }
-{
-    let a = way_of(table, figures, q, n, 0);
-    let b = way_of(table, figures, q, n, 1);
-    let c = way_of(table, figures, q, n, 2);
-    let d = way_of(table, figures, q, n, 3);
-    [a, b, c, d]
-}
-
-fn way_of(table: &Table, figures: &[u32], q: Placement, n: u32, t: u8) -> Way
-    ensures { λ w. ⌜ ((r : Railway) (p : ℕ) → On r p (now (table .entry)) q → t < r .trains → WayOf r (figureIn (now (figures .entry))) p n t w) ⌝ }
-{
-    let held = moves::held_in(table, q, t);
-    let point = moves::point_in(table, q, t);
-    let minus = is_below(figures, moves::end_of(table, q, t, false), n);
-    let plus = plus_below(table, figures, q, n, t, point, minus);
-    Way {
-        free: !held,
-        point: point,
-        minus: minus,
-        plus: plus,
+    if some_free(table, q, k) {
+        guide_free(table, figures, q, c, n, k, m)
+    } else {
+        open_one(table, figures, q, c, n, k, m)
     }
 }
 
-// .. with the point at plus. A train that meets no point has one way only, and its figure is not looked up again.
-fn plus_below(
+// Some train is free.
+fn some_free(table: &Table, q: Placement, k: u8) -> bool
+    ensures { λ b. ⌜ ((r : Railway) (p : ℕ) → On r p (now (table .entry)) q → k ≡ r .trains → b ≡ anyBelow (free r p) (r .trains)) ⌝ }
+{
+    let mut t: u8 = 0;
+    while t < k {
+        if !moves::held_in(table, q, t) {
+            return true;
+        }
+        t += 1;
+    }
+    false
+}
+
+// The move of train t ends below figure n, all points lying at plus or all at minus. The figure is looked at first: seldom is there a
+// train to collide with where it is small enough.
+fn ends_below(
     table: &Table,
     figures: &[u32],
     q: Placement,
+    c: u32,
     n: u32,
     t: u8,
-    point: u8,
-    minus: bool,
+    plus: bool,
 ) -> bool
-    ensures { λ b. ⌜ ((r : Railway) (p : ℕ) → On r p (now (table .entry)) q → t < r .trains → point ≡ pointByte (passes r (λ i. false) (headsFor r p t) .met) → minus ≡ isBelow n (figureOf (figureIn (now (figures .entry))) (moveOf r p (allAt false) t)) → b ≡ isBelow n (figureOf (figureIn (now (figures .entry))) (moveOf r p (allAt true) t))) ⌝ }
+    ensures { λ b. ⌜ ((r : Railway) (p : ℕ) → On r p (now (table .entry)) q → c ≡ codeOn r (sectionIn q) → t < r .trains → b ≡ endsBelow r (figureIn (now (figures .entry))) p n plus t) ⌝ }
 {
-    if point == compiled::NO_BYTE {
-        return minus;
+    let y = moves::leads_to(table, q, t, plus);
+    if y == NO_BYTE {
+        return false;
     }
-    is_below(figures, moves::end_of(table, q, t, true), n)
+    let w = moves::power(compiled::count_in(table, 0), t);
+    let after = moves::code_put(c, w, moves::section_at(q, t), y);
+    if n <= tables::entry_at(figures, after, tables::NO_FIGURE) {
+        return false;
+    }
+    !moves::other_in(q, t, y, compiled::count_in(table, 2))
+}
+
+// SOME TRAIN FREE: no signal open, and the points as the free trains need them, if that keeps the figure.
+fn guide_free(table: &Table, figures: &[u32], q: Placement, c: u32, n: u32, k: u8, m: u8) -> Found
+    requires { ⌜ m ≤ 16 ⌝ }
+    ensures { λ f. ⌜ ((r : Railway) (p : ℕ) → Asked r p (now (table .entry)) q c k m → anyBelow (free r p) (r .trains) ≡ true → entryFound f ≡ findMet r (figureIn (now (figures .entry))) p n) ⌝ }
+{
+    let needed = plus_bits(table, figures, q, c, n, k, m);
+    let Found::Entry(bits) = needed else {
+        return Found::Nothing;
+    };
+    if plus_holds(table, figures, q, c, n, k, bits) {
+        Found::Entry(bits)
+    } else {
+        Found::Nothing
+    }
+}
+
+// The points that free trains need at plus; nothing, if one needs a point and meets none.
+fn plus_bits(table: &Table, figures: &[u32], q: Placement, c: u32, n: u32, k: u8, m: u8) -> Found
+    requires { ⌜ m ≤ 16 ⌝ }
+    ensures { λ f. ⌜ ((r : Railway) (p : ℕ) → Asked r p (now (table .entry)) q c k m → entryFound f ≡ neededPoints r (figureIn (now (figures .entry))) p n) ⌝ }
+{
+    let mut bits: u32 = 0;
+    let mut t: u8 = 0;
+    while t < k {
+        if needs_plus(table, figures, q, c, n, t) {
+            let x = moves::point_in(table, q, t);
+            if m <= x {
+                return Found::Nothing;
+            }
+            bits = with_bit(bits, x, m);
+        }
+        t += 1;
+    }
+    Found::Entry(bits)
+}
+
+// Train t is free, and its move does not end below the figure with its point at minus.
+fn needs_plus(table: &Table, figures: &[u32], q: Placement, c: u32, n: u32, t: u8) -> bool
+    ensures { λ b. ⌜ ((r : Railway) (p : ℕ) → On r p (now (table .entry)) q → c ≡ codeOn r (sectionIn q) → t < r .trains → b ≡ harmedAtMinus r (figureIn (now (figures .entry))) p n t) ⌝ }
+{
+    if moves::held_in(table, q, t) {
+        return false;
+    }
+    !ends_below(table, figures, q, c, n, t, false)
+}
+
+// A number of k bits with bit x set.
+fn with_bit(b: u32, x: u8, k: u8) -> u32
+    requires { ⌜ (b < 65536) × (k ≤ 16) ⌝ }
+    ensures { λ c. ⌜ c ≡ withBit b x k ⌝ }
+{
+    if x < k {
+        if moves::bit_at(b, x as u32) {
+            return b;
+        }
+        return b + (1u32 << x);
+    }
+    b
+}
+
+// Every free train whose point lies at plus ends below the figure.
+fn plus_holds(
+    table: &Table,
+    figures: &[u32],
+    q: Placement,
+    c: u32,
+    n: u32,
+    k: u8,
+    bits: u32,
+) -> bool
+    ensures { λ b. ⌜ ((r : Railway) (p : ℕ) → On r p (now (table .entry)) q → c ≡ codeOn r (sectionIn q) → k ≡ r .trains → b ≡ allBelow (goodAtPlus r (figureIn (now (figures .entry))) p n bits) (r .trains)) ⌝ }
+{
+    let mut t: u8 = 0;
+    while t < k {
+        if good_at_plus(table, figures, q, c, n, t, bits) {
+            t += 1;
+        } else {
+            return false;
+        }
+    }
+    true
+}
+
+fn good_at_plus(
+    table: &Table,
+    figures: &[u32],
+    q: Placement,
+    c: u32,
+    n: u32,
+    t: u8,
+    bits: u32,
+) -> bool
+    ensures { λ b. ⌜ ((r : Railway) (p : ℕ) → On r p (now (table .entry)) q → c ≡ codeOn r (sectionIn q) → t < r .trains → b ≡ goodAtPlus r (figureIn (now (figures .entry))) p n bits t) ⌝ }
+{
+    if moves::held_in(table, q, t) {
+        return true;
+    }
+    let x = moves::point_in(table, q, t);
+    if moves::bit_at(bits, x as u32) {
+        ends_below(table, figures, q, c, n, t, true)
+    } else {
+        true
+    }
+}
+
+// NO TRAIN FREE: the lowest train whose signal alone keeps the figure.
+fn open_one(table: &Table, figures: &[u32], q: Placement, c: u32, n: u32, k: u8, m: u8) -> Found
+    requires { ⌜ (k ≤ 4) × (m ≤ 16) ⌝ }
+    ensures { λ f. ⌜ ((r : Railway) (p : ℕ) → Asked r p (now (table .entry)) q c k m → anyBelow (free r p) (r .trains) ≡ false → entryFound f ≡ findMet r (figureIn (now (figures .entry))) p n) ⌝ }
+{
+    let mut u: u8 = 0;
+    while u < k {
+        let one = open_train(table, figures, q, c, n, m, u);
+        let Found::Nothing = one else {
+            return one;
+        };
+        u += 1;
+    }
+    Found::Nothing
+}
+
+// Train u open, and its point as it needs it, if that keeps the figure.
+fn open_train(table: &Table, figures: &[u32], q: Placement, c: u32, n: u32, m: u8, u: u8) -> Found
+    requires { ⌜ (u < 4) × (m ≤ 16) ⌝ }
+    ensures { λ f. ⌜ ((r : Railway) (p : ℕ) → Asked r p (now (table .entry)) q c (r .trains) m → anyBelow (free r p) (r .trains) ≡ false → u < r .trains → entryFound f ≡ tryMet r (figureIn (now (figures .entry))) p n (eqb u)) ⌝ }
+{
+    let open = 65536 * (1u32 << u);
+    if ends_below(table, figures, q, c, n, u, false) {
+        return Found::Entry(open);
+    }
+    let x = moves::point_in(table, q, u);
+    if m <= x {
+        return Found::Nothing;
+    }
+    if ends_below(table, figures, q, c, n, u, true) {
+        return Found::Entry((1u32 << x) + open);
+    }
+    Found::Nothing
 }
 
 // What a move ends in has a figure below n.
@@ -126,132 +255,5 @@ pub fn is_below(figures: &[u32], m: Move, n: u32) -> bool
             }
             f < n
         }
-    }
-}
-
-// With no signal open, else with that of each train in turn.
-fn search(ws: [Way; 4], k: u8, m: u8) -> Found
-    requires { ⌜ (k ≤ 4) × (m ≤ 16) ⌝ }
-    ensures { λ f. ⌜ ((r : Railway) (F : ℕ → Option ℕ) (p n : ℕ) → WaysOf r F p n ws k m → entryFound f ≡ findMet r F p n) ⌝ }
-{
-    let closed = try_open(ws, k, m, k);
-    let Found::Nothing = closed else {
-        return closed;
-    };
-    let mut u: u8 = 0;
-    while u < k {
-        let one = try_open(ws, k, m, u);
-        let Found::Nothing = one else {
-            return one;
-        };
-        u += 1;
-    }
-    Found::Nothing
-}
-
-// Train u open (none, if u is k), and the points as they are needed, if that keeps the figure.
-fn try_open(ws: [Way; 4], k: u8, m: u8, u: u8) -> Found
-    requires { ⌜ (k ≤ 4) × (m ≤ 16) ⌝ }
-    ensures { λ f. ⌜ ((r : Railway) (F : ℕ → Option ℕ) (p n : ℕ) (opens : ℕ → Bool) → WaysOf r F p n ws k m → ((t : ℕ) → t < k → opens t ≡ eqb u t) → entryFound f ≡ tryMet r F p n opens) ⌝ }
-{
-    let bits = plus_bits(ws, k, m, u);
-    if keeps(ws, k, u, bits) {
-        let o = with_bit(0, u, k);
-        Found::Entry(bits + 65536 * o)
-    } else {
-        Found::Nothing
-    }
-}
-
-// The points that some train needs at plus.
-fn plus_bits(ws: [Way; 4], k: u8, m: u8, u: u8) -> u32
-    requires { ⌜ (k ≤ 4) × (m ≤ 16) ⌝ }
-    ensures { λ b. ⌜ b ≡ fromBits (λ q. anyBelow (needsWith ws u q) k) m ⌝ }
-{
-    let mut bits: u32 = 0;
-    let mut t: u8 = 0;
-    while t < k {
-        let x = needed(ws, u, t);
-        bits = with_bit(bits, x, m);
-        t += 1;
-    }
-    bits
-}
-
-// The point that train t needs at plus; 255: none.
-fn needed(ws: [Way; 4], u: u8, t: u8) -> u8
-    requires { ⌜ t < 4 ⌝ }
-    ensures { λ x. ⌜ ((q : ℕ) → q < 16 → needsWith ws u q t ≡ eqb x q) ⌝ }
-{
-    if runs(ws, u, t) {
-        let w = way_at(ws, t);
-        if w.minus { compiled::NO_BYTE } else { w.point }
-    } else {
-        compiled::NO_BYTE
-    }
-}
-
-// Train t may move with train u open.
-fn runs(ws: [Way; 4], u: u8, t: u8) -> bool
-    requires { ⌜ t < 4 ⌝ }
-    ensures { λ b. ⌜ b ≡ runsWith ws u t ⌝ }
-{
-    let w = way_at(ws, t);
-    if w.free { true } else { u == t }
-}
-
-fn way_at(ws: [Way; 4], t: u8) -> Way
-    requires { ⌜ t < 4 ⌝ }
-    ensures { λ w. ⌜ w ≡ wayIn ws t ⌝ }
-{
-    let at = t as usize;
-    ws[at]
-}
-
-// A number of k bits with bit x set.
-fn with_bit(b: u32, x: u8, k: u8) -> u32
-    requires { ⌜ (b < 65536) × (k ≤ 16) ⌝ }
-    ensures { λ c. ⌜ c ≡ withBit b x k ⌝ }
-{
-    if x < k {
-        if moves::bit_at(b, x as u32) {
-            return b;
-        }
-        return b + (1u32 << x);
-    }
-    b
-}
-
-// Some train may move, and every move allowed ends below the figure.
-fn keeps(ws: [Way; 4], k: u8, u: u8, bits: u32) -> bool
-    requires { ⌜ k ≤ 4 ⌝ }
-    ensures { λ b. ⌜ b ≡ keepsWith ws k u bits ⌝ }
-{
-    let mut some = false;
-    let mut t: u8 = 0;
-    while t < k {
-        if runs(ws, u, t) {
-            if is_good(ws, bits, t) {
-                some = true;
-            } else {
-                return false;
-            }
-        }
-        t += 1;
-    }
-    some
-}
-
-// The move of train t ends below the figure with these points at plus.
-fn is_good(ws: [Way; 4], bits: u32, t: u8) -> bool
-    requires { ⌜ t < 4 ⌝ }
-    ensures { λ b. ⌜ b ≡ goodWay bits (wayIn ws t) ⌝ }
-{
-    let w = way_at(ws, t);
-    let n = w.point;
-    if moves::bit_at(bits, n as u32) {
-        w.plus
-    } else {
-        w.minus
     }
 }

@@ -1,9 +1,10 @@
--- `settings::find_in` meets its contract: the counts of an accepted railway are within their bounds, and every train that is there has its ways.
+-- `settings::find_in` meets its contract: the counts of an accepted railway are within their bounds; a lost placement keeps nothing; else it hangs on whether a train is free.
 -- Assumes nothing.
 use native.Mathlib.Omega.{arith}
-use borrow.Author.Needs.{needs}
+use mathlib.Core.Path.{sym, _∙_}
 use Rattle.game.proofs.Accepted.{facts}
-use Rattle.settings.proofs.Trying.{lost-none, found-first, trains-few, points-few, ways-all}
+use Rattle.settings.proofs.Trying.{lost-none, found-first, trains-few, points-few, asked}
+use borrow.Author.Needs.{needs}
 use Rattle.settings.proofs.find_in.Statement.{statement}
 use Rattle.settings.proofs.find_in.Tie as tie
 
@@ -25,14 +26,36 @@ lost-in-requires c κs = search needs
 returns-3 : tie.Need-returns-3
 returns-3 c = λ r p on e. lost-none r _ _ _ _ (c .before .lost-in .ensures r _ on) (c .if3 .taken)
 
-ways-of-requires : tie.Need-ways-of-requires
-ways-of-requires c κs = search needs
+some-free-requires : tie.Need-some-free-requires
+some-free-requires c κs = search needs
 
-search-requires : tie.Need-search-requires
-search-requires c κs = search needs
+guide-free-requires : tie.Need-guide-free-requires
+guide-free-requires c κs = search needs
+
+open-one-requires : tie.Need-open-one-requires
+open-one-requires c κs = search needs
 
 returns-4 : tie.Need-returns-4
-returns-4 c = λ r p on e. let h = on .compiled in let lost = c .before .before .before .lost-in .ensures r _ on in found-first r _ _ _ _ lost (facts r (h .accepted)) (c .before .before .if3 .left) _ (c .search .ensures r _ _ _ (ways-all r _ h _ _ (c .before .before .before .before .before .before .before .count-in .ensures r h (omega arith)) (c .before .before .before .before .before .before .count-in2 .ensures r h (omega arith)) _ _ _ _ _ lost (c .before .before .if3 .left) (λ t l. c .before .ways-of .ensures r _ t on l)))
+returns-4 c =
+    let f = c .before .before in
+    let i = f .before in
+    let m = i .before .before .before .before in
+    λ r p on e.
+    let h = on .compiled in
+    let lost = i .before .lost-in .ensures r p on in
+    let all = asked r _ h _ _ (m .before .count-in .ensures r h (omega arith)) (m .count-in2 .ensures r h (omega arith)) p _ _ _ on e lost (i .if3 .left) in
+    found-first r _ _ _ _ lost (facts r (h .accepted)) (i .if3 .left) _ (c .guide-free .ensures r p all (sym (f .some-free .ensures r p on (all .trains)) ∙ c .before .if4 .taken))
+
+returns-5 : tie.Need-returns-5
+returns-5 c =
+    let f = c .before .before in
+    let i = f .before in
+    let m = i .before .before .before .before in
+    λ r p on e.
+    let h = on .compiled in
+    let lost = i .before .lost-in .ensures r p on in
+    let all = asked r _ h _ _ (m .before .count-in .ensures r h (omega arith)) (m .count-in2 .ensures r h (omega arith)) p _ _ _ on e lost (i .if3 .left) in
+    found-first r _ _ _ _ lost (facts r (h .accepted)) (i .if3 .left) _ (c .open-one .ensures r p all (sym (f .some-free .ensures r p on (all .trains)) ∙ c .before .if4 .left))
 
 pub find-in-spec : {M : Type 1} → statement M
 find-in-spec =
@@ -44,6 +67,8 @@ find-in-spec =
     returns-2
     lost-in-requires
     returns-3
-    ways-of-requires
-    search-requires
-    returns-4)
+    some-free-requires
+    guide-free-requires
+    open-one-requires
+    returns-4
+    returns-5)

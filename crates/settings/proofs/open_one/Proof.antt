@@ -1,0 +1,93 @@
+-- `settings::open_one` meets its contract. The loop's invariant: no try before train u has found anything.
+-- Assumes nothing.
+use native.Mathlib.Omega.{arith}
+use borrow.Author.Needs.{needs}
+use Prim.Native.Nat.{ℕ, _-_, _≤_}
+use mathlib.Core.Bool.{false}
+use mathlib.Core.Option.{none}
+use mathlib.Core.List.{List}
+use Rattle.moves.specs.declared.Placement.{Placement}
+use mathlib.Core.Path.{_≡_, refl, sym, _∙_, ap}
+use lib.Dec.{eqb}
+use Rattle.laws.specs.Below.{anyBelow}
+use Rattle.railway.specs.declared.Railway.{Railway}
+use Rattle.game.specs.Setting.{free}
+use Rattle.game.proofs.Accepted.{facts}
+use Rattle.tables.specs.Tables.{figureIn}
+use Rattle.tables.specs.Find.{tryMet, firstFound}
+use Rattle.settings.specs.Answers.{entryFound}
+use Rattle.settings.specs.Ways.{Asked}
+use Rattle.settings.proofs.Trying.{closed-none, first-next, found-open, found-none}
+use Rattle.settings.proofs.open_one.Statement.{statement}
+use Rattle.settings.proofs.open_one.Tie as tie
+
+-- as the train's own function is asked
+every : {r : Railway} {p : ℕ} {table : List ℕ} {q : Placement} {c k m : ℕ} → Asked r p table q c k m → Asked r p table q c (r .trains) m
+every h = record { on = h .on; code = h .code; trains = refl; points = h .points; apart = h .apart }
+
+abbrev Inv-loop : tie.InvT-loop
+Inv-loop table figures q c n k m u₀ u = (u ≤ k) × ((r : Railway) (p : ℕ) → Asked r p table q c k m → anyBelow (free r p) (r .trains) ≡ false → firstFound (λ u. tryMet r (figureIn figures) p n (eqb u)) u ≡ none)
+
+abbrev μ-loop : tie.MeasureT-loop
+μ-loop table figures q c n k m u₀ u = k - u
+
+loop-holds : tie.Need-loop-holds Inv-loop μ-loop
+unfolding firstFound
+loop-holds c = (omega arith, λ r p h f. refl)
+
+open-train-requires : tie.Need-open-train-requires Inv-loop μ-loop
+open-train-requires c κs = search needs
+
+enum-told : tie.Need-enum-told Inv-loop μ-loop
+enum-told c = search needs
+
+enum-told-2 : tie.Need-enum-told-2 Inv-loop μ-loop
+enum-told-2 c = search needs
+
+returns : tie.Need-returns Inv-loop μ-loop
+returns c =
+    let t = c .before .before in
+    let l = t .before .before in
+    let e = ap entryFound (c .enum-told2 .given .1) in
+    λ r p h f.
+    let k = facts r (h .on .compiled .accepted) in
+    let there = rw (h .trains) at (t .before .loop-test .taken) in
+    e ∙ found-open r _ p _ _ (h .trains) (closed-none r k p (h .apart) _ _ f) (l .loop .u) _ (t .before .loop-test .taken) (l .loop .inv .1 r p h f) (sym e ∙ t .open-train .ensures r p (every h) f there)
+
+add-u : tie.Need-add-u Inv-loop μ-loop
+add-u c = omega arith
+
+loop-less : tie.Need-loop-less Inv-loop μ-loop
+loop-less c = omega arith
+
+loop-again : tie.Need-loop-again Inv-loop μ-loop
+loop-again c =
+    let t = c .before .before in
+    let l = t .before .before in (
+      omega arith,
+      λ r p h f.
+          first-next (λ u. tryMet r _ p _ (eqb u)) _ (l .loop .inv .1 r p h f)
+          (sym (ap entryFound (c .enum-told .given .1)) ∙ t .open-train .ensures r p (every h) f (rw (h .trains) at (t .before .loop-test .taken))),
+    )
+
+returns-2 : tie.Need-returns-2 Inv-loop μ-loop
+returns-2 c =
+    let l = c .before in
+    λ r p h f.
+    found-none r _ p _ _ (h .trains) (closed-none r (facts r (h .on .compiled .accepted)) p (h .apart) _ _ f) (l .loop .u) (l .loop .inv .0) (c .loop-test .left) (l .loop .inv .1 r p h f)
+
+pub open-one-spec : {M : Type 1} → statement M
+open-one-spec =
+    tie.close
+    (tie.spec
+    Inv-loop
+    μ-loop
+    loop-holds
+    open-train-requires
+    enum-told
+    enum-told-2
+    returns
+    add-u
+    loop-less
+    loop-again
+    returns-2)

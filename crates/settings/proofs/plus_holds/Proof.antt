@@ -1,0 +1,58 @@
+-- `settings::plus_holds` meets its contract. The loop's invariant: every train before t is good.
+-- Assumes nothing.
+use native.Mathlib.Omega.{arith}
+use borrow.Author.Needs.{needs}
+use Prim.Native.Nat.{ℕ, _-_, _≤_}
+use mathlib.Core.Bool.{true}
+use mathlib.Core.Path.{_≡_, refl, sym, _∙_}
+use Rattle.laws.specs.Below.{allBelow}
+use Rattle.laws.proofs.Below.{all-next, all-each, all-but}
+use Rattle.railway.specs.declared.Railway.{Railway}
+use Rattle.tables.specs.Tables.{figureIn}
+use Rattle.moves.specs.Answers.{codeOn}
+use Rattle.moves.specs.Steps.{sectionIn, On}
+use Rattle.settings.specs.Ways.{goodAtPlus}
+use Rattle.settings.proofs.plus_holds.Statement.{statement}
+use Rattle.settings.proofs.plus_holds.Tie as tie
+
+abbrev Inv-loop : tie.InvT-loop
+Inv-loop table figures q c n k bits t₀ t = (t ≤ k) × ((r : Railway) (p : ℕ) → On r p table q → c ≡ codeOn r (sectionIn q) → k ≡ r .trains → allBelow (goodAtPlus r (figureIn figures) p n bits) t ≡ true)
+
+abbrev μ-loop : tie.MeasureT-loop
+μ-loop table figures q c n k bits t₀ t = k - t
+
+loop-holds : tie.Need-loop-holds Inv-loop μ-loop
+unfolding allBelow
+loop-holds c = (omega arith, λ r p on e k. refl)
+
+good-at-plus-requires : tie.Need-good-at-plus-requires Inv-loop μ-loop
+good-at-plus-requires c κs = search needs
+
+add-t : tie.Need-add-t Inv-loop μ-loop
+add-t c = omega arith
+
+loop-less : tie.Need-loop-less Inv-loop μ-loop
+loop-less c = omega arith
+
+loop-again : tie.Need-loop-again Inv-loop μ-loop
+loop-again c = let l = c .before .before .before in (omega arith, λ r p on e k. all-next (goodAtPlus r _ p _ _) _ (l .loop .inv .1 r p on e k) (sym (c .before .good-at-plus .ensures r p on e (rw k at (c .before .before .loop-test .taken))) ∙ c .if1 .taken))
+
+returns : tie.Need-returns Inv-loop μ-loop
+returns c = λ r p on e k. let l = c .before .before .before in let lt = rw k at (c .before .before .loop-test .taken) in all-but (goodAtPlus r _ p _ _) (r .trains) (l .loop .t) lt (sym (c .before .good-at-plus .ensures r p on e lt) ∙ c .if1 .left)
+
+returns-2 : tie.Need-returns-2 Inv-loop μ-loop
+returns-2 c = λ r p on e k. let l = c .before in all-each (goodAtPlus r _ p _ _) (r .trains) (l .loop .t) (l .loop .inv .1 r p on e k) (rw k at (l .loop .inv .0)) (rw k at (c .loop-test .left))
+
+pub plus-holds-spec : {M : Type 1} → statement M
+plus-holds-spec =
+    tie.close
+    (tie.spec
+    Inv-loop
+    μ-loop
+    loop-holds
+    good-at-plus-requires
+    add-t
+    loop-less
+    loop-again
+    returns
+    returns-2)
