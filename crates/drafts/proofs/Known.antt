@@ -64,8 +64,8 @@ module _ (d : Description) where
   SizedBy r = Sized (d .sections) (d .points) (d .trains) r
 
   pub there-known : (r : Railway) → SizedBy r → (e : EndField) → isThere r e ≡ known d e
-  there-known r z (section n s) = rw (z .sections)
-  there-known r z (port n l) = rw (z .points)
+  there-known r z (section n s) = ap (within n) (z .sections)
+  there-known r z (port n l) = ap (within n) (z .points)
 
   module _ (w : Draft) (z : SizedBy (w .railway)) where
     ends-unknown : (a b : Bool) (e f : End) → putEnds w (cond a (There e) NotThere) (cond b (There f) NotThere) .unknown ≡ (w .unknown || not (a && b))

@@ -43,7 +43,7 @@ module _ (r : Railway) where
   -- who may move: a free train always, another as its signal says
   pub may-free : (p : ℕ) (s : Setting) (t : ℕ) → held r p t ≡ false → mayMove r p s t ≡ true
   unfolding mayMove
-  may-free p s t h = rw h
+  may-free p s t h = rw h refl
 
   pub may-held : (p : ℕ) (s : Setting) (t : ℕ) → held r p t ≡ true → mayMove r p s t ≡ opensFor r p s t
   unfolding mayMove

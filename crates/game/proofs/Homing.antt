@@ -50,7 +50,9 @@ module _ {S : Type 0} (g : Game S) (F : ℕ → Option ℕ) (f : ℕ → S) (ins
       | inl e ↦ rw (home-over (g .isLost q) (g .isHome q) e) (a .0, a .1, inl e)
       | inr e ↦ elim (a .2) [
         | inl e′ ↦ clash e′ e
-        | inr r ↦ rw (not-over (g .isLost q) (g .isHome q) (not-lost q (r .0) (a .0) (r .1)) e, a .1) (turns n m h q (f q) _ (r .0) (a .0) (kept q (r .0) (a .0) (r .1) e) (r .2))
+        | inr r ↦
+            let k : Keeps g F q (w h q) (r .0) = rw (a .1) (kept q (r .0) (a .0) (r .1) e) in
+            rw (not-over (g .isLost q) (g .isHome q) (not-lost q (r .0) (a .0) (r .1)) e) (turns n m h q (w h q) _ (r .0) (a .0) k (r .2))
       ]
     ]
 

@@ -66,7 +66,7 @@ module _ {S : Type 0} (g : Game S) where
 
   -- lost trains are not home, and their play has ended
   pub lost-not-home : (p : ℕ) → g .isLost p ≡ true → (home g p ≡ false) × (over g p ≡ true)
-  lost-not-home p e = (rw e, rw e)
+  lost-not-home p e = (rw e refl, rw e)
 
 -- a kept figure, computed
 module _ {S : Type 0} (g : Game S) (F : ℕ → Option ℕ) (p : ℕ) (s : S) (n : ℕ) where

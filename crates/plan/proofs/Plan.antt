@@ -10,7 +10,7 @@ use native.Mathlib.Omega.{arith}
 use lib.ListN.{length, getD}
 use lib.Dec.{eqb, ltb, leb}
 use borrow.Author.Tests.{lt-ltb, eqb-true, eq-eqb, ne-eqb, le-leb, le-ltb}
-use Rattle.laws.specs.Below.{whichBelow, listBelow, orElse}
+use Rattle.laws.specs.Below.{whichBelow, orElse}
 use Rattle.laws.specs.Bits.{bit}
 use Rattle.laws.specs.Lists.{all}
 use Rattle.laws.proofs.Bools.{lt?, eq?, clash, some-none, and-true, and-both}
@@ -96,8 +96,8 @@ module _ (r : Railway) (accepted : recordRefusal r ≡ none) (figs sets : List �
       let a : eqb (length (sectionsOf r p)) (r .trains) ≡ true = eq-eqb _ _ (sections-length (r .sections) (r .trains) p) in
       let b : all (λ x. ltb x (r .sections)) (sectionsOf r p) ≡ true = all-below (r .sections) (sectionsOf r p) (sections-below (r .sections) (r .trains) p (ok .one-section)) in
       let c : ltb (getD figs p noFigure) noFigure ≡ true = lt-ltb _ _ (entry-below (getD figs p noFigure) (f .0) l (f .1)) in
-      let d : eqb (length (listBelow (opensIn (getD sets p 0)) (r .trains))) (r .trains) ≡ true = eq-eqb _ _ (list-length (opensIn (getD sets p 0)) (r .trains)) in
-      let g : eqb (length (listBelow (bit (getD sets p 0)) (r .points))) (r .points) ≡ true = eq-eqb _ _ (list-length (bit (getD sets p 0)) (r .points)) in
+      let d : eqb (length (lineFor r figs sets p .opens)) (r .trains) ≡ true = eq-eqb _ _ (list-length _ (r .trains)) in
+      let g : eqb (length (lineFor r figs sets p .plus)) (r .points) ≡ true = eq-eqb _ _ (list-length _ (r .points)) in
       rw (a, b, c, d, g)
 
   abbrev listedCodes : ℕ → List ℕ

@@ -90,7 +90,7 @@ module _ (r : Railway) (F : ℕ → Option ℕ) (p : ℕ) where
 -- a figure that a table can hold is smaller than the number for none
 pub figure-small : (x j : ℕ) → x ≤ noFigure → figureEntry x ≡ some j → j < noFigure
 figure-small x j l e = elim (bool? (eqb x noFigure)) [
-  | inl y ↦ some-none e (rw y)
+  | inl y ↦ some-none e (rw y refl)
   | inr y ↦ let s : figureEntry x ≡ some x = rw y in let z : x ≡ j = cc in let w : x ≡ noFigure → ⊥ = eqb-false x noFigure y in elim (lt? x noFigure) [ inl b ↦ omega arith | inr b ↦ absurd (w (omega arith)) ]
 ]
 

@@ -8,6 +8,7 @@ use mathlib.Core.Option.{Option, none, some}
 use Prim.Native.Nat.{ℕ, zero, suc, _^_, _≤_, _<_}
 use native.Mathlib.Omega.{arith}
 use lib.Dec.{eqb}
+use Rattle.laws.specs.Below.{orElse}
 use Rattle.laws.specs.Bits.{bit}
 use Rattle.laws.proofs.Bools.{option?, clash, some-none}
 use Rattle.laws.proofs.Below.{upto, lowest-cases, lowest-least}
@@ -82,9 +83,8 @@ module _ (r : Railway) (F : ℕ → Option ℕ) (p n : ℕ) where
         → Tried (eqb t) b → Found (some (entryFrom r (bit b) (eqb t)))
     nothing : ((c : ℕ) → c < 2 ^ (r .points) → bitsKeep (λ t. false) c ≡ false) → ((u : ℕ) → u < r .trains → tryOpen r F p n (eqb u) ≡ none) → Found none
 
-  pub find-cases : Found (find r F p n)
-  unfolding find
-  find-cases = elim (try-cases (λ t. false)) [
+  tries-cases : Found (orElse (tryOpen r F p n (λ t. false)) (firstFound (λ u. tryOpen r F p n (eqb u)) (r .trains)))
+  tries-cases = elim (try-cases (λ t. false)) [
     | inl x ↦ rw (x .1 .found) (closed (x .0) (x .1))
     | inr x ↦ rw (x .0) (elim (first-cases (λ u. tryOpen r F p n (eqb u)) (r .trains)) [
       | inl y ↦ elim (try-cases (eqb (y .0))) [
@@ -94,6 +94,10 @@ module _ (r : Railway) (F : ℕ → Option ℕ) (p n : ℕ) where
       | inr y ↦ rw (y .0) (nothing (x .1) (y .1))
     ])
   ]
+
+  pub find-cases : Found (find r F p n)
+  unfolding find
+  find-cases = tries-cases
 
   -- it finds only settings that keep the figure
   pub find-sound : (v : ℕ) → find r F p n ≡ some v → Keeps (gameOf r) F p (settingAt r p v) n
