@@ -33,7 +33,7 @@ use Rattle.game.specs.Moves.{Passage, through, pastPoint, pastJoin, passes, oth
 use Rattle.game.proofs.Codes.{sections-length}
 use Rattle.game.proofs.Accepted.{Facts}
 use Rattle.game.proofs.Moves.{section-below, passes-below}
-use Rattle.tables.specs.Entries.{opensEnd, settingAt}
+use Rattle.tables.specs.Entries.{opensIn, opensEnd, settingAt}
 use Rattle.compiled.specs.Table.{flagByte, pointByte, sectionByte, endOn, wayByte, countByte}
 use Rattle.moves.specs.declared.Placement.{Placement}
 use Rattle.moves.specs.declared.Move.{Move}
@@ -99,19 +99,19 @@ module _ (r : Railway) (p : ℕ) (table : List ℕ) (q : Placement) (on : On r p
 
   -- WHO MAY MOVE under entry v
   module _ (v : ℕ) where
-    pub opens-not : (i u : ℕ) (b : Bool) → b ≡ bit v (16 + u) → b ≡ false → false ≡ opensEnd r p v i u
+    pub opens-not : (i u : ℕ) (b : Bool) → b ≡ bit v (16 + u) → b ≡ false → false ≡ opensEnd r p (opensIn v) i u
     opens-not i u b h e = rw (sym h ∙ e)
 
-    pub opens-if : (i u j : ℕ) (b : Bool) (e : End) → b ≡ bit v (16 + u) → b ≡ true → e ≡ headsFor r p u → j ≡ endIndex e → eqb i j ≡ opensEnd r p v i u
+    pub opens-if : (i u j : ℕ) (b : Bool) (e : End) → b ≡ bit v (16 + u) → b ≡ true → e ≡ headsFor r p u → j ≡ endIndex e → eqb i j ≡ opensEnd r p (opensIn v) i u
     opens-if i u j b e h y g k = rw (sym h ∙ y, ← g, ← k)
 
-    pub some-opens : (i k u : ℕ) → k ≡ countByte r 2 → u < k → opensEnd r p v i u ≡ true → true ≡ settingAt r p v .isOpen i
+    pub some-opens : (i k u : ℕ) → k ≡ countByte r 2 → u < k → opensEnd r p (opensIn v) i u ≡ true → true ≡ settingAt r p v .isOpen i
     unfolding settingAt
-    some-opens i k u e l h = any-one (opensEnd r p v i) (r .trains) u (rw (sym (trains-are r k e)) l) h
+    some-opens i k u e l h = any-one (opensEnd r p (opensIn v) i) (r .trains) u (rw (sym (trains-are r k e)) l) h
 
-    pub none-opens : (i k u : ℕ) → k ≡ countByte r 2 → u ≤ k → k ≤ u → anyBelow (opensEnd r p v i) u ≡ false → false ≡ settingAt r p v .isOpen i
+    pub none-opens : (i k u : ℕ) → k ≡ countByte r 2 → u ≤ k → k ≤ u → anyBelow (opensEnd r p (opensIn v) i) u ≡ false → false ≡ settingAt r p v .isOpen i
     unfolding settingAt
-    none-opens i k u e l m h = any-none (opensEnd r p v i) (r .trains) u h (rw (sym (trains-are r k e)) l) (rw (sym (trains-are r k e)) m)
+    none-opens i k u e l m h = any-none (opensEnd r p (opensIn v) i) (r .trains) u h (rw (sym (trains-are r k e)) l) (rw (sym (trains-are r k e)) m)
 
     pub not-there : (k t : ℕ) → k ≡ countByte r 2 → k ≤ t → false ≡ may (gameOf r) p (settingAt r p v) t
     not-there k t e l = rw (le-ltb t (r .trains) (rw (sym (trains-are r k e)) l))
