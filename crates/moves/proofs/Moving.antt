@@ -1,9 +1,9 @@
 -- Moves, read from a table: who may move, and what a move ends in. A train looks at the point that it meets and at no other, so a setting
 -- may be replaced by one with all points as that one lies. Assumes nothing.
 use mathlib.Core.Path.{_≡_, refl, sym, _∙_, ap}
-use mathlib.Core.Bool.{Bool, true, false, cond, not, _&&_, _||_}
+use mathlib.Core.Bool.{Bool, true, false}
 use mathlib.Core.Logic.{inl, inr}
-use mathlib.Core.List.{List, []}
+use mathlib.Core.List.{List}
 use mathlib.Core.Option.{Option, none, some}
 use Prim.Native.Nat.{ℕ, _+_, _≤_, _<_}
 use native.Mathlib.Omega.{arith}
@@ -13,7 +13,7 @@ use lib.Seq.{ext-getD, getD-set-same, getD-set-other}
 use borrow.Author.Tests.{lt-ltb, le-ltb, ltb-true, eq-eqb, ne-eqb}
 use Rattle.laws.specs.Below.{anyBelow, listBelow}
 use Rattle.laws.specs.Bits.{bit}
-use Rattle.laws.proofs.Bools.{eq?, clash, some-none, and-true}
+use Rattle.laws.proofs.Bools.{eq?, and-true}
 use Rattle.laws.proofs.Below.{any-same, any-one, any-none, list-length, list-get}
 use Rattle.railway.specs.declared.Side.{Side}
 use Rattle.railway.specs.declared.Leg.{Leg}
@@ -23,12 +23,11 @@ use Rattle.railway.specs.declared.End.the-variants.{Section, Port}
 use Rattle.railway.specs.declared.Joined.{Joined}
 use Rattle.railway.specs.declared.Joined.the-variants.{Nothing, With}
 use Rattle.railway.specs.declared.Railway.{Railway}
-use Rattle.railway.specs.Bounds.{mostSections, mostTrains}
 use Rattle.railway.specs.Ends.{endIndex}
 use Rattle.railway.specs.Record.{joined, hasSignal, runOf}
-use Rattle.game.specs.Game.{derailment, collision, Outcome, lost, at, may}
-use Rattle.game.specs.Placement.{codeOf, sectionsIn, sectionsOf, standsOn}
-use Rattle.game.specs.Setting.{Setting, headsFor, held, free, opensFor, mayMove}
+use Rattle.game.specs.Game.{derailment, collision, lost, at, may}
+use Rattle.game.specs.Placement.{codeOf, sectionsOf, standsOn}
+use Rattle.game.specs.Setting.{headsFor, held, mayMove}
 use Rattle.game.specs.Moves.{Passage, through, pastPoint, pastJoin, passes, otherOn, occupied, codeWith, enters, moveOf, gameOf}
 use Rattle.game.proofs.Codes.{sections-length}
 use Rattle.game.proofs.Accepted.{Facts}
@@ -37,7 +36,6 @@ use Rattle.tables.specs.Entries.{opensIn, opensEnd, settingAt}
 use Rattle.compiled.specs.Table.{flagByte, pointByte, sectionByte, endOn, wayByte, countByte}
 use Rattle.moves.specs.declared.Placement.{Placement}
 use Rattle.moves.specs.declared.Move.{Move}
-use Rattle.moves.specs.declared.Move.the-variants.{NotAllowed, Derails, Collides, At}
 use Rattle.moves.specs.Answers.{codeOn, ended, moveUnder}
 use Rattle.moves.specs.Steps.{sectionIn, On, movedTo, otherIn, allAt}
 use Rattle.moves.proofs.Placing.{ok, trains-are}
