@@ -1,10 +1,9 @@
 -- The test of a record as code makes it: each function's answer is the definition's, by what it looked up and what it found.
 -- Assumes nothing.
-use Prim.Native.Nat.{ℕ, _<_, _≤_}
-use mathlib.Core.Path.{_≡_, refl, sym, _∙_, ap}
+use Prim.Native.Nat.{ℕ}
+use mathlib.Core.Path.{_≡_, ap}
 use mathlib.Core.Bool.{Bool, true, false, not, _&&_, _||_}
-use lib.Dec.{ltb, eqb}
-use borrow.Author.Tests.{lt-ltb, le-ltb}
+use lib.Dec.{ltb}
 use Rattle.railway.specs.declared.End.{End}
 use Rattle.railway.specs.declared.Joined.{Joined}
 use Rattle.railway.specs.declared.Joined.the-variants.{Nothing, With}
@@ -12,7 +11,7 @@ use Rattle.railway.specs.declared.Train.{Train}
 use Rattle.railway.specs.declared.Railway.{Railway}
 use Rattle.railway.specs.Ends.{endAt}
 use Rattle.railway.specs.Record.{linkAt, joined, runOf}
-use Rattle.railway.specs.declared.Refusal.the-variants.{Count, Unknown, Join, Loose, Double, Place}
+use Rattle.railway.specs.declared.Refusal.the-variants.{Count, Unknown, Join, Loose, Place}
 use Rattle.acceptance.specs.declared.Tested.{Tested}
 use Rattle.acceptance.specs.declared.Tested.the-variants.{Accepted, Refused}
 use Rattle.railway.specs.Refusals.{numberOf, first}

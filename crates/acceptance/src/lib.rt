@@ -3,7 +3,6 @@
 // case texts: they judge one row, pair or place of a record by itself, and are no entries.
 ghost use mathlib.Core.Path.{_≡_};
 ghost use mathlib.Core.Bool.{_||_, _&&_};
-ghost use Prim.Native.Nat.{ℕ};
 ghost use Rattle.laws.specs.Below.{anyBelow};
 ghost use Rattle.railway.specs.Ends.{sameSide};
 ghost use Rattle.railway.specs.Record.{linkAt, flagAt};

@@ -2,14 +2,14 @@
 -- record's, or else space where the text is longer than the buffer; no row of a record is row 9. Where none applies the buffer is the text and, behind
 -- it, what stood there, and a list is what stands in front of a place and what stands behind.
 -- Assumes nothing.
-use Prim.Native.Nat.{ℕ, _<_, _≤_}
+use Prim.Native.Nat.{ℕ}
 use mathlib.Core.Path.{_≡_, refl, sym, _∙_, ap}
-use mathlib.Core.Logic.{_⊎_, inl, inr}
+use mathlib.Core.Logic.{inl, inr}
 use mathlib.Core.Bool.{Bool, true, false}
 use mathlib.Core.List.{List, [], _∷_, _++_}
-use mathlib.Core.Option.{Option, none, some}
+use mathlib.Core.Option.{none, some}
 use native.Mathlib.Omega.{arith}
-use lib.ListN.{length, take, drop, take-append-drop}
+use lib.ListN.{length, drop, take-append-drop}
 use lib.Seq.{length-take-le, length-front, take-append-seam, drop-append-seam}
 use borrow.Author.Tests.{lt-ltb, le-ltb}
 use Rattle.laws.specs.Below.{orElse}
@@ -22,7 +22,7 @@ use Rattle.railway.specs.Rows.{countRow, unknownRow, joinRow, looseRow, doubleR
 use Rattle.railway.proofs.Refusals.{first-append}
 use Rattle.casefile.specs.declared.Written.{Written}
 use Rattle.casefile.specs.declared.Written.the-variants.{Bytes, Refused}
-use Rattle.casefile.specs.Writing.{spaceRow, writtenText, writerRefusal, written, bufferAfter, writtenRefusal, writtenNumber, writtenCount, NoRoom, Room, WriterPost}
+use Rattle.casefile.specs.Writing.{spaceRow, writtenText, writerRefusal, written, bufferAfter, writtenRefusal, writtenCount, NoRoom, Room, WriterPost}
 use Rattle.casefile.specs.Claims.{WriterAnswers}
 
 -- no row of a record is row 9

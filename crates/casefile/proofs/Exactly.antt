@@ -19,7 +19,7 @@ use Rattle.laws.proofs.Lists.{every-none, every-more, map-in, map-append, parte
 use Rattle.railway.specs.declared.Railway.{Railway}
 use Rattle.railway.specs.declared.Refusal.{Refusal}
 use Rattle.railway.specs.declared.Refusal.the-variants.{Length, Form, Count, Unknown, Join, Loose, Double, Place}
-use Rattle.railway.specs.Refusals.{number, Row, row, first, FirstOf}
+use Rattle.railway.specs.Refusals.{Row, row, first, FirstOf}
 use Rattle.railway.specs.Record.{emptyRailway}
 use Rattle.railway.proofs.Refusals.{FirstRow, first-is, first-none, none-first}
 use Rattle.casefile.specs.declared.CaseRead.{CaseRead}

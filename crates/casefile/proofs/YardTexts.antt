@@ -1,6 +1,6 @@
 -- The yards are what their case texts say: each text's answer is computed, and a text that is answered as accepted is one. Assumes nothing.
-use mathlib.Core.Path.{_≡_, refl, ap}
-use mathlib.Core.List.{List, [], _∷_, map}
+use mathlib.Core.Path.{_≡_, refl}
+use mathlib.Core.List.{List, [], _∷_}
 use Rattle.laws.specs.Below.{anyBelow, listBelow}
 use Rattle.laws.specs.Lists.{any, repeats}
 use Rattle.text.specs.Text.{digits, line, bytes}

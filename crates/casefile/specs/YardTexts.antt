@@ -1,6 +1,5 @@
--- The case texts of the yards of document 01, "Yards to try", as one table with one statement: the records that the starred facts speak of are what
+-- The case texts of the yards of document 01, "Yards to try", as one table with one statement: the records that the known figures speak of are what
 -- these texts say. Assumes nothing.
-use mathlib.Core.Path.{_≡_}
 use mathlib.Core.List.{List, [], _∷_}
 use Prim.Native.String.{String}
 use Rattle.text.specs.Text.{bytes}

@@ -1,10 +1,10 @@
 -- What each return of `open_case` keeps: the record's own refusal, space where a table is too short for the placements, and else nothing refused.
 -- Assumes nothing.
-use mathlib.Core.Path.{_≡_, refl, sym, _∙_, ap}
+use mathlib.Core.Path.{_≡_, sym, _∙_, ap}
 use mathlib.Core.Logic.{_⊎_, inl, inr}
-use mathlib.Core.Bool.{Bool, true, false, _||_}
+use mathlib.Core.Bool.{true}
 use mathlib.Core.List.{List}
-use mathlib.Core.Option.{Option, none, some}
+use mathlib.Core.Option.{none, some}
 use Prim.Native.Nat.{ℕ, _≤_, _<_}
 use lib.ListN.{length, replicate}
 use lib.Dec.{ltb}
@@ -15,12 +15,11 @@ use Rattle.railway.specs.declared.Refusal.{Refusal}
 use Rattle.railway.specs.declared.Refusal.the-variants.{Space}
 use Rattle.railway.specs.Refusals.{numberOf}
 use Rattle.railway.specs.Rows.{recordRefusal}
-use Rattle.acceptance.specs.declared.Tested.{Tested}
 use Rattle.acceptance.specs.declared.Tested.the-variants.{Accepted, Refused}
-use Rattle.acceptance.specs.Answers.{refusalGiven, Judged}
+use Rattle.acceptance.specs.Answers.{refusalGiven}
 use Rattle.game.specs.Placement.{placements}
 use Rattle.tables.specs.Tables.{tablesShort, caseRefusal}
-use Rattle.tables.proofs.Refusals.{Enough, case-record, case-accepted, case-none}
+use Rattle.tables.proofs.Refusals.{case-record, case-accepted, case-none}
 use Rattle.compiled.specs.declared.Compilation.{Compilation}
 use Rattle.compiled.specs.Table.{Compiled, CompilePost, tableBytes}
 use Rattle.cases.specs.Cases.{CasePost}

@@ -1,7 +1,5 @@
 // The records of a vector file, from standard input: a line `@`, tab, the number of bytes in decimal, and then those bytes, of any value. A record
 // comes whole or not at all: one that is longer than the lent space, one that ends early and a line of another form are told as broken.
-ghost use Prim.Native.Nat.{_≤_};
-ghost use mathlib.Core.Path.{_≡_};
 ghost use Rattle.io.specs.Counts.{Counts};
 ghost use Rattle.framed.specs.Framed.{Kept};
 use libc::STDIN_FILENO;

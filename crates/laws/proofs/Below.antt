@@ -1,10 +1,10 @@
 -- Laws of the numbers below k: all, any, lowest, how many, sums, lists; and the steps of a loop that looks for one.
 -- Assumes nothing.
-use mathlib.Core.Path.{_≡_, refl, sym, _∙_, ap}
+use mathlib.Core.Path.{_≡_, refl, sym, _∙_}
 use mathlib.Core.Logic.{_⊎_, inl, inr}
-use mathlib.Core.Bool.{Bool, true, false, cond, not, _&&_, _||_}
+use mathlib.Core.Bool.{Bool, true, false, cond}
 use mathlib.Core.List.{List, [], _∷_, _++_, map, List·Memᴰ, List·Memᴰ·head, List·Memᴰ·tail, List·Memᴰ·append-cases, Memᴰ·append-left, Memᴰ·append-right}
-use mathlib.Core.Option.{Option, none, some}
+use mathlib.Core.Option.{none, some}
 use Prim.Native.Nat.{ℕ, zero, suc, _+_, _-_, _*_, _≤_, _<_}
 use native.Mathlib.Omega.{arith}
 use native.Mathlib.Nat.{mul-add}
@@ -12,7 +12,7 @@ use native.Mathlib.Numerals.{add-one}
 use lib.ListN.{length, getD, drop, length-append, length-drop, length-map, List·getD-append, List·getD-map}
 use lib.Seq.{getD-at, ext-getD, getD-append-add, getD-drop}
 use Rattle.laws.specs.Below.{allBelow, anyBelow, countBelow, sumBelow, listBelow, gatherBelow, lowest, orElse}
-use Rattle.laws.proofs.Bools.{bool?, lt?, clash, and-true, and-both, either, or-left, or-right, or-false}
+use Rattle.laws.proofs.Bools.{bool?, lt?, clash, and-true, and-both, either, or-left, or-right}
 
 -- what holds below k and at k holds below k + 1
 pub upto : (P : ℕ → Type 0) {k : ℕ} → ((u : ℕ) → u < k → P u) → P k → (u : ℕ) → u < suc k → P u

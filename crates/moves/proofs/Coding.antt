@@ -4,7 +4,7 @@ use mathlib.Core.Path.{_≡_, refl, sym, _∙_, ap}
 use mathlib.Core.Logic.{inl, inr}
 use mathlib.Core.Bool.{Bool, false, cond}
 use mathlib.Core.List.{List, [], _∷_}
-use Prim.Native.Nat.{ℕ, zero, suc, _+_, _-_, _*_, _/_, _%_, _^_, _≤_, _<_}
+use Prim.Native.Nat.{ℕ, zero, suc, _+_, _*_, _/_, _%_, _^_, _≤_, _<_}
 use native.Mathlib.Omega.{arith}
 use native.Mathlib.Nat.{pow-succ', pow-zero, mul-one, mul-comm, mul-add, mul-assoc, mul-le-mul, mod-lt, pow-le-pow-right, div-eq-of-lt}
 use lib.Dec.{ltb}
@@ -88,11 +88,11 @@ section-left s (suc k) p (suc t) = section-left s k (p / s) t ∙ ap (λ (b : Bo
       | inr l ↦ le-ltb t k l ∙ sym (le-ltb (suc t) (suc k) (omega arith))
     ]
 
-pub past-trains : (k t x : ℕ) → k ≤ t → 0 ≡ cond (ltb t k) x 0
-past-trains k t x l = rw (le-ltb t k l)
+pub zero-past : (k t x : ℕ) → k ≤ t → 0 ≡ cond (ltb t k) x 0
+zero-past k t x l = rw (le-ltb t k l)
 
-pub among-trains : (k t x : ℕ) → t < k → x ≡ cond (ltb t k) x 0
-among-trains k t x l = rw (lt-ltb t k l)
+pub same-below : (k t x : ℕ) → t < k → x ≡ cond (ltb t k) x 0
+same-below k t x l = rw (lt-ltb t k l)
 
 pub rest-small : (s rest : ℕ) → 0 < s → s < 256 → rest % s < 256
 rest-small s rest p l = omega (arith, mod-lt rest p)

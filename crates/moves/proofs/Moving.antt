@@ -1,9 +1,9 @@
 -- Moves, read from a table: who may move, and what a move ends in. A train looks at the point that it meets and at no other, so a setting
 -- may be replaced by one with all points as that one lies. Assumes nothing.
 use mathlib.Core.Path.{_≡_, refl, sym, _∙_, ap}
-use mathlib.Core.Bool.{Bool, true, false, cond, not, _&&_, _||_}
+use mathlib.Core.Bool.{Bool, true, false}
 use mathlib.Core.Logic.{inl, inr}
-use mathlib.Core.List.{List, []}
+use mathlib.Core.List.{List}
 use mathlib.Core.Option.{Option, none, some}
 use Prim.Native.Nat.{ℕ, _+_, _*_, _^_, _≤_, _<_}
 use native.Mathlib.Omega.{arith}
@@ -13,7 +13,7 @@ use lib.Seq.{ext-getD, getD-set-same, getD-set-other}
 use borrow.Author.Tests.{lt-ltb, le-ltb, ltb-true, eq-eqb, ne-eqb}
 use Rattle.laws.specs.Below.{anyBelow, listBelow}
 use Rattle.laws.specs.Bits.{bit}
-use Rattle.laws.proofs.Bools.{eq?, clash, some-none, and-true}
+use Rattle.laws.proofs.Bools.{eq?, and-true}
 use Rattle.laws.proofs.Below.{any-same, any-one, any-none, list-length, list-get}
 use Rattle.railway.specs.declared.Side.{Side}
 use Rattle.railway.specs.declared.Leg.{Leg}
@@ -23,21 +23,19 @@ use Rattle.railway.specs.declared.End.the-variants.{Section, Port}
 use Rattle.railway.specs.declared.Joined.{Joined}
 use Rattle.railway.specs.declared.Joined.the-variants.{Nothing, With}
 use Rattle.railway.specs.declared.Railway.{Railway}
-use Rattle.railway.specs.Bounds.{mostSections, mostTrains}
 use Rattle.railway.specs.Ends.{endIndex}
 use Rattle.railway.specs.Record.{joined, hasSignal, runOf}
-use Rattle.game.specs.Game.{derailment, collision, Outcome, lost, at, may}
-use Rattle.game.specs.Placement.{codeOf, sectionsIn, sectionsOf, standsOn}
-use Rattle.game.specs.Setting.{Setting, headsFor, held, free, opensFor, mayMove}
+use Rattle.game.specs.Game.{derailment, collision, lost, at, may}
+use Rattle.game.specs.Placement.{codeOf, sectionsOf, standsOn}
+use Rattle.game.specs.Setting.{headsFor, held, mayMove}
 use Rattle.game.specs.Moves.{Passage, through, pastPoint, pastJoin, passes, otherOn, occupied, codeWith, enters, moveOf, gameOf}
 use Rattle.game.proofs.Codes.{sections-length}
 use Rattle.game.proofs.Accepted.{Facts}
 use Rattle.game.proofs.Moves.{section-below, passes-below, sections-with}
-use Rattle.tables.specs.Entries.{opensEnd, settingAt}
+use Rattle.tables.specs.Entries.{opensIn, opensEnd, settingAt}
 use Rattle.compiled.specs.Table.{flagByte, pointByte, sectionByte, endOn, wayByte, countByte}
 use Rattle.moves.specs.declared.Placement.{Placement}
 use Rattle.moves.specs.declared.Move.{Move}
-use Rattle.moves.specs.declared.Move.the-variants.{NotAllowed, Derails, Collides, At}
 use Rattle.moves.specs.Answers.{codeOn, ended, moveUnder}
 use Rattle.moves.specs.Steps.{sectionIn, On, movedTo, otherIn, allAt}
 use Rattle.moves.proofs.Coding.{code-move}
@@ -100,19 +98,19 @@ module _ (r : Railway) (p : ℕ) (table : List ℕ) (q : Placement) (on : On r p
 
   -- WHO MAY MOVE under entry v
   module _ (v : ℕ) where
-    pub opens-not : (i u : ℕ) (b : Bool) → b ≡ bit v (16 + u) → b ≡ false → false ≡ opensEnd r p v i u
+    pub opens-not : (i u : ℕ) (b : Bool) → b ≡ bit v (16 + u) → b ≡ false → false ≡ opensEnd r p (opensIn v) i u
     opens-not i u b h e = rw (sym h ∙ e)
 
-    pub opens-if : (i u j : ℕ) (b : Bool) (e : End) → b ≡ bit v (16 + u) → b ≡ true → e ≡ headsFor r p u → j ≡ endIndex e → eqb i j ≡ opensEnd r p v i u
+    pub opens-if : (i u j : ℕ) (b : Bool) (e : End) → b ≡ bit v (16 + u) → b ≡ true → e ≡ headsFor r p u → j ≡ endIndex e → eqb i j ≡ opensEnd r p (opensIn v) i u
     opens-if i u j b e h y g k = rw (sym h ∙ y, ← g, ← k)
 
-    pub some-opens : (i k u : ℕ) → k ≡ countByte r 2 → u < k → opensEnd r p v i u ≡ true → true ≡ settingAt r p v .isOpen i
+    pub some-opens : (i k u : ℕ) → k ≡ countByte r 2 → u < k → opensEnd r p (opensIn v) i u ≡ true → true ≡ settingAt r p v .isOpen i
     unfolding settingAt
-    some-opens i k u e l h = any-one (opensEnd r p v i) (r .trains) u (rw (sym (trains-are r k e)) l) h
+    some-opens i k u e l h = any-one (opensEnd r p (opensIn v) i) (r .trains) u (rw (sym (trains-are r k e)) l) h
 
-    pub none-opens : (i k u : ℕ) → k ≡ countByte r 2 → u ≤ k → k ≤ u → anyBelow (opensEnd r p v i) u ≡ false → false ≡ settingAt r p v .isOpen i
+    pub none-opens : (i k u : ℕ) → k ≡ countByte r 2 → u ≤ k → k ≤ u → anyBelow (opensEnd r p (opensIn v) i) u ≡ false → false ≡ settingAt r p v .isOpen i
     unfolding settingAt
-    none-opens i k u e l m h = any-none (opensEnd r p v i) (r .trains) u h (rw (sym (trains-are r k e)) l) (rw (sym (trains-are r k e)) m)
+    none-opens i k u e l m h = any-none (opensEnd r p (opensIn v) i) (r .trains) u h (rw (sym (trains-are r k e)) l) (rw (sym (trains-are r k e)) m)
 
     pub not-there : (k t : ℕ) → k ≡ countByte r 2 → k ≤ t → false ≡ may (gameOf r) p (settingAt r p v) t
     not-there k t e l = rw (le-ltb t (r .trains) (rw (sym (trains-are r k e)) l))

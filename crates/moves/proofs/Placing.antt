@@ -2,7 +2,7 @@
 -- Assumes nothing.
 use mathlib.Core.Path.{_≡_, refl, sym, _∙_, ap}
 use mathlib.Core.Logic.{inl, inr}
-use mathlib.Core.Bool.{Bool, true, false, cond, not, _&&_}
+use mathlib.Core.Bool.{Bool, true, false, cond}
 use mathlib.Core.List.{List, [], _∷_}
 use Prim.Native.Nat.{ℕ, _+_, _*_, _/_, _%_, _^_, _≤_, _<_}
 use native.Mathlib.Omega.{arith}
@@ -19,7 +19,7 @@ use Rattle.laws.proofs.Below.{any-same, any-none, any-one, all-each, all-but, l
 use Rattle.railway.specs.declared.Railway.{Railway}
 use Rattle.railway.specs.Bounds.{mostTrains}
 use Rattle.railway.specs.Record.{runOf}
-use Rattle.game.specs.Placement.{codeOf, sectionsIn, sectionsOf, placements, standsOn, startCode, arrived, atHome, standsWith, sharesLower, shared}
+use Rattle.game.specs.Placement.{codeOf, sectionsOf, placements, standsOn, startCode, arrived, atHome, standsWith, sharesLower, shared}
 use Rattle.game.proofs.Codes.{sections-length}
 use Rattle.game.proofs.Accepted.{Facts, facts}
 use Rattle.compiled.specs.Table.{countByte, runByte, Compiled}

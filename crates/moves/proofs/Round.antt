@@ -1,21 +1,21 @@
 -- Codes and placements by value, and back: nothing is lost either way. Home's code is the code of home, and of no other placement. And the hypothesis that a
 -- placement by value is that of a code can be met. All goes by the lists of sections: a placement's is the code's. Assumes nothing.
-use mathlib.Core.Path.{_≡_, refl, sym, _∙_, ap}
+use mathlib.Core.Path.{_≡_, sym, _∙_, ap}
 use mathlib.Core.Bool.{true}
 use mathlib.Core.List.{List}
 use mathlib.Core.Logic.{inl, inr}
-use Prim.Native.Nat.{ℕ, _≤_, _<_, _^_}
+use Prim.Native.Nat.{ℕ, _≤_, _<_}
 use native.Mathlib.Omega.{arith}
-use lib.ListN.{length, getD, List·getD-eq-default}
+use lib.ListN.{length, List·getD-eq-default}
 use lib.Seq.{ext-getD}
 use borrow.Author.Tests.{eqb-true, eq-eqb}
 use Rattle.laws.specs.Below.{listBelow}
 use Rattle.laws.proofs.Bools.{lt?}
-use Rattle.laws.proofs.Below.{all-at, all-of, list-length, list-get, list-same}
+use Rattle.laws.proofs.Below.{all-at, all-of, list-length, list-get}
 use Rattle.railway.specs.declared.Railway.{Railway}
 use Rattle.railway.specs.Record.{runOf}
 use Rattle.game.specs.Placement.{codeOf, sectionsIn, sectionsOf, placements, standsOn, arrived, atHome}
-use Rattle.game.proofs.Codes.{AllBelow, code-sections, sections-code, sections-length, code-below}
+use Rattle.game.proofs.Codes.{AllBelow, code-sections, sections-code, sections-length}
 use Rattle.game.proofs.Accepted.{Facts}
 use Rattle.compiled.specs.Table.{Compiled}
 use Rattle.moves.specs.declared.Placement.{Placement}

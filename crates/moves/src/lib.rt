@@ -13,7 +13,7 @@ ghost use Rattle.game.specs.Game.{may};
 ghost use Rattle.game.specs.Placement.{placements, startCode, atHome, shared};
 ghost use Rattle.game.specs.Setting.{headsFor, held};
 ghost use Rattle.game.specs.Moves.{passes, moveOf, gameOf};
-ghost use Rattle.tables.specs.Entries.{opensEnd, settingAt};
+ghost use Rattle.tables.specs.Entries.{opensIn, opensEnd, settingAt};
 ghost use Rattle.compiled.specs.Table.{pointByte, sectionByte, runByte, Compiled};
 ghost use Rattle.moves.specs.Answers.{codeOn, homeCode, ended, moveUnder};
 ghost use Rattle.moves.specs.Steps.{sectionIn, On, movedTo, otherIn, allAt};
@@ -331,7 +331,7 @@ fn open_in(table: &Table, q: Placement, v: u32, i: u8) -> bool
 }
 
 fn opens_end(table: &Table, q: Placement, v: u32, i: u8, u: u8) -> bool
-    ensures { λ b. ⌜ ((r : Railway) (p : ℕ) → On r p (now (table .entry)) q → b ≡ opensEnd r p v i u) ⌝ }
+    ensures { λ b. ⌜ ((r : Railway) (p : ℕ) → On r p (now (table .entry)) q → b ≡ opensEnd r p (opensIn v) i u) ⌝ }
 {
     if bit_at(v, 16 + (u as u32)) {
         i == railway::index_of(end_in(table, q, u))

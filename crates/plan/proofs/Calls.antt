@@ -1,7 +1,7 @@
 -- Calls that keep their promises are those of the functions that Emitter and Checker define: each answers and leaves what the function does, so what follows it
 -- is handed the same. And the functions' own calls are such calls. Assumes nothing.
-use mathlib.Core.Path.{_≡_, refl, sym, _∙_}
-use mathlib.Core.Bool.{Bool, true, false}
+use mathlib.Core.Path.{_≡_, refl}
+use mathlib.Core.Bool.{false}
 use mathlib.Core.List.{List, [], _∷_}
 use mathlib.Core.Option.{none, some}
 use Prim.Native.Nat.{ℕ}
@@ -15,8 +15,8 @@ use Rattle.plan.specs.declared.Emitted.the-variants.{Line, End, NoPlan, 
 use Rattle.plan.specs.declared.CheckerState.{CheckerState}
 use Rattle.plan.specs.declared.CheckerState.the-variants.{Fresh}
 use Rattle.plan.specs.Emitter.{isLine, Wrote, emitLine}
-use Rattle.plan.specs.Checker.{Checking, freshChecking, takeLine, Run, onward, run}
-use Rattle.plan.specs.Promises.{EmitterPost, LinePost, FreshPost}
+use Rattle.plan.specs.Checker.{Checking, freshChecking, takeLine, Run, run}
+use Rattle.plan.specs.Promises.{EmitterPost, FreshPost}
 use Rattle.plan.specs.Calls.{Emission, Emitting, unasked, wrote, stopped, Taking, no-more, one-more}
 
 -- THE EMITTER. The calls after one that left this, by the place from which they start.

@@ -5,14 +5,12 @@ use mathlib.Core.Logic.{inl, inr}
 use mathlib.Core.Bool.{true}
 use mathlib.Core.List.{List, [], _∷_, _++_, map}
 use mathlib.Core.Option.{none, some}
-use Prim.Native.Nat.{ℕ, zero, suc, _+_, _≤_, _<_}
-use native.Mathlib.Omega.{arith}
-use lib.ListN.{length, getD, drop, length-append, length-drop}
+use Prim.Native.Nat.{ℕ, suc, _≤_}
+use lib.ListN.{length, getD, drop}
 use lib.Seq.{take-append-seam}
 use lib.Dec.{leb}
 use borrow.Author.Tests.{leb-true, le-ltb}
 use Rattle.laws.specs.Below.{whichBelow}
-use Rattle.laws.specs.Lists.{all}
 use Rattle.laws.proofs.Bools.{option?, clash, and-true}
 use Rattle.laws.proofs.Which.{fromOn, next-none, next-some, from-zero}
 use Rattle.railway.specs.declared.Railway.{Railway}

@@ -28,7 +28,7 @@ use Rattle.game.specs.Moves.{passes, occupied, moveOf}
 use Rattle.railway.specs.Yards.{yardH, lineJ, lineG, lineT, sec, yardA, yardOne, yardTwo}
 use Rattle.tables.specs.Entries.{entryFrom}
 use Rattle.tables.specs.Tables.{tablesShort, caseRefusal}
-use Rattle.tables.proofs.Starred.{figsA, setsA}
+use Rattle.tables.proofs.KnownYards.{figsA, setsA}
 use Rattle.tables.proofs.Examples.{ladder}
 use Rattle.plan.specs.declared.PlanPlace.{PlanPlace}
 use Rattle.plan.specs.declared.PlanPlace.the-variants.{Top, From}

@@ -27,7 +27,7 @@ use Rattle.tables.specs.declared.SolverAnswer.the-variants.{Figure}
 use Rattle.tables.specs.Entries.{entryFrom}
 use Rattle.tables.specs.Tables.{figureIn, tablesShort, caseRefusal}
 use Rattle.tables.specs.Solver.{Kept, SolverPost}
-use Rattle.tables.proofs.Starred.{figsA, setsA, yardA-accepted, yardA-filled}
+use Rattle.tables.proofs.KnownYards.{figsA, setsA, yardA-accepted, yardA-filled}
 use Rattle.plan.specs.declared.PlanPlace.the-variants.{Top}
 use Rattle.plan.specs.declared.Emitted.the-variants.{End}
 use Rattle.plan.specs.declared.TestAnswer.the-variants.{Pass, Refused}

@@ -20,7 +20,7 @@ use Rattle.tables.specs.Entries.{settingAt, entryFrom}
 use Rattle.tables.specs.Tables.{Filled}
 use Rattle.tables.specs.Find.{tryOpen, firstFound, find}
 use Rattle.tables.proofs.Certify.{certified, certify}
-use Rattle.tables.proofs.Starred.{Sure, figsA, setsA, yardA-accepted, yardA-filled}
+use Rattle.tables.proofs.KnownYards.{Sure, figsA, setsA, yardA-accepted, yardA-filled}
 use Rattle.plan.specs.Lines.{spell}
 use Rattle.plan.specs.Text.{lineFor, planLines, planTexts, planText}
 use Rattle.plan.specs.Outputs.{Output, outputA, outputOne, Writes, OutputsHold}

@@ -6,18 +6,16 @@ use mathlib.Core.Bool.{Bool, true, false, not, _&&_, _||_}
 use mathlib.Core.Option.{Option, none, some}
 use Prim.Native.Nat.{ℕ, _<_}
 use native.Mathlib.Omega.{arith}
-use lib.Dec.{eqb}
 use borrow.Author.Tests.{eqb-true, eq-eqb, not-true}
 use Rattle.laws.specs.Below.{allBelow}
 use Rattle.laws.proofs.Bools.{bool?, option?, clash, either, or-left, or-right, and-true, and-both}
-use Rattle.laws.proofs.Below.{all-at, all-of, any-same}
+use Rattle.laws.proofs.Below.{all-at, all-of}
 use Rattle.railway.specs.declared.Railway.{Railway}
-use Rattle.railway.specs.Ends.{endIndex}
 use Rattle.game.specs.Game.{Outcome, Game, Choice, following, may, home, over, play, HomeWithin}
 use Rattle.game.specs.Claim.{Below, figureOf, Keeps, Alike}
 use Rattle.game.specs.Local.{keepsTest}
 use Rattle.game.specs.Placement.{placements, startCode, atHome, shared}
-use Rattle.game.specs.Setting.{Setting, SameSetting, headsFor, held}
+use Rattle.game.specs.Setting.{Setting, SameSetting, held}
 use Rattle.game.specs.Moves.{gameOf}
 use Rattle.game.proofs.Turns.{keeps-test, test-keeps, over-cases}
 use Rattle.game.proofs.Figures.{keeps-same}
@@ -25,7 +23,8 @@ use Rattle.game.proofs.Accepted.{Facts, facts}
 use Rattle.game.proofs.Moves.{inside, start-below}
 use Rattle.game.proofs.Agreeing.{alike}
 use Rattle.game.proofs.Homing.{comes-home}
-use Rattle.plan.specs.Test.{Listing, opensListed, listedSetting, Test}
+use Rattle.tables.proofs.Entries.{open-same}
+use Rattle.plan.specs.Test.{Listing, listedSetting, Test}
 use Rattle.plan.specs.Computed.{isFigure, trainFine, listedFine, fineIf, placementFine, testHolds}
 use Rattle.plan.specs.Checked.{PlanWorks}
 
@@ -125,7 +124,7 @@ module _ (r : Railway) (ok : Facts r) (L M : Listing) (same : SameListing r L M)
   same-setting p l =
       record {
         points = λ n k. same .plus p n l k;
-        signals = λ i k f. any-same (opensListed r L p i) (opensListed r M p i) (r .trains) (λ t h. ap (λ (b : Bool). b && eqb i (endIndex (headsFor r p t))) (same .opens p t l h));
+        signals = λ i k f. open-same r p (L .opens p) (M .opens p) (λ t h. same .opens p t l h) i;
       }
 
   pub test-same : (m : ℕ) → Test r m L → Test r m M

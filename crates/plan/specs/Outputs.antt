@@ -1,5 +1,5 @@
 -- The plan texts that document 01, "Yards to try", writes out, as one table with one statement. The one of the yard with one section
--- is starred, and stands here, apart from the starred figures (tables/Starred), because it speaks of the plan's text. Assumes nothing.
+-- stands here, apart from the known figures (tables/KnownYards), because it speaks of the plan's text. Assumes nothing.
 use mathlib.Core.Path.{_≡_}
 use mathlib.Core.List.{List, [], _∷_}
 use mathlib.Core.Option.{none}

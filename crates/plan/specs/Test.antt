@@ -1,21 +1,19 @@
 -- The test of a plan (document 01, "The two tables and the plan": test of a plan), a field for each of its sentences, over what a plan lists.
 -- Plans are read off their lines here, and off two tables. Assumes nothing.
 use mathlib.Core.Path.{_≡_}
-use mathlib.Core.Bool.{Bool, true, false, cond, _&&_}
+use mathlib.Core.Bool.{Bool, true, false, cond}
 use mathlib.Core.List.{List, [], _∷_}
 use mathlib.Core.Option.{Option, none, some}
 use Prim.Native.Nat.{ℕ, _<_}
 use lib.ListN.{getD}
 use lib.Dec.{eqb}
-use Rattle.laws.specs.Below.{anyBelow}
 use Rattle.laws.specs.Bits.{bit}
 use Rattle.railway.specs.declared.Railway.{Railway}
-use Rattle.railway.specs.Ends.{endIndex}
 use Rattle.game.specs.Claim.{Keeps}
 use Rattle.game.specs.Placement.{placements, startCode, atHome, shared}
-use Rattle.game.specs.Setting.{Setting, headsFor, held}
+use Rattle.game.specs.Setting.{Setting, held}
 use Rattle.game.specs.Moves.{gameOf}
-use Rattle.tables.specs.Entries.{opensIn}
+use Rattle.tables.specs.Entries.{opensIn, settingFrom}
 use Rattle.tables.specs.Tables.{figureIn}
 use Rattle.plan.specs.Lines.{PlacementLine, lineCode}
 
@@ -25,13 +23,9 @@ pub record Listing : Type 0 where
   pub opens : ℕ → ℕ → Bool
   pub plus : ℕ → ℕ → Bool
 
--- Train t is listed as open at placement p, and heads for the end with index i.
-abbrev pub opensListed : Railway → Listing → ℕ → ℕ → ℕ → Bool
-opensListed r L p i t = L .opens p t && eqb i (endIndex (headsFor r p t))
-
--- The whole setting that is listed there: the signals that open trains head for are open, all others closed.
+-- The whole setting that is listed there.
 unfoldable pub listedSetting : Railway → Listing → ℕ → Setting
-listedSetting r L p = record { plus = L .plus p; isOpen = λ i. anyBelow (opensListed r L p i) (r .trains) }
+listedSetting r L p = settingFrom r p (L .plus p) (L .opens p)
 
 -- A plan with figure m in its first line passes the test.
 pub record Test (r : Railway) (m : ℕ) (L : Listing) : Type 0 where

@@ -1,26 +1,26 @@
 -- The answers, by what the walk has taken and what the comparison has said. A line that fits and spells the text is the line that the walk takes; so where nothing is taken, or
 -- what is taken is spelled otherwise, no line is read, and else the line that is taken. Assumes nothing.
-use Prim.Native.Nat.{ℕ, zero, suc, _+_, _≤_, _<_}
+use Prim.Native.Nat.{ℕ, suc, _≤_, _<_}
 use mathlib.Core.Path.{_≡_, refl, sym, _∙_, ap}
 use mathlib.Core.Logic.{inl, inr}
-use mathlib.Core.Bool.{Bool, true, false, _&&_}
+use mathlib.Core.Bool.{Bool, true, false}
 use mathlib.Core.List.{List, [], _∷_, _++_, map}
 use mathlib.Core.Option.{none, some}
 use native.Mathlib.Omega.{arith}
-use lib.Dec.{eqb, ltb}
+use lib.Dec.{ltb}
 use lib.ListN.{length, getD, drop}
 use borrow.Author.Tests.{lt-ltb, ltb-true, eq-eqb}
 use Rattle.laws.specs.Below.{listBelow}
 use Rattle.laws.specs.Lists.{all}
 use Rattle.laws.specs.Bits.{bit}
-use Rattle.laws.proofs.Bools.{clash, option?, and-true, and-both}
-use Rattle.laws.proofs.Below.{Listed, listed, list-length}
+use Rattle.laws.proofs.Bools.{clash, option?, and-true}
+use Rattle.laws.proofs.Below.{listed, list-length}
 use Rattle.laws.proofs.Lists.{all-each, of-four}
-use Rattle.text.specs.Text.{digits, decimal, line}
+use Rattle.text.specs.Text.{decimal, line}
 use Rattle.text.specs.Reading.{isDigit, Got, bad, got, sameText}
 use Rattle.text.proofs.Decimal.{digit-is, digits-are, digits-begin}
 use Rattle.text.proofs.Lines.{same-is, same-self}
-use Rattle.text.proofs.Walking.{bad-got, Reads}
+use Rattle.text.proofs.Walking.{bad-got}
 use Rattle.railway.specs.declared.Railway.{Railway}
 use Rattle.railway.specs.Rows.{recordRefusal}
 use Rattle.railway.proofs.Accepted.{Bounded, accepted-facts}
@@ -30,7 +30,7 @@ use Rattle.tables.proofs.Entries.{entry-plus, entry-opens}
 use Rattle.plan.specs.Lines.{PlacementLine, PlanLine, startLine, placementLine, sectionField, spell, fits, Spells, mostLineBytes}
 use Rattle.plan.specs.Checker.{lineEntry}
 use Rattle.plan.specs.Reading.{readLine}
-use Rattle.plan.proofs.Reading.{lastFields, list-is, Fits, fits-parts, reads-line}
+use Rattle.plan.proofs.Reading.{lastFields, list-is, fits-parts, reads-line}
 use Rattle.plan.proofs.Lengths.{lines-short}
 use Rattle.compiled.specs.Table.{countByte, Compiled}
 use Rattle.moves.specs.declared.Placement.{Placement}

@@ -3,7 +3,7 @@
 use Prim.Native.Nat.{ℕ, zero, suc, _+_, _-_, _*_, _^_, _≤_, _<_}
 use mathlib.Core.Path.{_≡_, refl, sym, _∙_, ap}
 use mathlib.Core.Logic.{inl, inr}
-use mathlib.Core.Bool.{Bool, true, false, cond}
+use mathlib.Core.Bool.{Bool, true, false}
 use mathlib.Core.List.{List, [], _∷_, _++_, map}
 use native.Mathlib.Omega.{arith}
 use lib.Dec.{eqb, ltb}
@@ -16,7 +16,7 @@ use Rattle.laws.proofs.Bools.{lt?}
 use Rattle.laws.proofs.Lists.{all-in, getD-member}
 use Rattle.laws.proofs.Bits.{bits-same}
 use Rattle.text.specs.Text.{digits, decimal, line}
-use Rattle.text.specs.Reading.{isDigit, Got, bad, got, then, byteAt}
+use Rattle.text.specs.Reading.{isDigit, got, then, byteAt}
 use Rattle.text.proofs.Walking.{Lies, Reads, go-on, stop-here, peek, byte-complete, number-complete}
 use Rattle.railway.specs.declared.Railway.{Railway}
 use Rattle.railway.proofs.Accepted.{Bounded}

@@ -1,15 +1,14 @@
 -- What it is for a record to be accepted, fact by fact, both ways; and what follows: an accepted record's lookups stay within its counts and are returned.
 -- Assumes nothing.
-use Prim.Native.Nat.{ℕ, zero, suc, _+_, _-_, _*_, _<_, _≤_}
-use mathlib.Core.Path.{_≡_, refl, sym, _∙_, ap}
-use mathlib.Core.Logic.{inl, inr}
+use Prim.Native.Nat.{ℕ, _<_, _≤_}
+use mathlib.Core.Path.{_≡_, refl, _∙_, ap}
 use mathlib.Core.Bool.{Bool, true, false, cond, not, _&&_, _||_}
-use mathlib.Core.Option.{Option, none, some}
+use mathlib.Core.Option.{none}
 use native.Mathlib.Omega.{arith}
 use lib.Dec.{ltb, eqb}
 use borrow.Author.Tests.{ltb-true, ltb-false, lt-ltb, le-ltb, eqb-true, eqb-false, ne-eqb}
 use Rattle.laws.specs.Below.{anyBelow}
-use Rattle.laws.proofs.Bools.{clash, or-false, or-none, and-both, not-and, not-is, bool?, lt?, some-none}
+use Rattle.laws.proofs.Bools.{clash, or-false, or-none, not-and, not-is}
 use Rattle.laws.proofs.Below.{any-false, none-any}
 use Rattle.railway.specs.declared.Leg.{Leg}
 use Rattle.railway.specs.declared.Leg.the-variants.{Stem, Plus, Minus}
@@ -17,15 +16,14 @@ use Rattle.railway.specs.declared.End.{End}
 use Rattle.railway.specs.declared.End.the-variants.{Section, Port}
 use Rattle.railway.specs.declared.Joined.{Joined}
 use Rattle.railway.specs.declared.Joined.the-variants.{Nothing, With}
-use Rattle.railway.specs.declared.Refusal.{Refusal}
 use Rattle.railway.specs.declared.Refusal.the-variants.{Count, Unknown, Join, Loose, Double, Place}
 use Rattle.railway.specs.declared.Railway.{Railway}
 use Rattle.railway.specs.Bounds.{mostSections, mostPoints, mostTrains, sectionEnds, allEnds}
 use Rattle.railway.specs.Ends.{endIndex, endAt, sameSide}
 use Rattle.railway.specs.Refusals.{first}
 use Rattle.railway.specs.Record.{linkAt, flagAt, joined, hasSignal, runOf, sideOf}
-use Rattle.railway.specs.Rows.{outside, known, unknownLink, unknownLinkAt, unknownSignalAt, unknownTrainAt, sectionOf, bothPorts, oneSection, tied, wrongPair, wrongLink, wrongLinkAt, leadsTo, unreturned, unreturnedAt, unjoined, looseAt, sharesWith, sharesAt, countRow, unknownRow, joinRow, looseRow, doubleRow, placeRow, recordRows, recordRefusal}
-use Rattle.railway.proofs.Ends.{Numbered, end-index, index-below, index-one, index-end, numbered-of, end-numbered, section-below, port-behind}
+use Rattle.railway.specs.Rows.{outside, known, unknownLink, unknownLinkAt, unknownSignalAt, unknownTrainAt, sectionOf, bothPorts, oneSection, tied, wrongPair, wrongLink, wrongLinkAt, leadsTo, unreturned, unreturnedAt, unjoined, looseAt, sharesWith, sharesAt, countRow, unknownRow, joinRow, looseRow, doubleRow, placeRow, recordRefusal}
+use Rattle.railway.proofs.Ends.{Numbered, end-index, index-one, numbered-of}
 use Rattle.railway.proofs.Refusals.{refuse-none}
 
 -- counts within their bounds

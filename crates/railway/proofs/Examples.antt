@@ -1,7 +1,6 @@
 -- Records and the number each gets, by computation: every row, its edges, rows that apply together, and records that no text gives.
 -- Assumes nothing.
 use mathlib.Core.Path.{_≡_, refl}
-use mathlib.Core.Bool.{Bool, true, false}
 use mathlib.Core.List.{List, [], _∷_, map}
 use mathlib.Core.Option.{Option, none, some}
 use Prim.Native.Nat.{ℕ, _-_}
@@ -10,13 +9,10 @@ use Rattle.railway.specs.declared.Side.{Side}
 use Rattle.railway.specs.declared.Side.the-variants.{Up, Down}
 use Rattle.railway.specs.declared.Leg.{Leg}
 use Rattle.railway.specs.declared.Leg.the-variants.{Stem, Plus, Minus}
-use Rattle.railway.specs.declared.SectionNo.{SectionNo}
-use Rattle.railway.specs.declared.PointNo.{PointNo}
 use Rattle.railway.specs.declared.End.{End}
 use Rattle.railway.specs.declared.End.the-variants.{Section, Port}
 use Rattle.railway.specs.declared.Joined.{Joined}
 use Rattle.railway.specs.declared.Joined.the-variants.{Nothing, With}
-use Rattle.railway.specs.declared.Train.{Train}
 use Rattle.railway.specs.declared.Railway.{Railway}
 use Rattle.railway.specs.Ends.{endAt}
 use Rattle.railway.specs.Refusals.{first, numberOf}

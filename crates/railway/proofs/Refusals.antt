@@ -8,14 +8,13 @@ use lib.Dec.{eqb}
 use mathlib.Core.List.{List, [], _∷_, _++_, List·Memᴰ, List·Memᴰ·head, List·Memᴰ·tail}
 use mathlib.Core.Option.{Option, none, some}
 use Prim.Native.Nat.{ℕ}
-use native.Mathlib.Omega.{arith}
 use Rattle.laws.specs.Below.{orElse}
 use Rattle.laws.specs.Lists.{Every}
 use Rattle.laws.proofs.Bools.{clash, some-none, not-true}
 use Rattle.laws.proofs.Lists.{every-none, every-more}
 use Rattle.railway.specs.declared.Refusal.{Refusal}
 use Rattle.railway.specs.declared.Refusal.the-variants.{Length, Form, Count, Unknown, Join, Loose, Double, Place, Space, PlanForm, PlanFault}
-use Rattle.railway.specs.Refusals.{number, Row, row, refuseIf, first, numberOf, FirstOf}
+use Rattle.railway.specs.Refusals.{number, Row, row, refuseIf, first, FirstOf}
 
 -- a row applies; the row of f applies, and none before it in the list
 abbrev pub On : Row → Type 0

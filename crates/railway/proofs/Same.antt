@@ -1,30 +1,23 @@
 -- To be the same railway is an equivalence, and nothing that a record answers tells two such records apart: its lookups, its rows, its test.
 -- Each lookup is guarded by the counts and bounds within which records are compared, so it goes by cases of its guard. Assumes nothing.
-use mathlib.Core.Path.{_≡_, refl, sym, _∙_, ap}
-use mathlib.Core.Bool.{Bool, true, false, cond, not, _&&_, _||_}
+use mathlib.Core.Path.{_≡_, refl, sym, _∙_}
+use mathlib.Core.Bool.{Bool, true, false, cond}
 use mathlib.Core.List.{[]}
-use mathlib.Core.Option.{Option}
-use Prim.Native.Nat.{ℕ, _<_, _≤_}
-use native.Mathlib.Omega.{arith}
-use lib.Dec.{ltb, eqb}
-use borrow.Author.Tests.{ltb-true, ltb-false, lt-ltb, le-ltb}
+use Prim.Native.Nat.{ℕ, _<_}
+use lib.Dec.{ltb}
+use borrow.Author.Tests.{ltb-true, ltb-false}
 use Rattle.laws.specs.Below.{anyBelow}
 use Rattle.laws.proofs.Below.{any-same}
-use Rattle.railway.specs.declared.Side.{Side}
 use Rattle.railway.specs.declared.End.{End}
 use Rattle.railway.specs.declared.End.the-variants.{Section, Port}
 use Rattle.railway.specs.declared.Joined.{Joined}
 use Rattle.railway.specs.declared.Joined.the-variants.{Nothing, With}
-use Rattle.railway.specs.declared.Leg.{Leg}
-use Rattle.railway.specs.declared.Train.{Train}
-use Rattle.railway.specs.declared.Refusal.{Refusal}
 use Rattle.railway.specs.declared.Refusal.the-variants.{Count, Unknown, Join, Loose, Double, Place}
 use Rattle.railway.specs.declared.Railway.{Railway}
 use Rattle.railway.specs.Bounds.{sectionEnds, allEnds}
-use Rattle.railway.specs.Ends.{portSide, endIndex, endAt}
-use Rattle.railway.specs.Refusals.{first}
+use Rattle.railway.specs.Ends.{endIndex, endAt}
 use Rattle.railway.specs.Record.{linkAt, flagAt, joined, hasSignal, legsOf, runOf, sideOf}
-use Rattle.railway.specs.Rows.{outside, known, unknownLink, unknownLinkAt, unknownSignalAt, unknownTrainAt, tied, wrongLink, wrongLinkAt, leadsTo, unreturned, unreturnedAt, looseAt, sharesWith, sharesAt, countRow, unknownRow, joinRow, looseRow, placeRow, recordRefusal}
+use Rattle.railway.specs.Rows.{known, unknownLink, unknownLinkAt, unknownSignalAt, unknownTrainAt, wrongLink, wrongLinkAt, unreturned, unreturnedAt, looseAt, sharesWith, sharesAt, countRow, unknownRow, joinRow, looseRow, placeRow, recordRefusal}
 use Rattle.railway.specs.Same.{SameRailway}
 use Rattle.railway.proofs.Lookups.{legs-none, run-none}
 use Rattle.railway.proofs.Refusals.{first-same}

@@ -1,21 +1,18 @@
 -- The updates of a record: as code makes them, and what a join that was added changes.
 -- Assumes nothing.
 use Prim.Native.Nat.{ℕ, _<_, _≤_}
-use mathlib.Core.Path.{_≡_, refl, sym, _∙_, ap}
+use mathlib.Core.Path.{_≡_, sym, _∙_, ap}
 use mathlib.Core.Logic.{inl, inr}
-use mathlib.Core.Bool.{true, false, _&&_}
-use mathlib.Core.List.{List}
+use mathlib.Core.Bool.{true}
 use native.Mathlib.Omega.{arith}
-use lib.Dec.{ltb}
 use lib.ListN.{length, getD, set, length-set}
 use lib.Seq.{set-out, getD-set-same, getD-set-other}
 use borrow.Author.Tests.{lt-ltb, le-ltb}
 use Rattle.laws.proofs.Bools.{eq?, lt?}
 use Rattle.railway.specs.declared.Side.{Side}
 use Rattle.railway.specs.declared.End.{End}
-use Rattle.railway.specs.declared.Joined.the-variants.{Nothing, With}
+use Rattle.railway.specs.declared.Joined.the-variants.{With}
 use Rattle.railway.specs.declared.Link.{Link}
-use Rattle.railway.specs.declared.Legs.{Legs}
 use Rattle.railway.specs.declared.Train.{Train}
 use Rattle.railway.specs.declared.Railway.{Railway}
 use Rattle.railway.specs.Bounds.{mostPoints, mostTrains, sectionEnds, allEnds}

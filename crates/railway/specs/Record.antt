@@ -7,9 +7,7 @@ use Prim.Native.Nat.{ℕ}
 use lib.Dec.{ltb}
 use lib.ListN.{getD, set, replicate}
 use Rattle.railway.specs.declared.Side.{Side}
-use Rattle.railway.specs.declared.Side.the-variants.{Up, Down}
-use Rattle.railway.specs.declared.SectionNo.{SectionNo}
-use Rattle.railway.specs.declared.PointNo.{PointNo}
+use Rattle.railway.specs.declared.Side.the-variants.{Up}
 use Rattle.railway.specs.declared.End.{End}
 use Rattle.railway.specs.declared.End.the-variants.{Section, Port}
 use Rattle.railway.specs.declared.Joined.{Joined}
@@ -18,7 +16,7 @@ use Rattle.railway.specs.declared.Link.{Link}
 use Rattle.railway.specs.declared.Legs.{Legs}
 use Rattle.railway.specs.declared.Train.{Train}
 use Rattle.railway.specs.declared.Railway.{Railway}
-use Rattle.railway.specs.Bounds.{mostSections, mostPoints, mostTrains, sectionEnds, allEnds}
+use Rattle.railway.specs.Bounds.{mostPoints, mostTrains, sectionEnds, allEnds}
 use Rattle.railway.specs.Ends.{portSide, endIndex}
 
 -- What stands for legs, a link and a train that are not there.

@@ -1,5 +1,4 @@
 // The solver for programs in other languages: a case text and two lent tables go in. The static library that `rt staticlib` writes exports it.
-ghost use mathlib.Core.Path.{_≡_};
 ghost use Rattle.solver_api.specs.Exported.{SolvedRailway, SolvedText};
 use casefile::CaseAnswer;
 use railway::Railway;

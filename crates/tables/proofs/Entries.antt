@@ -25,9 +25,9 @@ use Rattle.game.specs.Setting.{headsFor, held, free, opensFor, mayMove, signalO
 use Rattle.game.proofs.Agreeing.{held-flag, may-free, may-held}
 use Rattle.tables.specs.Entries.{trainBits, opensIn, opensEnd, settingAt, entryFrom, entryOf}
 
--- Of trains that are open by this test, train t heads for the end of index i.
-abbrev pub opensAt : Railway → ℕ → (ℕ → Bool) → ℕ → ℕ → Bool
-opensAt r p opens i t = opens t && eqb i (endIndex (headsFor r p t))
+-- which signals are open depends on the trains that are there
+pub open-same : (r : Railway) (p : ℕ) (a b : ℕ → Bool) → ((t : ℕ) → t < r .trains → a t ≡ b t) → (i : ℕ) → anyBelow (opensEnd r p a i) (r .trains) ≡ anyBelow (opensEnd r p b i) (r .trains)
+open-same r p a b h i = any-same (opensEnd r p a i) (opensEnd r p b i) (r .trains) (λ t l. ap (λ (x : Bool). x && eqb i (endIndex (headsFor r p t))) (h t l))
 
 -- what an entry is made of: the points and the trains that are there
 pub entry-same : (r : Railway) (a b c d : ℕ → Bool) → ((n : ℕ) → n < r .points → a n ≡ b n) → ((t : ℕ) → t < r .trains → c t ≡ d t) → entryFrom r a c ≡ entryFrom r b d
@@ -57,21 +57,19 @@ module _ (r : Railway) (few : r .points ≤ trainBits) where
       unfolding settingAt
       setting-plus n l = entry-plus n l
 
-      pub setting-open : (i : ℕ) → settingAt r p (entryFrom r plus opens) .isOpen i ≡ anyBelow (opensAt r p opens i) (r .trains)
+      pub setting-open : (i : ℕ) → settingAt r p (entryFrom r plus opens) .isOpen i ≡ anyBelow (opensEnd r p opens i) (r .trains)
       unfolding settingAt
-      setting-open i =
-          any-same (opensEnd r p (entryFrom r plus opens) i) (opensAt r p opens i) (r .trains)
-          (λ t l. ap (λ (x : Bool). x && eqb i (endIndex (headsFor r p t))) (entry-opens t l))
+      setting-open i = open-same r p (opensIn (entryFrom r plus opens)) opens entry-opens i
 
 -- no train open: every signal is closed; one open: that train's signal is open, and no other
 module _ (r : Railway) (few : r .points ≤ trainBits) (plus : ℕ → Bool) (p : ℕ) where
   pub closed-open : (i : ℕ) → settingAt r p (entryFrom r plus (λ t. false)) .isOpen i ≡ false
-  closed-open i = setting-open r few plus (λ t. false) p i ∙ none-any (opensAt r p (λ t. false) i) (r .trains) (λ t l. refl)
+  closed-open i = setting-open r few plus (λ t. false) p i ∙ none-any (opensEnd r p (λ t. false) i) (r .trains) (λ t l. refl)
 
   pub one-open : (t : ℕ) → t < r .trains → (i : ℕ) → settingAt r p (entryFrom r plus (eqb t)) .isOpen i ≡ eqb i (endIndex (headsFor r p t))
   one-open t l i = setting-open r few plus (eqb t) p i ∙ elim (bool? (eqb i (endIndex (headsFor r p t)))) [
-    | inl y ↦ any-of (opensAt r p (eqb t) i) (r .trains) t l (and-both (eqb t t) (eqb i (endIndex (headsFor r p t))) (eq-eqb t t refl) y) ∙ sym y
-    | inr y ↦ none-any (opensAt r p (eqb t) i) (r .trains) (λ u lu. elim (bool? (eqb t u)) [
+    | inl y ↦ any-of (opensEnd r p (eqb t) i) (r .trains) t l (and-both (eqb t t) (eqb i (endIndex (headsFor r p t))) (eq-eqb t t refl) y) ∙ sym y
+    | inr y ↦ none-any (opensEnd r p (eqb t) i) (r .trains) (λ u lu. elim (bool? (eqb t u)) [
       | inl z ↦ let e : t ≡ u = eqb-true t u z in rw (z, ← e) y
       | inr z ↦ rw z
     ]) ∙ sym y
@@ -106,8 +104,8 @@ module _ (r : Railway) (p : ℕ) where
     module _ (few : r .points ≤ trainBits) (plus opens : ℕ → Bool) where
       pub setting-for : (t : ℕ) → t < r .trains → held r p t ≡ true → opensFor r p (settingAt r p (entryFrom r plus opens)) t ≡ opens t
       setting-for t l h = setting-open r few plus opens p (endIndex (headsFor r p t)) ∙ elim (bool? (opens t)) [
-        | inl y ↦ any-of (opensAt r p opens (endIndex (headsFor r p t))) (r .trains) t l (and-both (opens t) _ y (eq-eqb (endIndex (headsFor r p t)) (endIndex (headsFor r p t)) refl)) ∙ sym y
-        | inr y ↦ none-any (opensAt r p opens (endIndex (headsFor r p t))) (r .trains) (λ u lu. elim (bool? (eqb (endIndex (headsFor r p t)) (endIndex (headsFor r p u)))) [
+        | inl y ↦ any-of (opensEnd r p opens (endIndex (headsFor r p t))) (r .trains) t l (and-both (opens t) _ y (eq-eqb (endIndex (headsFor r p t)) (endIndex (headsFor r p t)) refl)) ∙ sym y
+        | inr y ↦ none-any (opensEnd r p opens (endIndex (headsFor r p t))) (r .trains) (λ u lu. elim (bool? (eqb (endIndex (headsFor r p t)) (endIndex (headsFor r p u)))) [
           | inl z ↦ let e : t ≡ u = own-end t u l lu h (eqb-true (endIndex (headsFor r p t)) (endIndex (headsFor r p u)) z) in rw (← e, y)
           | inr z ↦ rw z (and-off (opens u))
         ]) ∙ sym y

@@ -9,7 +9,7 @@ pub mod Unique
 pub mod Points
 pub mod Exact
 pub mod Certify
-pub mod Starred
+pub mod KnownYards
 pub mod Refusals
 pub mod Examples
 pub mod Exists

@@ -2,7 +2,6 @@
 -- Assumes nothing.
 use mathlib.Core.Path.{_≡_}
 use mathlib.Core.Option.{none}
-use Prim.Native.Nat.{ℕ}
 use Rattle.railway.specs.declared.Railway.{Railway}
 use Rattle.railway.specs.Rows.{recordRefusal}
 use Rattle.game.specs.Game.{IsFigure}

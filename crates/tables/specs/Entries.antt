@@ -17,13 +17,17 @@ trainBits = 16
 abbrev pub opensIn : ℕ → ℕ → Bool
 opensIn v t = bit v (trainBits + t)
 
--- Entry v opens, at placement p, the signal at the section end of index i: it is that of an open train.
-abbrev pub opensEnd : Railway → ℕ → ℕ → ℕ → ℕ → Bool
-opensEnd r p v i t = opensIn v t && eqb i (endIndex (headsFor r p t))
+-- Train t is one of these open trains, and heads at placement p for the section end of index i.
+abbrev pub opensEnd : Railway → ℕ → (ℕ → Bool) → ℕ → ℕ → Bool
+opensEnd r p opens i t = opens t && eqb i (endIndex (headsFor r p t))
 
--- The whole setting of an entry at placement p: signals of no open train are closed.
+-- The whole setting of points at plus and open trains at placement p: signals of no open train are closed.
+abbrev pub settingFrom : Railway → ℕ → (ℕ → Bool) → (ℕ → Bool) → Setting
+settingFrom r p plus opens = record { plus = plus; isOpen = λ i. anyBelow (opensEnd r p opens i) (r .trains) }
+
+-- .. of an entry.
 unfoldable pub settingAt : Railway → ℕ → ℕ → Setting
-settingAt r p v = record { plus = bit v; isOpen = λ i. anyBelow (opensEnd r p v i) (r .trains) }
+settingAt r p v = settingFrom r p (bit v) (opensIn v)
 
 -- The entry of points at plus and open trains.
 unfoldable pub entryFrom : Railway → (ℕ → Bool) → (ℕ → Bool) → ℕ

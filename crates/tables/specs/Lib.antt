@@ -2,6 +2,6 @@ pub mod Entries
 pub mod Tables
 pub mod Solver
 pub mod Choice
-pub mod Starred
+pub mod KnownYards
 pub mod Find
 pub mod Rounds

@@ -2,19 +2,18 @@
 -- read; a number of as many digits as were read so far is small.
 -- Assumes nothing.
 use Prim.Native.Nat.{ℕ, zero, suc, _+_, _-_, _*_, _^_, _<_, _≤_}
-use mathlib.Core.Path.{_≡_, refl, sym, _∙_}
-use mathlib.Core.Bool.{true, false, cond, _&&_}
+use mathlib.Core.Path.{_≡_, refl, sym}
+use mathlib.Core.Bool.{true, false}
 use mathlib.Core.Logic.{inl, inr}
 use mathlib.Core.List.{List}
 use native.Mathlib.Omega.{arith}
 use native.Mathlib.Nat.{pow-succ', pow-le-pow-right}
-use lib.Dec.{ltb, eqb}
 use lib.ListN.{length, getD, List·getD-eq-default}
 use borrow.Author.Tests.{lt-ltb, le-ltb, eq-eqb, ne-eqb}
-use Rattle.laws.proofs.Bools.{lt?, clash}
+use Rattle.laws.proofs.Bools.{lt?}
 use Rattle.text.specs.declared.Width.{Width}
 use Rattle.text.specs.declared.Width.the-variants.{Three, Ten}
-use Rattle.text.specs.Reading.{isDigit, Got, bad, got, byteAt, digitsAt, numberAt}
+use Rattle.text.specs.Reading.{isDigit, bad, got, byteAt, digitsAt, numberAt}
 use Rattle.text.specs.Answers.{moreDigits, byteInside}
 use Rattle.text.proofs.Decimal.{digit-is}
 

@@ -4,7 +4,6 @@ use mathlib.Core.List.{List}
 use Prim.Native.Nat.{ℕ}
 use lib.Dec.{ltb}
 use lib.ListN.{length}
-use Rattle.text.specs.declared.Cursor.{Cursor}
 use Rattle.text.specs.declared.Width.{Width}
 use Rattle.text.specs.declared.Width.the-variants.{Three, Ten}
 use Rattle.text.specs.declared.Number.{Number}

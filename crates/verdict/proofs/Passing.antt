@@ -2,8 +2,8 @@
 -- the lines taken, while a plan in form has none missing. Assumes nothing.
 use mathlib.Core.Path.{_≡_, refl, sym, _∙_, ap, subst}
 use mathlib.Core.List.{List, [], _∷_}
-use mathlib.Core.Logic.{_⊎_, inl, inr, _↔_}
-use Prim.Native.Nat.{ℕ, suc, _≤_, _<_}
+use mathlib.Core.Logic.{_⊎_, inl, inr}
+use Prim.Native.Nat.{ℕ, _≤_, _<_}
 use native.Mathlib.Omega.{arith}
 use lib.ListN.{length}
 use Rattle.railway.specs.declared.Railway.{Railway}
@@ -12,10 +12,10 @@ use Rattle.plan.specs.declared.LineAnswer.{LineAnswer}
 use Rattle.plan.specs.declared.LineAnswer.the-variants.{Taken, Refused as LineRefused}
 use Rattle.plan.specs.declared.TestAnswer.{TestAnswer}
 use Rattle.plan.specs.declared.TestAnswer.the-variants.{Pass, Refused as TestRefused}
-use Rattle.plan.specs.Checker.{Checking, Left, freshChecking, takeLine, testPlan, Run, run, takenTexts}
+use Rattle.plan.specs.Checker.{Checking, Left, freshChecking, takeLine, testPlan, run, takenTexts}
 use Rattle.plan.specs.Checked.{Checked, InForm, Passing}
 use Rattle.plan.proofs.Checks.{checked-holds}
-use Rattle.verdict.specs.Verdict.{linesOf, afterLine, checkLines, checkText}
+use Rattle.verdict.specs.Verdict.{linesOf, checkLines}
 use Rattle.verdict.specs.Claims.{VerdictHolds}
 
 -- no more lines are taken than were handed in

@@ -1,14 +1,13 @@
 -- What follows from the writer's promise: an accepted record's text has no more bytes than a case text may have, and is read back as the same railway; the
 -- promise says that those bytes stand in front of the buffer, and the case file's theorems speak of them.
 -- Assumes nothing.
-use Prim.Native.Nat.{ℕ, _≤_}
+use Prim.Native.Nat.{ℕ}
 use mathlib.Core.Path.{_≡_, refl, sym, _∙_, ap}
-use mathlib.Core.Logic.{inl, inr}
-use mathlib.Core.Option.{none, some}
+use mathlib.Core.Option.{some}
 use native.Mathlib.Omega.{arith}
 use lib.ListN.{length, take}
 use Rattle.laws.proofs.Bools.{some-none}
-use Rattle.railway.specs.Refusals.{number, numberOf}
+use Rattle.railway.specs.Refusals.{number}
 use Rattle.casefile.specs.declared.Written.{Written}
 use Rattle.casefile.specs.declared.Written.the-variants.{Bytes, Refused}
 use Rattle.casefile.specs.Reading.{caseAnswer}

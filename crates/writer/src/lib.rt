@@ -5,7 +5,7 @@ ghost use mathlib.Core.List.{[], _∷_, _++_};
 ghost use Prim.Native.Nat.{suc};
 ghost use Rattle.laws.specs.Below.{gatherBelow};
 ghost use Rattle.text.specs.Appending.{Appended};
-ghost use Rattle.casefile.specs.Form.{sideByte, legByte, endField, joinLine, pointLine, trainLine};
+ghost use Rattle.casefile.specs.Form.{sideByte, legByte, endField, pointLine, trainLine};
 ghost use Rattle.casefile.specs.Recording.{fieldOf};
 ghost use Rattle.casefile.specs.Writing.{trainFrom, writtenText, WriterPost};
 ghost use Rattle.writer.specs.Pieces.{headerText, joinPiece, signalPiece, pieceOf};

@@ -1,7 +1,7 @@
 -- `acceptance::counts_outside` meets its contract: the tests of row 3, one after the other.
 -- Assumes nothing.
 use borrow.Author.Tests.{lt-ltb, le-ltb}
-use Rattle.railway.specs.Bounds.{mostSections, mostPoints, mostTrains}
+use Rattle.railway.specs.Bounds.{mostSections, mostPoints}
 use Rattle.acceptance.proofs.counts_outside.Statement.{statement}
 use Rattle.acceptance.proofs.counts_outside.Tie as tie
 

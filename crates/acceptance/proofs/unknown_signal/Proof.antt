@@ -1,7 +1,6 @@
 -- `acceptance::unknown_signal` meets its contract: no flag, or one whose end is looked at.
 -- Assumes nothing.
 use borrow.Author.Needs.{needs}
-use mathlib.Core.Path.{sym, _∙_}
 use Rattle.acceptance.proofs.unknown_signal.Statement.{statement}
 use Rattle.acceptance.proofs.unknown_signal.Tie as tie
 

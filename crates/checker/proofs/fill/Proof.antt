@@ -1,6 +1,5 @@
 -- `checker::fill` meets its contract. The loop's invariant: the entries before i are filled.
 -- Assumes nothing.
-use native.Mathlib.Omega.{arith}
 use borrow.Author.Needs.{needs}
 use Prim.Native.Nat.{_-_}
 use lib.ListN.{length}

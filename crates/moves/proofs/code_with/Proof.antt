@@ -2,7 +2,6 @@
 -- Assumes nothing.
 use native.Mathlib.Omega.{arith}
 use borrow.Author.Needs.{needs}
-use Rattle.moves.specs.Steps.{movedTo}
 use Rattle.moves.proofs.Placing.{code-with-is}
 use Rattle.moves.proofs.code_with.Statement.{statement}
 use Rattle.moves.proofs.code_with.Tie as tie

@@ -7,7 +7,7 @@ use mathlib.Core.Bool.{false}
 use Rattle.laws.specs.Below.{anyBelow}
 use Rattle.laws.proofs.Below.{any-next}
 use Rattle.railway.specs.declared.Railway.{Railway}
-use Rattle.tables.specs.Entries.{opensEnd}
+use Rattle.tables.specs.Entries.{opensIn, opensEnd}
 use Rattle.moves.specs.Steps.{On}
 use Rattle.moves.proofs.Moving.{some-opens, none-opens}
 use mathlib.Core.Path.{refl, sym, _∙_, _≡_}
@@ -15,7 +15,7 @@ use Rattle.moves.proofs.open_in.Statement.{statement}
 use Rattle.moves.proofs.open_in.Tie as tie
 
 abbrev Inv-loop : tie.InvT-loop
-Inv-loop table q v i k u₀ u = (u ≤ k) × ((r : Railway) (p : ℕ) → On r p table q → anyBelow (opensEnd r p v i) u ≡ false)
+Inv-loop table q v i k u₀ u = (u ≤ k) × ((r : Railway) (p : ℕ) → On r p table q → anyBelow (opensEnd r p (opensIn v) i) u ≡ false)
 
 abbrev μ-loop : tie.MeasureT-loop
 μ-loop table q v i k u₀ u = k - u
@@ -40,7 +40,7 @@ loop-less : tie.Need-loop-less Inv-loop μ-loop
 loop-less c = omega arith
 
 loop-again : tie.Need-loop-again Inv-loop μ-loop
-loop-again c = let l = c .before .before .before in let a = l .before .before .args in (omega arith, λ r p h. any-next (opensEnd r p (a .v) (a .i)) _ (l .loop .inv .1 r p h) (sym (c .before .opens-end .ensures r p h) ∙ c .if1 .left))
+loop-again c = let l = c .before .before .before in let a = l .before .before .args in (omega arith, λ r p h. any-next (opensEnd r p (opensIn (a .v)) (a .i)) _ (l .loop .inv .1 r p h) (sym (c .before .opens-end .ensures r p h) ∙ c .if1 .left))
 
 returns-2 : tie.Need-returns-2 Inv-loop μ-loop
 returns-2 c = λ r p h. let l = c .before in none-opens r p _ _ h (l .before .before .args .v) _ _ (l .loop .u) (l .before .count-in .ensures r (h .compiled) (omega arith)) (l .loop .inv .0) (c .loop-test .left) (l .loop .inv .1 r p h)

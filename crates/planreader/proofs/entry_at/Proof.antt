@@ -2,10 +2,10 @@
 -- Assumes nothing.
 use native.Mathlib.Omega.{arith}
 use denote.Ref.{now}
-use mathlib.Core.Path.{refl, sym, _∙_, ap}
+use mathlib.Core.Path.{sym, _∙_, ap}
 use Rattle.text.specs.Answers.{numberGot}
 use Rattle.text.proofs.Chain.{fails, goes, byte-fails, byte-goes}
-use Rattle.planreader.specs.Walk.{plusAt, entryAt}
+use Rattle.planreader.specs.Walk.{plusAt}
 use Rattle.planreader.proofs.Taking.{entry-many, entry-few, entry-is, entry-room}
 use borrow.Author.Needs.{needs}
 use Rattle.planreader.proofs.entry_at.Statement.{statement}

@@ -1,7 +1,6 @@
 -- `planreader::same_at` meets its contract.
 -- Assumes nothing.
 use borrow.Author.Needs.{needs}
-use mathlib.Core.Path.{sym, _∙_, ap}
 use Rattle.planreader.proofs.same_at.Statement.{statement}
 use Rattle.planreader.proofs.same_at.Tie as tie
 

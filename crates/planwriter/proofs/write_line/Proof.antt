@@ -2,7 +2,6 @@
 -- Assumes nothing.
 use borrow.Author.Needs.{needs}
 use native.Mathlib.Omega.{arith}
-use denote.Ref.{now}
 use lib.ListN.{length-take}
 use Rattle.planwriter.proofs.Fitting.{line-fits}
 use Rattle.planwriter.proofs.write_line.Statement.{statement}

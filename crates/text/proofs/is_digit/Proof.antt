@@ -1,6 +1,5 @@
 -- `text::is_digit` meets its contract: below the digits, above them, or between.
 -- Assumes nothing.
-use native.Mathlib.Omega.{arith}
 use Rattle.text.proofs.Numbers.{digit-low, digit-high, digit-between}
 use Rattle.text.proofs.is_digit.Statement.{statement}
 use Rattle.text.proofs.is_digit.Tie as tie

@@ -1,7 +1,6 @@
 -- `railway::Railway::side_of` meets its contract: a section's end by itself, a port by the legs of its point.
 -- Assumes nothing.
 use borrow.Author.Needs.{needs}
-use mathlib.Core.Path.{sym}
 use Rattle.railway.proofs.Railway.side_of.Statement.{statement}
 use Rattle.railway.proofs.Railway.side_of.Tie as tie
 

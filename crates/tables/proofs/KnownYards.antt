@@ -1,4 +1,4 @@
--- The starred figures, proved from the rules for whole plays: the tables of each yard are written out, pass the test of Certify by computation, and so have
+-- The known figures, proved from the rules for whole plays: the tables of each yard are written out, pass the test of Certify by computation, and so have
 -- the figures. Assumes nothing.
 use mathlib.Core.Path.{_≡_, refl}
 use mathlib.Core.Bool.{Bool, true, _&&_}
@@ -25,7 +25,7 @@ use Rattle.railway.specs.Yards.{yardA, yardALess, yardOne, upOneTwo, upTwoOne, 
 use Rattle.tables.specs.Entries.{settingAt, entryFrom}
 use Rattle.tables.specs.Tables.{noFigure, figureIn, Filled}
 use Rattle.tables.specs.Find.{tryOpen, firstFound, find}
-use Rattle.tables.specs.Starred.{Star, starCode, Holds, StarredHolds}
+use Rattle.tables.specs.KnownYards.{KnownFigure, knownCode, Holds, KnownFiguresHold}
 use Rattle.tables.proofs.Certify.{certified, certify}
 
 -- what is computed of a yard: it is accepted, and its tables pass
@@ -78,42 +78,42 @@ yardA-accepted = sure .0 .accepted
 pub yardA-filled : Filled yardA figsA setsA
 yardA-filled = filled (sure .0)
 
--- a star, from the tables of its yard and what is computed of its placement
-abbrev there : Star → Bool
-there x = eqb (length (x .sections)) (x .yard .trains) && (all (λ n. leb 1 n && leb n (x .yard .sections)) (x .sections) && ltb (starCode x) (placements (x .yard)))
+-- a known figure, from the tables of its yard and what is computed of its placement
+abbrev there : KnownFigure → Bool
+there x = eqb (length (x .sections)) (x .yard .trains) && (all (λ n. leb 1 n && leb n (x .yard .sections)) (x .sections) && ltb (knownCode x) (placements (x .yard)))
 
-star : {x : Star} {figs sets : List ℕ} → Sure (x .yard) figs sets → (x .ofStart ≡ true → startCode (x .yard) ≡ starCode x) → there x ≡ true → figureIn figs (starCode x) ≡ x .figure → Holds x
-star {x} {figs} s start t e =
-    let h = and-true (eqb (length (x .sections)) (x .yard .trains)) (all (λ n. leb 1 n && leb n (x .yard .sections)) (x .sections) && ltb (starCode x) (placements (x .yard))) t in
-    let k = and-true (all (λ n. leb 1 n && leb n (x .yard .sections)) (x .sections)) (ltb (starCode x) (placements (x .yard))) (h .1) in
-    let l : starCode x < placements (x .yard) = ltb-true (starCode x) (placements (x .yard)) (k .1) in
+known-figure : {x : KnownFigure} {figs sets : List ℕ} → Sure (x .yard) figs sets → (x .ofStart ≡ true → startCode (x .yard) ≡ knownCode x) → there x ≡ true → figureIn figs (knownCode x) ≡ x .figure → Holds x
+known-figure {x} {figs} s start t e =
+    let h = and-true (eqb (length (x .sections)) (x .yard .trains)) (all (λ n. leb 1 n && leb n (x .yard .sections)) (x .sections) && ltb (knownCode x) (placements (x .yard))) t in
+    let k = and-true (all (λ n. leb 1 n && leb n (x .yard .sections)) (x .sections)) (ltb (knownCode x) (placements (x .yard))) (h .1) in
+    let l : knownCode x < placements (x .yard) = ltb-true (knownCode x) (placements (x .yard)) (k .1) in
     record {
       accepted = s .accepted;
       each-train = eqb-true (length (x .sections)) (x .yard .trains) (h .0);
       there = k .0;
       coded = l;
       start = start;
-      figure = rw (← e) (filled s .figures (starCode x) l);
+      figure = rw (← e) (filled s .figures (knownCode x) l);
     }
 
 infixr 4 _also_
 _also_ : {A B : Type 0} → A → B → A × B
 h also hs = (h, hs)
 
--- THE STARRED FIGURES HOLD
-pub starred : StarredHolds
+-- THE KNOWN FIGURES HOLD
+pub known-figures : KnownFiguresHold
 unfolding all codeOf startCode sumBelow listBelow runOf withJoin withSignal withLegs withTrain
-starred =
-    star (sure .0) (λ e. clash e refl) refl refl
-    also star (sure .0) (λ e. clash e refl) refl refl
-    also star (sure .0) (λ e. clash e refl) refl refl
-    also star (sure .0) (λ e. clash e refl) refl refl
-    also star (sure .0) (λ e. clash e refl) refl refl
-    also star (sure .0) (λ e. clash e refl) refl refl
-    also star (sure .1) (λ e. refl) refl refl
-    also star (sure .2) (λ e. refl) refl refl
-    also star (sure .3) (λ e. refl) refl refl
-    also star (sure .4) (λ e. refl) refl refl
-    also star (sure .5) (λ e. refl) refl refl
-    also star (sure .6) (λ e. refl) refl refl
+known-figures =
+    known-figure (sure .0) (λ e. clash e refl) refl refl
+    also known-figure (sure .0) (λ e. clash e refl) refl refl
+    also known-figure (sure .0) (λ e. clash e refl) refl refl
+    also known-figure (sure .0) (λ e. clash e refl) refl refl
+    also known-figure (sure .0) (λ e. clash e refl) refl refl
+    also known-figure (sure .0) (λ e. clash e refl) refl refl
+    also known-figure (sure .1) (λ e. refl) refl refl
+    also known-figure (sure .2) (λ e. refl) refl refl
+    also known-figure (sure .3) (λ e. refl) refl refl
+    also known-figure (sure .4) (λ e. refl) refl refl
+    also known-figure (sure .5) (λ e. refl) refl refl
+    also known-figure (sure .6) (λ e. refl) refl refl
     also tt

@@ -1,4 +1,4 @@
--- The starred figures of document 01, "Yards to try", as one table with one statement. The one starred text is a plan's: Outputs, of crate plan, has it.
+-- The figures that document 01, "Yards to try", gives as known, as one table with one statement. The one plan's text among them is in Outputs, of crate plan.
 -- Assumes nothing.
 use mathlib.Core.Path.{_≡_}
 use mathlib.Core.Bool.{Bool, true, false, _&&_}
@@ -15,24 +15,24 @@ use Rattle.game.specs.Placement.{codeOf, placements, startCode}
 use Rattle.game.specs.Moves.{gameOf}
 use Rattle.railway.specs.Yards.{yardA, yardALess, yardOne, upOneTwo, upTwoOne, upTwoOneHeld, headOn}
 
--- A starred fact: in this yard the placement, with the document's section numbers, has this figure; it is said of the start or of any placement.
-pub record Star : Type 0 where
+-- A known figure: in this yard the placement, with the document's section numbers, has this figure; it is said of the start or of any placement.
+pub record KnownFigure : Type 0 where
   pub yard : Railway
   pub ofStart : Bool
   pub sections : List ℕ
   pub figure : Option ℕ
 
 -- .. said of a placement.
-abbrev pub placed : Railway → List ℕ → Option ℕ → Star
+abbrev pub placed : Railway → List ℕ → Option ℕ → KnownFigure
 placed r xs f = record { yard = r; ofStart = false; sections = xs; figure = f }
 
 -- .. said of the start.
-abbrev pub started : Railway → List ℕ → Option ℕ → Star
+abbrev pub started : Railway → List ℕ → Option ℕ → KnownFigure
 started r xs f = record { yard = r; ofStart = true; sections = xs; figure = f }
 
--- The starred figures, in the document's order.
-abbrev pub stars : List Star
-stars =
+-- The known figures, in the document's order.
+abbrev pub knownFigures : List KnownFigure
+knownFigures =
     placed yardA (2 ∷ 3 ∷ []) (some 2)
     ∷ placed yardA (2 ∷ 1 ∷ []) (some 1)
     ∷ placed yardA (3 ∷ 1 ∷ []) (some 0)
@@ -48,24 +48,24 @@ stars =
     ∷ []
 
 -- The code of that placement.
-abbrev pub starCode : Star → ℕ
-starCode x = codeOf (x .yard .sections) (map (λ n. n - 1) (x .sections))
+abbrev pub knownCode : KnownFigure → ℕ
+knownCode x = codeOf (x .yard .sections) (map (λ n. n - 1) (x .sections))
 
--- A starred fact holds: the yard is accepted; the placement is one of its own, with a section that is there for each train, so that its code is one of the yard's;
+-- A known figure holds: the yard is accepted; the placement is one of its own, with a section that is there for each train, so that its code is one of the yard's;
 -- it is the start where that is meant; and it has the figure by the rules for whole plays.
-pub record Holds (x : Star) : Type 0 where
+pub record Holds (x : KnownFigure) : Type 0 where
   pub accepted : recordRefusal (x .yard) ≡ none
   pub each-train : length (x .sections) ≡ x .yard .trains
   pub there : all (λ n. leb 1 n && leb n (x .yard .sections)) (x .sections) ≡ true
-  pub coded : starCode x < placements (x .yard)
-  pub start : x .ofStart ≡ true → startCode (x .yard) ≡ starCode x
-  pub figure : IsFigure (gameOf (x .yard)) (starCode x) (x .figure)
+  pub coded : knownCode x < placements (x .yard)
+  pub start : x .ofStart ≡ true → startCode (x .yard) ≡ knownCode x
+  pub figure : IsFigure (gameOf (x .yard)) (knownCode x) (x .figure)
 
--- Each of a list of starred facts holds.
-abbrev pub AllHold : List Star → Type 0
+-- Each of a list of known figures holds.
+abbrev pub AllHold : List KnownFigure → Type 0
 AllHold [] = Unit {0}
 AllHold (x ∷ xs) = Holds x × AllHold xs
 
 -- The statement for the whole table.
-abbrev pub StarredHolds : Type 0
-StarredHolds = AllHold stars
+abbrev pub KnownFiguresHold : Type 0
+KnownFiguresHold = AllHold knownFigures
