@@ -1,17 +1,17 @@
--- The code before a move. A move that ends in a placement has put one train on the section where it stands there and left the others: so the placement before has the
--- train on the section behind, and its code differs by the train's weight times the difference of the sections. Assumes nothing.
+-- The placement before a move. A move that ends in a placement has put one train on the section where it stands there and left the others: so the placement before has
+-- the train on the section behind, and the others as they are. Assumes nothing.
 use mathlib.Core.Path.{_≡_, refl, sym, _∙_, ap}
 use mathlib.Core.Bool.{Bool, true, false, cond}
-use mathlib.Core.List.{List, [], _∷_}
+use mathlib.Core.List.{List}
 use mathlib.Core.Option.{Option, none, some}
-use Prim.Native.Nat.{ℕ, zero, suc, _+_, _*_, _^_, _/_, _%_, _≤_, _<_}
+use Prim.Native.Nat.{ℕ, _+_, _*_, _/_, _%_, _≤_, _<_}
 use native.Mathlib.Omega.{arith}
-use native.Mathlib.Nat.{mul-comm, mul-assoc, pow-zero, pow-succ', mul-add}
 use lib.ListN.{length, getD, set, replicate, length-replicate, length-set}
-use lib.Seq.{getD-set-same, getD-set-other}
+use lib.Seq.{getD-set-same, getD-set-other, set-getD, set-set}
 use Rattle.laws.proofs.Bools.{eq?}
 use mathlib.Core.Logic.{inl, inr}
 use Rattle.railway.specs.declared.Side.{Side}
+use Rattle.railway.specs.declared.End.{End}
 use Rattle.railway.specs.declared.End.the-variants.{Section}
 use Rattle.railway.specs.declared.Train.{Train}
 use Rattle.railway.specs.declared.Railway.{Railway}
@@ -23,15 +23,11 @@ use Rattle.game.specs.Game.{lost, at, collision}
 use Rattle.game.specs.Placement.{codeOf, sectionsOf, standsOn, placements}
 use Rattle.game.specs.Setting.{headsFor}
 use Rattle.game.specs.Moves.{passes, occupied, codeWith, enters, moveOf}
-use Rattle.game.proofs.Codes.{code-cons, code-sections, sections-length}
+use Rattle.game.proofs.Codes.{code-sections, sections-length}
 use Rattle.game.proofs.Accepted.{Facts, facts}
 use Rattle.game.proofs.Moves.{section-below, passes-below, sections-with}
-use Rattle.tables.proofs.Exists.{few-placements}
-use Rattle.compiled.specs.Table.{wayByte, countByte}
-use Rattle.moves.specs.declared.Placement.{Placement}
-use Rattle.moves.specs.Steps.{sectionIn, On, allAt}
-use Rattle.moves.proofs.Coding.{code-move}
-use Rattle.moves.proofs.Placing.{sections-are}
+use Rattle.compiled.specs.Table.{sectionByte, wayByte}
+use Rattle.moves.specs.Steps.{allAt}
 use Rattle.predecessors.specs.Behind.{behindBytes, endBehind, behindByte, Behind}
 use Rattle.predecessors.proofs.Reversing.{goes-back}
 
@@ -101,15 +97,9 @@ entered r p t c (some x) e = go (occupied r p t x) e
     go true e = let z : _≡_ {A = ℕ} 0 1 = cc in absurd (omega arith)
     go false e = let z : codeWith r p t x ≡ c = cc in record { section = x; reached = refl; code = sym z }
 
-exchanged : (c c′ y y′ w w′ p p′ x x′ : ℕ) → c ≡ c′ → y ≡ y′ → w ≡ w′ → p′ ≡ p → x ≡ x′ → c′ + y′ * w′ ≡ p′ + x′ * w′ → c + y * w ≡ p + x * w
-exchanged c c′ y y′ w w′ p p′ x x′ ec ey ew ep ex e = rw (ec, ey, ew, ← ep, ex) e
-
--- BACK FROM placement c
-module _ (r : Railway) (c : ℕ) (table : List ℕ) (q : Placement) (on : On r c table q) (p t : ℕ) (plus : Bool) (l : p < placements r) (lt : t < r .trains)
-    (moved : moveOf r p (allAt plus) t ≡ at c) (x : ℕ) (here : x ≡ sectionIn q t) where
-  accepted : recordRefusal r ≡ none
-  accepted = on .compiled .accepted
-
+-- BACK FROM placement c, where the train stands on section x
+module _ (r : Railway) (accepted : recordRefusal r ≡ none) (c p t : ℕ) (plus : Bool) (l : p < placements r) (lt : t < r .trains) (moved : moveOf r p (allAt plus) t ≡ at c)
+    (x : ℕ) (here : x ≡ standsOn r c t) where
   ok : Facts r
   ok = facts r accepted
 
@@ -117,25 +107,16 @@ module _ (r : Railway) (c : ℕ) (table : List ℕ) (q : Placement) (on : On r c
   unfolding moveOf
   into = entered r p t c (passes r (λ i. plus) (headsFor r p t) .reached) moved
 
-  into-below : into .section < r .sections
-  into-below = passes-below r ok (λ i. plus) (headsFor r p t) (into .section) (into .reached)
-
   inside : t < length (sectionsOf r p)
   inside = rw (sections-length (r .sections) (r .trains) p) lt
 
-  -- it is where the train stands now
+  -- the others stand as before
+  others : sectionsOf r c ≡ set (sectionsOf r p) t (into .section)
+  others = ap (sectionsOf r) (into .code) ∙ sections-with r ok p t (into .section) (passes-below r ok (λ i. plus) (headsFor r p t) (into .section) (into .reached))
+
   section-is : x ≡ into .section
   unfolding standsOn
-  section-is =
-      let a : sectionsOf r c ≡ set (sectionsOf r p) t (into .section) = ap (sectionsOf r) (into .code) ∙ sections-with r ok p t (into .section) into-below in
-      let b : standsOn r c t ≡ into .section = rw a (getD-set-same (sectionsOf r p) t (into .section) 0 inside) in
-      here ∙ on .stands t ∙ b
-
-  pub section-small : x < 48
-  section-small = rw section-is (omega (arith, into-below, ok .few-sections))
-
-  pub train-small : t < 4
-  train-small = omega (arith, ok .few-trains)
+  section-is = here ∙ rw others (getD-set-same (sectionsOf r p) t (into .section) 0 inside)
 
   -- behind it is where the train stood
   module _ (y : ℕ) (behind : y ≡ wayByte r (endBehind r t x) (cond plus 3 2)) where
@@ -153,12 +134,22 @@ module _ (r : Railway) (c : ℕ) (table : List ℕ) (q : Placement) (on : On r c
     pub some-behind : y ≡ 255 → ⊥
     some-behind e = omega (arith, behind-is, section-below r ok p t lt, ok .few-sections)
 
-    pub before-is : (s w b : ℕ) → s ≡ countByte r 0 → (t ≤ 4 → w ≡ s ^ t) → ((p : ℕ) → p < 4294967295 → c + y * w ≡ p + x * w → b ≡ p) → b ≡ p
+    pub before-is : p ≡ codeWith r c t y
     unfolding standsOn
-    before-is s w b es ew put =
-        let weight : w ≡ r .sections ^ t = ew (omega (arith, train-small)) ∙ ap (λ (a : ℕ). a ^ t) (sections-are r s es) in
-        let codes : codeOf (r .sections) (sectionsOf r p) ≡ p = code-sections (r .sections) (r .trains) p (ok .one-section) l in
-        let m : codeWith r p t (into .section) + standsOn r p t * r .sections ^ t ≡ codeOf (r .sections) (sectionsOf r p) + into .section * r .sections ^ t =
-        code-move (r .sections) (sectionsOf r p) t (into .section) inside in
-        let n : c + y * w ≡ p + x * w = exchanged c _ y _ w _ p _ x _ (into .code) behind-is weight codes section-is m in
-        put p (omega (arith, few-placements r accepted)) n
+    before-is =
+        let a : set (sectionsOf r c) t y ≡ set (sectionsOf r p) t y = rw others (set-set (sectionsOf r p) t (into .section) y) in
+        let b : set (sectionsOf r p) t y ≡ sectionsOf r p = rw behind-is (set-getD (sectionsOf r p) t 0) in
+        sym (ap (codeOf (r .sections)) (a ∙ b) ∙ code-sections (r .sections) (r .trains) p (ok .one-section) l)
+
+-- WHAT LIES BEHIND is a section of the railway, or nothing
+pub behind-below : (r : Railway) → recordRefusal r ≡ none → (e : End) (plus : Bool) (y : ℕ) → y ≡ wayByte r e (cond plus 3 2) → (y ≡ 255 → ⊥) → y < r .sections
+unfolding wayByte
+behind-below r accepted e plus y is some-section = go plus is
+  where
+    below : (o : Option ℕ) → ((x : ℕ) → o ≡ some x → x < r .sections) → y ≡ sectionByte o → y < r .sections
+    below none h z = absurd (some-section z)
+    below (some x) h z = rw z (h x refl)
+
+    go : (b : Bool) → y ≡ wayByte r e (cond b 3 2) → y < r .sections
+    go true z = below (passes r (λ i. true) e .reached) (passes-below r (facts r accepted) (λ i. true) e) z
+    go false z = below (passes r (λ i. false) e .reached) (passes-below r (facts r accepted) (λ i. false) e) z

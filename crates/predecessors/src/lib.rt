@@ -2,18 +2,12 @@
 // one section if that point lies at minus and from one if it lies at plus. Read off a record once, into a table of bytes, for loops that ask often.
 ghost use mathlib.Core.Path.{_≡_};
 ghost use mathlib.Core.Bool.{cond};
-ghost use Prim.Native.Nat.{ℕ, _+_, _*_, _<_};
+ghost use Prim.Native.Nat.{_<_};
 ghost use Rattle.railway.specs.declared.Railway.{Railway};
 ghost use Rattle.railway.specs.Ends.{opposite};
-ghost use Rattle.game.specs.Game.{at};
-ghost use Rattle.game.specs.Placement.{placements};
-ghost use Rattle.game.specs.Moves.{moveOf};
 ghost use Rattle.compiled.specs.Table.{wayByte};
-ghost use Rattle.moves.specs.Steps.{On, allAt};
 ghost use Rattle.predecessors.specs.Behind.{endBehind, behindByte, Behind};
 use compiled::NO_BYTE;
-use compiled::Table;
-use moves::Placement;
 use railway::End;
 use railway::Railway;
 use railway::SectionNo;
@@ -61,8 +55,8 @@ fn other_side(s: Side) -> Side
     }
 }
 
-// The section behind section x for train t, the point between them lying at plus or not; 255: none.
-fn section_behind(behind: &SectionsBehind, t: u8, x: u8, plus: bool) -> u8
+// THE SECTION BEHIND section x for train t, the point between them lying at plus or not; 255: none.
+pub fn section_behind(behind: &SectionsBehind, t: u8, x: u8, plus: bool) -> u8
     ensures { λ y. ⌜ ((r : Railway) → Behind r (now (behind .entry)) → t < 4 → x < 48 → y ≡ wayByte r (endBehind r t x) (cond plus 3 2)) ⌝ }
 {
     let at = 2 * (48 * (t as usize) + (x as usize));
@@ -77,25 +71,4 @@ fn byte_at(behind: &SectionsBehind, i: usize) -> u8
     ensures { λ b. ⌜ ((r : Railway) → Behind r (now (behind .entry)) → i < 384 → b ≡ behindByte r i) ⌝ }
 {
     if i < BEHIND { behind[i] } else { NO_BYTE }
-}
-
-// THE CODE BEFORE A MOVE: that of the one placement from which train t, the point that it meets lying at plus or not, comes to placement q of
-// code c. Where there is none it is any number.
-pub fn code_before(
-    table: &Table,
-    behind: &SectionsBehind,
-    q: Placement,
-    c: u32,
-    t: u8,
-    plus: bool,
-) -> u32
-    ensures { λ b. ⌜ ((r : Railway) (p : ℕ) → On r c (now (table .entry)) q → Behind r (now (behind .entry)) → p < placements r → t < r .trains → moveOf r p (allAt plus) t ≡ at c → b ≡ p) ⌝ }
-{
-    let x = moves::section_at(q, t);
-    let y = section_behind(behind, t, x, plus);
-    if y == NO_BYTE {
-        return moves::NO_CODE;
-    }
-    let w = moves::power(compiled::count_in(table, 0), t);
-    moves::code_put(c, w, x, y)
 }

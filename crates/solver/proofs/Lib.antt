@@ -2,6 +2,7 @@ pub mod Visiting
 pub mod Clearing
 pub mod Gaining
 pub mod Sweeping
+pub mod Retracing
 pub mod Waving
 pub mod Filling
 pub mod Answering

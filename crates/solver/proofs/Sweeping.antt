@@ -24,9 +24,10 @@ use Rattle.tables.specs.Tables.{noFigure, figureEntry, figureIn}
 use Rattle.tables.specs.Solver.{RoundTables}
 use Rattle.tables.specs.Find.{find}
 use Rattle.tables.proofs.Carry.{Carries, find-carry}
-use Rattle.solver.specs.Sweeps.{Visited, rests, enters, unfigured}
+use Rattle.settings.specs.Answers.{firstKeeping}
+use Rattle.solver.specs.Sweeps.{unfigured}
 use Rattle.solver.specs.Waves.{Homed, Marked, Round, Changed, same, gained, Swept, One}
-use Rattle.solver.proofs.Visiting.{entry-some, entry-is, entry-empty}
+use Rattle.solver.proofs.Visiting.{entry-some, entry-is, entry-empty, finds-nothing, finds-entry}
 
 pub round-homed : (r : Railway) (n : ℕ) (figs sets : List ℕ) → RoundTables r n figs sets → Homed r figs
 round-homed r n figs sets t p l h =
@@ -103,18 +104,22 @@ module _ (r : Railway) (n : ℕ) (S : ℕ → Type 0) (figs sets figs′ sets′
         marked = s .marked;
       }
 
--- NO VISIT
-pub swept-none : (r : Railway) (n : ℕ) (S : ℕ → Type 0) (figs sets marks : List ℕ) → Marked r figs marks → ((q : ℕ) → q < placements r → S q → ⊥) → Swept r n S figs sets figs sets marks false
-swept-none r n S figs sets marks k h =
-    record {
-      each = λ q l. same refl refl;
-      past-figs = λ q d l. refl;
-      past-sets = λ q d l. refl;
-      unchanged = λ e. (refl, refl);
-      more = λ e. clash e refl;
-      settled = λ q l u. absurd (h q l u);
-      marked = k;
-    }
+-- NOTHING ENTERED
+module _ (r : Railway) (n : ℕ) (S : ℕ → Type 0) (figs sets marks : List ℕ) (k : Marked r figs marks) where
+  pub swept-rests : ((q : ℕ) → q < placements r → S q → figureIn figs q ≡ none → over (gameOf r) q ≡ false → find r (figureIn figs) q n ≡ none) → Swept r n S figs sets figs sets marks false
+  swept-rests h =
+      record {
+        each = λ q l. same refl refl;
+        past-figs = λ q d l. refl;
+        past-sets = λ q d l. refl;
+        unchanged = λ e. (refl, refl);
+        more = λ e. clash e refl;
+        settled = h;
+        marked = k;
+      }
+
+  pub swept-none : ((q : ℕ) → q < placements r → S q → ⊥) → Swept r n S figs sets figs sets marks false
+  swept-none h = swept-rests (λ q l u. absurd (h q l u))
 
 -- SOME VISITS, AND SOME MORE
 module _ (r : Railway) (accepted : recordRefusal r ≡ none) (n : ℕ) (small : n < noFigure) (S T U : ℕ → Type 0) (figs sets figs₁ sets₁ marks₁ figs₂ sets₂ marks₂ : List ℕ) (a b : Bool)
@@ -154,64 +159,45 @@ module _ (r : Railway) (accepted : recordRefusal r ≡ none) (n : ℕ) (small : 
         marked = y .marked;
       }
 
--- ONE VISIT
-module _ (r : Railway) (table : List ℕ) (m n p : ℕ) (figs sets marks : List ℕ) (o : Round r table m n figs marks) where
-  pub visit-outside : m ≤ p → Swept r n (One p) figs sets figs sets marks false
-  visit-outside l = swept-none r n (One p) figs sets marks (o .marked) (λ q lq e. omega (arith, o .counted))
+-- ONE VISIT, of a placement without a figure
+module _ (r : Railway) (table : List ℕ) (m n p : ℕ) (figs sets marks : List ℕ) (o : Round r table m n figs marks) (l : p < placements r) (empty : figureIn figs p ≡ none)
+    (found : Option ℕ) (searched : found ≡ firstKeeping r (figureIn figs) p n) where
+  pub visit-rests : found ≡ none → Swept r n (One p) figs sets figs sets marks false
+  visit-rests e = swept-rests r n (One p) figs sets marks (o .marked) (λ q lq u y g. rw u (finds-nothing r n p figs found searched e (rw u at g)))
 
-  module _ (figs′ sets′ : List ℕ) where
-    pub visit-rests : (b : Bool) → Visited r n p figs sets figs′ sets′ b → b ≡ false → Swept r n (One p) figs sets figs′ sets′ marks false
-    visit-rests b (enters v empty going found ef es) e = clash refl e
-    visit-rests b (rests ef es h) e =
-        rw (ef, es)
-        (record {
-          each = λ q l. same refl refl;
-          past-figs = λ q d l. refl;
-          past-sets = λ q d l. refl;
-          unchanged = λ y. (refl, refl);
-          more = λ y. clash y refl;
-          settled = λ q l u y g. rw u (h (rw u at y) (rw u at g));
-          marked = o .marked;
-        })
+  module _ (inside-figs : p < length figs) (inside-sets : p < length sets) (marks′ : List ℕ) (as-long : length marks′ ≡ length marks)
+      (grow : (i : ℕ) → getD marks i 0 ≤ getD marks′ i 0) (marks-it : p / 432 < length marks → n ≤ getD marks′ (p / 432) 0) where
+    pub visit-gains : (v : ℕ) → found ≡ some v → Swept r n (One p) figs sets (set figs p n) (set sets p v) marks′ true
+    visit-gains v e =
+        record {
+          each = λ q lq. elim (eq? q p) [
+            | inl z ↦ rw z (gained empty (x .0) (getD-set-same figs p n noFigure inside-figs) (x .1 ∙ ap (λ (y : ℕ). some y) (sym (getD-set-same sets p v 0 inside-sets))))
+            | inr z ↦ same (getD-set-other figs p q n noFigure z) (getD-set-other sets p q v 0 z)
+          ];
+          past-figs = λ q d lq. getD-set-other figs p q n d (λ z. omega arith);
+          past-sets = λ q d lq. getD-set-other sets p q v d (λ z. omega arith);
+          unchanged = λ y. clash refl y;
+          more = λ y. (p, l, not-true (unfigured (set figs p n) p) (λ z. some-none figure-now (empty-entry (getD (set figs p n) p noFigure) z)), entry-empty (getD figs p noFigure) empty);
+          settled = λ q lq u y g. some-none figure-now (rw u at y);
+          marked = record { room = omega (arith, o .marked .room); most = most };
+        }
+      where
+        x : (over (gameOf r) p ≡ false) × (find r (figureIn figs) p n ≡ some v)
+        x = finds-entry r n p figs found searched (o .homed p l) empty v e
 
-    module _ (l : p < m) (inside-figs : p < length figs) (inside-sets : p < length sets) (marks′ : List ℕ) (as-long : length marks′ ≡ length marks)
-        (grow : (i : ℕ) → getD marks i 0 ≤ getD marks′ i 0) (marks-it : p / 432 < length marks → n ≤ getD marks′ (p / 432) 0) where
-      entered : (v : ℕ) → figureIn figs p ≡ none → over (gameOf r) p ≡ false → find r (figureIn figs) p n ≡ some v → Swept r n (One p) figs sets (set figs p n) (set sets p v) marks′ true
-      entered v empty going found =
-          record {
-            each = λ q lq. elim (eq? q p) [
-              | inl z ↦
-                  rw z
-                  (gained empty going (getD-set-same figs p n noFigure inside-figs)
-                  (found ∙ ap (λ (x : ℕ). some x) (sym (getD-set-same sets p v 0 inside-sets))))
-              | inr z ↦ same (getD-set-other figs p q n noFigure z) (getD-set-other sets p q v 0 z)
-            ];
-            past-figs = λ q d lq. getD-set-other figs p q n d (λ z. omega (arith, o .counted));
-            past-sets = λ q d lq. getD-set-other sets p q v d (λ z. omega (arith, o .counted));
-            unchanged = λ y. clash refl y;
-            more = λ y.
-                (p, omega (arith, o .counted), not-true (unfigured (set figs p n) p) (λ z. some-none figure-now (empty-entry (getD (set figs p n) p noFigure) z)), entry-empty (getD figs p noFigure) empty);
-            settled = λ q lq u y g. some-none figure-now (rw u at y);
-            marked = record { room = omega (arith, o .marked .room); most = most };
-          }
-        where
-          most : (q j : ℕ) → q < placements r → figureIn (set figs p n) q ≡ some j → j ≤ getD marks′ (q / 432) 0
-          most q j lq e = elim (eq? q p) [
-            | inl z ↦
-                let a : figureIn (set figs p n) p ≡ some j = rw z at e in
-                let b : n ≡ j = sym (getD-set-same figs p n noFigure inside-figs) ∙ entry-is (getD (set figs p n) p noFigure) j a in
-                rw (z, ← b) (marks-it (omega (arith, o .counted, o .marked .room)))
-            | inr z ↦
-                let a : figureIn figs q ≡ some j = sym (ap figureEntry (getD-set-other figs p q n noFigure z)) ∙ e in
-                omega (arith, o .marked .most q j lq a, grow (q / 432))
-          ]
+        most : (q j : ℕ) → q < placements r → figureIn (set figs p n) q ≡ some j → j ≤ getD marks′ (q / 432) 0
+        most q j lq e = elim (eq? q p) [
+          | inl z ↦
+              let a : figureIn (set figs p n) p ≡ some j = rw z at e in
+              let b : n ≡ j = sym (getD-set-same figs p n noFigure inside-figs) ∙ entry-is (getD (set figs p n) p noFigure) j a in
+              rw (z, ← b) (marks-it (omega (arith, o .marked .room)))
+          | inr z ↦
+              let a : figureIn figs q ≡ some j = sym (ap figureEntry (getD-set-other figs p q n noFigure z)) ∙ e in
+              omega (arith, o .marked .most q j lq a, grow (q / 432))
+        ]
 
-          figure-now : figureIn (set figs p n) p ≡ some n
-          figure-now = ap figureEntry (getD-set-same figs p n noFigure inside-figs) ∙ entry-some n (λ z. omega (arith, o .small))
-
-      pub visit-gains : (b : Bool) → Visited r n p figs sets figs′ sets′ b → b ≡ true → Swept r n (One p) figs sets figs′ sets′ marks′ true
-      visit-gains b (rests ef es h) e = clash e refl
-      visit-gains b (enters v empty going found ef es) e = rw (ef, es) (entered v empty going found)
+        figure-now : figureIn (set figs p n) p ≡ some n
+        figure-now = ap figureEntry (getD-set-same figs p n noFigure inside-figs) ∙ entry-some n (λ z. omega (arith, o .small))
 
 -- MARKS: one is raised, the others stay
 module _ (marks : List ℕ) (c n : ℕ) (inside : c / 432 < length marks) (lower : getD marks (c / 432) 0 < n) where

@@ -1,18 +1,18 @@
 -- Round n at one placement, and what it begins with. A placement that is home has figure 0 already, so one without a figure at which something is found is neither
 -- home nor lost. Assumes nothing.
-use mathlib.Core.Path.{_≡_, refl, sym, _∙_, ap}
+use mathlib.Core.Path.{_≡_, sym, _∙_}
 use mathlib.Core.Logic.{inl, inr}
 use mathlib.Core.Bool.{Bool, true, false, not}
 use mathlib.Core.List.{List}
 use mathlib.Core.Option.{Option, none, some}
 use Prim.Native.Nat.{ℕ, _<_}
-use lib.ListN.{length, getD, set}
+use lib.ListN.{length, getD}
 use lib.Dec.{eqb}
 use borrow.Author.Tests.{eq-eqb, ne-eqb}
 use Rattle.laws.proofs.Bools.{bool?, some-none, some-one, not-true, or-false, or-none, and-off}
 use Rattle.laws.proofs.Lists.{getD-inside}
 use Rattle.railway.specs.declared.Railway.{Railway}
-use Rattle.game.specs.Game.{home}
+use Rattle.game.specs.Game.{home, over}
 use Rattle.railway.specs.Rows.{recordRefusal}
 use Rattle.game.specs.Placement.{placements, atHome, shared}
 use Rattle.game.specs.Moves.{gameOf}
@@ -24,7 +24,6 @@ use Rattle.moves.specs.Answers.{homeCode}
 use Rattle.moves.proofs.Round.{home-has-code}
 use Rattle.settings.specs.Answers.{firstKeeping}
 use Rattle.settings.proofs.Exactly.{keeping-lost}
-use Rattle.solver.specs.Sweeps.{Visited, rests, enters}
 
 pub entry-some : (x : ℕ) → (x ≡ noFigure → ⊥) → figureEntry x ≡ some x
 entry-some x h = rw (ne-eqb x noFigure h)
@@ -59,24 +58,24 @@ first-other r home p accepted e l other =
     rw (away, and-off (not (shared r p)))
 
 -- ONE PLACEMENT
-module _ (r : Railway) (n p : ℕ) (figs sets : List ℕ) (inside : p < length figs) where
-  pub has-figure : (getD figs p 0 ≡ noFigure → ⊥) → Visited r n p figs sets figs sets false
-  has-figure h = rests refl refl (λ e o. some-none (entry-some (getD figs p noFigure) (λ y. h (getD-inside figs p 0 noFigure inside ∙ y))) e)
+module _ (figs : List ℕ) (p : ℕ) (inside : p < length figs) where
+  pub read-figure : (getD figs p 0 ≡ noFigure → ⊥) → figureIn figs p ≡ none → ⊥
+  read-figure h e = some-none (entry-some (getD figs p noFigure) (λ y. h (getD-inside figs p 0 noFigure inside ∙ y))) e
 
-  module _ (found : Option ℕ) (searched : found ≡ firstKeeping r (figureIn figs) p n) where
-    apart-find : shared r p ≡ false → firstKeeping r (figureIn figs) p n ≡ find r (figureIn figs) p n
-    unfolding firstKeeping
-    apart-find e = rw e
+  pub read-none : getD figs p 0 ≡ noFigure → figureIn figs p ≡ none
+  read-none e = entry-none (getD figs p noFigure) (getD-inside figs p noFigure 0 inside ∙ e)
 
-    pub finds-nothing : found ≡ none → Visited r n p figs sets figs sets false
-    finds-nothing e = rests refl refl (λ y o. sym (apart-find (or-false (shared r p) (atHome r p) o .0)) ∙ sym searched ∙ e)
+module _ (r : Railway) (n p : ℕ) (figs : List ℕ) (found : Option ℕ) (searched : found ≡ firstKeeping r (figureIn figs) p n) where
+  apart-find : shared r p ≡ false → firstKeeping r (figureIn figs) p n ≡ find r (figureIn figs) p n
+  unfolding firstKeeping
+  apart-find e = rw e
 
-    module _ (homed : home (gameOf r) p ≡ true → figureIn figs p ≡ some 0) (empty : getD figs p 0 ≡ noFigure) where
-      no-figure : figureIn figs p ≡ none
-      no-figure = entry-none (getD figs p noFigure) (getD-inside figs p noFigure 0 inside ∙ empty)
+  pub finds-nothing : found ≡ none → over (gameOf r) p ≡ false → find r (figureIn figs) p n ≡ none
+  finds-nothing e o = sym (apart-find (or-false (shared r p) (atHome r p) o .0)) ∙ sym searched ∙ e
 
-      pub finds-entry : (x v : ℕ) → x ≡ n → found ≡ some v → Visited r n p figs sets (set figs p x) (set sets p v) true
-      finds-entry x v ex e =
-          let apart : shared r p ≡ false = not-true (shared r p) (λ y. some-none (sym searched ∙ e) (keeping-lost r (figureIn figs) p n y)) in
-          let away : atHome r p ≡ false = not-true (atHome r p) (λ y. let h : home (gameOf r) p ≡ true = rw (apart, y) in some-none (homed h) no-figure) in
-          enters v no-figure (or-none (shared r p) (atHome r p) apart away) (sym (apart-find apart) ∙ sym searched ∙ e) (ap (set figs p) ex) refl
+  pub finds-entry : (home (gameOf r) p ≡ true → figureIn figs p ≡ some 0) → figureIn figs p ≡ none → (v : ℕ) → found ≡ some v
+      → (over (gameOf r) p ≡ false) × (find r (figureIn figs) p n ≡ some v)
+  finds-entry homed empty v e =
+      let apart : shared r p ≡ false = not-true (shared r p) (λ y. some-none (sym searched ∙ e) (keeping-lost r (figureIn figs) p n y)) in
+      let away : atHome r p ≡ false = not-true (atHome r p) (λ y. let h : home (gameOf r) p ≡ true = rw (apart, y) in some-none (homed h) empty) in
+      (or-none (shared r p) (atHome r p) apart away, sym (apart-find apart) ∙ sym searched ∙ e)

@@ -1,31 +1,31 @@
 -- A round's loops, over the trains of a placement, the codes of a stretch and the stretches of the table: each pass visits some more placements. When all stretches are
 -- done, every placement that could gain has been visited. Assumes nothing.
-use mathlib.Core.Path.{_≡_, refl, sym, _∙_, ap}
+use mathlib.Core.Path.{_≡_, refl, _∙_, ap}
 use mathlib.Core.Logic.{_⊎_, inl, inr}
 use mathlib.Core.Bool.{Bool, true, false, cond}
 use mathlib.Core.List.{List}
-use mathlib.Core.Option.{none, some}
+use mathlib.Core.Option.{none}
 use Prim.Native.Nat.{ℕ, suc, _+_, _-_, _/_, _≤_, _<_}
 use native.Mathlib.Omega.{arith}
 use lib.ListN.{length, getD}
 use Rattle.laws.proofs.Bools.{lt?, eq?, option?}
 use Rattle.laws.proofs.Below.{count-more}
+use Rattle.laws.proofs.Lists.{getD-inside}
 use Rattle.railway.specs.declared.Railway.{Railway}
 use Rattle.railway.specs.Rows.{recordRefusal}
-use Rattle.game.specs.Game.{over, at}
+use Rattle.game.specs.Game.{over}
 use Rattle.game.specs.Placement.{placements}
-use Rattle.game.specs.Moves.{moveOf, gameOf}
+use Rattle.game.specs.Moves.{gameOf}
 use Rattle.tables.specs.Tables.{noFigure, figureEntry, figureIn}
 use Rattle.tables.specs.Solver.{RoundTables}
 use Rattle.tables.specs.Find.{find}
 use Rattle.tables.specs.Rounds.{Step, stays, gains}
 use Rattle.tables.proofs.Steps.{next-round, last-round}
 use Rattle.compiled.specs.Table.{countByte, Compiled}
-use Rattle.moves.specs.Steps.{allAt}
 use Rattle.moves.proofs.Placing.{trains-are}
 use Rattle.predecessors.specs.Behind.{Behind}
 use Rattle.solver.specs.Sweeps.{unfigured, RoundPost}
-use Rattle.solver.specs.Waves.{Marked, Round, Changed, same, gained, Swept, One, By, Comes, Before}
+use Rattle.solver.specs.Waves.{Marked, Round, Changed, same, gained, Swept, Passed, By, Comes, Before}
 use Rattle.solver.proofs.Visiting.{entry-is}
 use Rattle.solver.proofs.Sweeping.{round-homed, swept-onward, swept-keeps, swept-less, round-on, swept-none, swept-then}
 use Rattle.solver.proofs.Gaining.{gains-before}
@@ -36,33 +36,6 @@ joined-added b a x eb ex = rw eb ex
 
 pub joined-same : (b a x : Bool) → b ≡ false → x ≡ a → x ≡ cond b true a
 joined-same b a x eb ex = rw eb ex
-
-one-of : (a b : Bool) → a ≡ true → true ≡ cond b true a
-one-of a true e = refl
-one-of a false e = sym e
-
-other-of : (a b : Bool) → a ≡ false → b ≡ cond b true a
-other-of a true e = refl
-other-of a false e = sym e
-
--- ONE TRAIN, at minus and at plus
-module _ (r : Railway) (table : List ℕ) (m n c t minus plus : ℕ) (figs sets marks figs₁ sets₁ marks₁ figs₂ sets₂ marks₂ : List ℕ) (a b : Bool) (o : Round r table m n figs marks)
-    (at-minus : (p : ℕ) → p < placements r → moveOf r p (allAt false) t ≡ at c → minus ≡ p) (at-plus : (p : ℕ) → p < placements r → moveOf r p (allAt true) t ≡ at c → plus ≡ p)
-    (x : Round r table m n figs marks → Swept r n (One minus) figs sets figs₁ sets₁ marks₁ a) (y : Round r table m n figs₁ marks₁ → Swept r n (One plus) figs₁ sets₁ figs₂ sets₂ marks₂ b) where
-  by-one : (q : ℕ) → q < placements r → (s : Bool) → moveOf r q (allAt s) t ≡ at c → One minus q ⊎ One plus q
-  by-one q l false e = inl (sym (at-minus q l e))
-  by-one q l true e = inr (sym (at-plus q l e))
-
-  by-both : Swept r n (By r c t) figs sets figs₂ sets₂ marks₂ (cond b true a)
-  by-both =
-      swept-then r (o .compiled .accepted) n (o .small) (One minus) (One plus) (By r c t) figs sets figs₁ sets₁ marks₁ figs₂ sets₂ marks₂ a b (x o)
-      (y (round-on r n (One minus) figs sets figs₁ sets₁ marks₁ a (x o) table m marks o)) (λ q l k. by-one q l (k .plus) (k .moves))
-
-  pub train-one : a ≡ true → Swept r n (By r c t) figs sets figs₂ sets₂ marks₂ true
-  train-one e = rw (one-of a b e) by-both
-
-  pub train-other : a ≡ false → Swept r n (By r c t) figs sets figs₂ sets₂ marks₂ b
-  train-other e = rw (← (other-of a b e)) at by-both
 
 -- A LOOP that has come to i, of every railway that has m placements and these tables
 pub record Sweeping (table behind : List ℕ) (m n : ℕ) (Kind : Railway → ℕ → ℕ → Type 0) (figs₀ sets₀ marks₀ figs sets marks : List ℕ) (added : Bool) (i : ℕ) : Type 0 where
@@ -92,9 +65,37 @@ module _ (table behind : List ℕ) (m n : ℕ) (Kind : Railway → ℕ → ℕ �
               (body r h (round-on r n (Kind r i) figs₀ sets₀ figs sets marks added x table m marks₀ o)) (covers r x o));
         }
 
+    -- on to j, with nothing to visit between
+    pub sweeping-on : (j : ℕ) → ((r : Railway) → Swept r n (Kind r i) figs₀ sets₀ figs sets marks added → Round r table m n figs₀ marks₀ → (q : ℕ) → Kind r j q → Kind r i q)
+        → Sweeping table behind m n Kind figs₀ sets₀ marks₀ figs sets marks added j
+    sweeping-on j covers =
+        record {
+          long-figs = s .long-figs;
+          long-sets = s .long-sets;
+          long-marks = s .long-marks;
+          swept = λ r h o.
+              let x : Swept r n (Kind r i) figs₀ sets₀ figs sets marks added = s .swept r h o in
+              swept-less r n (Kind r i) figs₀ sets₀ figs sets marks added x (Kind r j) (λ q l k. covers r x o q k);
+        }
+
     pub sweeping-end : (End : Railway → ℕ → Type 0) → ((r : Railway) → Round r table m n figs₀ marks₀ → (q : ℕ) → End r q → Kind r i q)
         → (r : Railway) → Behind r behind → Round r table m n figs₀ marks₀ → Swept r n (End r) figs₀ sets₀ figs sets marks added
     sweeping-end End h r b o = swept-less r n (Kind r i) figs₀ sets₀ figs sets marks added (s .swept r b o) (End r) (λ q l k. h r o q k)
+
+-- A SCAN for a figure
+module _ (figs : List ℕ) (figure c upto : ℕ) where
+  pub passed-start : Passed figs figure c upto c
+  passed-start = record { onward = omega arith; others = λ q l h. absurd (omega arith) }
+
+  pub passed-next : (e : ℕ) → Passed figs figure c upto e → e < upto → upto ≤ length figs → (getD figs e 0 ≡ figure → ⊥) → Passed figs figure c upto (e + 1)
+  passed-next e x l long other =
+      record {
+        onward = omega (arith, x .onward);
+        others = λ q lq h. elim (eq? q e) [
+          | inl z ↦ (omega arith, λ y. other (getD-inside figs e 0 noFigure (omega arith) ∙ (rw z at y)))
+          | inr z ↦ x .others q lq (omega arith)
+        ];
+      }
 
 -- THE TRAINS of a placement
 pub no-train : (r : Railway) (c q : ℕ) → Comes r c 0 q → ⊥
@@ -139,26 +140,29 @@ module _ (r : Railway) (n : ℕ) (figs : List ℕ) where
   ]
 
   -- one code
-  module _ (c f : ℕ) (entry : f ≡ getD figs c noFigure) where
-    its-figure : (q : ℕ) → Before r n figs c (c + 1) q → n ≡ suc f
-    its-figure q k =
-        let z : k .code ≡ c = omega (arith, k .after, k .within) in
-        let e : getD figs c noFigure ≡ k .figure = entry-is (getD figs c noFigure) (k .figure) (rw z at (k .stands)) in
-        omega (arith, k .last, e)
+  pub before-one : (c q : ℕ) → Before r n figs c (c + 1) q → Comes r c (r .trains) q
+  before-one c q k = let z : k .code ≡ c = omega (arith, k .after, k .within) in rw z at (k .comes)
 
-    pub not-large : n ≤ f → (q : ℕ) → Before r n figs c (c + 1) q → ⊥
-    not-large l q k = omega (arith, its-figure q k)
+  -- codes without the last round's figure
+  pub codes-passed : (S : ℕ → Type 0) (sets figs₁ sets₁ marks₁ : List ℕ) (a : Bool) → Swept r n S figs sets figs₁ sets₁ marks₁ a → (from c upto e figure q : ℕ) → upto ≤ placements r
+      → n ≡ figure + 1 → Passed figs₁ figure c upto e → Before r n figs from e q → Before r n figs from c q
+  codes-passed S sets figs₁ sets₁ marks₁ a s from c upto e figure q l en x k = elim (lt? (k .code) c) [
+    | inl h ↦ record { code = k .code; after = k .after; within = h; figure = k .figure; last = k .last; stands = k .stands; comes = k .comes }
+    | inr h ↦
+        let y : (k .code < upto) × (getD figs₁ (k .code) noFigure ≡ figure → ⊥) = x .others (k .code) h (k .within) in
+        let f : getD figs₁ (k .code) noFigure ≡ k .figure =
+        entry-is (getD figs₁ (k .code) noFigure) (k .figure) (swept-onward r n S figs sets figs₁ sets₁ marks₁ a s (k .code) (k .figure) (omega arith) (k .stands)) in
+        absurd (y .1 (omega (arith, k .last)))
+  ]
 
-    pub not-last : f < n → (n - f ≡ 1 → ⊥) → (q : ℕ) → Before r n figs c (c + 1) q → ⊥
-    not-last l h q k = h (omega (arith, its-figure q k))
-
-    pub before-one : (q : ℕ) → Before r n figs c (c + 1) q → Comes r c (r .trains) q
-    before-one q k = let z : k .code ≡ c = omega (arith, k .after, k .within) in rw z at (k .comes)
+  -- no round
+  pub none-before : n ≡ 0 → (from upto q : ℕ) → Before r n figs from upto q → ⊥
+  none-before e from upto q k = omega (arith, k .last)
 
   -- a stretch whose mark is too small
   pub not-marked : (table : List ℕ) (m : ℕ) (marks : List ℕ) (from upto f : ℕ) → Round r table m n figs marks → ((q : ℕ) → from ≤ q → q < upto → q / 432 ≡ from / 432) → upto ≤ m
-      → f ≡ getD marks (from / 432) 0 → f < n → 1 < n - f → (q : ℕ) → Before r n figs from upto q → ⊥
-  not-marked table m marks from upto f o one l e small far q k =
+      → f ≡ getD marks (from / 432) 0 → f < n - 1 → (q : ℕ) → Before r n figs from upto q → ⊥
+  not-marked table m marks from upto f o one l e small q k =
       let s : k .code / 432 ≡ from / 432 = one (k .code) (k .after) (k .within) in
       let b : k .figure ≤ getD marks (k .code / 432) 0 = o .marked .most (k .code) (k .figure) (omega (arith, k .within, o .counted)) (k .stands) in
       let d : k .figure ≤ f = rw (e, ← s) b in

@@ -1,25 +1,16 @@
--- What a round does in place, placement by placement, and what it leaves behind. Nothing of document 01 rests on this file: contracts of single steps cite it, and
+-- What a round leaves behind. Nothing of document 01 rests on this file: contracts of single steps cite it, and
 -- the solver's own is `SolverPost` (tables/Solver). Assumes nothing.
 use mathlib.Core.Path.{_≡_}
 use mathlib.Core.Bool.{Bool, true, false}
 use mathlib.Core.List.{List}
-use mathlib.Core.Option.{none, some}
 use Prim.Native.Nat.{ℕ, _<_}
-use lib.ListN.{getD, set}
+use lib.ListN.{getD}
 use lib.Dec.{eqb}
 use Rattle.laws.specs.Below.{countBelow}
 use Rattle.railway.specs.declared.Railway.{Railway}
-use Rattle.game.specs.Game.{over}
 use Rattle.game.specs.Placement.{placements}
-use Rattle.game.specs.Moves.{gameOf}
-use Rattle.tables.specs.Tables.{noFigure, figureIn, Filled}
+use Rattle.tables.specs.Tables.{noFigure, Filled}
 use Rattle.tables.specs.Solver.{Kept, RoundTables}
-use Rattle.tables.specs.Find.{find}
-
--- Round n at placement p, by the tables as they stand at that moment; and whether the placement gains a figure.
-pub data Visited (r : Railway) (n p : ℕ) (figs sets figs′ sets′ : List ℕ) : Bool → Type 0 where
-  rests : figs′ ≡ figs → sets′ ≡ sets → (figureIn figs p ≡ none → over (gameOf r) p ≡ false → find r (figureIn figs) p n ≡ none) → Visited r n p figs sets figs′ sets′ false
-  enters : (v : ℕ) → figureIn figs p ≡ none → over (gameOf r) p ≡ false → find r (figureIn figs) p n ≡ some v → figs′ ≡ set figs p n → sets′ ≡ set sets p v → Visited r n p figs sets figs′ sets′ true
 
 -- What n rounds have made of two lent tables.
 pub record After (r : Railway) (n : ℕ) (figs sets figs′ sets′ : List ℕ) : Type 0 where

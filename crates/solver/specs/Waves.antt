@@ -9,7 +9,7 @@ use lib.ListN.{length, getD}
 use Rattle.railway.specs.declared.Railway.{Railway}
 use Rattle.game.specs.Game.{home, over, at}
 use Rattle.game.specs.Placement.{placements}
-use Rattle.game.specs.Moves.{moveOf, gameOf}
+use Rattle.game.specs.Moves.{codeWith, moveOf, gameOf}
 use Rattle.tables.specs.Tables.{noFigure, figureEntry, figureIn}
 use Rattle.tables.specs.Find.{find}
 use Rattle.compiled.specs.Table.{Compiled}
@@ -48,9 +48,19 @@ pub record Swept (r : Railway) (n : ℕ) (Seen : ℕ → Type 0) (figs sets figs
   pub settled : (q : ℕ) → q < placements r → Seen q → figureIn figs′ q ≡ none → over (gameOf r) q ≡ false → find r (figureIn figs) q n ≡ none
   pub marked : Marked r figs′ marks′
 
+-- Codes from c to e, below upto, have been passed by: none of them has this figure.
+pub record Passed (figs : List ℕ) (figure c upto e : ℕ) : Type 0 where
+  pub onward : c ≤ e
+  pub others : (q : ℕ) → c ≤ q → q < e → (q < upto) × (getD figs q noFigure ≡ figure → ⊥)
+
 -- KINDS of placements: one alone;
 abbrev pub One : ℕ → ℕ → Type 0
 One p q = q ≡ p
+
+-- the one with train t put on section y in placement c, 255 standing for no section;
+pub record Put (r : Railway) (c t y p : ℕ) : Type 0 where
+  pub there : y ≡ 255 → ⊥
+  pub code : p ≡ codeWith r c t y
 
 -- those from which a move of train t comes to placement c;
 pub record By (r : Railway) (c t p : ℕ) : Type 0 where

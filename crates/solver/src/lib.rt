@@ -4,14 +4,12 @@
 // codes, say how large the figures in it are at most, so that a round passes by the stretches without figure n - 1.
 // The functions under `solve` promise what they do for every accepted railway whose compiled table they are handed.
 ghost use mathlib.Core.Path.{_≡_};
-ghost use mathlib.Core.Bool.{true};
-ghost use mathlib.Core.Option.{none, some};
+ghost use mathlib.Core.Option.{none};
 ghost use Prim.Native.Nat.{ℕ, suc, _+_, _/_, _≤_, _<_};
 ghost use lib.ListN.{length, getD};
 ghost use Rattle.railway.specs.declared.Railway.{Railway};
-ghost use Rattle.game.specs.Game.{home};
 ghost use Rattle.game.specs.Placement.{placements, startCode};
-ghost use Rattle.game.specs.Moves.{gameOf};
+ghost use Rattle.game.specs.Moves.{codeWith};
 ghost use Rattle.tables.specs.Tables.{noFigure, figureIn};
 ghost use Rattle.tables.specs.Solver.{figureGiven, refusalGiven, RoundTables, SolverTables, SolverPost};
 ghost use Rattle.tables.specs.Rounds.{firstFigure};
@@ -19,9 +17,10 @@ ghost use Rattle.compiled.specs.Table.{Compiled};
 ghost use Rattle.moves.specs.Answers.{homeCode};
 ghost use Rattle.moves.specs.Steps.{On};
 ghost use Rattle.predecessors.specs.Behind.{Behind};
-ghost use Rattle.solver.specs.Sweeps.{Visited, After, RoundPost};
-ghost use Rattle.solver.specs.Waves.{Marked, Round, Swept, One, By, Comes, Before};
+ghost use Rattle.solver.specs.Sweeps.{After, RoundPost};
+ghost use Rattle.solver.specs.Waves.{Marked, Round, Swept, Passed, One, Put, By, Comes, Before};
 use acceptance::Tested;
+use compiled::NO_BYTE;
 use compiled::Table;
 use moves::Placement;
 use predecessors::SectionsBehind;
@@ -162,11 +161,11 @@ fn visit_stretch(
     requires { ⌜ (m ≤ length (now figures)) × (m ≤ length (now settings)) × (upto ≤ m) ⌝ }
     ensures { λ b. ⌜ ((r : Railway) → Behind r (now (behind .entry)) → Round r (now (table .entry)) m n (now (figures .entry)) (now (marks .entry)) → ((q : ℕ) → from ≤ q → q < upto → q / 432 ≡ from / 432) → Swept r n (Before r n (now (figures .entry)) from upto) (now (figures .entry)) (now (settings .entry)) (now (figures .exit)) (now (settings .exit)) (now (marks .exit)) b) ⌝ }
 {
-    let f = mark_at(marks, from);
-    if f < n {
-        if 1 < n - f {
-            return false;
-        }
+    if n == 0 {
+        return false;
+    }
+    if mark_at(marks, from) < n - 1 {
+        return false;
     }
     visit_codes(table, behind, figures, settings, marks, m, n, from, upto)
 }
@@ -191,7 +190,7 @@ fn mark(marks: &mut [u32], c: u32, n: u32)
     }
 }
 
-// Round n for the codes in a range.
+// Round n for the codes in a range: what is one move before those whose figure the last round gave.
 fn visit_codes(
     table: &Table,
     behind: &SectionsBehind,
@@ -203,42 +202,35 @@ fn visit_codes(
     from: u32,
     upto: u32,
 ) -> bool
-    requires { ⌜ (m ≤ length (now figures)) × (m ≤ length (now settings)) × (upto ≤ m) ⌝ }
+    requires { ⌜ (m ≤ length (now figures)) × (m ≤ length (now settings)) × (upto ≤ m) × (0 < n) ⌝ }
     ensures { λ b. ⌜ ((r : Railway) → Behind r (now (behind .entry)) → Round r (now (table .entry)) m n (now (figures .entry)) (now (marks .entry)) → Swept r n (Before r n (now (figures .entry)) from upto) (now (figures .entry)) (now (settings .entry)) (now (figures .exit)) (now (settings .exit)) (now (marks .exit)) b) ⌝ }
 {
+    let last = n - 1;
     let mut added = false;
-    let mut c = from;
+    let mut c = next_with(figures, last, from, upto);
     while c < upto {
-        if visit_code(table, behind, figures, settings, marks, m, n, c) {
+        if visit_before(table, behind, figures, settings, marks, m, n, c) {
             added = true;
         }
-        c += 1;
+        c = next_with(figures, last, c + 1, upto);
     }
     added
 }
 
-// Round n for one code: if its figure is n - 1, what is one move before it.
-fn visit_code(
-    table: &Table,
-    behind: &SectionsBehind,
-    figures: &mut [u32],
-    settings: &mut [u32],
-    marks: &mut [u32],
-    m: u32,
-    n: u32,
-    c: u32,
-) -> bool
-    requires { ⌜ (m ≤ length (now figures)) × (m ≤ length (now settings)) ⌝ }
-    ensures { λ b. ⌜ ((r : Railway) → Behind r (now (behind .entry)) → Round r (now (table .entry)) m n (now (figures .entry)) (now (marks .entry)) → Swept r n (Before r n (now (figures .entry)) c (c + 1)) (now (figures .entry)) (now (settings .entry)) (now (figures .exit)) (now (settings .exit)) (now (marks .exit)) b) ⌝ }
+// The next code from c on with this figure, or one that is not below upto.
+fn next_with(figures: &[u32], figure: u32, c: u32, upto: u32) -> u32
+    requires { ⌜ upto ≤ length (now figures) ⌝ }
+    ensures { λ e. ⌜ Passed (now (figures .entry)) figure c upto e × (e < upto → getD (now (figures .entry)) e noFigure ≡ figure) ⌝ }
 {
-    let f = tables::entry_at(figures, c, NO_FIGURE);
-    if n <= f {
-        return false;
+    let mut e = c;
+    while e < upto {
+        let at = e as usize;
+        if figures[at] == figure {
+            return e;
+        }
+        e += 1;
     }
-    if n - f == 1 {
-        return visit_before(table, behind, figures, settings, marks, m, n, c);
-    }
-    false
+    e
 }
 
 // Round n for what is one move before a code, train by train.
@@ -252,7 +244,7 @@ fn visit_before(
     n: u32,
     c: u32,
 ) -> bool
-    requires { ⌜ (m ≤ length (now figures)) × (m ≤ length (now settings)) ⌝ }
+    requires { ⌜ (m ≤ length (now figures)) × (m ≤ length (now settings)) × (c < m) ⌝ }
     ensures { λ b. ⌜ ((r : Railway) → Behind r (now (behind .entry)) → Round r (now (table .entry)) m n (now (figures .entry)) (now (marks .entry)) → Swept r n (Comes r c (r .trains)) (now (figures .entry)) (now (settings .entry)) (now (figures .exit)) (now (settings .exit)) (now (marks .exit)) b) ⌝ }
 {
     let q = moves::placement_of(table, c);
@@ -268,7 +260,7 @@ fn visit_before(
     added
 }
 
-// .. by a move of one train, with the point that it meets at minus and at plus.
+// .. by a move of one train, with the point that it meets at minus and at plus; once, if it comes from the same section either way.
 fn visit_train(
     table: &Table,
     behind: &SectionsBehind,
@@ -282,56 +274,83 @@ fn visit_train(
     t: u8,
 ) -> bool
     requires { ⌜ (m ≤ length (now figures)) × (m ≤ length (now settings)) ⌝ }
-    ensures { λ b. ⌜ ((r : Railway) → Behind r (now (behind .entry)) → Round r (now (table .entry)) m n (now (figures .entry)) (now (marks .entry)) → On r c (now (table .entry)) q → t < r .trains → Swept r n (By r c t) (now (figures .entry)) (now (settings .entry)) (now (figures .exit)) (now (settings .exit)) (now (marks .exit)) b) ⌝ }
+    ensures { λ b. ⌜ ((r : Railway) → Behind r (now (behind .entry)) → Round r (now (table .entry)) m n (now (figures .entry)) (now (marks .entry)) → On r c (now (table .entry)) q → c < placements r → t < r .trains → Swept r n (By r c t) (now (figures .entry)) (now (settings .entry)) (now (figures .exit)) (now (settings .exit)) (now (marks .exit)) b) ⌝ }
 {
-    let minus = predecessors::code_before(table, behind, q, c, t, false);
-    let plus = predecessors::code_before(table, behind, q, c, t, true);
-    let one = visit_one(table, figures, settings, marks, m, n, minus);
-    let other = visit_one(table, figures, settings, marks, m, n, plus);
+    let x = moves::section_at(q, t);
+    let w = moves::power(compiled::count_in(table, 0), t);
+    let y = predecessors::section_behind(behind, t, x, false);
+    let z = predecessors::section_behind(behind, t, x, true);
+    let p = moves::code_put(c, w, x, y);
+    let one = visit_from(table, figures, settings, marks, m, n, q, t, y, p);
+    if y == z {
+        return one;
+    }
+    let o = moves::code_put(c, w, x, z);
+    let other = visit_from(table, figures, settings, marks, m, n, q, t, z, o);
     if one {
         return true;
     }
     other
 }
 
-// Round n at one placement, if the code is one; where it gets a figure its stretch is marked.
-fn visit_one(
+// Round n at the placement that has train t on section y and the others as in q, and has code p; if there is such a section and it has no figure yet.
+fn visit_from(
     table: &Table,
     figures: &mut [u32],
     settings: &mut [u32],
     marks: &mut [u32],
     m: u32,
     n: u32,
+    q: Placement,
+    t: u8,
+    y: u8,
     p: u32,
 ) -> bool
     requires { ⌜ (m ≤ length (now figures)) × (m ≤ length (now settings)) ⌝ }
-    ensures { λ b. ⌜ ((r : Railway) → Round r (now (table .entry)) m n (now (figures .entry)) (now (marks .entry)) → Swept r n (One p) (now (figures .entry)) (now (settings .entry)) (now (figures .exit)) (now (settings .exit)) (now (marks .exit)) b) ⌝ }
+    ensures { λ b. ⌜ ((r : Railway) (c : ℕ) → Round r (now (table .entry)) m n (now (figures .entry)) (now (marks .entry)) → On r c (now (table .entry)) q → t < r .trains → ((y ≡ 255 → ⊥) → (y < r .sections) × (p ≡ codeWith r c t y)) → Swept r n (Put r c t y) (now (figures .entry)) (now (settings .entry)) (now (figures .exit)) (now (settings .exit)) (now (marks .exit)) b) ⌝ }
 {
+    if y == NO_BYTE {
+        return false;
+    }
     if m <= p {
         return false;
     }
-    if visit(table, figures, settings, p, n) {
-        mark(marks, p, n);
-        return true;
-    }
-    false
-}
-
-// Round n at one placement. Whether it got a figure.
-fn visit(table: &Table, figures: &mut [u32], settings: &mut [u32], p: u32, n: u32) -> bool
-    requires { ⌜ (p < length (now figures)) × (p < length (now settings)) ⌝ }
-    ensures { λ b. ⌜ ((r : Railway) → Compiled r (now (table .entry)) → (home (gameOf r) p ≡ true → figureIn (now (figures .entry)) p ≡ some 0) → Visited r n p (now (figures .entry)) (now (settings .entry)) (now (figures .exit)) (now (settings .exit)) b) ⌝ }
-{
     let at = p as usize;
     if figures[at] != NO_FIGURE {
         return false;
     }
-    let found = settings::find_setting(table, figures, p, n);
+    visit(
+        table,
+        figures,
+        settings,
+        marks,
+        moves::put_on(q, t, y),
+        p,
+        n,
+    )
+}
+
+// Round n at one placement without a figure. Whether it got one; its stretch is then marked.
+fn visit(
+    table: &Table,
+    figures: &mut [u32],
+    settings: &mut [u32],
+    marks: &mut [u32],
+    q: Placement,
+    p: u32,
+    n: u32,
+) -> bool
+    requires { ⌜ (p < length (now figures)) × (p < length (now settings)) ⌝ }
+    ensures { λ b. ⌜ ((r : Railway) (m : ℕ) → Round r (now (table .entry)) m n (now (figures .entry)) (now (marks .entry)) → On r p (now (table .entry)) q → p < placements r → figureIn (now (figures .entry)) p ≡ none → Swept r n (One p) (now (figures .entry)) (now (settings .entry)) (now (figures .exit)) (now (settings .exit)) (now (marks .exit)) b) ⌝ }
+{
+    let found = settings::find_in(table, figures, q, p, n);
     let Found::Entry(v) = found else {
         return false;
     };
+    let at = p as usize;
     figures[at] = n;
     settings[at] = v;
+    mark(marks, p, n);
     true
 }
 

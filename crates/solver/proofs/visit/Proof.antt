@@ -1,25 +1,15 @@
--- `solver::visit` meets its contract: it has a figure, or nothing is found, or what is found is entered.
+-- `solver::visit` meets its contract: nothing is found, or what is found is entered and marked.
 -- Assumes nothing.
-use mathlib.Core.Path.{refl, ap}
+use mathlib.Core.Path.{sym, ap}
 use Rattle.settings.specs.Answers.{entryFound}
-use Rattle.solver.proofs.Visiting.{has-figure, finds-nothing, finds-entry}
+use Rattle.moves.proofs.Round.{code-back}
+use Rattle.solver.proofs.Sweeping.{visit-rests, visit-gains}
 use borrow.Author.Needs.{needs}
 use Rattle.solver.proofs.visit.Statement.{statement}
 use Rattle.solver.proofs.visit.Tie as tie
 
-mul-if1 : tie.Need-mul-if1
-mul-if1 c = search needs
-
-slice-read-if1 : tie.Need-slice-read-if1
-slice-read-if1 c = search needs
-
-returns : tie.Need-returns
-returns c = λ r h homed.
-    let a = c .before .before .before .before in
-    has-figure r (a .args .n) (a .args .p) (a .args .figures .now) (a .args .settings .now) (a .pre .0) (c .if1 .taken)
-
-find-setting-requires : tie.Need-find-setting-requires
-find-setting-requires c κs = search needs
+find-in-requires : tie.Need-find-in-requires
+find-in-requires c κs = search needs
 
 enum-known-found : tie.Need-enum-known-found
 enum-known-found c = search needs
@@ -30,11 +20,13 @@ enum-told c = search needs
 same-length : tie.Need-same-length
 same-length c = search needs
 
-returns-2 : tie.Need-returns-2
-returns-2 c = λ r h homed.
+returns : tie.Need-returns
+returns c =
     let f = c .before .before in
-    let a = f .before .before .before .before .before .before in
-    finds-nothing r (a .args .n) (a .args .p) (a .args .figures .now) (a .args .settings .now) (a .pre .0) _ (f .find-setting .ensures r h) (ap entryFound (c .enum-told .given .1))
+    let a = f .before .before .before .before .before in
+    λ r m o on l empty.
+    visit-rests r (a .args .table .now) m (a .args .n) (a .args .p) (a .args .figures .now) (a .args .settings .now) (a .args .marks .now) o l empty _
+    (f .find-in .ensures r _ on (sym (code-back r _ (o .compiled) _ _ on l))) (ap entryFound (c .enum-told .given .1))
 
 mul-figures : tie.Need-mul-figures
 mul-figures c = search needs
@@ -48,34 +40,44 @@ mul-settings c = search needs
 slice-write-settings : tie.Need-slice-write-settings
 slice-write-settings c = search needs
 
+mark-requires : tie.Need-mark-requires
+mark-requires c κs = search needs
+
 same-length-2 : tie.Need-same-length-2
 same-length-2 c = search needs
 
 same-length-3 : tie.Need-same-length-3
 same-length-3 c = search needs
 
-returns-3 : tie.Need-returns-3
-returns-3 c = λ r h homed.
-    let f = c .before .before .before in
-    let a = f .before .before .before .before .before .before in
-    finds-entry r (a .args .n) (a .args .p) (a .args .figures .now) (a .args .settings .now) (a .pre .0) _ (f .find-setting .ensures r h) homed (f .before .before .if1 .left) _ _ refl (ap entryFound (c .before .found .given .1))
+same-length-4 : tie.Need-same-length-4
+same-length-4 c = search needs
+
+returns-2 : tie.Need-returns-2
+returns-2 c =
+    let k = c .before .before in
+    let w = k .before .before .before in
+    let f = w .before .before in
+    let a = f .before .before .before .before .before in
+    λ r m o on l empty.
+    visit-gains r (a .args .table .now) m (a .args .n) (a .args .p) (a .args .figures .now) (a .args .settings .now) (a .args .marks .now) o l empty _
+    (f .find-in .ensures r _ on (sym (code-back r _ (o .compiled) _ _ on l))) (a .pre .0) (a .pre .1) _ (k .mark .kept .0) (k .mark .ensures .0) (k .mark .ensures .1) _
+    (ap entryFound (w .found .given .1))
 
 pub visit-spec : {M : Type 1} → statement M
 visit-spec =
     tie.close
     (tie.spec
-    mul-if1
-    slice-read-if1
-    returns
-    find-setting-requires
+    find-in-requires
     enum-known-found
     enum-told
     same-length
-    returns-2
+    returns
     mul-figures
     slice-write-figures
     mul-settings
     slice-write-settings
+    mark-requires
     same-length-2
     same-length-3
-    returns-3)
+    same-length-4
+    returns-2)

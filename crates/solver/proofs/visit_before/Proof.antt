@@ -61,7 +61,7 @@ loop-again c =
     let on = v .before .before .before .before .loop-test .taken in
     sweeping-next (a .args .table .now) (a .args .behind .now) (a .args .m) (a .args .n) (λ r i. Comes r (a .args .c) i) (a .args .figures .now) (a .args .settings .now) (a .args .marks .now) (l .loop .figures) (l .loop .settings) (l .loop .marks) (l .loop .added) (l .loop .t) (l .loop .inv)
     (λ r. By r (a .args .c) (l .loop .t)) (l .loop .t + 1) _ _ _ (v .visit-train .result) (c .if1 .added) (v .visit-train .kept .1 .1 .0) (v .visit-train .kept .1 .1 .1 .0) (v .visit-train .kept .1 .1 .1 .1 .0)
-    (λ r h o. v .visit-train .ensures r h o (q .placement-of .ensures r (o .compiled)) (train-there r _ _ (k .count-in .ensures r (o .compiled) (omega arith)) on))
+    (λ r h o. v .visit-train .ensures r h o (q .placement-of .ensures r (o .compiled)) (omega (arith, a .pre .2, o .counted)) (train-there r _ _ (k .count-in .ensures r (o .compiled) (omega arith)) on))
     (λ r s o q lq x. train-next r (a .args .c) (l .loop .t) q x)
     (⊎-elim (λ w. joined-added (v .visit-train .result) (l .loop .added) _ (w .0 .taken) (w .1)) (λ w. joined-same (v .visit-train .result) (l .loop .added) _ (w .0 .left) (w .1)) (c .if1 .came))
 
