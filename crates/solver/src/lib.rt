@@ -4,6 +4,7 @@
 // codes, say how large the figures in it are at most, so that a round passes by the stretches without figure n - 1.
 // The functions under `solve` promise what they do for every accepted railway whose compiled table they are handed.
 ghost use mathlib.Core.Path.{_≡_};
+ghost use mathlib.Core.Bool.{false};
 ghost use mathlib.Core.Option.{none};
 ghost use Prim.Native.Nat.{ℕ, suc, _+_, _/_, _≤_, _<_};
 ghost use lib.ListN.{length, getD};
@@ -33,6 +34,9 @@ use tables::SolverAnswer;
 const STRETCH: u32 = 432;
 
 const MARKS: usize = 12288;
+
+// How many codes are looked at together.
+const BLOCK: u32 = 16;
 
 // THE SOLVER: both tables of a case and the start's figure, or a refusal and the tables as they were.
 pub fn solve(r: Railway, figures: &mut [u32], settings: &mut [u32]) -> SolverAnswer
@@ -222,7 +226,7 @@ fn next_with(figures: &[u32], figure: u32, c: u32, upto: u32) -> u32
     requires { ⌜ upto ≤ length (now figures) ⌝ }
     ensures { λ e. ⌜ Passed (now (figures .entry)) figure c upto e × (e < upto → getD (now (figures .entry)) e noFigure ≡ figure) ⌝ }
 {
-    let mut e = c;
+    let mut e = pass_blocks(figures, figure, c, upto);
     while e < upto {
         let at = e as usize;
         if figures[at] == figure {
@@ -231,6 +235,41 @@ fn next_with(figures: &[u32], figure: u32, c: u32, upto: u32) -> u32
         e += 1;
     }
     e
+}
+
+// .. block by block, up to one that has it or is not whole.
+fn pass_blocks(figures: &[u32], figure: u32, c: u32, upto: u32) -> u32
+    requires { ⌜ upto ≤ length (now figures) ⌝ }
+    ensures { λ e. ⌜ Passed (now (figures .entry)) figure c upto e ⌝ }
+{
+    let mut e = c;
+    while e < upto {
+        if upto - e < BLOCK {
+            return e;
+        }
+        if has_figure(figures, figure, e, e + BLOCK) {
+            return e;
+        }
+        e += BLOCK;
+    }
+    e
+}
+
+// Whether this figure is among those of a range. All of them are looked at, with no stop at the first, so that several can be at once.
+fn has_figure(figures: &[u32], figure: u32, from: u32, upto: u32) -> bool
+    requires { ⌜ (from ≤ upto) × (upto ≤ length (now figures)) ⌝ }
+    ensures { λ b. ⌜ (b ≡ false → Passed (now (figures .entry)) figure from upto upto) ⌝ }
+{
+    let mut has = false;
+    let mut e = from;
+    while e < upto {
+        let at = e as usize;
+        if figures[at] == figure {
+            has = true;
+        }
+        e += 1;
+    }
+    has
 }
 
 // Round n for what is one move before a code, train by train.
