@@ -21,8 +21,8 @@ abbrev μ-loop : tie.MeasureT-loop
 loop-holds : tie.Need-loop-holds Inv-loop μ-loop
 loop-holds c = (c .pre .0, λ h. passed-start (c .args .figures .now) (c .args .figure) (c .args .from) (c .args .upto))
 
-cast-at : tie.Need-cast-at Inv-loop μ-loop
-cast-at c = search needs
+cast-i : tie.Need-cast-i Inv-loop μ-loop
+cast-i c = search needs
 
 mul-if1 : tie.Need-mul-if1 Inv-loop μ-loop
 mul-if1 c = search needs
@@ -61,7 +61,7 @@ has-figure-spec =
     Inv-loop
     μ-loop
     loop-holds
-    cast-at
+    cast-i
     mul-if1
     shared-slice-read-if1
     add-e
