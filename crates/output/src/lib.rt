@@ -1,6 +1,6 @@
 // The lines that programs write for an answer. Each is made at the front of a lent buffer, and what stands there is written on standard
 // output: the promise is about the buffer, since no contract can speak of what leaves the program, nor of whether it left.
-ghost use mathlib.Core.List.{List, [], _∷_};
+ghost use mathlib.Core.List.{[], _∷_};
 ghost use Rattle.text.specs.Text.{line};
 ghost use Rattle.text.specs.Appending.{Appended};
 ghost use Rattle.output.specs.Lines.{refusalLine, noneLine, testLine, Fronted};

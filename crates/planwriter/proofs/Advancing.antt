@@ -1,7 +1,7 @@
 -- With every line the emitter's place moves on towards the end of the figure table: behind the first line it is the first code, and behind the line of a
 -- placement the code after it. Assumes nothing.
-use mathlib.Core.Path.{_≡_, refl, sym, _∙_, ap}
-use mathlib.Core.Bool.{Bool, true, false, cond, _&&_}
+use mathlib.Core.Path.{_≡_, refl, sym, _∙_}
+use mathlib.Core.Bool.{Bool, true, false, cond}
 use mathlib.Core.List.{List, _++_}
 use mathlib.Core.Logic.{inl, inr}
 use mathlib.Core.Option.{Option, none, some}
@@ -24,7 +24,7 @@ use Rattle.plan.specs.declared.Emitted.{Emitted}
 use Rattle.plan.specs.declared.Emitted.the-variants.{Line, Refused}
 use Rattle.plan.specs.Lines.{startLine, placementLine, spell}
 use Rattle.plan.specs.Text.{hasFigure, lineFor}
-use Rattle.plan.specs.Emitter.{isLine, unwritten, written, figureFrom, nextCode, dueFor, due, writtenDue, emitted, emitLine}
+use Rattle.plan.specs.Emitter.{isLine, unwritten, written, figureFrom, dueFor, due, writtenDue, emitted, emitLine}
 use Rattle.plan.specs.Promises.{EmitterPost}
 
 -- how much of the figure table is left at a place

@@ -15,7 +15,7 @@ use Rattle.plan.specs.declared.TestAnswer.the-variants.{Refused as TestRefused}
 use Rattle.plan.specs.Checker.{testNumber, Checking, freshChecking, takeLine, testPlan}
 use Rattle.plan.specs.Promises.{FreshPost, LinePost, TestPost}
 use Rattle.plan.proofs.Rules.{check-rule}
-use Rattle.verdict.specs.Verdict.{linesOf, afterLine, checkLines, entries, fresh, refusalOf, checkText, PlanPost}
+use Rattle.verdict.specs.Verdict.{linesOf, afterLine, checkLines, entries, fresh, checkText, PlanPost}
 use Rattle.verdict.proofs.Lines.{LineAt}
 
 -- what is done from a place on, with c, is answered by x

@@ -4,10 +4,9 @@ use mathlib.Core.Path.{_≡_, refl, sym, _∙_, ap, subst}
 use mathlib.Core.List.{List, [], _∷_, List·Memᴰ, List·Memᴰ·head, List·Memᴰ·tail}
 use mathlib.Core.Logic.{_⊎_, inl, inr, _↔_}
 use mathlib.Core.Option.{Option, none, some}
-use Prim.Native.Nat.{ℕ, suc, _≤_, _<_}
+use Prim.Native.Nat.{ℕ, _≤_, _<_}
 use native.Mathlib.Omega.{arith}
 use lib.ListN.{length, length-replicate}
-use Rattle.laws.proofs.Bools.{some-none}
 use Rattle.railway.specs.declared.Railway.{Railway}
 use Rattle.railway.specs.declared.Refusal.{Refusal}
 use Rattle.railway.specs.declared.Refusal.the-variants.{PlanForm, PlanFault}
@@ -27,7 +26,7 @@ use Rattle.plan.proofs.Checks.{checked-holds}
 use Rattle.plan.proofs.Emits.{none-refused}
 use Rattle.plan.proofs.Forms.{no-form}
 use Rattle.plan.proofs.Rules.{check-rule}
-use Rattle.verdict.specs.Verdict.{linesOf, checkLines, entries, fresh, refusalOf}
+use Rattle.verdict.specs.Verdict.{linesOf, checkLines, entries}
 use Rattle.verdict.specs.Claims.{ByPlan, VerdictHolds, CaseHolds}
 use Rattle.verdict.proofs.Calls.{refused-case}
 
