@@ -2,11 +2,11 @@
 -- the first's. Nothing runs over: sections and counts are bytes. Assumes nothing.
 use mathlib.Core.Path.{_≡_, refl, sym, _∙_, ap}
 use mathlib.Core.Logic.{inl, inr}
-use mathlib.Core.Bool.{Bool, false, cond}
+use mathlib.Core.Bool.{Bool, true, false, cond}
 use mathlib.Core.List.{List, [], _∷_}
 use Prim.Native.Nat.{ℕ, zero, suc, _+_, _*_, _/_, _%_, _^_, _≤_, _<_}
 use native.Mathlib.Omega.{arith}
-use native.Mathlib.Nat.{pow-succ', pow-zero, mul-one, mul-comm, mul-add, mul-assoc, mul-le-mul, mod-lt, pow-le-pow-right, div-eq-of-lt}
+use native.Mathlib.Nat.{pow-succ', pow-zero, mul-comm, mul-add, mul-assoc, mul-le-mul, mod-lt, pow-le-pow-right, div-eq-of-lt}
 use lib.Dec.{ltb}
 use lib.ListN.{length, getD, set, List·getD-eq-default}
 use borrow.Author.Tests.{lt-ltb, le-ltb}
@@ -21,55 +21,47 @@ use Rattle.game.proofs.Codes.{code-nil, code-cons}
 pub times-fits : (m n : ℕ) {a b : ℕ} → a ≤ m → b ≤ n → a * b ≤ m * n
 times-fits m n {a} {b} p q = mul-le-mul {n₁ = a} {n₂ = m} p q
 
-module _ (s : ℕ) where
-  one : s ≡ s ^ 1
-  one = sym (pow-succ' s 0 ∙ (let z : s ^ 0 ≡ 1 = pow-zero s in rw z (mul-one s)))
+-- one factor after the other: n of them, or k if that is less
+record Power (s k n w : ℕ) : Type 0 where
+  up : n ≤ k → w ≡ s ^ n
+  whole : k ≤ n → w ≡ s ^ k
 
-  two : s * s ≡ s ^ 2
-  two = sym (pow-succ' s 1 ∙ (rw (← one)))
+module _ (s k : ℕ) where
+  power-start : Power s k 0 1
+  power-start = record { up = λ l. sym (pow-zero s); whole = λ l. let z : k ≡ 0 = omega arith in rw z (sym (pow-zero s)) }
 
-  three : s * s * s ≡ s ^ 3
-  three = sym (pow-succ' s 2 ∙ (rw (← two) (sym (mul-assoc s s s))))
+  power-next : (n w v : ℕ) → Power s k n w → v ≡ cond (ltb n k) (w * s) w → Power s k (suc n) v
+  power-next n w v h e = elim (lt? n k) [
+    | inl l ↦
+        let a : v ≡ w * s = e ∙ (rw (lt-ltb n k l)) in
+        let b : v ≡ s ^ suc n = a ∙ ap (λ (x : ℕ). x * s) (h .up (omega arith)) ∙ mul-comm (s ^ n) s ∙ sym (pow-succ' s n) in
+        record { up = λ m. b; whole = λ m. let z : k ≡ suc n = omega arith in rw z b }
+    | inr l ↦
+        let a : v ≡ w = e ∙ (rw (le-ltb n k l)) in
+        record { up = λ m. absurd (omega arith); whole = λ m. a ∙ h .whole l }
+  ]
 
-  four : s * s * s * s ≡ s ^ 4
-  four = sym (pow-succ' s 3 ∙ (rw (← three) (sym (mul-assoc s (s * s) s ∙ ap (λ (x : ℕ). s * x) refl) ∙ ap (λ (x : ℕ). x * s) (sym (mul-assoc s s s)))))
+  pub power-four : (a b c d : ℕ) → a ≡ cond (ltb 0 k) (1 * s) 1 → b ≡ cond (ltb 1 k) (a * s) a → c ≡ cond (ltb 2 k) (b * s) b → d ≡ cond (ltb 3 k) (c * s) c → k ≤ 4 → d ≡ s ^ k
+  power-four a b c d ea eb ec ed l = power-next 3 c d (power-next 2 b c (power-next 1 a b (power-next 0 1 a power-start ea) eb) ec) ed .whole l
 
-  module _ (k : ℕ) where
-    pub power-zero : k ≡ 0 → 1 ≡ s ^ k
-    power-zero e = rw e (sym (pow-zero s))
+-- nothing runs over
+pub times-small : (m s w v : ℕ) (more : Bool) → s < 256 → w ≤ m → v ≡ cond more (w * s) w → v ≤ m * 255
+times-small m s w v more l h e = rw e (go more)
+  where
+    go : (b : Bool) → cond b (w * s) w ≤ m * 255
+    go true = times-fits m 255 h (omega arith)
+    go false = omega arith
 
-    pub power-one : k ≡ 1 → s ≡ s ^ k
-    power-one e = rw e one
+-- a code of four bytes
+module _ (s : ℕ) (l : s < 256) (b c d : ℕ) (lb : b < 256) (lc : c < 256) (ld : d < 256) where
+  pub last-fits : s * d ≤ 65025
+  last-fits = times-fits 255 255 (omega arith) (omega arith)
 
-    pub power-two : k ≡ 2 → s * s ≡ s ^ k
-    power-two e = rw e two
+  pub third-fits : s * (c + s * d) ≤ 16646400
+  third-fits = times-fits 255 65280 (omega arith) (omega (arith, last-fits))
 
-    pub power-three : k ≡ 3 → s * s * s ≡ s ^ k
-    power-three e = rw e three
-
-    pub power-four : k ≡ 4 → s * s * s * s ≡ s ^ k
-    power-four e = rw e four
-
-  module _ (l : s < 256) where
-    pub two-fits : s * s ≤ 65025
-    two-fits = times-fits 255 255 (omega arith) (omega arith)
-
-    pub three-fits : s * s * s ≤ 16581375
-    three-fits = times-fits 65025 255 two-fits (omega arith)
-
-    pub four-fits : s * s * s * s ≤ 4228250625
-    four-fits = times-fits 16581375 255 three-fits (omega arith)
-
-    -- a code of four bytes
-    module _ (b c d : ℕ) (lb : b < 256) (lc : c < 256) (ld : d < 256) where
-      pub last-fits : s * d ≤ 65025
-      last-fits = times-fits 255 255 (omega arith) (omega arith)
-
-      pub third-fits : s * (c + s * d) ≤ 16646400
-      third-fits = times-fits 255 65280 (omega arith) (omega (arith, last-fits))
-
-      pub second-fits : s * (b + s * (c + s * d)) ≤ 4244897025
-      second-fits = times-fits 255 16646655 (omega arith) (omega (arith, third-fits))
+  pub second-fits : s * (b + s * (c + s * d)) ≤ 4244897025
+  second-fits = times-fits 255 16646655 (omega arith) (omega (arith, third-fits))
 
 -- SECTIONS by dividing: what is left of a code without its first t trains
 unfoldable pub without : ℕ → ℕ → ℕ → ℕ

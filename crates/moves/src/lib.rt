@@ -45,22 +45,22 @@ pub fn placements(table: &Table) -> u32
     power(compiled::count_in(table, 0), compiled::count_in(table, 2))
 }
 
-// How much a section more of train k counts in a code.
+// How much a section more of train k counts in a code: a power, one factor after the other, with nothing for a processor to guess.
 pub fn power(s: u8, k: u8) -> u32
     ensures { λ w. ⌜ (k ≤ 4 → w ≡ s ^ k) ⌝ }
 {
-    let a = s as u32;
-    if k == 0 {
-        1
-    } else if k == 1 {
-        a
-    } else if k == 2 {
-        a * a
-    } else if k == 3 {
-        a * a * a
-    } else {
-        a * a * a * a
-    }
+    let one = times_if(1, s, 0 < k);
+    let two = times_if(one, s, 1 < k);
+    let three = times_if(two, s, 2 < k);
+    times_if(three, s, 3 < k)
+}
+
+// A weight times s, or as it is.
+fn times_if(w: u32, s: u8, more: bool) -> u32
+    requires { ⌜ w ≤ 16581375 ⌝ }
+    ensures { λ v. ⌜ v ≡ cond more (w * s) w ⌝ }
+{
+    if more { w * (s as u32) } else { w }
 }
 
 // The placement of a code: section after section, by dividing.
