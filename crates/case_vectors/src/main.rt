@@ -2,7 +2,6 @@
 // input is records (crate framed), each of 65,536 bytes at most.
 use casefile::CaseAnswer;
 use casefile::Written;
-use framed::Reading;
 use libc::STDOUT_FILENO;
 use railway::Railway;
 
@@ -23,17 +22,11 @@ fn one() -> bool {
     let record = framed::next_record(&mut space);
     let n = record.bytes;
     let reading = record.reading;
-    match reading {
-        Reading::Whole => {
-            show(&space[..n]);
-            true
-        }
-        Reading::Ended => false,
-        Reading::Broken => {
-            io::write_all(STDOUT_FILENO, b"broken record\n");
-            false
-        }
+    if framed::is_whole(reading) {
+        show(&space[..n]);
+        return true;
     }
+    false
 }
 
 fn show(text: &[u8]) {

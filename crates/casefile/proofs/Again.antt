@@ -35,25 +35,10 @@ use Rattle.casefile.specs.Recording.{endOf, fieldOf, partner, signalOf, 
 use Rattle.casefile.specs.Claims.{AcceptedAgain}
 use Rattle.casefile.proofs.Exactly.{accepted-exactly}
 use Rattle.casefile.proofs.Clean.{Clean, clean-facts, within-is}
-use Rattle.casefile.proofs.Ends.{signal-is, end-field, Counted, field-end, Ties, forth, back, partner-ties, partner-one, partner-other, partner-nothing}
+use Rattle.casefile.proofs.Ends.{signal-is, end-field, field-end, ports-same, one-same, Ties, forth, back, partner-ties, partner-one, partner-other, partner-nothing}
 use Rattle.casefile.proofs.Told.{link-at, flag-at, legs-at, run-at, joined-at, counted-end, numbered-end, run-known}
 
--- the tests of row 5, of ends as written and of the record's
-ports-same : (a b : EndField) → bothPorts (RR.sectionOf (endOf a)) (RR.sectionOf (endOf b)) ≡ bothPorts (sectionOf a) (sectionOf b)
-ports-same (section m s) (section n t) = refl
-ports-same (section m s) (port n l) = refl
-ports-same (port m l) (section n s) = refl
-ports-same (port m l) (port n k) = refl
-
-less-one : (m n : ℕ) → 1 ≤ m → 1 ≤ n → eqb m n ≡ false → eqb (m - 1) (n - 1) ≡ false
-less-one m n a b h = ne-eqb (m - 1) (n - 1) (λ e. eqb-false m n h (omega arith))
-
-one-same : (a b : EndField) → Counted a → Counted b → oneSection (sectionOf a) (sectionOf b) ≡ false → oneSection (RR.sectionOf (endOf a)) (RR.sectionOf (endOf b)) ≡ false
-one-same (section m s) (section n t) p q h = less-one m n p q h
-one-same (section m s) (port n l) p q h = refl
-one-same (port m l) b p q h = refl
-
--- .. turned round
+-- the tests of row 5, turned round
 ports-turned : (a b : Option ℕ) → bothPorts a b ≡ false → bothPorts b a ≡ false
 ports-turned none none h = h
 ports-turned none (some n) h = refl
@@ -87,7 +72,7 @@ module _ (d : Description) (w : Clean d) where
   right-end a b ka kb p o s t =
       record {
         not-ports = ports-same a b ∙ p;
-        not-one = one-same a b (counted-end d w a ka) (counted-end d w b kb) o;
+        not-one = one-same a b (counted-end d w a ka) (counted-end d w b kb) ∙ o;
         sides = rw (side-end a ka, side-end b kb) s;
         back = rw (joined-at d (endOf b) (numbered-end d w b kb), field-end b (counted-end d w b kb), t) (eq-eqb (endIndex (endOf a)) (endIndex (endOf a)) refl);
       }

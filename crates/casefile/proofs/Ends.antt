@@ -1,15 +1,16 @@
 -- Ends as a case text names them, and what its J lines join. An end as written and its end of the record give each other; where no end stands in
--- two J lines, what an end is joined to is the other end of the one J line that names it.
+-- two J lines, an end's join leads to the other end of the one J line that names it.
 -- Assumes nothing.
 use Prim.Native.Nat.{ℕ, suc, _-_, _≤_}
 use mathlib.Core.Path.{_≡_, refl, sym, _∙_, ap}
+use mathlib.Core.Logic.{inl, inr}
 use mathlib.Core.Bool.{Bool, true, false, cond, _||_}
 use mathlib.Core.List.{List, [], _∷_, List·Memᴰ, List·Memᴰ·head, List·Memᴰ·tail}
 use native.Mathlib.Omega.{arith}
 use lib.Dec.{eqb}
-use borrow.Author.Tests.{eqb-true, eq-eqb}
+use borrow.Author.Tests.{eqb-true, eqb-false, eq-eqb, ne-eqb}
 use Rattle.laws.specs.Lists.{any, repeats}
-use Rattle.laws.proofs.Bools.{clash, not-true, and-true, and-both}
+use Rattle.laws.proofs.Bools.{bool?, clash, not-true, and-true, and-both}
 use Rattle.laws.proofs.Lists.{repeats-head}
 use Rattle.railway.specs.declared.Side.{Side}
 use Rattle.railway.specs.declared.Side.the-variants.{Up, Down}
@@ -19,8 +20,10 @@ use Rattle.railway.specs.declared.End.{End}
 use Rattle.railway.specs.declared.End.the-variants.{Section, Port}
 use Rattle.railway.specs.declared.Joined.the-variants.{Nothing, With}
 use Rattle.railway.specs.Ends.{sameSide, legIndex, legAt}
+use Rattle.railway.specs.Rows.{bothPorts, oneSection}
+use Rattle.railway.specs.Rows as RR
 use Rattle.casefile.specs.Form.{EndField, section, port, JoinLine, SignalLine}
-use Rattle.casefile.specs.Rows.{sameEnd, sameSignal, joinEnds}
+use Rattle.casefile.specs.Rows.{sectionOf, sameEnd, sameSignal, joinEnds}
 use Rattle.casefile.specs.Recording.{endOf, fieldOf, partner}
 
 -- THE SAME END, the same signal
@@ -84,6 +87,24 @@ Counted (port n l) = 1 ≤ n
 pub field-end : (e : EndField) → Counted e → fieldOf (endOf e) ≡ e
 field-end (section n s) h = let z : suc (n - 1) ≡ n = omega arith in rw z
 field-end (port n l) h = let z : suc (n - 1) ≡ n = omega arith in rw z
+
+-- the tests of row 5, of ends as written and of the record's
+pub ports-same : (a b : EndField) → bothPorts (RR.sectionOf (endOf a)) (RR.sectionOf (endOf b)) ≡ bothPorts (sectionOf a) (sectionOf b)
+ports-same (section m s) (section n t) = refl
+ports-same (section m s) (port n l) = refl
+ports-same (port m l) (section n s) = refl
+ports-same (port m l) (port n k) = refl
+
+pub less-one : (m n : ℕ) → 1 ≤ m → 1 ≤ n → eqb (m - 1) (n - 1) ≡ eqb m n
+less-one m n a b = elim (bool? (eqb m n)) [
+  | inl e ↦ let p = eqb-true m n e in rw e (eq-eqb (m - 1) (n - 1) (omega arith))
+  | inr e ↦ let p = eqb-false m n e in rw e (ne-eqb (m - 1) (n - 1) (λ q. p (omega arith)))
+]
+
+pub one-same : (a b : EndField) → Counted a → Counted b → oneSection (RR.sectionOf (endOf a)) (RR.sectionOf (endOf b)) ≡ oneSection (sectionOf a) (sectionOf b)
+one-same (section m s) (section n t) p q = less-one m n p q
+one-same (section m s) (port n l) p q = refl
+one-same (port m l) b p q = refl
 
 -- the ends of the J lines
 pub one-end : (js : List JoinLine) (j : JoinLine) → List·Memᴰ j js → List·Memᴰ (j .one) (joinEnds js)

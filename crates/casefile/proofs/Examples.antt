@@ -143,7 +143,7 @@ cases =
     ∷
     record { number = 3; text = "H\t5\t0\t5\nT\t1\tu\t1\t1\nT\t2\tu\t2\t2\nT\t3\tu\t3\t3\nT\t4\tu\t4\t4\nT\t5\tu\t5\t5\n" }
     ∷
-    -- a section or point that is not there: beyond the count, and 0, in each kind of line
+    -- unknown sections and points: beyond the count, and 0, in each kind of line
     record { number = 4; text = "H\t1\t0\t1\nG\t2u\nT\t1\tu\t1\t1\n" }
     ∷
     record { number = 4; text = "H\t1\t0\t1\nG\t0d\nT\t1\tu\t1\t1\n" }
@@ -206,7 +206,7 @@ cases =
     -- a signal named twice
     record { number = 7; text = "H\t1\t0\t1\nG\t1u\nG\t1d\nG\t1u\nT\t1\tu\t1\t1\n" }
     ∷
-    -- two trains share a start; two share a destination; a train may start on its own or another's destination
+    -- two trains share a start; two share a destination; to start where somebody shall end is no fault
     record { number = 8; text = "H\t2\t0\t2\nT\t1\tu\t1\t1\nT\t2\tu\t1\t2\n" }
     ∷
     record { number = 8; text = "H\t2\t0\t2\nT\t1\tu\t1\t2\nT\t2\tu\t2\t2\n" }

@@ -27,7 +27,7 @@ use Rattle.railway.specs.Rows.{bothPorts, oneSection}
 use Rattle.railway.specs.Rows as RR
 use Rattle.railway.specs.Same.{SameRailway}
 use Rattle.railway.proofs.Ends.{Numbered, side-small, end-index, index-end, section-index, section-below, port-behind, numbered-of}
-use Rattle.railway.proofs.Lookups.{joined-there, signal-there}
+use Rattle.railway.proofs.Lookups.{joined-there, signal-there, Flagged, signal-flag}
 use Rattle.railway.proofs.Accepted.{Accepted, accepted-facts, known-numbered, joined-known, joined-right, joined-back}
 use Rattle.railway.proofs.Same.{refusal-same, same-sym, same-trans}
 use Rattle.casefile.specs.Form.{EndField, section, TrainLine, Description, spell, Describes}
@@ -39,7 +39,7 @@ use Rattle.casefile.specs.Claims.{Names, Joins, Signals, Runs, Told, Wri
 use Rattle.casefile.proofs.Exactly.{accepted-exactly, accepted-one}
 use Rattle.casefile.proofs.Clean.{facts-clean}
 use Rattle.casefile.proofs.Ends.{field-one}
-use Rattle.casefile.proofs.Told.{names-field, names-is, signal-names, Flagged, flagged, told}
+use Rattle.casefile.proofs.Told.{names-field, names-is, signal-names, told}
 use Rattle.casefile.proofs.Again.{accepted-again}
 use Rattle.casefile.proofs.Writer.{from-link, from-flag, join-written, signal-written, joined-link, link-joined, link-back, clean, well-formed}
 use Rattle.casefile.proofs.Lengths.{short}
@@ -175,7 +175,7 @@ module _ (r : Railway) (w : Accepted r) where
         trains = refl;
         legs = λ n h. sym (list-get (legsOf r) (r .points) n Up h);
         joins = λ e f. (joins-said e f, said-joins e f);
-        signals = λ e. (λ h. signals-said e (flagged r e h), said-signals e);
+        signals = λ e. (λ h. signals-said e (signal-flag r e h), said-signals e);
         runs = runs-said;
       }
 

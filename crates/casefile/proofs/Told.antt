@@ -10,7 +10,6 @@ use lib.Dec.{ltb}
 use lib.ListN.{getD}
 use borrow.Author.Tests.{ltb-true, lt-ltb}
 use Rattle.laws.specs.Lists.{any}
-use Rattle.laws.proofs.Bools.{clash}
 use Rattle.laws.proofs.Below.{list-get}
 use Rattle.laws.proofs.Lists.{any-found, any-true, getD-member}
 use Rattle.railway.specs.declared.Side.{Side}
@@ -26,6 +25,7 @@ use Rattle.railway.specs.Bounds.{mostPoints, mostTrains, sectionEnds, allEnds}
 use Rattle.railway.specs.Ends.{sideAt, endIndex, endAt}
 use Rattle.railway.specs.Record.{noLegs, noLink, noTrain, linkAt, flagAt, joined, hasSignal, legsOf, runOf}
 use Rattle.railway.proofs.Ends.{Numbered, end-index, index-below, numbered-of, end-section, section-below}
+use Rattle.railway.proofs.Lookups.{Flagged, signal-flag}
 use Rattle.casefile.specs.Form.{EndField, section, port, SignalLine, Description, WellFormed}
 use Rattle.casefile.specs.Rows.{known, sameSignal}
 use Rattle.casefile.specs.Recording.{endOf, fieldOf, partner, signalOf, trainOf, noTrainLine, railwayOf}
@@ -80,18 +80,6 @@ joined-numbered r e f h = cases (ltb (endIndex e) allEnds) refl h
     cases : (b : Bool) → ltb (endIndex e) allEnds ≡ b → cond b (linkAt r (endIndex e)) Nothing ≡ With f → Numbered e
     cases true p q = numbered-of e (ltb-true (endIndex e) allEnds p)
     cases false p q = let z : _≡_ {A = ℕ} 0 1 = cc in absurd (omega arith)
-
-pub record Flagged (r : Railway) (e : End) : Type 0 where
-  pub below : endIndex e < sectionEnds
-  pub flag : flagAt r (endIndex e) ≡ true
-
-pub flagged : (r : Railway) (e : End) → hasSignal r e ≡ true → Flagged r e
-unfolding hasSignal
-flagged r e h = cases (ltb (endIndex e) sectionEnds) refl h
-  where
-    cases : (b : Bool) → ltb (endIndex e) sectionEnds ≡ b → cond b (flagAt r (endIndex e)) false ≡ true → Flagged r e
-    cases true p q = record { below = ltb-true (endIndex e) sectionEnds p; flag = q }
-    cases false p q = clash q refl
 
 -- the G line of a section end names it
 pub signal-names : (i : ℕ) → i < sectionEnds → Names (section (signalOf i .number) (signalOf i .side)) (endAt i)
@@ -195,7 +183,7 @@ module _ (d : Description) (w : Clean d) where
           trains = refl;
           legs = λ n h. legs-at d n h (w .bounds .few-points);
           joins = λ e x. (λ h. joins-told e x (partner-ties (d .joins) (fieldOf e) x (sym (joined-at d e (joined-numbered (railwayOf d) e x h)) ∙ h)), told-joins e x);
-          signals = λ e. (λ h. signals-told e (flagged (railwayOf d) e h), told-signals e);
+          signals = λ e. (λ h. signals-told e (signal-flag (railwayOf d) e h), told-signals e);
           runs = runs-told;
         }
 

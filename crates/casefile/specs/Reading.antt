@@ -28,7 +28,7 @@ pub record Counts : Type 0 where
 
 -- Lines one after the other; `line n c` reads the line that begins at c and has number n.
 module _ {A : Type 0} (line : ℕ → ℕ → Got A) where
-  -- As many as the count says, with numbers rising by one from n.
+  -- As many as are announced: the first has number n, each further one the next.
   unfoldable pub counted : ℕ → ℕ → ℕ → Got (List A)
   counted zero n c = got [] c
   counted (suc k) n c = then (line n c) (λ x c. then (counted k (suc n) c) (λ xs c. got (x ∷ xs) c))
@@ -64,7 +64,7 @@ module _ (s : List ℕ) where
   unfoldable pub endFieldAt : ℕ → Got EndField
   endFieldAt c = then (caseNumberAt c) (λ n c. markAt n c (sideFieldAt c))
 
-  -- `H`, sections, points, trains.
+  -- The H line.
   unfoldable pub headerAt : ℕ → Got Counts
   headerAt c =
       then (byteAt s 72 c) (λ x c.
@@ -73,7 +73,7 @@ module _ (s : List ℕ) where
       then (byteAt s 9 c) (λ x c. then (caseNumberAt c) (λ trains c.
       then (byteAt s 10 c) (λ x c. got (record { sections = sections; points = points; trains = trains }) c))))))))
 
-  -- `P`, point number, `u` or `d`; the number must be n.
+  -- A P line, whose number must be n.
   unfoldable pub pointLineAt : ℕ → ℕ → Got Side
   pointLineAt n c =
       then (byteAt s 80 c) (λ x c.
@@ -81,7 +81,7 @@ module _ (s : List ℕ) where
       then (byteAt s 9 c) (λ x c. then (sideFieldAt c) (λ side c.
       then (byteAt s 10 c) (λ x c. cond (eqb m n) (got side c) bad))))))
 
-  -- `J`, two ends.
+  -- A J line.
   unfoldable pub joinLineAt : ℕ → Got JoinLine
   joinLineAt c =
       then (byteAt s 74 c) (λ x c.
@@ -89,14 +89,14 @@ module _ (s : List ℕ) where
       then (byteAt s 9 c) (λ x c. then (endFieldAt c) (λ other c.
       then (byteAt s 10 c) (λ x c. got (record { one = one; other = other }) c))))))
 
-  -- `G`, section end.
+  -- A G line.
   unfoldable pub signalLineAt : ℕ → Got SignalLine
   signalLineAt c =
       then (byteAt s 71 c) (λ x c.
       then (byteAt s 9 c) (λ x c. then (caseNumberAt c) (λ n c. then (sideFieldAt c) (λ side c.
       then (byteAt s 10 c) (λ x c. got (record { number = n; side = side }) c)))))
 
-  -- `T`, train number, heading, start section, destination section; the number must be n.
+  -- A T line, whose number must be n.
   unfoldable pub trainLineAt : ℕ → ℕ → Got TrainLine
   trainLineAt n c =
       then (byteAt s 84 c) (λ x c.

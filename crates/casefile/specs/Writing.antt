@@ -25,7 +25,7 @@ use Rattle.casefile.specs.declared.Written.the-variants.{Bytes, Refused}
 use Rattle.casefile.specs.Form.{JoinLine, SignalLine, TrainLine, Description, spell}
 use Rattle.casefile.specs.Recording.{fieldOf, signalOf}
 
--- THE TEXT. Section ends are walked by index, which is the order 1d, 1u, 2d, 2u, ..; J and G lines are sorted by the end they begin with.
+-- THE TEXT. A walk over the section ends by index, where a section's down end goes before its up end, makes the J lines, and another one the G lines.
 -- The J line that begins with a section end, if one does: the other end has a later index, so it is a later section end or a port.
 abbrev pub joinFrom : ℕ → Joined → List JoinLine
 joinFrom i Nothing = []

@@ -1,6 +1,5 @@
 // Pairs of texts, a case and a plan, and what program plancheck writes for each pair. Standard input is records (crate framed).
 use casefile::CaseAnswer;
-use framed::Reading;
 use libc::STDOUT_FILENO;
 use railway::Railway;
 
@@ -23,11 +22,10 @@ fn one() -> bool {
     let record = framed::next_record(&mut space);
     let n = record.bytes;
     let reading = record.reading;
-    match reading {
-        Reading::Whole => { plan_of(&space[..n]) }
-        Reading::Ended => false,
-        Reading::Broken => broken(),
+    if framed::is_whole(reading) {
+        return plan_of(&space[..n]);
     }
+    false
 }
 
 // The plan's record behind the case's.
@@ -36,18 +34,11 @@ fn plan_of(case: &[u8]) -> bool {
     let record = framed::next_record(&mut space);
     let n = record.bytes;
     let reading = record.reading;
-    match reading {
-        Reading::Whole => {
-            show(case, &space[..n]);
-            true
-        }
-        Reading::Ended => broken(),
-        Reading::Broken => broken(),
+    if framed::is_whole(reading) {
+        show(case, &space[..n]);
+        return true;
     }
-}
-
-fn broken() -> bool {
-    io::write_all(STDOUT_FILENO, b"broken record\n");
+    io::write_all(STDOUT_FILENO, b"no plan\n");
     false
 }
 

@@ -38,7 +38,7 @@ pub struct PlanTested {
 }
 
 impl Checker {
-    // A checker that has taken no line, and two tables made fresh, whatever stood in them: every entry is written.
+    // A checker at its beginning, and two tables made fresh, whatever stood in them: every entry is written.
     pub fn fresh(figures: &mut [u32], settings: &mut [u32]) -> Checker
         ensures { λ c. ⌜ FreshPost (now (figures .entry)) (now (settings .entry)) (checking c (now (figures .exit)) (now (settings .exit))) ⌝ }
     {

@@ -151,7 +151,7 @@ fn past_join(r: Railway, j: Joined, plus: bool) -> u8
     }
 }
 
-// By the stem it leaves by the leg that is set, by the set leg by the stem; by the other leg it derails.
+// What lies past a point entered by port l: the stem leads on to the set leg and the set leg to the stem; at the leg that is not set a train derails.
 fn past_point(r: Railway, n: PointNo, l: Leg, plus: bool) -> u8
     ensures { λ b. ⌜ b ≡ sectionByte (pastPoint r n (through l plus) .reached) ⌝ }
 {

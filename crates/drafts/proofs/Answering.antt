@@ -26,7 +26,7 @@ use Rattle.railway.specs.declared.Refusal.{Refusal}
 use Rattle.railway.specs.declared.Refusal.the-variants.{Count, Unknown, Join, Loose, Double, Place}
 use Rattle.railway.specs.Bounds.{sectionEnds}
 use Rattle.railway.specs.Refusals.{Row, row, first}
-use Rattle.railway.specs.Record.{emptyRailway, joined, runOf}
+use Rattle.railway.specs.Record.{bareRailway, emptyRailway, joined, runOf}
 use Rattle.railway.specs.Rows.{outside, unjoined}
 use Rattle.railway.specs.Rows as RR
 use Rattle.railway.proofs.Refusals.{refuse-none}
@@ -36,16 +36,16 @@ use Rattle.casefile.specs.Rows.{within, known, unknownJoin, unknownSignal, unkn
 use Rattle.casefile.specs.Recording.{partner, trainOf, noTrainLine, railwayOf}
 use Rattle.casefile.specs.Reading.{judged}
 use Rattle.casefile.proofs.Clean.{within-is}
-use Rattle.casefile.proofs.Ends.{partner-nothing}
+use Rattle.casefile.proofs.Ends.{less-one, partner-nothing}
 use Rattle.casefile.proofs.Told.{joined-at, run-at}
 use Rattle.drafts.specs.declared.Draft.{Draft}
-use Rattle.drafts.specs.Drafting.{counted, opened, putPoint, putJoin, putSignal, putTrain, draftRows, answerOf, draftAnswer}
+use Rattle.drafts.specs.Drafting.{opened, putPoint, putJoin, putSignal, putTrain, draftRows, answerOf, draftAnswer}
 use Rattle.drafts.proofs.Feeding.{putRising, putEach, drafted}
 use Rattle.drafts.proofs.Stored.{same-everywhere}
-use Rattle.drafts.proofs.Sized.{Sized, sized-counted, sized-rising, sized-each, sized-point, sized-put-join, sized-put-signal, sized-put-train}
+use Rattle.drafts.proofs.Sized.{Sized, sized-bare, sized-rising, sized-each, sized-point, sized-put-join, sized-put-signal, sized-put-train}
 use Rattle.drafts.proofs.Known.{unknown-noted}
 use Rattle.drafts.proofs.Built.{faults, doubles, KnownJoin, KnownSignal, KnownTrain}
-use Rattle.drafts.proofs.Joining.{Fit, fit-faults, faults-fit, partner-none, less-one}
+use Rattle.drafts.proofs.Joining.{Fit, fit-faults, faults-fit, partner-none}
 use Rattle.drafts.proofs.Signalling.{index, single-doubles, doubles-single}
 use Rattle.drafts.proofs.Record.{joins-keep, sized-joins, withPoints, withJoins, built, sized-points, drafted-is, ready, none-joined, placed, built-is}
 
@@ -152,11 +152,11 @@ module _ (d : Description) (f : WellFormed d) where
     where
       cases : (c : Bool) → countRow d ≡ c
           → RR.countRow (putRising putTrain 1 (putEach putSignal (putEach putJoin (putRising putPoint 1
-          (record { railway = cond c emptyRailway (counted (d .sections) (d .points) (d .trains)); unknown = false; wrong = false; double = false })
+          (record { railway = cond c emptyRailway (bareRailway (d .sections) (d .points) (d .trains)); unknown = false; wrong = false; double = false })
           (d .legs)) (d .joins)) (d .signals)) (d .runs) .railway) ≡ c
-      cases true e = sized-count 0 0 0 _ (counts-of 0 0 0 _ (sized-counted 0 0 0))
+      cases true e = sized-count 0 0 0 _ (counts-of 0 0 0 _ (sized-bare 0 0 0))
       cases false e =
-          let z = sized-counted (d .sections) (d .points) (d .trains) in
+          let z = sized-bare (d .sections) (d .points) (d .trains) in
           sized-count (d .sections) (d .points) (d .trains) _ (counts-of (d .sections) (d .points) (d .trains) _ z) ∙ e
 
   module _ (h3 : countRow d ≡ false) where
@@ -165,7 +165,7 @@ module _ (d : Description) (f : WellFormed d) where
 
     unknown-same : drafted d .unknown ≡ unknownRow d
     unfolding drafted opened
-    unknown-same = rw h3 (unknown-noted d _ (sized-counted (d .sections) (d .points) (d .trains)) refl f)
+    unknown-same = rw h3 (unknown-noted d _ (sized-bare (d .sections) (d .points) (d .trains)) refl f)
 
     module _ (h4 : unknownRow d ≡ false) where
       kj : Every (KnownJoin d) (d .joins)

@@ -1,17 +1,16 @@
 -- Row 5 and the links: joins are added one by one, each judged against the record so far. Where none is at fault, no end is in two and each end is
 -- joined as the J lines say; and where the row does not apply, none is at fault.
 -- Assumes nothing.
-use Prim.Native.Nat.{ℕ, _-_, _<_, _≤_}
+use Prim.Native.Nat.{ℕ, _-_, _<_}
 use mathlib.Core.Path.{_≡_, refl, sym, _∙_, ap}
 use mathlib.Core.Bool.{Bool, true, false, cond, not, _&&_, _||_}
 use mathlib.Core.List.{List, [], _∷_, List·Memᴰ, List·Memᴰ·head, List·Memᴰ·tail}
-use mathlib.Core.Logic.{inl, inr}
 use native.Mathlib.Omega.{arith}
-use lib.Dec.{ltb, eqb}
+use lib.Dec.{ltb}
 use lib.ListN.{getD}
-use borrow.Author.Tests.{eqb-true, eqb-false, eq-eqb, ne-eqb}
+use borrow.Author.Tests.{eq-eqb}
 use Rattle.laws.specs.Lists.{any, repeats, Every}
-use Rattle.laws.proofs.Bools.{bool?, clash, or-false, or-none, not-and}
+use Rattle.laws.proofs.Bools.{clash, or-false, or-none, not-and}
 use Rattle.laws.proofs.Lists.{any-none, repeats-head, repeats-none, every-none, every-more}
 use Rattle.railway.specs.declared.Side.{Side}
 use Rattle.railway.specs.declared.Side.the-variants.{Up}
@@ -23,16 +22,16 @@ use Rattle.railway.specs.Bounds.{allEnds}
 use Rattle.railway.specs.Ends.{portSide, endIndex}
 use Rattle.railway.specs.Record.{joined, legsOf, withLinks, setLink, withJoin}
 use Rattle.railway.specs.Record as R
-use Rattle.railway.specs.Rows.{bothPorts, oneSection, wrongPair, unjoined}
+use Rattle.railway.specs.Rows.{wrongPair, unjoined}
 use Rattle.railway.specs.Rows as RR
 use Rattle.railway.proofs.Ends.{Numbered}
 use Rattle.railway.proofs.Updates.{join-first, join-second, join-rest}
 use Rattle.railway.proofs.Accepted.{Bounded}
 use Rattle.casefile.specs.Form.{EndField, section, port, JoinLine, Description}
-use Rattle.casefile.specs.Rows.{known, sectionOf, sideOf, tied, wrongJoin, sameEnd, joinEnds}
+use Rattle.casefile.specs.Rows.{known, sideOf, tied, wrongJoin, sameEnd, joinEnds}
 use Rattle.casefile.specs.Recording.{endOf, fieldOf, partner}
 use Rattle.casefile.proofs.Clean.{within-is}
-use Rattle.casefile.proofs.Ends.{same-is, same-self, not-same, end-field, Counted, field-end}
+use Rattle.casefile.proofs.Ends.{same-is, same-self, not-same, end-field, Counted, field-end, ports-same, one-same}
 use Rattle.drafts.specs.Drafting.{faulty}
 use Rattle.drafts.proofs.Sized.{sized-join}
 use Rattle.drafts.proofs.Known.{SizedBy}
@@ -58,24 +57,6 @@ partner-none (j ∷ js) f h =
     let a = or-false (sameEnd f (j .one)) (sameEnd f (j .other) || any (sameEnd f) (joinEnds js)) h in
     let b = or-false (sameEnd f (j .other)) (any (sameEnd f) (joinEnds js)) (a .1) in
     rw (a .0, b .0) (partner-none js f (b .1))
-
--- the tests of row 5, of ends as written and of the record's
-ports-same : (a b : EndField) → bothPorts (RR.sectionOf (endOf a)) (RR.sectionOf (endOf b)) ≡ bothPorts (sectionOf a) (sectionOf b)
-ports-same (section m s) (section n t) = refl
-ports-same (section m s) (port n l) = refl
-ports-same (port m l) (section n s) = refl
-ports-same (port m l) (port n k) = refl
-
-pub less-one : (m n : ℕ) → 1 ≤ m → 1 ≤ n → eqb (m - 1) (n - 1) ≡ eqb m n
-less-one m n a b = elim (bool? (eqb m n)) [
-  | inl e ↦ let p = eqb-true m n e in rw e (eq-eqb (m - 1) (n - 1) (omega arith))
-  | inr e ↦ let p = eqb-false m n e in rw e (ne-eqb (m - 1) (n - 1) (λ q. p (omega arith)))
-]
-
-one-same : (a b : EndField) → Counted a → Counted b → oneSection (RR.sectionOf (endOf a)) (RR.sectionOf (endOf b)) ≡ oneSection (sectionOf a) (sectionOf b)
-one-same (section m s) (section n t) p q = less-one m n p q
-one-same (section m s) (port n l) p q = refl
-one-same (port m l) b p q = refl
 
 -- an end may not be tied to itself
 self-wrong : (d : Description) (e : EndField) → wrongPair (tied d e) (tied d e) ≡ true

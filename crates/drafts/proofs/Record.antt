@@ -23,7 +23,7 @@ use Rattle.railway.specs.declared.Train.{Train}
 use Rattle.railway.specs.declared.Railway.{Railway}
 use Rattle.railway.specs.Bounds.{mostPoints, mostTrains, sectionEnds, allEnds}
 use Rattle.railway.specs.Ends.{endIndex, endAt}
-use Rattle.railway.specs.Record.{noLegs, noLink, noTrain, linkAt, joined, legsOf, withLinks, setLink, withJoin, withSignal}
+use Rattle.railway.specs.Record.{bareRailway, noLegs, noLink, noTrain, linkAt, joined, legsOf, withLinks, setLink, withJoin, withSignal}
 use Rattle.railway.specs.Rows.{outside}
 use Rattle.railway.proofs.Ends.{index-end}
 use Rattle.railway.proofs.Accepted.{Bounded}
@@ -32,10 +32,10 @@ use Rattle.casefile.specs.Rows.{sameSignal}
 use Rattle.casefile.specs.Recording.{endOf, fieldOf, partner, signalOf, trainOf, noTrainLine, railwayOf}
 use Rattle.casefile.proofs.Clean.{within-is}
 use Rattle.drafts.specs.declared.Draft.{Draft}
-use Rattle.drafts.specs.Drafting.{counted, opened, putPoint, putJoin, putSignal}
+use Rattle.drafts.specs.Drafting.{opened, putPoint, putJoin, putSignal}
 use Rattle.drafts.proofs.Feeding.{putRising, putEach, drafted}
 use Rattle.drafts.proofs.Stored.{storeFrom, store-length, store-all, same-everywhere}
-use Rattle.drafts.proofs.Sized.{Sized, sized-counted, sized-join, sized-signal}
+use Rattle.drafts.proofs.Sized.{Sized, sized-bare, sized-join, sized-signal}
 use Rattle.drafts.proofs.Known.{SizedBy, or-nothing}
 use Rattle.drafts.proofs.Built.{legsRow, signalEnd, withAllLegs, withAllRuns, joinAll, faults, signalAll, doubles, KnownJoin, KnownSignal, KnownTrain, points-put, joins-put, signals-put, trains-put}
 use Rattle.drafts.proofs.Joining.{Ready, Fit, joined-all, orJoined}
@@ -112,7 +112,7 @@ joined-index r e i q h = rw (q, lt-ltb i allEnds h)
 module _ (d : Description) (f : WellFormed d) (b : Bounded (d .sections) (d .points) (d .trains)) (inside : outside (d .sections) (d .points) (d .trains) ≡ false)
     (kj : Every (KnownJoin d) (d .joins)) (kg : Every (KnownSignal d) (d .signals)) (kt : Every (KnownTrain d) (d .runs)) where
   abbrev pub start : Railway
-  start = counted (d .sections) (d .points) (d .trains)
+  start = bareRailway (d .sections) (d .points) (d .trains)
 
   abbrev pub withPoints : Railway
   withPoints = withAllLegs start (storeFrom (start .legs) 0 (map legsRow (d .legs)))
@@ -134,7 +134,7 @@ module _ (d : Description) (f : WellFormed d) (b : Bounded (d .sections) (d .poi
 
   pub sized-points : SizedBy d withPoints
   sized-points =
-      let z = sized-counted (d .sections) (d .points) (d .trains) in
+      let z = sized-bare (d .sections) (d .points) (d .trains) in
       record { sections = refl; points = refl; trains = refl; legs = store-length (map legsRow (d .legs)) (start .legs) 0 ∙ z .legs; links = z .links; signals = z .signals; runs = z .runs }
 
   sized-2 : SizedBy d withJoins
@@ -152,7 +152,7 @@ module _ (d : Description) (f : WellFormed d) (b : Bounded (d .sections) (d .poi
       let w1 : Draft = record { railway = withPoints; unknown = false; wrong = false; double = false } in
       let w2 : Draft = record { railway = withJoins; unknown = false; wrong = faults withPoints (d .joins); double = false } in
       let w3 : Draft = record { railway = withSignals; unknown = false; wrong = faults withPoints (d .joins); double = doubles withJoins (d .signals) } in
-      let e1 : putRising putPoint 1 w0 (d .legs) ≡ w1 = points-put d (b .few-points) (d .legs) 0 w0 (sized-counted (d .sections) (d .points) (d .trains)) (omega arith) in
+      let e1 : putRising putPoint 1 w0 (d .legs) ≡ w1 = points-put d (b .few-points) (d .legs) 0 w0 (sized-bare (d .sections) (d .points) (d .trains)) (omega arith) in
       let e2 : putEach putJoin w1 (d .joins) ≡ w2 = joins-put d (d .joins) w1 sized-points kj in
       let e3 : putEach putSignal w2 (d .signals) ≡ w3 = signals-put d (d .signals) w2 sized-2 kg in
       let e4 = trains-put d (b .few-trains) (d .runs) 0 w3 sized-3 (omega arith) kt in

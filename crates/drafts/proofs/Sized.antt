@@ -12,14 +12,14 @@ use Rattle.railway.specs.declared.Train.{Train}
 use Rattle.railway.specs.declared.Railway.{Railway}
 use Rattle.railway.specs.Bounds.{mostPoints, mostTrains, sectionEnds, allEnds}
 use Rattle.railway.specs.Ends.{endIndex}
-use Rattle.railway.specs.Record.{noLegs, noLink, noTrain, withJoin, withSignal, withLegs, withTrain}
+use Rattle.railway.specs.Record.{bareRailway, noLegs, noLink, noTrain, withJoin, withSignal, withLegs, withTrain}
 use Rattle.casefile.specs.Form.{JoinLine, SignalLine, TrainLine, section}
 use Rattle.casefile.specs.Rows.{within}
 use Rattle.casefile.specs.Recording.{trainOf}
 use Rattle.drafts.specs.declared.Draft.{Draft}
 use Rattle.drafts.specs.declared.KnownEnd.{KnownEnd}
 use Rattle.drafts.specs.declared.KnownEnd.the-variants.{NotThere, There}
-use Rattle.drafts.specs.Drafting.{endIn, counted, putPoint, putEnds, putJoin, putAt, putSignal, putTrain, withRailway, unknownIn}
+use Rattle.drafts.specs.Drafting.{endIn, putPoint, putEnds, putJoin, putAt, putSignal, putTrain, withRailway, unknownIn}
 use Rattle.drafts.proofs.Feeding.{putRising, putEach}
 use Rattle.drafts.proofs.Stored.{everywhere-length}
 
@@ -32,8 +32,8 @@ pub record Sized (s p k : ℕ) (r : Railway) : Type 0 where
   pub signals : length (r .signals) ≡ sectionEnds
   pub runs : length (r .runs) ≡ mostTrains
 
-pub sized-counted : (s p k : ℕ) → Sized s p k (counted s p k)
-sized-counted s p k =
+pub sized-bare : (s p k : ℕ) → Sized s p k (bareRailway s p k)
+sized-bare s p k =
     record {
       sections = refl;
       points = refl;

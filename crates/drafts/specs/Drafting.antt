@@ -14,7 +14,7 @@ use Rattle.railway.specs.declared.Railway.{Railway}
 use Rattle.railway.specs.declared.Refusal.{Refusal}
 use Rattle.railway.specs.declared.Refusal.the-variants.{Count, Unknown, Join, Loose, Double, Place}
 use Rattle.railway.specs.Refusals.{Row, row, first}
-use Rattle.railway.specs.Record.{emptyRailway, joined, hasSignal, withJoin, withSignal, withLegs, withTrain}
+use Rattle.railway.specs.Record.{bareRailway, emptyRailway, joined, hasSignal, withJoin, withSignal, withLegs, withTrain}
 use Rattle.railway.specs.Rows.{outside, tied, wrongPair, unjoined, countRow, looseRow, placeRow}
 use Rattle.casefile.specs.declared.CaseRead.{CaseRead}
 use Rattle.casefile.specs.Form.{EndField, section, port, JoinLine, SignalLine, TrainLine}
@@ -55,22 +55,9 @@ unknownIn d = record { railway = d .railway; unknown = true; wrong = d .wrong; d
 abbrev pub withRailway : Draft → Railway → Draft
 withRailway d r = record { railway = r; unknown = d .unknown; wrong = d .wrong; double = d .double }
 
--- A record with these counts, and as empty as can be.
-abbrev pub counted : ℕ → ℕ → ℕ → Railway
-counted s p k =
-    record {
-      sections = s;
-      points = p;
-      trains = k;
-      legs = emptyRailway .legs;
-      links = emptyRailway .links;
-      signals = emptyRailway .signals;
-      runs = emptyRailway .runs;
-    }
-
 -- The H line: its counts where they are within their bounds; else the record stays empty, and row 3 applies to it.
 unfoldable pub opened : ℕ → ℕ → ℕ → Draft
-opened s p k = record { railway = cond (outside s p k) emptyRailway (counted s p k); unknown = false; wrong = false; double = false }
+opened s p k = record { railway = cond (outside s p k) emptyRailway (bareRailway s p k); unknown = false; wrong = false; double = false }
 
 -- A P line.
 unfoldable pub putPoint : Draft → ℕ → Side → Draft

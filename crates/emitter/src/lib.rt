@@ -27,7 +27,7 @@ use text::append;
 // No line of a plan has more bytes.
 const LINE: usize = 45;
 
-// Any record, tables, place and buffer: a line and the place behind it, or the end; none where the start has no figure; or the first of rows 3 to 9 that applies.
+// Any record, tables, place and buffer: a line and the place behind it, or the end; that there is no plan; or the first of rows 3 to 9 that applies.
 pub fn emit_line(
     r: Railway,
     figures: &[u32],

@@ -1,12 +1,19 @@
--- What is left of the space that was lent for a record. Which bytes come from standard input no definition can say. Nothing of document 01 rests on this.
+-- Whether a record was read, and what is left of the space that was lent for it. Which bytes come from standard input no definition can say. Nothing of document 01 rests on this.
 -- Assumes nothing.
 use mathlib.Core.Path.{_≡_}
+use mathlib.Core.Bool.{Bool, true, false}
 use mathlib.Core.List.{List}
 use Prim.Native.Nat.{ℕ}
 use lib.ListN.{length, drop}
 use Rattle.framed.specs.declared.Reading.{Reading}
 use Rattle.framed.specs.declared.Reading.the-variants.{Whole, Ended, Broken}
 use Rattle.framed.specs.declared.Record.{Record}
+
+-- There is a record.
+abbrev pub isWhole : Reading → Bool
+isWhole Whole = true
+isWhole Ended = false
+isWhole Broken = false
 
 -- Past a whole record the space is as it was, and all of it is where the input had ended; a broken record may have left some of its bytes.
 abbrev pub KeptBy : Reading → ℕ → List ℕ → List ℕ → Type 0

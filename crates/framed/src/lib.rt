@@ -1,8 +1,10 @@
 // The records of a vector file, from standard input: a line `@`, tab, the number of bytes in decimal, and then those bytes, of any value. A record
 // comes whole or not at all: one that is longer than the lent space, one that ends early and a line of another form are told as broken.
+ghost use mathlib.Core.Path.{_≡_};
 ghost use Rattle.io.specs.Counts.{Counts};
-ghost use Rattle.framed.specs.Framed.{Kept};
+ghost use Rattle.framed.specs.Framed.{isWhole, Kept};
 use libc::STDIN_FILENO;
+use libc::STDOUT_FILENO;
 
 // Whether there was a record.
 pub enum Reading {
@@ -34,6 +36,20 @@ enum Length {
 const DIGITS: u8 = 8;
 
 const LONGEST: usize = 10000000;
+
+// Whether there is a record to go on with. That one is broken is told on standard output.
+pub fn is_whole(reading: Reading) -> bool
+    ensures { λ b. ⌜ b ≡ isWhole reading ⌝ }
+{
+    match reading {
+        Reading::Whole => true,
+        Reading::Ended => false,
+        Reading::Broken => {
+            io::write_all(STDOUT_FILENO, b"broken record\n");
+            false
+        }
+    }
+}
 
 // The next record, at the start of the lent space.
 pub fn next_record(space: &mut [u8]) -> Record

@@ -3,36 +3,22 @@
 -- Assumes nothing.
 use mathlib.Core.Path.{_≡_, refl, sym, _∙_, ap}
 use mathlib.Core.Logic.{inl, inr}
-use mathlib.Core.Bool.{Bool, true, false, cond}
+use mathlib.Core.Bool.{Bool, true, false}
 use Prim.Native.Nat.{ℕ, _<_}
-use lib.Dec.{ltb}
 use borrow.Author.Tests.{ltb-true}
-use Rattle.laws.proofs.Bools.{bool?, clash, either, or-left, or-right}
+use Rattle.laws.proofs.Bools.{bool?, either, or-left, or-right}
 use Rattle.railway.specs.declared.End.{End}
 use Rattle.railway.specs.declared.End.the-variants.{Section, Port}
 use Rattle.railway.specs.declared.Joined.{Joined}
 use Rattle.railway.specs.declared.Joined.the-variants.{Nothing, With}
 use Rattle.railway.specs.declared.Railway.{Railway}
-use Rattle.railway.specs.Bounds.{sectionEnds}
 use Rattle.railway.specs.Ends.{endIndex}
-use Rattle.railway.specs.Record.{flagAt, joined, hasSignal}
+use Rattle.railway.specs.Record.{joined}
+use Rattle.railway.proofs.Lookups.{Flagged, signal-flag}
 use Rattle.game.specs.Claim.{Alike, OneChoice}
 use Rattle.game.specs.Setting.{Setting, SameSetting, headsFor, held, free, opensFor, mayMove}
 use Rattle.game.specs.Moves.{Passage, pastJoin, passes, enters, moveOf, gameOf}
 use Rattle.game.proofs.Accepted.{Known, Facts}
-
--- a signal that stands has its flag
-pub record Flagged (r : Railway) (e : End) : Type 0 where
-  pub below : endIndex e < sectionEnds
-  pub flag : flagAt r (endIndex e) ≡ true
-
-pub signal-flag : (r : Railway) (e : End) → hasSignal r e ≡ true → Flagged r e
-unfolding hasSignal
-signal-flag r e h = go (ltb (endIndex e) sectionEnds) refl h
-  where
-    go : (b : Bool) → ltb (endIndex e) sectionEnds ≡ b → cond b (flagAt r (endIndex e)) false ≡ true → Flagged r e
-    go true l f = record { below = ltb-true (endIndex e) sectionEnds l; flag = f }
-    go false l f = clash f refl
 
 module _ (r : Railway) where
   pub held-flag : (p t : ℕ) → held r p t ≡ true → Flagged r (headsFor r p t)

@@ -106,7 +106,7 @@ module _ {S : Type 0} (g : Game S) where
   homeAt wrecked = false
   homeAt (standing h p) = home p
 
-  -- The play is home within n turns.
+  -- HOME WITHIN n turns: behind one of the first n, or at the start, the trains are home.
   abbrev pub HomeWithin : Way S → Choice S → ℕ → ℕ → Type 0
   HomeWithin w c p n = (m : ℕ) × (m ≤ n) × (homeAt (play w c p m) ≡ true)
 
@@ -114,15 +114,15 @@ module _ {S : Type 0} (g : Game S) where
   abbrev pub ComesHome : Way S → Choice S → ℕ → Type 0
   ComesHome w c p = (m : ℕ) × (homeAt (play w c p m) ≡ true)
 
-  -- The choice beats the way from placement p: their play never comes home.
+  -- The choice beats the way from placement p: at no time of their play are the trains home.
   abbrev pub Beats : Choice S → Way S → ℕ → Type 0
   Beats c w p = (m : ℕ) → homeAt (play w c p m) ≡ false
 
-  -- Home can be forced within n turns: one way is home within n whatever the choice of trains.
+  -- Forced within n turns: there is a way of working that is home within n, however the trains choose.
   abbrev pub Forced : ℕ → ℕ → Type 0
   Forced p n = (w : Way S) × ((c : Choice S) → HomeWithin w c p n)
 
-  -- The figure of a placement: the least number of turns within which home can be forced; none: there is no such number.
+  -- The figure of a placement: home is forced within it, and within nothing smaller; none: it is forced within no number.
   abbrev pub IsFigure : ℕ → Option ℕ → Type 0
   IsFigure p none = (n : ℕ) → ¬ (Forced p n)
   IsFigure p (some n) = Forced p n × ((m : ℕ) → Forced p m → n ≤ m)

@@ -31,7 +31,7 @@ abbrev pub legSet : Bool → Leg
 legSet true = Plus
 legSet false = Minus
 
--- Where a train that enters a point by this port leaves it, the point lying at plus or not; none: it enters by the leg that is not set, and derails.
+-- The port that follows on this one through a point that lies at plus or not; none: this is the leg that is not set, where a train derails.
 abbrev pub through : Leg → Bool → Option Leg
 through Stem plus = some (legSet plus)
 through Plus true = some Stem

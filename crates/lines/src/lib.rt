@@ -1,5 +1,5 @@
-// The lines of a case text, each read at a cursor: what it says and the cursor behind it, or it is not in form. A field that is no number
-// (or no end, no side) ends the reading of its line. Any bytes and any cursor may come in.
+// The lines of a case text, each read at a cursor: what it says and the cursor behind it, or it is not in form. A line is read
+// up to the first field that is not the number, end or side that it must be. Any bytes and any cursor may come in.
 ghost use mathlib.Core.Path.{_≡_};
 ghost use Rattle.text.specs.Answers.{numberGot};
 ghost use Rattle.casefile.specs.Reading.{caseNumberAt, sideFieldAt, legFieldAt, endFieldAt, headerAt, pointLineAt, joinLineAt, signalLineAt, trainLineAt};

@@ -3,7 +3,6 @@
 // Standard input is records (crate framed).
 use casefile::CaseAnswer;
 use compiled::Table;
-use framed::Reading;
 use libc::STDOUT_FILENO;
 use moves::Move;
 use railway::Railway;
@@ -25,17 +24,11 @@ fn one() -> bool {
     let record = framed::next_record(&mut space);
     let n = record.bytes;
     let reading = record.reading;
-    match reading {
-        Reading::Whole => {
-            show(&space[..n]);
-            true
-        }
-        Reading::Ended => false,
-        Reading::Broken => {
-            io::write_all(STDOUT_FILENO, b"broken record\n");
-            false
-        }
+    if framed::is_whole(reading) {
+        show(&space[..n]);
+        return true;
     }
+    false
 }
 
 fn show(text: &[u8]) {

@@ -88,12 +88,6 @@ section-left s (suc k) p (suc t) = section-left s k (p / s) t ∙ ap (λ (b : Bo
       | inr l ↦ le-ltb t k l ∙ sym (le-ltb (suc t) (suc k) (omega arith))
     ]
 
-pub zero-past : (k t x : ℕ) → k ≤ t → 0 ≡ cond (ltb t k) x 0
-zero-past k t x l = rw (le-ltb t k l)
-
-pub same-below : (k t x : ℕ) → t < k → x ≡ cond (ltb t k) x 0
-same-below k t x l = rw (lt-ltb t k l)
-
 pub rest-small : (s rest : ℕ) → 0 < s → s < 256 → rest % s < 256
 rest-small s rest p l = omega (arith, mod-lt rest p)
 

@@ -74,7 +74,7 @@ ends x u = numbers (map lineNumber (u .answers)) (x .said) && isNumber (testNumb
 abbrev holds : Script → Bool
 holds x = ends x (run (x .yard) (map (λ s. bytes (s .text)) (x .said)) (freshChecking (x .entries) (x .entries)))
 
--- Sections 1 and 2 joined 1u to 2u: row 5 applies.
+-- 1u joined with 2u: row 5 applies.
 abbrev wrongJoin : Railway
 wrongJoin = lineT 1 Up 1 2 (lineJ (sec 1 Up) (sec 2 Up) (yardH 2 0 1))
 
@@ -124,7 +124,7 @@ scripts =
     ∷ script yardA 9 ("plan\t2\n" gets 0 ∷ "2\t1\t1\t1\t-\n" gets 0 ∷ "3\t1\t0\t0\t-\n" gets 0 ∷ "2\t3\t2\t0\t-\n" gets 0 ∷ []) 11
     ∷ script yardA 9 ("plan\t2\n" gets 0 ∷ "2\t1\t1\t0\t-\n" gets 0 ∷ "3\t1\t0\t0\t-\n" gets 0 ∷ "2\t3\t2\t0\t+\n" gets 0 ∷ []) 11
     ∷ script yardA 9 ("plan\t2\n" gets 0 ∷ "2\t1\t1\t1\t-\n" gets 0 ∷ "3\t1\t0\t0\t-\n" gets 0 ∷ "1\t3\t9\t0\t-\n" gets 0 ∷ "2\t3\t2\t0\t+\n" gets 0 ∷ []) 11
-    -- an open train without a signal, at home
+    -- at home, a train opened that has no signal
     ∷ script yardA 9 ("plan\t2\n" gets 0 ∷ "2\t1\t1\t1\t-\n" gets 0 ∷ "3\t1\t0\t1\t-\n" gets 0 ∷ "2\t3\t2\t0\t+\n" gets 0 ∷ []) 11
     -- two trains on a section, in a placement whose only move ends at home; the same plan without it
     ∷ script bothHome 4 ("plan\t0\n" gets 0 ∷ "1\t1\t1\t1\t.\n" gets 0 ∷ "2\t1\t0\t0\t.\n" gets 0 ∷ []) 11

@@ -49,7 +49,7 @@ Failing r = PlanWith r (λ m ds. ¬ (Test r m (byLines r ds)))
 
 -- What any texts handed in, one after the other, are answered; `taken` are those of them that the checker took, `end` is what the calls leave.
 pub record Checked (r : Railway) (texts : List (List ℕ)) (answers : List LineAnswer) (taken : List (List ℕ)) (end : Checking) : Type 0 where
-  -- the test passes exactly if the lines taken are in form and pass, is a plan fault exactly if they are in form and fail,
+  -- the test answers pass exactly if the lines taken are in form and pass, plan fault exactly if they are in form and fail,
   -- and plan form exactly if none was taken
   pub passes : (testPlan r end .answer ≡ Pass) ↔ Passing r taken
   pub faulty : (testPlan r end .answer ≡ TestRefused PlanFault) ↔ Failing r taken

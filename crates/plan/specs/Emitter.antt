@@ -47,7 +47,7 @@ pub record Wrote : Type 0 where
 abbrev pub unwritten : Emitted → List ℕ → Wrote
 unwritten a buffer = record { answer = a; buffer = buffer }
 
--- A line is written into the buffer, whose bytes past it stay; space (9) where the buffer is too short for it.
+-- A line goes to the front of the buffer, and what stands behind it stays; a buffer shorter than the line gives space (9).
 abbrev pub written : List ℕ → PlanPlace → List ℕ → Wrote
 written l next buffer =
     cond (ltb (length buffer) (length l))
@@ -82,7 +82,7 @@ abbrev pub writtenDue : List ℕ → Option Due → Wrote
 writtenDue buffer none = unwritten End buffer
 writtenDue buffer (some d) = written (d .text) (d .next) buffer
 
--- A refusal by the record or the tables comes first, then none where the start has no figure, then the line.
+-- A refusal by the record or the tables comes first, then that there is no plan (the start lacks a figure), then the line.
 abbrev pub emitted : Railway → List ℕ → List ℕ → PlanPlace → List ℕ → Option Refusal → Option ℕ → Wrote
 emitted r figs sets place buffer (some f) start = unwritten (Refused f) buffer
 emitted r figs sets place buffer none none = unwritten NoPlan buffer

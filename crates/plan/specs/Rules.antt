@@ -31,8 +31,8 @@ pub record TooShort (r : Railway) (figs sets : List ℕ) (place : PlanPlace) (bu
   pub is-due : due r figs sets place ≡ some line
   pub shorter : length buffer < length (line .text)
 
--- A call that left w: behind rows 3 to 9 only space is refused, exactly if the buffer is too short for the line; every answer but a line leaves the buffer, and a
--- line changes no byte past it.
+-- A call that left w: a refusal by the record or the tables comes first; the only other one is space, exactly if the line is longer than the buffer. Every answer
+-- but a line leaves the buffer, and a line reaches no byte behind itself.
 pub record EmitRule (r : Railway) (figs sets : List ℕ) (place : PlanPlace) (buffer : List ℕ) (w : Wrote) : Type 0 where
   pub first : (f : Refusal) → caseRefusal r figs sets ≡ some f → w .answer ≡ EmitRefused f
   pub others : (f : Refusal) → caseRefusal r figs sets ≡ none → w .answer ≡ EmitRefused f → f ≡ Space

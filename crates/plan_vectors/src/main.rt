@@ -1,7 +1,5 @@
 // Case texts, and what program signalplan writes for each. Standard input is records (crate framed).
 use casefile::CaseAnswer;
-use framed::Reading;
-use libc::STDOUT_FILENO;
 use railway::Railway;
 
 const ENTRIES: usize = 8192;
@@ -23,17 +21,11 @@ fn one() -> bool {
     let record = framed::next_record(&mut space);
     let n = record.bytes;
     let reading = record.reading;
-    match reading {
-        Reading::Whole => {
-            show(&space[..n]);
-            true
-        }
-        Reading::Ended => false,
-        Reading::Broken => {
-            io::write_all(STDOUT_FILENO, b"broken record\n");
-            false
-        }
+    if framed::is_whole(reading) {
+        show(&space[..n]);
+        return true;
     }
+    false
 }
 
 fn show(case: &[u8]) {

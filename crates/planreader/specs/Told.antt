@@ -1,4 +1,4 @@
--- What the answer to a line stands for (document 01, "The two tables and the plan": the checker takes a plan line by line).
+-- What the answer to a line stands for (document 01, "The two tables and the plan": lines handed to the checker).
 -- Assumes nothing.
 use mathlib.Core.Option.{Option, none, some}
 use Rattle.railway.specs.declared.Railway.{Railway}

@@ -80,7 +80,7 @@ fn listed_fine(table: &Table, figures: &[u32], settings: &[u32], p: u32, n: u32)
     }
 }
 
-// No open train lacks a signal at the end that it heads for.
+// Every train that the entry opens has a signal before it.
 fn opens_fine(table: &Table, q: Placement, v: u32) -> bool
     ensures { λ b. ⌜ ((r : Railway) (p : ℕ) → On r p (now (table .entry)) q → b ≡ allBelow (entryFine r p v) (r .trains)) ⌝ }
 {
@@ -106,7 +106,7 @@ fn train_fine(table: &Table, q: Placement, v: u32, t: u8) -> bool
     }
 }
 
-// Under entry v some train may move, and every move allowed ends in a listed placement of a figure below n.
+// Entry v keeps figure n: somebody may move under it, and whoever may comes to a listed placement with a figure below n.
 fn keeps(table: &Table, figures: &[u32], p: u32, v: u32, n: u32) -> bool
     ensures { λ b. ⌜ ((r : Railway) → Compiled r (now (table .entry)) → b ≡ keepsTest (gameOf r) (figureIn (now (figures .entry))) p (settingAt r p v) n) ⌝ }
 {

@@ -1,4 +1,4 @@
--- A way is the same back: joins are returned and tie an up side to a down side, and a point that lets a train through from one port to another lets it through back.
+-- A way is the same back: joins are returned and tie sides that differ, and a point that lets a train through from one port to another lets it through back.
 -- So who comes to a section by an end comes, going back by that end with the points as they lie, to where the train was. Assumes nothing.
 use mathlib.Core.Path.{_≡_, refl, sym, _∙_, ap}
 use mathlib.Core.Bool.{Bool, true, false}

@@ -116,20 +116,14 @@ module _ (r : Railway) where
         link-right = λ i f h l.
             right-of r (endAt i) f (rw l at (any-false (wrongLinkAt r) allEnds (j .0) i h)) (rw l at (any-false (unreturnedAt r) allEnds (j .1) i h));
         port-joined = λ n l h q. clash refl (rw q at (loose-none r n (any-false (looseAt r) (r .points) (r6 .0) n h) l));
-        starts = λ t u h g. eqb-false (runOf r u .start .0) (runOf r t .start .0) (apart t u h g .0);
-        destinations = λ t u h g. eqb-false (runOf r u .destination .0) (runOf r t .destination .0) (apart t u h g .1);
+        starts = λ t u h g. eqb-false (runOf r u .start .0) (runOf r t .start .0) (apart (r8 .0) t u h g .0);
+        destinations = λ t u h g. eqb-false (runOf r u .destination .0) (runOf r t .destination .0) (apart (r8 .0) t u h g .1);
       }
     where
-      apart : (t u : ℕ) → u < t → t < r .trains → (eqb (runOf r u .start .0) (runOf r t .start .0) ≡ false) × (eqb (runOf r u .destination .0) (runOf r t .destination .0) ≡ false)
-      apart t u h g =
-          let r3 = refuse-none (countRow r) Count _ e in
-          let r4 = refuse-none (unknownRow r) Unknown _ (r3 .1) in
-          let r5 = refuse-none (joinRow r) Join _ (r4 .1) in
-          let r6 = refuse-none (looseRow r) Loose _ (r5 .1) in
-          let r7 = refuse-none (doubleRow r) Double _ (r6 .1) in
-          let r8 = refuse-none (placeRow r) Place _ (r7 .1) in
+      apart : placeRow r ≡ false → (t u : ℕ) → u < t → t < r .trains → (eqb (runOf r u .start .0) (runOf r t .start .0) ≡ false) × (eqb (runOf r u .destination .0) (runOf r t .destination .0) ≡ false)
+      apart p t u h g =
           or-false (eqb (runOf r u .start .0) (runOf r t .start .0)) (eqb (runOf r u .destination .0) (runOf r t .destination .0))
-          (any-false (sharesWith r t) t (any-false (sharesAt r) (r .trains) (r8 .0) t g) u h)
+          (any-false (sharesWith r t) t (any-false (sharesAt r) (r .trains) p t g) u h)
 
   -- the converse
   module _ (w : Accepted r) where
@@ -230,7 +224,7 @@ module _ (r : Railway) (w : Accepted r) where
           let ng = known-numbered r w g (joined-known f g p .1) in
           p ∙ ap With (index-one g e ng ne (eqb-true (endIndex g) (endIndex e) q))
 
-  -- a signal stands at a section end that is there
+  -- signals stand at known ends
   pub signal-section : (e : End) → hasSignal r e ≡ true → known r e ≡ true
   unfolding hasSignal
   signal-section e h = cases (ltb (endIndex e) sectionEnds) refl h

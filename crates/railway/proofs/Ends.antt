@@ -1,4 +1,4 @@
--- Laws of ends: each end that a railway can have has an index of its own and comes back from it.
+-- Laws of ends: each end that a railway can have has an index that no other has, and is got back from it.
 -- Assumes nothing.
 use Prim.Native.Nat.{ℕ, _+_, _-_, _*_, _/_, _%_, _<_, _≤_}
 use mathlib.Core.Path.{_≡_, refl, sym, _∙_, ap}

@@ -16,22 +16,10 @@ use Rattle.railway.specs.declared.Joined.the-variants.{Nothing, With}
 use Rattle.railway.specs.declared.Railway.{Railway}
 use Rattle.railway.specs.Ends.{endAt}
 use Rattle.railway.specs.Refusals.{first, numberOf}
-use Rattle.railway.specs.Record.{emptyRailway, joined, hasSignal, legsOf, runOf, sideOf, withLinks, setLink, withJoin, withSignal, withLegs, withTrain}
+use Rattle.railway.specs.Record.{bareRailway, emptyRailway, joined, hasSignal, legsOf, runOf, sideOf, withLinks, setLink, withJoin, withSignal, withLegs, withTrain}
 use Rattle.railway.specs.Rows.{unknownRow, joinRow, looseRow, placeRow, recordRefusal}
 
--- records, with the document's numbers: counts, then what is added to them
-counts : ℕ → ℕ → ℕ → Railway
-counts s p k =
-    record {
-      sections = s;
-      points = p;
-      trains = k;
-      legs = emptyRailway .legs;
-      links = emptyRailway .links;
-      signals = emptyRailway .signals;
-      runs = emptyRailway .runs;
-    }
-
+-- records, with the document's numbers: what is added to bare counts
 u : ℕ → End
 u n = Section (record { 0 = n - 1 }) Up
 
@@ -59,13 +47,13 @@ legs n side r = withLegs r (n - 1) side
 
 -- two sections, no point, one train from 1 to 1, or two trains; and a point whose stem, plus and minus meet these ends
 two : Railway
-two = counts 2 0 1
+two = bareRailway 2 0 1
 
 two2 : Railway
-two2 = counts 2 0 2
+two2 = bareRailway 2 0 2
 
 fork : Side → End → End → End → Railway
-fork side stem plus minus = legs 1 side (join (port Stem 1) stem (join (port Plus 1) plus (join (port Minus 1) minus (counts 3 1 1))))
+fork side stem plus minus = legs 1 side (join (port Stem 1) stem (join (port Plus 1) plus (join (port Minus 1) minus (bareRailway 3 1 1))))
 
 record Case : Type 0 where
   number : Option ℕ
@@ -80,19 +68,19 @@ cases =
     gets none (signal (u 2) (join (u 1) (d 2) two))
     ∷ gets none (fork Down (d 3) (u 1) (u 2))
     ∷ gets none (fork Up (u 1) (d 2) (d 3))
-    ∷ gets none (counts 48 0 1)
-    ∷ gets none (train 4 Up 4 4 (train 3 Up 3 3 (train 2 Up 2 2 (counts 4 0 4))))
+    ∷ gets none (bareRailway 48 0 1)
+    ∷ gets none (train 4 Up 4 4 (train 3 Up 3 3 (train 2 Up 2 2 (bareRailway 4 0 4))))
     -- a train may start on another's destination; runs and legs beyond the counts are not looked at
-    ∷ gets none (train 2 Down 2 1 (train 1 Up 1 2 (counts 2 0 2)))
+    ∷ gets none (train 2 Down 2 1 (train 1 Up 1 2 (bareRailway 2 0 2)))
     ∷ gets none (legs 3 Down (train 2 Up 9 9 two))
     -- 3
     ∷ gets (some 3) emptyRailway
-    ∷ gets (some 3) (counts 0 0 1)
-    ∷ gets (some 3) (counts 49 0 1)
-    ∷ gets (some 3) (counts 2 17 1)
-    ∷ gets (some 3) (counts 2 0 0)
-    ∷ gets (some 3) (counts 2 0 5)
-    -- 4: a join to a section or point that is not there, one at such an end, a signal, a start, a destination
+    ∷ gets (some 3) (bareRailway 0 0 1)
+    ∷ gets (some 3) (bareRailway 49 0 1)
+    ∷ gets (some 3) (bareRailway 2 17 1)
+    ∷ gets (some 3) (bareRailway 2 0 0)
+    ∷ gets (some 3) (bareRailway 2 0 5)
+    -- 4: a join to an unknown section or point, one at such an end, a signal, a start, a destination
     ∷ gets (some 4) (join (u 1) (d 3) two)
     ∷ gets (some 4) (join (u 1) (port Stem 1) two)
     ∷ gets (some 4) (half (d 3) (u 1) two)
@@ -100,33 +88,33 @@ cases =
     ∷ gets (some 4) (train 1 Up 3 1 two)
     ∷ gets (some 4) (train 1 Up 1 3 two)
     -- 5: two ports, one section, an end with itself, one side (of sections, of a port with legs down and with legs up), a link that is not returned, an end in two joins
-    ∷ gets (some 5) (join (port Plus 1) (port Stem 1) (counts 2 1 1))
+    ∷ gets (some 5) (join (port Plus 1) (port Stem 1) (bareRailway 2 1 1))
     ∷ gets (some 5) (join (u 1) (d 1) two)
     ∷ gets (some 5) (join (u 1) (u 1) two)
     ∷ gets (some 5) (join (u 1) (u 2) two)
     ∷ gets (some 5) (fork Down (u 1) (d 2) (d 3))
     ∷ gets (some 5) (fork Up (d 3) (u 1) (u 2))
     ∷ gets (some 5) (half (u 1) (d 2) two)
-    ∷ gets (some 5) (half (u 3) (d 2) (join (u 1) (d 2) (counts 3 0 1)))
+    ∷ gets (some 5) (half (u 3) (d 2) (join (u 1) (d 2) (bareRailway 3 0 1)))
     -- 6: no port joined, 16 points being within the bounds; one of three not joined
-    ∷ gets (some 6) (counts 2 16 1)
-    ∷ gets (some 6) (join (d 1) (port Stem 1) (join (u 1) (port Plus 1) (legs 1 Down (counts 2 1 1))))
-    ∷ gets (some 6) (join (d 2) (port Stem 1) (join (u 1) (port Plus 1) (legs 1 Down (counts 2 1 1))))
+    ∷ gets (some 6) (bareRailway 2 16 1)
+    ∷ gets (some 6) (join (d 1) (port Stem 1) (join (u 1) (port Plus 1) (legs 1 Down (bareRailway 2 1 1))))
+    ∷ gets (some 6) (join (d 2) (port Stem 1) (join (u 1) (port Plus 1) (legs 1 Down (bareRailway 2 1 1))))
     -- 8: a start shared, a destination shared, by trains that do not follow each other
     ∷ gets (some 8) (train 2 Up 1 2 two2)
     ∷ gets (some 8) (train 2 Up 2 1 two2)
-    ∷ gets (some 8) (train 3 Up 1 3 (train 2 Up 2 2 (counts 3 0 3)))
+    ∷ gets (some 8) (train 3 Up 1 3 (train 2 Up 2 2 (bareRailway 3 0 3)))
     -- 3 with 4, 4 with 5, 4 with 6, 5 with 6, 5 with 8, 6 with 8: the first in the table's order
-    ∷ gets (some 3) (signal (d 3) (counts 2 17 1))
+    ∷ gets (some 3) (signal (d 3) (bareRailway 2 17 1))
     ∷ gets (some 4) (join (u 1) (u 2) (signal (d 3) two))
-    ∷ gets (some 4) (train 1 Up 3 1 (counts 2 1 1))
-    ∷ gets (some 5) (join (u 1) (u 2) (counts 2 1 1))
+    ∷ gets (some 4) (train 1 Up 3 1 (bareRailway 2 1 1))
+    ∷ gets (some 5) (join (u 1) (u 2) (bareRailway 2 1 1))
     ∷ gets (some 5) (join (u 1) (u 2) (train 2 Up 1 2 two2))
-    ∷ gets (some 6) (train 2 Up 1 2 (counts 2 1 2))
+    ∷ gets (some 6) (train 2 Up 1 2 (bareRailway 2 1 2))
     ∷ []
 
 numbers : map (λ k. numberOf (recordRefusal (k .of))) cases ≡ map (λ k. k .number) cases
-unfolding anyBelow endAt first joined hasSignal legsOf runOf withJoin withSignal withLegs withTrain unknownRow joinRow looseRow placeRow recordRefusal counts u d port train join half signal legs two two2 fork gets cases
+unfolding anyBelow endAt first joined hasSignal legsOf runOf withJoin withSignal withLegs withTrain unknownRow joinRow looseRow placeRow recordRefusal u d port train join half signal legs two two2 fork gets cases
 numbers = refl
 
 -- LOOKUPS in such a record, the values written out: found from both ends, nothing elsewhere, nothing at ends that no railway has.
@@ -134,14 +122,14 @@ looked : List Joined
 looked = map (joined (fork Down (d 3) (u 1) (u 2))) (u 1 ∷ u 2 ∷ d 3 ∷ port Stem 1 ∷ port Plus 1 ∷ port Minus 1 ∷ d 1 ∷ port Stem 2 ∷ d 49 ∷ port Stem 17 ∷ [])
 
 lookups : looked ≡ With (port Plus 1) ∷ With (port Minus 1) ∷ With (port Stem 1) ∷ With (d 3) ∷ With (u 1) ∷ With (u 2) ∷ Nothing ∷ Nothing ∷ Nothing ∷ Nothing ∷ []
-unfolding joined legsOf withJoin withLegs counts u d port join legs fork looked
+unfolding joined legsOf withJoin withLegs u d port join legs fork looked
 lookups = refl
 
 -- SIDES: with legs down the stem lies up; with legs up it lies down.
 sides : map (sideOf (fork Down (d 3) (u 1) (u 2))) (port Stem 1 ∷ port Plus 1 ∷ port Minus 1 ∷ []) ≡ Up ∷ Down ∷ Down ∷ []
-unfolding legsOf withJoin withLegs counts u d port join legs fork
+unfolding legsOf withJoin withLegs u d port join legs fork
 sides = refl
 
 sides-up : map (sideOf (fork Up (u 1) (d 2) (d 3))) (port Stem 1 ∷ port Plus 1 ∷ port Minus 1 ∷ []) ≡ Down ∷ Up ∷ Up ∷ []
-unfolding legsOf withJoin withLegs counts u d port join legs fork
+unfolding legsOf withJoin withLegs u d port join legs fork
 sides-up = refl

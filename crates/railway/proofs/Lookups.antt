@@ -5,7 +5,8 @@ use mathlib.Core.Path.{_≡_, refl, sym, ap}
 use mathlib.Core.Bool.{Bool, true, false, cond}
 use lib.Dec.{ltb}
 use lib.ListN.{length, getD, List·getD-eq-default}
-use borrow.Author.Tests.{lt-ltb, le-ltb}
+use borrow.Author.Tests.{ltb-true, lt-ltb, le-ltb}
+use Rattle.laws.proofs.Bools.{clash}
 use Rattle.railway.specs.declared.Side.the-variants.{Up}
 use Rattle.railway.specs.declared.End.{End}
 use Rattle.railway.specs.declared.Legs.{Legs}
@@ -47,6 +48,19 @@ module _ (r : Railway) (e : End) (i : ℕ) (is : i ≡ endIndex e) where
   pub signal-none : sectionEnds ≤ i → false ≡ hasSignal r e
   unfolding hasSignal
   signal-none h = rw (← is) (beyond i sectionEnds (flagAt r i) false h)
+
+-- a signal that stands has its flag
+pub record Flagged (r : Railway) (e : End) : Type 0 where
+  pub below : endIndex e < sectionEnds
+  pub flag : flagAt r (endIndex e) ≡ true
+
+pub signal-flag : (r : Railway) (e : End) → hasSignal r e ≡ true → Flagged r e
+unfolding hasSignal
+signal-flag r e h = go (ltb (endIndex e) sectionEnds) refl h
+  where
+    go : (b : Bool) → ltb (endIndex e) sectionEnds ≡ b → cond b (flagAt r (endIndex e)) false ≡ true → Flagged r e
+    go true l f = record { below = ltb-true (endIndex e) sectionEnds l; flag = f }
+    go false l f = clash f refl
 
 module _ (r : Railway) (n : ℕ) where
   pub legs-there : n < r .points → getD (r .legs) n noLegs .side ≡ legsOf r n

@@ -31,18 +31,22 @@ noLink = record { to = Nothing }
 abbrev pub noTrain : Train
 noTrain = record { heading = Up; start = record { 0 = 0 }; destination = record { 0 = 0 } }
 
--- The constructor's record. It has no section and no train, so row 3 applies to it.
-abbrev pub emptyRailway : Railway
-emptyRailway =
+-- The record of these counts in which nothing else is said yet.
+abbrev pub bareRailway : ℕ → ℕ → ℕ → Railway
+bareRailway s p k =
     record {
-      sections = 0;
-      points = 0;
-      trains = 0;
+      sections = s;
+      points = p;
+      trains = k;
       legs = replicate mostPoints noLegs;
       links = replicate allEnds noLink;
       signals = replicate sectionEnds false;
       runs = replicate mostTrains noTrain;
     }
+
+-- The constructor's record. It has no section and no train, so row 3 applies to it.
+abbrev pub emptyRailway : Railway
+emptyRailway = bareRailway 0 0 0
 
 -- ASKED BY INDEX. The join of the end with this index, and whether a signal stands there.
 abbrev pub linkAt : Railway → ℕ → Joined

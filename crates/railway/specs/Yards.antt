@@ -8,20 +8,11 @@ use Rattle.railway.specs.declared.Leg.the-variants.{Stem, Plus, Minus}
 use Rattle.railway.specs.declared.End.{End}
 use Rattle.railway.specs.declared.End.the-variants.{Section, Port}
 use Rattle.railway.specs.declared.Railway.{Railway}
-use Rattle.railway.specs.Record.{emptyRailway, withJoin, withSignal, withLegs, withTrain}
+use Rattle.railway.specs.Record.{bareRailway, withJoin, withSignal, withLegs, withTrain}
 
 -- The H line: the counts, nothing else there yet. Numbers are the document's; each line below is added to the record that stands behind it.
 abbrev pub yardH : ℕ → ℕ → ℕ → Railway
-yardH s p k =
-    record {
-      sections = s;
-      points = p;
-      trains = k;
-      legs = emptyRailway .legs;
-      links = emptyRailway .links;
-      signals = emptyRailway .signals;
-      runs = emptyRailway .runs;
-    }
+yardH s p k = bareRailway s p k
 
 -- A P line: the side of a point's legs.
 abbrev pub lineP : ℕ → Side → Railway → Railway

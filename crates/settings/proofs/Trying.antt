@@ -9,24 +9,24 @@ use mathlib.Core.Option.{Option, none, some}
 use Prim.Native.Nat.{ℕ, zero, suc, _+_, _*_, _^_, _≤_, _<_}
 use native.Mathlib.Omega.{arith}
 use native.Mathlib.Numerals.{add-one}
-use lib.Dec.{ltb, eqb}
+use lib.Dec.{eqb}
 use borrow.Author.Tests.{lt-ltb, eqb-true, eq-eqb, ne-eqb, not-true}
 use Rattle.laws.specs.Below.{allBelow, anyBelow}
 use Rattle.laws.specs.Bits.{bit, fromBits}
 use Rattle.laws.proofs.Bools.{bool?, option?, lt?, eq?, clash, some-none, some-one, and-true, and-both, same-bool}
-use Rattle.laws.proofs.Below.{all-same, any-same, all-at, all-of, all-but, any-at, any-of, any-one, any-false, none-any}
+use Rattle.laws.proofs.Below.{all-same, any-same, all-at, all-of, all-but, any-at, any-of, any-false, none-any}
 use Rattle.laws.proofs.Bits.{bits-same, bits-plain, bits-none, bit-none, low-bit}
 use Rattle.railway.specs.declared.Railway.{Railway}
 use Rattle.game.specs.Game.{Outcome, may}
 use Rattle.game.specs.Claim.{figureOf, Keeps}
 use Rattle.game.specs.Local.{isBelow, goesBelow, keepsTest}
 use Rattle.game.specs.Placement.{shared}
-use Rattle.game.specs.Setting.{Setting, headsFor, held, free, mayMove}
+use Rattle.game.specs.Setting.{Setting, held, free}
 use Rattle.game.specs.Moves.{moveOf, gameOf}
 use Rattle.game.proofs.Accepted.{Facts, facts}
 use Rattle.tables.specs.Entries.{settingAt, entryFrom}
 use Rattle.tables.specs.Tables.{pointBits}
-use Rattle.tables.specs.Find.{entryKeeps, meetsPoint, needsPlus, somePlus, metEntry, tryOpen, tryMet, firstFound, findMet, find}
+use Rattle.tables.specs.Find.{entryKeeps, meetsPoint, needsPlus, somePlus, metEntry, tryMet, firstFound, findMet, find}
 use Rattle.tables.proofs.Entries.{setting-may}
 use Rattle.tables.proofs.Fewer.{keeps-closed, bits-small as closed-small}
 use Rattle.tables.proofs.Find.{try-finds, find-sound}
@@ -34,10 +34,10 @@ use Rattle.tables.proofs.Points.{met-try, find-met}
 use Rattle.compiled.specs.Table.{countByte, Compiled}
 use Rattle.moves.specs.declared.Placement.{Placement}
 use Rattle.moves.specs.Answers.{codeOn}
-use Rattle.moves.specs.Steps.{sectionIn, On, allAt}
+use Rattle.moves.specs.Steps.{sectionIn, On}
 use Rattle.moves.proofs.Coding.{bit-high}
 use Rattle.moves.proofs.Placing.{trains-are, few-trains}
-use Rattle.settings.specs.Answers.{entryFound, firstKeeping}
+use Rattle.settings.specs.Answers.{firstKeeping}
 use Rattle.settings.specs.Ways.{Asked, pointMet, endsBelow, harmedAtMinus, beyondHelp, neededPoints, goodAtPlus}
 use Rattle.settings.proofs.Points.{meets-is, met-small, move-by}
 use Rattle.settings.proofs.Ways.{bits-small, one-bit}

@@ -1,7 +1,7 @@
 -- Where a train's move ends, by the table and the figures as code looks at them; and the points that free trains need at plus, train after train. Each function's answer is the
 -- definition's by the tests that it made. Assumes nothing.
 use mathlib.Core.Path.{_≡_, refl, sym, _∙_, ap}
-use mathlib.Core.Logic.{_⊎_, inl, inr}
+use mathlib.Core.Logic.{inl, inr}
 use mathlib.Core.Bool.{Bool, true, false, cond, not, _&&_, _||_}
 use mathlib.Core.List.{List}
 use mathlib.Core.Option.{Option, none, some}
@@ -14,9 +14,9 @@ use lib.ListN.{getD}
 use borrow.Author.Tests.{lt-ltb, le-ltb, eq-eqb, ne-eqb}
 use Rattle.laws.specs.Below.{allBelow, anyBelow}
 use Rattle.laws.specs.Bits.{bit, fromBits}
-use Rattle.laws.proofs.Bools.{bool?, lt?, eq?, some-none, some-one, and-off, and-both, test-off}
-use Rattle.laws.proofs.Below.{any-next, any-one, any-none}
-use Rattle.laws.proofs.Bits.{bits-same, bits-plain, bits-below, bits-none, bits-add, bits-again, bits-past, bits-of}
+use Rattle.laws.proofs.Bools.{bool?, lt?, eq?, some-none, some-one, and-off, and-both}
+use Rattle.laws.proofs.Below.{all-of, any-next, any-one}
+use Rattle.laws.proofs.Bits.{bits-same, bits-plain, bits-below, bits-none, bit-none, bits-add, bits-again, bits-past, bits-of}
 use Rattle.railway.specs.declared.Railway.{Railway}
 use Rattle.game.specs.Game.{derailment, collision, Outcome, lost, at}
 use Rattle.game.specs.Claim.{figureOf}
@@ -132,6 +132,10 @@ module _ (r : Railway) (p t : ℕ) (h : Bool) (is : h ≡ held r p t) where
 
       pub plus-good : (b : Bool) → v ≡ true → b ≡ endsBelow r F p n true t → b ≡ goodAtPlus r F p n bits t
       plus-good b g k = rw (free-is e, lies ∙ g, k)
+
+-- with no point at plus there is nothing to see
+pub all-at-minus : (r : Railway) (F : ℕ → Option ℕ) (p n bits : ℕ) → bits ≡ 0 → true ≡ allBelow (goodAtPlus r F p n bits) (r .trains)
+all-at-minus r F p n bits e = sym (all-of (goodAtPlus r F p n bits) (r .trains) (λ t l. rw (e, bit-none (pointMet r p t), and-off (free r p t))))
 
 -- BITS: one more that is set
 pub power-small : (x : ℕ) → x < 16 → 2 ^ x ≤ 32768

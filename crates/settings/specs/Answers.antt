@@ -15,6 +15,6 @@ entryFound Nothing = none
 entryFound (Entry v) = some v
 
 -- The entry of the first setting, in the plan's order, under which every move from placement p ends in a figure below n. (Exactly, in proofs/, says so of all whole settings.)
--- A placement with two trains on a section is lost: nothing is kept there.
+-- Where trains share a section, nothing is kept.
 unfoldable pub firstKeeping : Railway → (ℕ → Option ℕ) → ℕ → ℕ → Option ℕ
 firstKeeping r F p n = cond (shared r p) none (find r F p n)

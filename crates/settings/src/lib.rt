@@ -160,7 +160,7 @@ fn with_bit(b: u32, x: u8, k: u8) -> u32
     b
 }
 
-// Every free train whose point lies at plus ends below the figure.
+// Every free train whose point lies at plus ends below the figure. Mostly no point does.
 fn plus_holds(
     table: &Table,
     figures: &[u32],
@@ -172,6 +172,9 @@ fn plus_holds(
 ) -> bool
     ensures { λ b. ⌜ ((r : Railway) (p : ℕ) → On r p (now (table .entry)) q → c ≡ codeOn r (sectionIn q) → k ≡ r .trains → b ≡ allBelow (goodAtPlus r (figureIn (now (figures .entry))) p n bits) (r .trains)) ⌝ }
 {
+    if bits == 0 {
+        return true;
+    }
     let mut t: u8 = 0;
     while t < k {
         if good_at_plus(table, figures, q, c, n, t, bits) {

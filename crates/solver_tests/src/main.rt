@@ -2,7 +2,6 @@
 // each a case text. For each: the answer, then by rising code the figure (`none` for no figure) and the setting; then what comes of tables just
 // long enough and one entry shorter, and of records that are refused. Every entry that the solver is lent holds a mark before the call.
 use casefile::CaseAnswer;
-use framed::Reading;
 use libc::STDOUT_FILENO;
 use railway::Railway;
 use tables::NO_FIGURE;
@@ -29,17 +28,11 @@ fn one() -> bool {
     let record = framed::next_record(&mut space);
     let n = record.bytes;
     let reading = record.reading;
-    match reading {
-        Reading::Whole => {
-            show(&space[..n]);
-            true
-        }
-        Reading::Ended => false,
-        Reading::Broken => {
-            io::write_all(STDOUT_FILENO, b"broken record\n");
-            false
-        }
+    if framed::is_whole(reading) {
+        show(&space[..n]);
+        return true;
     }
+    false
 }
 
 fn show(text: &[u8]) {

@@ -28,7 +28,7 @@ use Rattle.tables.specs.Entries.{settingAt, entryFrom, entryOf}
 use Rattle.tables.specs.Tables.{figureIn, tablesShort, caseRefusal, openSignals, lowestOpen, pointBits, noLater}
 use Rattle.tables.specs.Solver.{numberGiven, figureGiven, upTo}
 
--- REFUSALS. Sections 1 and 2 joined 1u to 2u: row 5 applies.
+-- REFUSALS. 1u joined with 2u: row 5 applies.
 abbrev wrongJoin : Railway
 wrongJoin = lineT 1 Up 1 2 (lineJ (sec 1 Up) (sec 2 Up) (yardH 2 0 1))
 

@@ -15,8 +15,9 @@ use Rattle.railway.specs.declared.Railway.{Railway}
 use Rattle.railway.specs.Bounds.{sectionEnds}
 use Rattle.railway.specs.Ends.{endIndex}
 use Rattle.railway.specs.Record.{flagAt}
+use Rattle.railway.proofs.Lookups.{Flagged}
 use Rattle.game.specs.Setting.{Setting, headsFor, held, opensFor, signalOpen}
-use Rattle.game.proofs.Agreeing.{Flagged, held-flag}
+use Rattle.game.proofs.Agreeing.{held-flag}
 use Rattle.tables.specs.Entries.{trainBits, settingAt, entryFrom}
 use Rattle.tables.specs.Tables.{opensSignal, openSignals, lowestOpen, pointBits, thenBy, noLater}
 use Rattle.tables.proofs.Entries.{setting-plus, closed-open, one-open}

@@ -1,8 +1,9 @@
 -- `moves::first_section` meets its contract, by the rest of a division.
 -- Assumes nothing.
 use native.Mathlib.Omega.{arith}
-use Rattle.moves.proofs.Coding.{zero-past, same-below, rest-small}
+use Rattle.moves.proofs.Coding.{rest-small}
 use borrow.Author.Needs.{needs}
+use Rattle.railway.proofs.Lookups.{within, beyond}
 use Rattle.moves.proofs.first_section.Statement.{statement}
 use Rattle.moves.proofs.first_section.Tie as tie
 
@@ -10,7 +11,7 @@ returns : tie.Need-returns
 returns c = search needs
 
 returns-2 : tie.Need-returns-2
-returns-2 c = λ some. zero-past _ _ _ (c .if2 .taken)
+returns-2 c = λ some. beyond _ _ _ _ (c .if2 .taken)
 
 rem-result : tie.Need-rem-result
 rem-result c = search needs
@@ -19,7 +20,7 @@ cast-result : tie.Need-cast-result
 cast-result c = record { fits = rest-small _ _ (omega (arith, c .before .if1 .left)) (c .before .before .fits .s .fits) }
 
 returns-3 : tie.Need-returns-3
-returns-3 c = λ some. same-below _ _ _ (c .if2 .left)
+returns-3 c = λ some. within _ _ _ _ (c .if2 .left)
 
 pub first-section-spec : {M : Type 1} → statement M
 first-section-spec = tie.close (tie.spec returns returns-2 rem-result cast-result returns-3)

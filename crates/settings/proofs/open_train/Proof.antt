@@ -1,8 +1,7 @@
 -- `settings::open_train` meets its contract: at minus, at plus, or not at all.
 -- Assumes nothing.
 use native.Mathlib.Omega.{arith}
-use mathlib.Core.Path.{_≡_, sym, _∙_}
-use Prim.Native.Nat.{_<_}
+use mathlib.Core.Path.{sym, _∙_}
 use Rattle.game.proofs.Accepted.{facts}
 use Rattle.settings.proofs.Ways.{power-small, shifted}
 use Rattle.settings.proofs.Trying.{open-minus, open-not, open-plus, open-neither}

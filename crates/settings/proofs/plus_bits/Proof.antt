@@ -4,7 +4,6 @@ use native.Mathlib.Omega.{arith}
 use borrow.Author.Needs.{needs}
 use Prim.Native.Nat.{ℕ, _-_, _≤_, _<_}
 use mathlib.Core.Logic.{⊎-elim}
-use mathlib.Core.Path.{_≡_, sym, _∙_}
 use Rattle.railway.specs.declared.Railway.{Railway}
 use Rattle.tables.specs.Tables.{figureIn}
 use Rattle.settings.specs.Ways.{Asked}

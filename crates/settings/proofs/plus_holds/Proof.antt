@@ -1,4 +1,4 @@
--- `settings::plus_holds` meets its contract. The loop's invariant: every train before t is good.
+-- `settings::plus_holds` meets its contract. The loop's invariant: every train before t is good. With no point at plus none needs a look.
 -- Assumes nothing.
 use native.Mathlib.Omega.{arith}
 use borrow.Author.Needs.{needs}
@@ -12,6 +12,7 @@ use Rattle.tables.specs.Tables.{figureIn}
 use Rattle.moves.specs.Answers.{codeOn}
 use Rattle.moves.specs.Steps.{sectionIn, On}
 use Rattle.settings.specs.Ways.{goodAtPlus}
+use Rattle.settings.proofs.Ways.{all-at-minus}
 use Rattle.settings.proofs.plus_holds.Statement.{statement}
 use Rattle.settings.proofs.plus_holds.Tie as tie
 
@@ -20,6 +21,9 @@ Inv-loop table figures q c n k bits t₀ t = (t ≤ k) × ((r : Railway) (p : �
 
 abbrev μ-loop : tie.MeasureT-loop
 μ-loop table figures q c n k bits t₀ t = k - t
+
+returns : tie.Need-returns Inv-loop μ-loop
+returns c = let a = c .before .before .args in λ r p on e k. all-at-minus r _ p (a .n) (a .bits) (c .if1 .taken)
 
 loop-holds : tie.Need-loop-holds Inv-loop μ-loop
 unfolding allBelow
@@ -35,13 +39,13 @@ loop-less : tie.Need-loop-less Inv-loop μ-loop
 loop-less c = omega arith
 
 loop-again : tie.Need-loop-again Inv-loop μ-loop
-loop-again c = let l = c .before .before .before in (omega arith, λ r p on e k. all-next (goodAtPlus r _ p _ _) _ (l .loop .inv .1 r p on e k) (sym (c .before .good-at-plus .ensures r p on e (rw k at (c .before .before .loop-test .taken))) ∙ c .if1 .taken))
-
-returns : tie.Need-returns Inv-loop μ-loop
-returns c = λ r p on e k. let l = c .before .before .before in let lt = rw k at (c .before .before .loop-test .taken) in all-but (goodAtPlus r _ p _ _) (r .trains) (l .loop .t) lt (sym (c .before .good-at-plus .ensures r p on e lt) ∙ c .if1 .left)
+loop-again c = let l = c .before .before .before in (omega arith, λ r p on e k. all-next (goodAtPlus r _ p _ _) _ (l .loop .inv .1 r p on e k) (sym (c .before .good-at-plus .ensures r p on e (rw k at (c .before .before .loop-test .taken))) ∙ c .if2 .taken))
 
 returns-2 : tie.Need-returns-2 Inv-loop μ-loop
-returns-2 c = λ r p on e k. let l = c .before in all-each (goodAtPlus r _ p _ _) (r .trains) (l .loop .t) (l .loop .inv .1 r p on e k) (rw k at (l .loop .inv .0)) (rw k at (c .loop-test .left))
+returns-2 c = λ r p on e k. let l = c .before .before .before in let lt = rw k at (c .before .before .loop-test .taken) in all-but (goodAtPlus r _ p _ _) (r .trains) (l .loop .t) lt (sym (c .before .good-at-plus .ensures r p on e lt) ∙ c .if2 .left)
+
+returns-3 : tie.Need-returns-3 Inv-loop μ-loop
+returns-3 c = λ r p on e k. let l = c .before in all-each (goodAtPlus r _ p _ _) (r .trains) (l .loop .t) (l .loop .inv .1 r p on e k) (rw k at (l .loop .inv .0)) (rw k at (c .loop-test .left))
 
 pub plus-holds-spec : {M : Type 1} → statement M
 plus-holds-spec =
@@ -49,10 +53,11 @@ plus-holds-spec =
     (tie.spec
     Inv-loop
     μ-loop
+    returns
     loop-holds
     good-at-plus-requires
     add-t
     loop-less
     loop-again
-    returns
-    returns-2)
+    returns-2
+    returns-3)
