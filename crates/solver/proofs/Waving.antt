@@ -97,6 +97,16 @@ module _ (figs : List ℕ) (figure c upto : ℕ) where
         ];
       }
 
+  pub passed-end : (e : ℕ) → Passed figs figure c upto e → e ≤ upto → upto ≤ e → Passed figs figure c upto upto
+  passed-end e x l m = let z : upto ≡ e = omega arith in record { onward = omega (arith, x .onward); others = λ q lq h. x .others q lq (omega arith) }
+
+  pub passed-more : (e k : ℕ) → Passed figs figure c upto e → Passed figs figure e k k → k ≤ upto → Passed figs figure c upto k
+  passed-more e k x y l =
+      record {
+        onward = omega (arith, x .onward, y .onward);
+        others = λ q lq h. elim (lt? q e) [ inl z ↦ x .others q lq z | inr z ↦ (omega arith, y .others q z h .1) ];
+      }
+
 -- THE TRAINS of a placement
 pub no-train : (r : Railway) (c q : ℕ) → Comes r c 0 q → ⊥
 no-train r c q k = omega (arith, k .below)

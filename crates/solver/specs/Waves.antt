@@ -53,6 +53,17 @@ pub record Passed (figs : List ℕ) (figure c upto e : ℕ) : Type 0 where
   pub onward : c ≤ e
   pub others : (q : ℕ) → c ≤ q → q < e → (q < upto) × (getD figs q noFigure ≡ figure → ⊥)
 
+-- If section y is one, it is one of the railway, and p the code of placement c with train t put there.
+abbrev pub PutBy : Railway → ℕ → ℕ → ℕ → ℕ → Type 0
+PutBy r c t y p = (y ≡ 255 → ⊥) → (y < r .sections) × (p ≡ codeWith r c t y)
+
+-- Whether section y is one and p a code without a figure.
+pub data Waits (figs : List ℕ) (m y p : ℕ) : Bool → Type 0 where
+  empty : (y ≡ 255 → ⊥) → p < m → figureIn figs p ≡ none → Waits figs m y p true
+  nowhere : y ≡ 255 → Waits figs m y p false
+  outside : m ≤ p → Waits figs m y p false
+  figured : (figureIn figs p ≡ none → ⊥) → Waits figs m y p false
+
 -- KINDS of placements: one alone;
 abbrev pub One : ℕ → ℕ → Type 0
 One p q = q ≡ p
@@ -61,6 +72,11 @@ One p q = q ≡ p
 pub record Put (r : Railway) (c t y p : ℕ) : Type 0 where
   pub there : y ≡ 255 → ⊥
   pub code : p ≡ codeWith r c t y
+
+-- .. on section z, where that is another than y;
+pub record Other (r : Railway) (c t y z p : ℕ) : Type 0 where
+  pub other : y ≡ z → ⊥
+  pub put : Put r c t z p
 
 -- those from which a move of train t comes to placement c;
 pub record By (r : Railway) (c t p : ℕ) : Type 0 where

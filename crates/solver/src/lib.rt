@@ -4,12 +4,12 @@
 // codes, say how large the figures in it are at most, so that a round passes by the stretches without figure n - 1.
 // The functions under `solve` promise what they do for every accepted railway whose compiled table they are handed.
 ghost use mathlib.Core.Path.{_≡_};
+ghost use mathlib.Core.Bool.{false};
 ghost use mathlib.Core.Option.{none};
 ghost use Prim.Native.Nat.{ℕ, suc, _+_, _/_, _≤_, _<_};
 ghost use lib.ListN.{length, getD};
 ghost use Rattle.railway.specs.declared.Railway.{Railway};
 ghost use Rattle.game.specs.Placement.{placements, startCode};
-ghost use Rattle.game.specs.Moves.{codeWith};
 ghost use Rattle.tables.specs.Tables.{noFigure, figureIn};
 ghost use Rattle.tables.specs.Solver.{figureGiven, refusalGiven, RoundTables, SolverTables, SolverPost};
 ghost use Rattle.tables.specs.Rounds.{firstFigure};
@@ -18,7 +18,7 @@ ghost use Rattle.moves.specs.Answers.{homeCode};
 ghost use Rattle.moves.specs.Steps.{On};
 ghost use Rattle.predecessors.specs.Behind.{Behind};
 ghost use Rattle.solver.specs.Sweeps.{After, RoundPost};
-ghost use Rattle.solver.specs.Waves.{Marked, Round, Swept, Passed, One, Put, By, Comes, Before};
+ghost use Rattle.solver.specs.Waves.{Marked, Round, Swept, Passed, PutBy, Waits, One, Other, By, Comes, Before};
 use acceptance::Tested;
 use compiled::NO_BYTE;
 use compiled::Table;
@@ -33,6 +33,9 @@ use tables::SolverAnswer;
 const STRETCH: u32 = 432;
 
 const MARKS: usize = 12288;
+
+// How many codes are looked at together.
+const BLOCK: u32 = 16;
 
 // THE SOLVER: both tables of a case and the start's figure, or a refusal and the tables as they were.
 pub fn solve(r: Railway, figures: &mut [u32], settings: &mut [u32]) -> SolverAnswer
@@ -222,7 +225,7 @@ fn next_with(figures: &[u32], figure: u32, c: u32, upto: u32) -> u32
     requires { ⌜ upto ≤ length (now figures) ⌝ }
     ensures { λ e. ⌜ Passed (now (figures .entry)) figure c upto e × (e < upto → getD (now (figures .entry)) e noFigure ≡ figure) ⌝ }
 {
-    let mut e = c;
+    let mut e = pass_blocks(figures, figure, c, upto);
     while e < upto {
         let at = e as usize;
         if figures[at] == figure {
@@ -231,6 +234,41 @@ fn next_with(figures: &[u32], figure: u32, c: u32, upto: u32) -> u32
         e += 1;
     }
     e
+}
+
+// .. block by block, up to one that has it or is not whole.
+fn pass_blocks(figures: &[u32], figure: u32, c: u32, upto: u32) -> u32
+    requires { ⌜ upto ≤ length (now figures) ⌝ }
+    ensures { λ e. ⌜ Passed (now (figures .entry)) figure c upto e ⌝ }
+{
+    let mut e = c;
+    while e < upto {
+        if upto - e < BLOCK {
+            return e;
+        }
+        if has_figure(figures, figure, e, e + BLOCK) {
+            return e;
+        }
+        e += BLOCK;
+    }
+    e
+}
+
+// Whether this figure is among those of a range. All of them are looked at, with no stop at the first, so that several can be at once.
+fn has_figure(figures: &[u32], figure: u32, from: u32, upto: u32) -> bool
+    requires { ⌜ (from ≤ upto) × (upto ≤ length (now figures)) ⌝ }
+    ensures { λ b. ⌜ (b ≡ false → Passed (now (figures .entry)) figure from upto upto) ⌝ }
+{
+    let mut has = false;
+    let mut e = from;
+    while e < upto {
+        let i = e as usize;
+        if figures[i] == figure {
+            has = true;
+        }
+        e += 1;
+    }
+    has
 }
 
 // Round n for what is one move before a code, train by train.
@@ -260,7 +298,7 @@ fn visit_before(
     added
 }
 
-// .. by a move of one train, with the point that it meets at minus and at plus; once, if it comes from the same section either way.
+// .. by a move of one train, with the point that it meets at minus and at plus.
 fn visit_train(
     table: &Table,
     behind: &SectionsBehind,
@@ -281,20 +319,28 @@ fn visit_train(
     let y = predecessors::section_behind(behind, t, x, false);
     let z = predecessors::section_behind(behind, t, x, true);
     let p = moves::code_put(c, w, x, y);
-    let one = visit_from(table, figures, settings, marks, m, n, q, t, y, p);
-    if y == z {
-        return one;
-    }
     let o = moves::code_put(c, w, x, z);
-    let other = visit_from(table, figures, settings, marks, m, n, q, t, z, o);
-    if one {
-        return true;
+    if waits(figures, m, y, p) {
+        let one = visit(
+            table,
+            figures,
+            settings,
+            marks,
+            moves::put_on(q, t, y),
+            p,
+            n,
+        );
+        let other = visit_other(table, figures, settings, marks, m, n, q, t, y, z, o);
+        if one {
+            return true;
+        }
+        return other;
     }
-    other
+    visit_other(table, figures, settings, marks, m, n, q, t, y, z, o)
 }
 
-// Round n at the placement that has train t on section y and the others as in q, and has code p; if there is such a section and it has no figure yet.
-fn visit_from(
+// .. from section z, if that is another than y; p is the code of the placement that has train t there and the others as in q.
+fn visit_other(
     table: &Table,
     figures: &mut [u32],
     settings: &mut [u32],
@@ -304,10 +350,33 @@ fn visit_from(
     q: Placement,
     t: u8,
     y: u8,
+    z: u8,
     p: u32,
 ) -> bool
     requires { ⌜ (m ≤ length (now figures)) × (m ≤ length (now settings)) ⌝ }
-    ensures { λ b. ⌜ ((r : Railway) (c : ℕ) → Round r (now (table .entry)) m n (now (figures .entry)) (now (marks .entry)) → On r c (now (table .entry)) q → t < r .trains → ((y ≡ 255 → ⊥) → (y < r .sections) × (p ≡ codeWith r c t y)) → Swept r n (Put r c t y) (now (figures .entry)) (now (settings .entry)) (now (figures .exit)) (now (settings .exit)) (now (marks .exit)) b) ⌝ }
+    ensures { λ b. ⌜ ((r : Railway) (c : ℕ) → Round r (now (table .entry)) m n (now (figures .entry)) (now (marks .entry)) → On r c (now (table .entry)) q → t < r .trains → PutBy r c t z p → Swept r n (Other r c t y z) (now (figures .entry)) (now (settings .entry)) (now (figures .exit)) (now (settings .exit)) (now (marks .exit)) b) ⌝ }
+{
+    if y == z {
+        return false;
+    }
+    if waits(figures, m, z, p) {
+        return visit(
+            table,
+            figures,
+            settings,
+            marks,
+            moves::put_on(q, t, z),
+            p,
+            n,
+        );
+    }
+    false
+}
+
+// Section y is one, p a code, and it has no figure yet.
+fn waits(figures: &[u32], m: u32, y: u8, p: u32) -> bool
+    requires { ⌜ m ≤ length (now figures) ⌝ }
+    ensures { λ b. ⌜ Waits (now (figures .entry)) m y p b ⌝ }
 {
     if y == NO_BYTE {
         return false;
@@ -316,18 +385,7 @@ fn visit_from(
         return false;
     }
     let at = p as usize;
-    if figures[at] != NO_FIGURE {
-        return false;
-    }
-    visit(
-        table,
-        figures,
-        settings,
-        marks,
-        moves::put_on(q, t, y),
-        p,
-        n,
-    )
+    figures[at] == NO_FIGURE
 }
 
 // Round n at one placement without a figure. Whether it got one; its stretch is then marked.

@@ -6,7 +6,7 @@ use mathlib.Core.Path.{_∙_}
 use Prim.Native.Nat.{_-_}
 use Rattle.laws.proofs.Lists.{getD-inside}
 use Rattle.solver.specs.Waves.{Passed}
-use Rattle.solver.proofs.Waving.{passed-start, passed-next}
+use Rattle.solver.proofs.Waving.{passed-next}
 use Rattle.solver.proofs.next_with.Statement.{statement}
 use Rattle.solver.proofs.next_with.Tie as tie
 
@@ -16,8 +16,11 @@ Inv-loop figures figure c upto e₀ e = Passed figures figure c upto e
 abbrev μ-loop : tie.MeasureT-loop
 μ-loop figures figure c upto e₀ e = upto - e
 
+pass-blocks-requires : tie.Need-pass-blocks-requires Inv-loop μ-loop
+pass-blocks-requires c κs = search needs
+
 loop-holds : tie.Need-loop-holds Inv-loop μ-loop
-loop-holds c = passed-start (c .args .figures .now) (c .args .figure) (c .args .c) (c .args .upto)
+loop-holds c = c .pass-blocks .ensures
 
 cast-at : tie.Need-cast-at Inv-loop μ-loop
 cast-at c = search needs
@@ -31,7 +34,7 @@ shared-slice-read-if1 c = search needs
 returns : tie.Need-returns Inv-loop μ-loop
 returns c =
     let l = c .before .before .before in
-    let a = l .before in
+    let a = l .before .before .before in
     (l .loop .inv, λ h. getD-inside (a .args .figures .now) (l .loop .e) _ 0 (omega (arith, a .pre)) ∙ c .if1 .taken)
 
 add-e : tie.Need-add-e Inv-loop μ-loop
@@ -44,7 +47,7 @@ loop-again : tie.Need-loop-again Inv-loop μ-loop
 loop-again c =
     let i = c .before .before in
     let l = i .before in
-    let a = l .before in
+    let a = l .before .before .before in
     passed-next (a .args .figures .now) (a .args .figure) (a .args .c) (a .args .upto) (l .loop .e) (l .loop .inv) (i .loop-test .taken) (a .pre) (c .if1 .left)
 
 returns-2 : tie.Need-returns-2 Inv-loop μ-loop
@@ -56,6 +59,7 @@ next-with-spec =
     (tie.spec
     Inv-loop
     μ-loop
+    pass-blocks-requires
     loop-holds
     cast-at
     mul-if1

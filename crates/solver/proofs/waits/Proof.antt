@@ -1,0 +1,29 @@
+-- `solver::waits` meets its contract, test by test.
+-- Assumes nothing.
+use Rattle.solver.specs.Waves.{nowhere, outside}
+use Rattle.solver.proofs.Retracing.{waits-read}
+use borrow.Author.Needs.{needs}
+use Rattle.solver.proofs.waits.Statement.{statement}
+use Rattle.solver.proofs.waits.Tie as tie
+
+returns : tie.Need-returns
+returns c = nowhere (c .if1 .taken)
+
+returns-2 : tie.Need-returns-2
+returns-2 c = outside (c .if2 .taken)
+
+mul-result : tie.Need-mul-result
+mul-result c = search needs
+
+shared-slice-read-result : tie.Need-shared-slice-read-result
+shared-slice-read-result c = search needs
+
+returns-3 : tie.Need-returns-3
+returns-3 c =
+    let f = c .before in
+    let e = f .before in
+    let a = e .before in
+    waits-read (a .args .figures .now) (a .args .m) (a .args .y) (a .args .p) (e .if1 .left) (f .if2 .left) (a .pre)
+
+pub waits-spec : {M : Type 1} → statement M
+waits-spec = tie.close (tie.spec returns returns-2 mul-result shared-slice-read-result returns-3)
