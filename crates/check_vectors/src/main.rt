@@ -3,8 +3,6 @@ use casefile::CaseAnswer;
 use libc::STDOUT_FILENO;
 use railway::Railway;
 
-const ENTRIES: usize = 8192;
-
 fn main() {
     let mut turns: u64 = 0;
     while turns < 18446744073709551615 {
@@ -55,9 +53,7 @@ fn show(case: &[u8], plan: &[u8]) {
 }
 
 fn check(r: Railway, plan: &[u8]) {
-    let mut figures = [0u32; ENTRIES];
-    let mut settings = [0u32; ENTRIES];
-    let answer = verdict::check_plan(r, plan, &mut figures, &mut settings);
+    let answer = verdict::check_plan(r, plan);
     let mut line = [0u8; output::LINE];
     output::test_answer(answer, &mut line);
 }

@@ -25,10 +25,11 @@ use Rattle.plan.specs.Lines.{PlanLine, startLine, placementLine, lineCode}
 use Rattle.plan.specs.Reading.{readLine}
 use Rattle.plan.specs.Test.{byTables}
 use Rattle.plan.specs.Computed.{testHolds}
-use Rattle.plan.specs.Checker.{lineNumber, testNumber, Checking, Left, refuse, takes, takesIf, takeLine, tests, testPlan}
+use Rattle.plan.specs.Checker.{Checking, Left, refuse, takes, takesIf, takeLine, tests, testPlan}
 use Rattle.plan.specs.Promises.{LinePost, TestPost}
 use Rattle.plan.proofs.Reading.{reads-line}
 use Rattle.plan.proofs.Checks.{code-in}
+use Rattle.plan.proofs.Promises.{takes-so, tests-so}
 use Rattle.compiled.specs.declared.Compilation.{Compilation}
 use Rattle.compiled.specs.Table.{Compiled}
 use Rattle.cases.specs.Cases.{CasePost}
@@ -68,17 +69,9 @@ module _ (r : Railway) (c : Checking) (k : Compilation) (case : CasePost r (c .f
   compiled-if e = case .compiled (nothing-refused e)
 
   module _ (text : List ℕ) where
-    post : (w : Left LineAnswer) → w ≡ takeLine r c text → LinePost r c text (w .answer) (w .checking)
-    post w e =
-        record {
-          answer = ap (λ (x : Left LineAnswer). x .answer) e;
-          numbered = ap (λ (x : Left LineAnswer). lineNumber (x .answer)) e;
-          checking = ap (λ (x : Left LineAnswer). x .checking) e;
-        }
-
     pub line-refused : (f : Refusal) → k .tested ≡ Refused f → (w : Left LineAnswer) → w ≡ refuse c f → LinePost r c text (w .answer) (w .checking)
     unfolding takeLine
-    line-refused f e w h = post w (h ∙ sym (ap (takesIf r c text) (refused-as f e)))
+    line-refused f e w h = takes-so r c text w (h ∙ sym (ap (takesIf r c text) (refused-as f e)))
 
     module _ (e : k .tested ≡ Accepted) (line : LineRead) (is : line ≡ told r (readLine r text)) where
       pub line-small : CodeSmall line
@@ -86,12 +79,12 @@ module _ (r : Railway) (c : Checking) (k : Compilation) (case : CasePost r (c .f
 
       pub line-entered : (w : Left LineAnswer) → w ≡ takesRead c (c .state) line → LinePost r c text (w .answer) (w .checking)
       unfolding takeLine
-      line-entered w h = post w (h ∙ ap (takesRead c (c .state)) is ∙ told-takes r c (c .state) (readLine r text) ∙ sym (ap (takesIf r c text) (nothing-refused e)))
+      line-entered w h = takes-so r c text w (h ∙ ap (takesRead c (c .state)) is ∙ told-takes r c (c .state) (readLine r text) ∙ sym (ap (takesIf r c text) (nothing-refused e)))
 
   -- THE CALL FOR THE TEST
   tested-as : (a : TestAnswer) → a ≡ tests r c (caseRefusal r (c .figs) (c .sets)) (c .state) → TestPost r c a c
   unfolding testPlan
-  tested-as a h = record { answer = h; numbered = ap testNumber h; checking = refl }
+  tested-as a h = tests-so r c a h
 
   pub test-refused : (f : Refusal) → k .tested ≡ Refused f → TestPost r c (TestRefused f) c
   test-refused f e = tested-as (TestRefused f) (ap (λ (o : Option Refusal). tests r c o (c .state)) (sym (refused-as f e)))

@@ -26,10 +26,11 @@ use Rattle.plan.specs.declared.Emitted.{Emitted}
 use Rattle.plan.specs.declared.Emitted.the-variants.{End, NoPlan, Refused}
 use Rattle.plan.specs.Lines.{startLine, placementLine, spell, mostLineBytes}
 use Rattle.plan.specs.Text.{hasFigure, lineFor}
-use Rattle.plan.specs.Emitter.{numberGiven, Wrote, written, figureFrom, nextCode, dueFor, writtenDue, emitted, emitLine}
+use Rattle.plan.specs.Emitter.{Wrote, written, figureFrom, nextCode, dueFor, writtenDue, emitted, emitLine}
 use Rattle.plan.specs.Promises.{EmitterPost}
 use Rattle.plan.proofs.Lengths.{lines-short}
 use Rattle.plan.proofs.Plan.{line-fits}
+use Rattle.plan.proofs.Promises.{emits-so}
 use Rattle.compiled.specs.declared.Compilation.{Compilation}
 use Rattle.compiled.specs.Table.{countByte, Compiled}
 use Rattle.moves.specs.declared.Placement.{Placement}
@@ -100,12 +101,7 @@ module _ (r : Railway) (figs sets : List ℕ) (place : PlanPlace) (old : List �
 -- A CALL
 module _ (r : Railway) (figs sets : List ℕ) (place : PlanPlace) (old : List ℕ) where
   post : (a : Emitted) (new : List ℕ) → leaves a new ≡ emitLine r figs sets place old → EmitterPost r figs sets place old a new
-  post a new e =
-      record {
-        answer = ap (λ (w : Wrote). w .answer) e;
-        numbered = ap (λ (w : Wrote). numberGiven (w .answer)) e;
-        buffer = ap (λ (w : Wrote). w .buffer) e;
-      }
+  post a new e = emits-so r figs sets place old (leaves a new) e
 
   module _ {o : Compilation} (opened : CasePost r figs sets o) where
     pub case-refused : (f : Refusal) → o .tested ≡ tested.Refused f → EmitterPost r figs sets place old (Refused f) old

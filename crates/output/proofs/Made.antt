@@ -2,7 +2,7 @@
 use mathlib.Core.Path.{_≡_}
 use mathlib.Core.List.{List, [], _∷_, _++_}
 use Prim.Native.Nat.{ℕ}
-use Rattle.text.specs.Text.{decimal}
+use Rattle.text.specs.Text.{decimal, line}
 use Rattle.text.specs.Appending.{Appended}
 use Rattle.text.proofs.Appending.{append-then, line-more, line-last}
 use Rattle.railway.specs.declared.Refusal.{Refusal}
@@ -17,8 +17,9 @@ module _ {o o₁ o₂ o₃ o₄ o₅ : List ℕ} {a a₁ a₂ a₃ a₄ a₅ : �
   refusal-made f n is p q s t d = rw (← is) (line-more refusedWord (decimal n) [] (append-then p (append-then q (append-then s t))) (line-last (decimal n) d))
 
 module _ {o o₁ o₂ o₃ : List ℕ} {a a₁ a₂ a₃ : ℕ} where
-  pub pass-made : Appended o a (112 ∷ 97 ∷ []) o₁ a₁ → Appended o₁ a₁ (115 ∷ 115 ∷ []) o₂ a₂ → Appended o₂ a₂ (10 ∷ []) o₃ a₃ → Appended o a passLine o₃ a₃
-  pass-made p q t = line-last (112 ∷ 97 ∷ 115 ∷ 115 ∷ []) (append-then p (append-then q t))
+  pub word-made : (x y z w : ℕ) → Appended o a (x ∷ y ∷ []) o₁ a₁ → Appended o₁ a₁ (z ∷ w ∷ []) o₂ a₂ → Appended o₂ a₂ (10 ∷ []) o₃ a₃
+      → Appended o a (line ((x ∷ y ∷ z ∷ w ∷ []) ∷ [])) o₃ a₃
+  word-made x y z w p q t = line-last (x ∷ y ∷ z ∷ w ∷ []) (append-then p (append-then q t))
 
 -- the test's answer is one of the two
 module _ (old new : List ℕ) (t : TestAnswer) where

@@ -21,6 +21,10 @@ refusalLine f = line (refusedWord ∷ decimal (number f) ∷ [])
 abbrev pub passLine : List ℕ
 passLine = line ((112 ∷ 97 ∷ 115 ∷ 115 ∷ []) ∷ [])
 
+-- The word `none`: there is no plan.
+abbrev pub noneLine : List ℕ
+noneLine = line ((110 ∷ 111 ∷ 110 ∷ 101 ∷ []) ∷ [])
+
 -- The answer to the call for the test of a plan.
 abbrev pub testLine : TestAnswer → List ℕ
 testLine Pass = passLine

@@ -18,6 +18,7 @@ use Rattle.plan.specs.Emitter.{isLine, Wrote, emitLine}
 use Rattle.plan.specs.Checker.{Checking, freshChecking, takeLine, Run, run}
 use Rattle.plan.specs.Promises.{EmitterPost, FreshPost}
 use Rattle.plan.specs.Calls.{Emission, Emitting, unasked, wrote, stopped, Taking, no-more, one-more}
+use Rattle.plan.proofs.Promises.{emits-so, takes-so}
 
 -- THE EMITTER. The calls after one that left this, by the place from which they start.
 abbrev pub goOn : List ℕ → Emitted → (PlanPlace → Emission) → Emission
@@ -55,7 +56,7 @@ module _ (r : Railway) (figs sets : List ℕ) where
   emitting [] place = unasked place
   emitting (b ∷ bs) place =
       let w : Wrote = emitLine r figs sets place b in
-      emitting-step place b bs (w .answer) (w .buffer) (record { answer = refl; numbered = refl; buffer = refl }) (emitting bs)
+      emitting-step place b bs (w .answer) (w .buffer) (emits-so r figs sets place b w refl) (emitting bs)
 
 -- THE CHECKER
 pub taking-one : (r : Railway) (c : Checking) (texts : List (List ℕ)) (u : Run) → Taking r c texts u → u ≡ run r texts c
@@ -67,7 +68,7 @@ pub taking : (r : Railway) (texts : List (List ℕ)) (c : Checking) → Taking r
 unfolding run
 taking r [] c = no-more c
 taking r (l ∷ ls) c =
-    one-more c (takeLine r c l .checking) (takeLine r c l .answer) l ls (run r ls (takeLine r c l .checking)) (record { answer = refl; numbered = refl; checking = refl })
+    one-more c (takeLine r c l .checking) (takeLine r c l .answer) l ls (run r ls (takeLine r c l .checking)) (takes-so r c l (takeLine r c l) refl)
     (taking r ls (takeLine r c l .checking))
 
 -- fresh tables

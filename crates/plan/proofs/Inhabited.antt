@@ -1,6 +1,6 @@
 -- The hypotheses can be met: Yard A's tables are what a solver leaves that keeps its promise, its start has a figure, buffers are long enough, and lines that
 -- the checker refuses come among the plan's; there are plans that pass and plans that fail. Assumes nothing.
-use mathlib.Core.Path.{_≡_, refl, sym, _∙_, ap}
+use mathlib.Core.Path.{_≡_, refl, sym, _∙_}
 use mathlib.Core.Bool.{true, false}
 use mathlib.Core.List.{List, [], _∷_, map}
 use mathlib.Core.Option.{some}
@@ -37,9 +37,10 @@ use Rattle.plan.specs.Calls.{Emission, longEnough}
 use Rattle.plan.specs.Test.{listedSetting}
 use Rattle.plan.specs.Reading.{guess, readLine}
 use Rattle.plan.specs.Computed.{placementFine, testHolds}
-use Rattle.plan.specs.Checker.{testNumber, freshChecking, takeLine, testPlan, Run, run, takenTexts}
+use Rattle.plan.specs.Checker.{freshChecking, takeLine, testPlan, Run, run, takenTexts}
 use Rattle.plan.specs.Checked.{Passing, Failing}
 use Rattle.plan.specs.Demand3.{Handed, ownTexts, othersRefused, Passed, Demand3}
+use Rattle.plan.proofs.Promises.{tests-so}
 use Rattle.plan.proofs.Calls.{emission, emitting, taking}
 use Rattle.plan.proofs.Checks.{checked-holds}
 use Rattle.plan.proofs.Plan.{plan-passes}
@@ -110,7 +111,7 @@ checks : Passed handed (handedRun .answers) Pass
 checks =
     demand .checks 2 (computed .0) lent (replicate 12 5) (freshChecking 9 12) (omega (arith, nine)) (omega (arith, nine)) (record { state = refl; figures = refl; settings = refl })
     handed handedRun (taking yardA (map (λ h. h .text) handed) (freshChecking 9 12)) (computed .3) (computed .4)
-    Pass (testPlan yardA (handedRun .end) .checking) (record { answer = computed .6; numbered = ap testNumber (computed .6); checking = refl })
+    Pass (handedRun .end) (tests-so yardA (handedRun .end) Pass (computed .6))
 
 -- and there are plans that pass, and plans that fail
 passing : Passing yardA (planTexts yardA figsA setsA)

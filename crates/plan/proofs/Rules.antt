@@ -39,6 +39,7 @@ use Rattle.plan.specs.Computed.{testHolds}
 use Rattle.plan.specs.Checker.{Checking, Left, left, lineEntry, begin, enter, refuse, takes, takesIf, takeLine, tests, testPlan}
 use Rattle.plan.specs.Reading.{readLine}
 use Rattle.plan.specs.Rules.{TooShort, EmitRule, EmitRuleHolds, LineChanges, CheckRuleHolds}
+use Rattle.plan.proofs.Promises.{line-refused, test-refused}
 use Rattle.plan.proofs.Reading.{reads-line}
 use Rattle.plan.proofs.Checks.{code-in}
 
@@ -244,11 +245,11 @@ pub check-rule : CheckRuleHolds
 unfolding takeLine testPlan
 check-rule r c =
     record {
-      line-first = λ text f e. rw e;
+      line-first = line-refused r c;
       line-others = λ text f e q. behind text e .others f (rw e at q);
       line-leaves = λ text f q. kept text (caseRefusal r (c .figs) (c .sets)) refl f q;
       line-changes = λ text. changed text (caseRefusal r (c .figs) (c .sets)) refl;
-      test-first = λ f e. rw e;
+      test-first = test-refused r c;
       test-early = λ e. rw e (tests-rule r c (c .state) .early);
       test-others = λ f e q. tests-rule r c (c .state) .others f (rw e at q);
       test-leaves = refl;

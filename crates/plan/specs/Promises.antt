@@ -1,11 +1,15 @@
--- What each call of emitter and checker promises: the answer, its number, and what is left, as Emitter and Checker define them. The contracts of the calls cite
--- these records, and Demand3 speaks of any calls of which they hold: part of what is to be believed. Assumes nothing.
+-- What each call of emitter and checker promises: the answer and what is left, as Emitter and Checker define them, and the number of the first of rows 3 to 9
+-- where one applies to the record and the tables. The contracts of the calls cite these records, and Demand3 speaks of any calls of which they hold: part of what
+-- is to be believed. Assumes nothing.
 use mathlib.Core.Path.{_≡_}
 use mathlib.Core.List.{List}
+use mathlib.Core.Option.{some}
 use Prim.Native.Nat.{ℕ}
 use lib.ListN.{length, replicate}
 use Rattle.railway.specs.declared.Railway.{Railway}
-use Rattle.tables.specs.Tables.{noFigure}
+use Rattle.railway.specs.declared.Refusal.{Refusal}
+use Rattle.railway.specs.Refusals.{number}
+use Rattle.tables.specs.Tables.{noFigure, caseRefusal}
 use Rattle.plan.specs.declared.PlanPlace.{PlanPlace}
 use Rattle.plan.specs.declared.Emitted.{Emitted}
 use Rattle.plan.specs.declared.CheckerState.the-variants.{Fresh}
@@ -17,19 +21,19 @@ use Rattle.plan.specs.Checker.{lineNumber, testNumber, Checking, takeLin
 -- The emitter, handed a buffer that comes back as `new`.
 pub record EmitterPost (r : Railway) (figs sets : List ℕ) (place : PlanPlace) (old : List ℕ) (a : Emitted) (new : List ℕ) : Type 0 where
   pub answer : a ≡ emitLine r figs sets place old .answer
-  pub numbered : numberGiven a ≡ numberGiven (emitLine r figs sets place old .answer)
+  pub numbered : (f : Refusal) → caseRefusal r figs sets ≡ some f → numberGiven a ≡ some (number f)
   pub buffer : new ≡ emitLine r figs sets place old .buffer
 
 -- The checker, handed a line, with state and tables that come back as `new`.
 pub record LinePost (r : Railway) (old : Checking) (text : List ℕ) (a : LineAnswer) (new : Checking) : Type 0 where
   pub answer : a ≡ takeLine r old text .answer
-  pub numbered : lineNumber a ≡ lineNumber (takeLine r old text .answer)
+  pub numbered : (f : Refusal) → caseRefusal r (old .figs) (old .sets) ≡ some f → lineNumber a ≡ some (number f)
   pub checking : new ≡ takeLine r old text .checking
 
 -- .. asked for the test.
 pub record TestPost (r : Railway) (old : Checking) (a : TestAnswer) (new : Checking) : Type 0 where
   pub answer : a ≡ testPlan r old .answer
-  pub numbered : testNumber a ≡ testNumber (testPlan r old .answer)
+  pub numbered : (f : Refusal) → caseRefusal r (old .figs) (old .sets) ≡ some f → testNumber a ≡ some (number f)
   pub checking : new ≡ testPlan r old .checking
 
 -- The call that makes two lent tables fresh, whatever stands in them, and hands out the state that has taken no line: it refuses nothing, and every entry is

@@ -7,12 +7,10 @@ use railway::Railway;
 // One byte more than a case text may have: whatever follows, such a text is refused for its length.
 const CASE: usize = 4097;
 
-const ENTRIES: usize = 8192;
-
 // One byte more than a plan may have: a first line and one for each entry, of 45 bytes at most. Of a longer text the checker refuses a line
 // within these bytes: one that is too long, one that is no line or whose code does not rise, or the one that is cut here. What lies behind it
 // then does not matter, and the line that is cut is refused as the whole of it would be.
-const PLAN: usize = 8193 * 45 + 1;
+const PLAN: usize = (verdict::ENTRIES + 1) * 45 + 1;
 
 fn main() {
     let mut case = [0u8; CASE];
@@ -44,9 +42,7 @@ fn read_file(case: &mut [u8]) -> usize
 fn check(r: Railway) {
     let mut plan = [0u8; PLAN];
     let n = io::read_full(STDIN_FILENO, &mut plan);
-    let mut figures = [0u32; ENTRIES];
-    let mut settings = [0u32; ENTRIES];
-    let answer = verdict::check_plan(r, &plan[..n], &mut figures, &mut settings);
+    let answer = verdict::check_plan(r, &plan[..n]);
     let mut line = [0u8; output::LINE];
     output::test_answer(answer, &mut line);
 }

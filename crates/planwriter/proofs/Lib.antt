@@ -1,1 +1,4 @@
 pub mod Fitting
+pub mod Advancing
+pub mod Writing
+pub mod Plan

@@ -1,5 +1,6 @@
 // The plan of a railway, written on standard output: its lines, or `none`, or `refused`, a tab and the number.
 ghost use Rattle.tables.specs.Solver.{SolverPost};
+ghost use Rattle.planwriter.specs.Written.{LineWritten, LinesWritten};
 use libc::STDOUT_FILENO;
 use plan::Emitted;
 use plan::PlanPlace;
@@ -20,9 +21,11 @@ pub fn write_plan(r: Railway, figures: &mut [u32], settings: &mut [u32]) -> Solv
             write_refusal(f);
         }
         SolverAnswer::Unsolvable => {
-            io::write_all(STDOUT_FILENO, b"none\n");
+            write_none();
         }
-        SolverAnswer::Figure(_) => write_lines(r, figures, settings),
+        SolverAnswer::Figure(_) => {
+            write_lines(r, figures, settings);
+        }
     }
     answer
 }
@@ -32,20 +35,28 @@ fn write_refusal(f: Refusal) {
     output::refusal(f, &mut line);
 }
 
-fn write_lines(r: Railway, figures: &[u32], settings: &[u32]) {
+fn write_none() {
+    let mut line = [0u8; output::LINE];
+    output::no_plan(&mut line);
+}
+
+// Line after line, until the emitter answers that there is no further one, or refuses: that answer.
+fn write_lines(r: Railway, figures: &[u32], settings: &[u32]) -> Emitted
+    ensures { λ a. ⌜ LinesWritten r (now (figures .entry)) (now (settings .entry)) a ⌝ }
+{
     let mut place = PlanPlace::Top;
-    let mut lines: u32 = 0;
-    while lines < 4294967295 {
+    loop {
         let emitted = write_line(r, figures, settings, place);
         let Emitted::Line(_, next) = emitted else {
-            return;
+            return emitted;
         };
         place = next;
-        lines += 1;
     }
 }
 
-fn write_line(r: Railway, figures: &[u32], settings: &[u32], place: PlanPlace) -> Emitted {
+fn write_line(r: Railway, figures: &[u32], settings: &[u32], place: PlanPlace) -> Emitted
+    ensures { λ a. ⌜ LineWritten r (now (figures .entry)) (now (settings .entry)) place a ⌝ }
+{
     let mut line = [0u8; LINE];
     let emitted = emitter::emit_line(r, figures, settings, place, &mut line);
     if let Emitted::Line(n, _) = emitted {

@@ -1,37 +1,37 @@
 -- The calls line by line are the calls for all lines: what is still to be done from a place on, with what the calls so far have left, is what
--- was to be done from the beginning. Assumes nothing.
+-- was to be done from the beginning. A refused railway is refused at the first call, be it for a line or for the test. Assumes nothing.
 use mathlib.Core.Path.{_≡_, refl, sym, _∙_, ap}
 use mathlib.Core.List.{List, [], _∷_}
+use mathlib.Core.Option.{some}
 use Prim.Native.Nat.{ℕ, _-_, _≤_}
 use lib.ListN.{length, take, drop, drop-of-length-le}
 use Rattle.railway.specs.declared.Railway.{Railway}
 use Rattle.railway.specs.declared.Refusal.{Refusal}
+use Rattle.tables.specs.Tables.{caseRefusal}
 use Rattle.plan.specs.declared.LineAnswer.{LineAnswer}
 use Rattle.plan.specs.declared.LineAnswer.the-variants.{Taken, Refused as LineRefused}
 use Rattle.plan.specs.declared.TestAnswer.{TestAnswer}
 use Rattle.plan.specs.declared.TestAnswer.the-variants.{Refused as TestRefused}
-use Rattle.plan.specs.Checker.{Checking, Left, left, freshChecking, takeLine, testPlan, testNumber}
+use Rattle.plan.specs.Checker.{testNumber, Checking, freshChecking, takeLine, testPlan}
 use Rattle.plan.specs.Promises.{FreshPost, LinePost, TestPost}
-use Rattle.verdict.specs.Verdict.{linesOf, afterLine, checkLines, checkText, PlanPost}
+use Rattle.plan.proofs.Rules.{check-rule}
+use Rattle.verdict.specs.Verdict.{linesOf, afterLine, checkLines, entries, fresh, checkText, PlanPost}
 use Rattle.verdict.proofs.Lines.{LineAt}
 
--- what is done from a place on, with c, is x
-pub record Onward (r : Railway) (plan : List ℕ) (x : Left TestAnswer) (at : ℕ) (c : Checking) : Type 0 where
+-- what is done from a place on, with c, is answered by x
+pub record Onward (r : Railway) (plan : List ℕ) (x : TestAnswer) (at : ℕ) (c : Checking) : Type 0 where
   pub same : checkLines r (linesOf (drop at plan)) c ≡ x
-
-pub from-start : (r : Railway) (plan : List ℕ) (c : Checking) → Onward r plan (checkLines r (linesOf plan) c) 0 c
-from-start r plan c = record { same = refl }
 
 one-line : (r : Railway) (l : List ℕ) (ls : List (List ℕ)) (c : Checking)
     → checkLines r (l ∷ ls) c ≡ afterLine (takeLine r c l .answer) (takeLine r c l .checking) (checkLines r ls)
 unfolding checkLines
 one-line r l ls c = refl
 
-no-line-left : (r : Railway) (c : Checking) → checkLines r (linesOf []) c ≡ testPlan r c
+no-line-left : (r : Railway) (c : Checking) → checkLines r (linesOf []) c ≡ testPlan r c .answer
 unfolding checkLines linesOf
 no-line-left r c = refl
 
-module _ (r : Railway) (plan : List ℕ) (x : Left TestAnswer) (at end : ℕ) (c c′ : Checking) where
+module _ (r : Railway) (plan : List ℕ) (x : TestAnswer) (at end : ℕ) (c c′ : Checking) where
   -- the line at the place is handed in
   handed : Onward r plan x at c → LineAt plan at end
       → afterLine (takeLine r c (take (end - at) (drop at plan)) .answer) (takeLine r c (take (end - at) (drop at plan)) .checking) (checkLines r (linesOf (drop end plan))) ≡ x
@@ -45,32 +45,29 @@ module _ (r : Railway) (plan : List ℕ) (x : Left TestAnswer) (at end : ℕ) (c
       record { same = rw (p .checking) (rw (← p .answer, e) at h) }
 
   pub refused-so : (a : LineAnswer) (f : Refusal) → a ≡ LineRefused f → Onward r plan x at c → LineAt plan at end
-      → LinePost r c (take (end - at) (drop at plan)) a c′ → left (TestRefused f) c′ ≡ x
+      → LinePost r c (take (end - at) (drop at plan)) a c′ → TestRefused f ≡ x
   refused-so a f e w l p =
       let h = handed w l in
-      rw (p .checking) (rw (← p .answer, e) at h)
+      rw (← p .answer, e) at h
 
-  pub tested-so : (a : TestAnswer) → Onward r plan x at c → length plan ≤ at → TestPost r c a c′ → left a c′ ≡ x
+  pub tested-so : (a : TestAnswer) → Onward r plan x at c → length plan ≤ at → TestPost r c a c′ → a ≡ x
   tested-so a w past p =
       let e : drop at plan ≡ [] = drop-of-length-le plan past in
-      let h : testPlan r c ≡ x = sym (no-line-left r c) ∙ ap (λ (l : List ℕ). checkLines r (linesOf l) c) (sym e) ∙ w .same in
-      rw (p .answer, p .checking) h
+      p .answer ∙ sym (no-line-left r c) ∙ ap (λ (l : List ℕ). checkLines r (linesOf l) c) (sym e) ∙ w .same
 
--- fresh tables, as long as those that were lent
-pub fresh-start : (r : Railway) (plan figs sets : List ℕ) (c : Checking) (n m : ℕ) → FreshPost figs sets c → length figs ≡ n → length sets ≡ m
-    → Onward r plan (checkText r plan n m) 0 c
-fresh-start r plan figs sets c n m p e₁ e₂ =
+-- fresh tables of the number of entries
+pub fresh-start : (r : Railway) (plan figs sets : List ℕ) (c : Checking) → FreshPost figs sets c → length figs ≡ entries → length sets ≡ entries
+    → Onward r plan (checkText r plan) 0 c
+fresh-start r plan figs sets c p e₁ e₂ =
     let e : c ≡ freshChecking (length figs) (length sets) = λ i. record { state = p .state i; figs = p .figures i; sets = p .settings i } in
-    record { same = λ i. checkLines r (linesOf plan) ((e ∙ ap (λ (k : ℕ). freshChecking k (length sets)) e₁ ∙ ap (λ (k : ℕ). freshChecking n k) e₂) i) }
+    record { same = λ i. checkLines r (linesOf plan) ((e ∙ ap (λ (k : ℕ). freshChecking k (length sets)) e₁ ∙ ap (λ (k : ℕ). freshChecking entries k) e₂) i) }
+
+-- a railway that is refused, whatever the lines are
+pub refused-case : (r : Railway) (ls : List (List ℕ)) (c : Checking) (f : Refusal) → caseRefusal r (c .figs) (c .sets) ≡ some f → checkLines r ls c ≡ TestRefused f
+unfolding checkLines
+refused-case r [] c f e = check-rule r c .test-first f e
+refused-case r (l ∷ ls) c f e = rw (check-rule r c .line-first l f e) refl
 
 -- what was done is what is promised
-pub promised : (r : Railway) (plan figs sets : List ℕ) (a : TestAnswer) (c : Checking) (n m : ℕ) → n ≡ length figs → m ≡ length sets
-    → left a c ≡ checkText r plan n m → PlanPost r plan figs sets a (c .figs) (c .sets)
-promised r plan figs sets a c n m e₁ e₂ e =
-    let h : left a c ≡ checkText r plan (length figs) (length sets) = e ∙ ap (λ (k : ℕ). checkText r plan k m) e₁ ∙ ap (λ (k : ℕ). checkText r plan (length figs) k) e₂ in
-    record {
-      answer = ap (λ (x : Left TestAnswer). x .answer) h;
-      numbered = ap (λ (x : Left TestAnswer). testNumber (x .answer)) h;
-      figures = ap (λ (x : Left TestAnswer). x .checking .figs) h;
-      settings = ap (λ (x : Left TestAnswer). x .checking .sets) h;
-    }
+pub promised : (r : Railway) (plan : List ℕ) (a : TestAnswer) → a ≡ checkText r plan → PlanPost r plan a
+promised r plan a e = record { answer = e; numbered = λ f h. ap testNumber (e ∙ refused-case r (linesOf plan) fresh f h) }

@@ -1,22 +1,34 @@
 -- The calls up to the first refusal, against all calls: where every line is taken the two are the same, and where one is refused it is missing among
--- the lines taken, while a plan in form has none missing. Assumes nothing.
+-- the lines taken, while a plan in form has none missing. So the answer is what all calls say of the lines. Assumes nothing.
 use mathlib.Core.Path.{_≡_, refl, sym, _∙_, ap, subst}
-use mathlib.Core.List.{List, [], _∷_}
-use mathlib.Core.Logic.{_⊎_, inl, inr}
+use mathlib.Core.List.{List, [], _∷_, List·Memᴰ, List·Memᴰ·head, List·Memᴰ·tail}
+use mathlib.Core.Logic.{_⊎_, inl, inr, _↔_}
+use mathlib.Core.Option.{Option, none, some}
 use Prim.Native.Nat.{ℕ, _≤_, _<_}
 use native.Mathlib.Omega.{arith}
-use lib.ListN.{length}
+use lib.ListN.{length, length-replicate}
 use Rattle.railway.specs.declared.Railway.{Railway}
 use Rattle.railway.specs.declared.Refusal.{Refusal}
+use Rattle.railway.specs.declared.Refusal.the-variants.{PlanForm, PlanFault}
+use Rattle.railway.specs.Refusals.{number}
+use Rattle.railway.specs.Rows.{recordRefusal}
+use Rattle.game.specs.Placement.{placements}
+use Rattle.tables.specs.Tables.{noFigure, caseRefusal}
+use Rattle.tables.proofs.Refusals.{case-none}
 use Rattle.plan.specs.declared.LineAnswer.{LineAnswer}
 use Rattle.plan.specs.declared.LineAnswer.the-variants.{Taken, Refused as LineRefused}
 use Rattle.plan.specs.declared.TestAnswer.{TestAnswer}
 use Rattle.plan.specs.declared.TestAnswer.the-variants.{Pass, Refused as TestRefused}
-use Rattle.plan.specs.Checker.{Checking, Left, freshChecking, takeLine, testPlan, run, takenTexts}
-use Rattle.plan.specs.Checked.{Checked, InForm, Passing}
+use Rattle.plan.specs.Lines.{PlacementLine}
+use Rattle.plan.specs.Checker.{Checking, freshChecking, takeLine, testPlan, run, takenTexts}
+use Rattle.plan.specs.Checked.{Form, PlanWith, Checked, InForm}
 use Rattle.plan.proofs.Checks.{checked-holds}
-use Rattle.verdict.specs.Verdict.{linesOf, checkLines}
-use Rattle.verdict.specs.Claims.{VerdictHolds}
+use Rattle.plan.proofs.Emits.{none-refused}
+use Rattle.plan.proofs.Forms.{no-form}
+use Rattle.plan.proofs.Rules.{check-rule}
+use Rattle.verdict.specs.Verdict.{linesOf, checkLines, entries}
+use Rattle.verdict.specs.Claims.{ByPlan, VerdictHolds, CaseHolds}
+use Rattle.verdict.proofs.Calls.{refused-case}
 
 -- no more lines are taken than were handed in
 taken-few : (xs : List LineAnswer) (ls : List (List ℕ)) → length (takenTexts xs ls) ≤ length ls
@@ -28,12 +40,13 @@ taken-few (LineRefused f ∷ xs) (l ∷ ls) = let h = taken-few xs ls in omega (
 
 -- all lines were taken, or one was refused
 record AllTaken (r : Railway) (ls : List (List ℕ)) (c : Checking) : Type 0 where
-  same : checkLines r ls c ≡ testPlan r (run r ls c .end)
+  same : checkLines r ls c ≡ testPlan r (run r ls c .end) .answer
   taken : takenTexts (run r ls c .answers) ls ≡ ls
 
 record OneRefused (r : Railway) (ls : List (List ℕ)) (c : Checking) : Type 0 where
   refusal : Refusal
-  answer : checkLines r ls c .answer ≡ TestRefused refusal
+  answer : checkLines r ls c ≡ TestRefused refusal
+  among : List·Memᴰ (LineRefused refusal) (run r ls c .answers)
   missing : length (takenTexts (run r ls c .answers) ls) < length ls
 
 one-more : (r : Railway) (l : List ℕ) (ls : List (List ℕ)) (c : Checking) (a : LineAnswer) (c′ : Checking) → takeLine r c l .answer ≡ a → takeLine r c l .checking ≡ c′
@@ -41,35 +54,128 @@ one-more : (r : Railway) (l : List ℕ) (ls : List (List ℕ)) (c : Checking) (a
 unfolding checkLines run takenTexts
 one-more r l ls c Taken c′ e₁ e₂ (inl h) = inl (record { same = rw (e₁, e₂) (h .same); taken = rw (e₁, e₂) (ap (λ (x : List (List ℕ)). l ∷ x) (h .taken)) })
 one-more r l ls c Taken c′ e₁ e₂ (inr h) =
-    inr (record { refusal = h .refusal; answer = rw (e₁, e₂) (h .answer); missing = rw (e₁, e₂) (let m = h .missing in omega (arith, m)) })
+    inr (record { refusal = h .refusal; answer = rw (e₁, e₂) (h .answer); among = rw (e₁, e₂) (List·Memᴰ·tail (h .among)); missing = rw (e₁, e₂) (let m = h .missing in omega (arith, m)) })
 one-more r l ls c (LineRefused f) c′ e₁ e₂ h =
-    inr (record { refusal = f; answer = rw e₁ refl; missing = rw (e₁, e₂) (let m = taken-few (run r ls c′ .answers) ls in omega (arith, m)) })
+    inr (record { refusal = f; answer = rw e₁ refl; among = List·Memᴰ·head (sym e₁); missing = rw (e₁, e₂) (let m = taken-few (run r ls c′ .answers) ls in omega (arith, m)) })
 
 either : (r : Railway) (ls : List (List ℕ)) (c : Checking) → AllTaken r ls c ⊎ OneRefused r ls c
 unfolding checkLines run takenTexts
 either r [] c = inl (record { same = refl; taken = refl })
 either r (l ∷ ls) c = one-more r l ls c _ _ refl refl (either r ls (takeLine r c l .checking))
 
-no-pass : {A : Type 0} {a : TestAnswer} {f : Refusal} → a ≡ Pass → a ≡ TestRefused f → A
-no-pass p q = let z : _≡_ {A = ℕ} 0 1 = cc in absurd (omega arith)
+-- no call makes a case refused that was not
+still-none : (r : Railway) (ls : List (List ℕ)) (c : Checking) → caseRefusal r (c .figs) (c .sets) ≡ none → caseRefusal r (run r ls c .end .figs) (run r ls c .end .sets) ≡ none
+unfolding run
+still-none r [] c e = e
+still-none r (l ∷ ls) c e =
+    let k = case-none r (c .figs) (c .sets) .0 e in
+    let w = check-rule r c .line-changes l in
+    still-none r ls (takeLine r c l .checking) (none-refused r _ _ (k .0) (rw (w .kept-figs .as-long) (k .1 .figures)) (rw (w .kept-sets .as-long) (k .1 .settings)))
 
-in-form : (r : Railway) (ls : List (List ℕ)) → Passing r ls → InForm r ls
-in-form r ls w = record { start = w .start; lines = w .lines; form = w .form; holds = tt }
+-- THE ANSWER by the plan is one of three.
+data ByTest (a : TestAnswer) : Type 0 where
+  passed : a ≡ Pass → ByTest a
+  unformed : a ≡ TestRefused PlanForm → ByTest a
+  faulty : a ≡ TestRefused PlanFault → ByTest a
+
+abbrev kind : TestAnswer → ℕ
+kind Pass = 0
+kind (TestRefused f) = number f
+
+differ : {A : Type 0} {a b c : TestAnswer} → a ≡ b → a ≡ c → ¬ (kind b ≡ kind c) → A
+differ p q n = absurd (n (sym (ap kind p) ∙ ap kind q))
+
+tested-by : (r : Railway) (c : Checking) → caseRefusal r (c .figs) (c .sets) ≡ none → (a : TestAnswer) → testPlan r c .answer ≡ a → ByTest a
+tested-by r c e Pass q = passed refl
+tested-by r c e (TestRefused f) q = elim (check-rule r c .test-others f e q) [ inl h ↦ unformed (ap TestRefused h) | inr h ↦ faulty (ap TestRefused h) ]
+
+formed : (r : Railway) (P : ℕ → List PlacementLine → Type 0) (ls : List (List ℕ)) → PlanWith r P ls → InForm r ls
+formed r P ls w = record { start = w .start; lines = w .lines; form = w .form; holds = tt }
+
+empty-unformed : (r : Railway) (ls : List (List ℕ)) → ls ≡ [] → ¬ (InForm r ls)
+empty-unformed r ls e w = no-form r (w .start) (w .lines) (subst (λ (l : List (List ℕ)). Form r l (w .start) (w .lines)) e (w .form))
+
+-- every line was taken: the test says it
+module _ (r : Railway) (ls : List (List ℕ)) (xs : List LineAnswer) (c : Checking) (k : Checked r ls xs ls c) where
+  unformed-test : ByTest (testPlan r c .answer) → ¬ (InForm r ls) → testPlan r c .answer ≡ TestRefused PlanForm
+  unformed-test (passed e) n = absurd (n (formed r _ ls (k .passes .0 e)))
+  unformed-test (unformed e) n = e
+  unformed-test (faulty e) n = absurd (n (formed r _ ls (k .faulty .0 e)))
+
+  by-test : ByTest (testPlan r c .answer) → ByPlan r ls (testPlan r c .answer)
+  by-test t = record { passes = k .passes; unformed = (λ e. empty-unformed r ls (k .early .0 e), unformed-test t); faulty = k .faulty }
+
+-- a line was refused: the lines are not in form
+by-line : (r : Railway) (ls : List (List ℕ)) (a : TestAnswer) → a ≡ TestRefused PlanForm → ¬ (InForm r ls) → ByPlan r ls a
+by-line r ls a e n =
+    record {
+      passes = (λ q. differ q e (λ z. omega arith), λ w. absurd (n (formed r _ ls w)));
+      unformed = (λ q. n, λ q. e);
+      faulty = (λ q. differ q e (λ z. omega arith), λ w. absurd (n (formed r _ ls w)));
+    }
 
 module _ (r : Railway) (ls : List (List ℕ)) (c : Checking) (k : Checked r ls (run r ls c .answers) (takenTexts (run r ls c .answers) ls) (run r ls c .end)) where
-  forth : AllTaken r ls c ⊎ OneRefused r ls c → checkLines r ls c .answer ≡ Pass → Passing r ls
-  forth (inl h) e = subst (Passing r) (h .taken) (k .passes .0 (sym (ap (λ (x : Left TestAnswer). x .answer) (h .same)) ∙ e))
-  forth (inr h) e = no-pass e (h .answer)
+  plan-form : (h : OneRefused r ls c) → checkLines r ls c ≡ TestRefused PlanForm
+  plan-form h = elim (k .others (LineRefused (h .refusal)) (h .among)) [
+    | inl e ↦ let z : _≡_ {A = ℕ} 0 1 = cc in absurd (omega arith)
+    | inr e ↦ let z : h .refusal ≡ PlanForm = cc in h .answer ∙ ap TestRefused z
+  ]
 
-  back : AllTaken r ls c ⊎ OneRefused r ls c → Passing r ls → checkLines r ls c .answer ≡ Pass
-  back (inl h) w = ap (λ (x : Left TestAnswer). x .answer) (h .same) ∙ k .passes .1 (subst (Passing r) (sym (h .taken)) w)
-  back (inr h) w =
+  not-in-form : OneRefused r ls c → ¬ (InForm r ls)
+  not-in-form h w =
       let m = h .missing in
-      let e : length (takenTexts (run r ls c .answers) ls) ≡ length ls = ap length (k .whole (in-form r ls w)) in
+      let e : length (takenTexts (run r ls c .answers) ls) ≡ length ls = ap length (k .whole w) in
       absurd (omega (arith, m, e))
 
+  module _ (fine : caseRefusal r (c .figs) (c .sets) ≡ none) where
+    end-by-test : ByTest (testPlan r (run r ls c .end) .answer)
+    end-by-test = tested-by r (run r ls c .end) (still-none r ls c fine) _ refl
+
+    by-plan : AllTaken r ls c ⊎ OneRefused r ls c → ByPlan r ls (checkLines r ls c)
+    by-plan (inl h) =
+        subst (ByPlan r ls) (sym (h .same))
+        (by-test r ls (run r ls c .answers) (run r ls c .end) (subst (λ (t : List (List ℕ)). Checked r ls (run r ls c .answers) t (run r ls c .end)) (h .taken) k) end-by-test)
+    by-plan (inr h) = by-line r ls (checkLines r ls c) (plan-form h) (not-in-form h)
+
+    one-of-three : AllTaken r ls c ⊎ OneRefused r ls c → ByTest (checkLines r ls c)
+    one-of-three (inl h) = subst ByTest (sym (h .same)) end-by-test
+    one-of-three (inr h) = unformed (plan-form h)
+
+-- FROM FRESH TABLES of n and m entries
+fresh-fine : (r : Railway) (n m : ℕ) → recordRefusal r ≡ none → placements r ≤ n → placements r ≤ m
+    → caseRefusal r (freshChecking n m .figs) (freshChecking n m .sets) ≡ none
+fresh-fine r n m ok p q = none-refused r _ _ ok (rw (length-replicate {A = ℕ} n noFigure) p) (rw (length-replicate {A = ℕ} m 0) q)
+
+fresh-by-plan : (r : Railway) (n m : ℕ) → recordRefusal r ≡ none → placements r ≤ n → placements r ≤ m → (ls : List (List ℕ)) → ByPlan r ls (checkLines r ls (freshChecking n m))
+fresh-by-plan r n m ok p q ls = by-plan r ls (freshChecking n m) (checked-holds r ok n m p q ls) (fresh-fine r n m ok p q) (either r ls (freshChecking n m))
+
+-- a case that is refused, or one that is not and whose answer is one of the three
+module _ (r : Railway) (ls : List (List ℕ)) (c : Checking) (f : Refusal) (other₁ : ¬ (f ≡ PlanForm)) (other₂ : ¬ (f ≡ PlanFault)) where
+  none-other : {A : Type 0} → ByTest (checkLines r ls c) → checkLines r ls c ≡ TestRefused f → A
+  none-other (passed e) q = let z : _≡_ {A = ℕ} 0 1 = cc in absurd (omega arith)
+  none-other (unformed e) q = let z : f ≡ PlanForm = cc in absurd (other₁ z)
+  none-other (faulty e) q = let z : f ≡ PlanFault = cc in absurd (other₂ z)
+
+  by-case : (caseRefusal r (c .figs) (c .sets) ≡ none → ByTest (checkLines r ls c)) → (o : Option Refusal) → caseRefusal r (c .figs) (c .sets) ≡ o
+      → checkLines r ls c ≡ TestRefused f → caseRefusal r (c .figs) (c .sets) ≡ some f
+  by-case three none e q = none-other (three e) q
+  by-case three (some g) e q = let h = refused-case r ls c g e in let z : g ≡ f = cc in e ∙ ap some z
+
+fresh-three : (r : Railway) (n m : ℕ) (ls : List (List ℕ)) → caseRefusal r (freshChecking n m .figs) (freshChecking n m .sets) ≡ none → ByTest (checkLines r ls (freshChecking n m))
+fresh-three r n m ls e =
+    let k = case-none r (freshChecking n m .figs) (freshChecking n m .sets) .0 e in
+    let p : placements r ≤ n = rw (length-replicate {A = ℕ} n noFigure) at (k .1 .figures) in
+    let q : placements r ≤ m = rw (length-replicate {A = ℕ} m 0) at (k .1 .settings) in
+    one-of-three r ls (freshChecking n m) (checked-holds r (k .0) n m p q ls) e (either r ls (freshChecking n m))
+
+fresh-by-case : (r : Railway) (n m : ℕ) (ls : List (List ℕ)) (f : Refusal) → ¬ (f ≡ PlanForm) → ¬ (f ≡ PlanFault)
+    → (checkLines r ls (freshChecking n m) ≡ TestRefused f) ↔ (caseRefusal r (freshChecking n m .figs) (freshChecking n m .sets) ≡ some f)
+fresh-by-case r n m ls f other₁ other₂ = (by-case r ls (freshChecking n m) f other₁ other₂ (fresh-three r n m ls) _ refl, refused-case r ls (freshChecking n m) f)
+
 pub verdict-holds : VerdictHolds
-verdict-holds r ok n m p q plan =
-    let k = checked-holds r ok n m p q (linesOf plan) in
-    let s = either r (linesOf plan) (freshChecking n m) in
-    (forth r (linesOf plan) (freshChecking n m) k s, back r (linesOf plan) (freshChecking n m) k s)
+verdict-holds r ok p plan a post = subst (ByPlan r (linesOf plan)) (sym (post .answer)) (fresh-by-plan r entries entries ok p p (linesOf plan))
+
+pub case-holds : CaseHolds
+case-holds r plan a post f other₁ other₂ =
+    let k = fresh-by-case r entries entries (linesOf plan) f other₁ other₂ in
+    (λ q. k .0 (sym (post .answer) ∙ q), λ e. post .answer ∙ k .1 e)

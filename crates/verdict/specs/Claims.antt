@@ -1,19 +1,33 @@
--- What a text checked whole is answered in an accepted case, with tables long enough: it passes exactly if its lines are in the form of a plan that
--- passes the test (document 01, "The two tables and the plan": the form of a plan, its test). Assumes nothing.
+-- What a text checked whole is answered: pass, plan form (10) or plan fault (11) in an accepted case with room for its placements, and else the number of
+-- the case (document 01, "The two tables and the plan": the form of a plan, its test; the table of numbers). Assumes nothing.
 use mathlib.Core.Path.{_≡_}
 use mathlib.Core.List.{List}
 use mathlib.Core.Logic.{_↔_}
-use mathlib.Core.Option.{none}
+use mathlib.Core.Option.{none, some}
 use Prim.Native.Nat.{ℕ, _≤_}
 use Rattle.railway.specs.declared.Railway.{Railway}
+use Rattle.railway.specs.declared.Refusal.{Refusal}
+use Rattle.railway.specs.declared.Refusal.the-variants.{PlanForm, PlanFault}
 use Rattle.railway.specs.Rows.{recordRefusal}
 use Rattle.game.specs.Placement.{placements}
-use Rattle.plan.specs.declared.TestAnswer.the-variants.{Pass}
-use Rattle.plan.specs.Checked.{Passing}
-use Rattle.verdict.specs.Verdict.{linesOf, checkText}
+use Rattle.plan.specs.declared.TestAnswer.{TestAnswer}
+use Rattle.plan.specs.declared.TestAnswer.the-variants.{Pass, Refused}
+use Rattle.plan.specs.Checked.{InForm, Passing, Failing}
+use Rattle.verdict.specs.Verdict.{linesOf, entries, refusalOf, PlanPost}
 
--- Pass is answered exactly to the lines of a plan that passes.
+-- The answer to lines by their form and the test of the plan in them.
+pub record ByPlan (r : Railway) (ls : List (List ℕ)) (a : TestAnswer) : Type 0 where
+  pub passes : (a ≡ Pass) ↔ Passing r ls
+  pub unformed : (a ≡ Refused PlanForm) ↔ ¬ (InForm r ls)
+  pub faulty : (a ≡ Refused PlanFault) ↔ Failing r ls
+
+-- In an accepted case, with tables long enough, the plan decides.
 abbrev pub VerdictHolds : Type 0
 VerdictHolds =
-    (r : Railway) → recordRefusal r ≡ none → (n m : ℕ) → placements r ≤ n → placements r ≤ m
-    → (plan : List ℕ) → (checkText r plan n m .answer ≡ Pass) ↔ Passing r (linesOf plan)
+    (r : Railway) → recordRefusal r ≡ none → placements r ≤ entries → (plan : List ℕ) (a : TestAnswer) → PlanPost r plan a → ByPlan r (linesOf plan) a
+
+-- Any other refusal is given exactly if it is the first of rows 3 to 9 that applies to the railway, whatever the text.
+abbrev pub CaseHolds : Type 0
+CaseHolds =
+    (r : Railway) (plan : List ℕ) (a : TestAnswer) → PlanPost r plan a
+    → (f : Refusal) → ¬ (f ≡ PlanForm) → ¬ (f ≡ PlanFault) → (a ≡ Refused f) ↔ (refusalOf r ≡ some f)

@@ -3,16 +3,19 @@
 use mathlib.Core.Path.{_≡_}
 use mathlib.Core.Bool.{cond}
 use mathlib.Core.List.{List, [], _∷_}
+use mathlib.Core.Option.{Option, some}
 use Prim.Native.Nat.{ℕ}
-use lib.ListN.{length}
 use lib.Dec.{eqb}
 use Rattle.text.specs.Text.{lineEnd}
 use Rattle.railway.specs.declared.Railway.{Railway}
+use Rattle.railway.specs.declared.Refusal.{Refusal}
+use Rattle.railway.specs.Refusals.{number}
+use Rattle.tables.specs.Tables.{caseRefusal}
 use Rattle.plan.specs.declared.LineAnswer.{LineAnswer}
 use Rattle.plan.specs.declared.LineAnswer.the-variants.{Taken, Refused as LineRefused}
 use Rattle.plan.specs.declared.TestAnswer.{TestAnswer}
 use Rattle.plan.specs.declared.TestAnswer.the-variants.{Refused as TestRefused}
-use Rattle.plan.specs.Checker.{Checking, Left, left, freshChecking, takeLine, testPlan, testNumber}
+use Rattle.plan.specs.Checker.{testNumber, Checking, freshChecking, takeLine, testPlan}
 
 -- A byte more in front of the first line.
 abbrev pub begun : ℕ → List (List ℕ) → List (List ℕ)
@@ -25,22 +28,32 @@ linesOf [] = []
 linesOf (b ∷ bs) = cond (eqb b lineEnd) ((b ∷ []) ∷ linesOf bs) (begun b (linesOf bs))
 
 -- THE CALLS. After a line that was taken the calls go on; a refused one ends them, and its refusal is the answer.
-abbrev pub afterLine : LineAnswer → Checking → (Checking → Left TestAnswer) → Left TestAnswer
+abbrev pub afterLine : LineAnswer → Checking → (Checking → TestAnswer) → TestAnswer
 afterLine Taken c rest = rest c
-afterLine (LineRefused f) c rest = left (TestRefused f) c
+afterLine (LineRefused f) c rest = TestRefused f
 
 -- A call for each line, the first handed c and every next one what the last one left, and then the call for the test.
-unfoldable pub checkLines : Railway → List (List ℕ) → Checking → Left TestAnswer
-checkLines r [] c = testPlan r c
+unfoldable pub checkLines : Railway → List (List ℕ) → Checking → TestAnswer
+checkLines r [] c = testPlan r c .answer
 checkLines r (l ∷ ls) c = afterLine (takeLine r c l .answer) (takeLine r c l .checking) (checkLines r ls)
 
--- The plan in a text, with tables of so many entries, which are made fresh first.
-abbrev pub checkText : Railway → List ℕ → ℕ → ℕ → Left TestAnswer
-checkText r plan n m = checkLines r (linesOf plan) (freshChecking n m)
+-- THE TABLES of a check have so many entries.
+abbrev pub entries : ℕ
+entries = 8192
 
--- WHAT THE CHECK OF A PLAN PROMISES, handed a railway and two tables that come back as figs′ and sets′.
-pub record PlanPost (r : Railway) (plan figs sets : List ℕ) (a : TestAnswer) (figs′ sets′ : List ℕ) : Type 0 where
-  pub answer : a ≡ checkText r plan (length figs) (length sets) .answer
-  pub numbered : testNumber a ≡ testNumber (checkText r plan (length figs) (length sets) .answer)
-  pub figures : figs′ ≡ checkText r plan (length figs) (length sets) .checking .figs
-  pub settings : sets′ ≡ checkText r plan (length figs) (length sets) .checking .sets
+-- A checker that has taken no line, with two fresh tables.
+abbrev pub fresh : Checking
+fresh = freshChecking entries entries
+
+-- The first of rows 3 to 9 that applies to a railway with these tables.
+abbrev pub refusalOf : Railway → Option Refusal
+refusalOf r = caseRefusal r (fresh .figs) (fresh .sets)
+
+-- The plan in a text, checked from there.
+abbrev pub checkText : Railway → List ℕ → TestAnswer
+checkText r plan = checkLines r (linesOf plan) fresh
+
+-- WHAT THE CHECK OF A PLAN PROMISES, handed a railway and a text: the answer, and for a railway that is refused its number, whatever the text.
+pub record PlanPost (r : Railway) (plan : List ℕ) (a : TestAnswer) : Type 0 where
+  pub answer : a ≡ checkText r plan
+  pub numbered : (f : Refusal) → refusalOf r ≡ some f → testNumber a ≡ some (number f)

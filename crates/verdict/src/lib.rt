@@ -9,15 +9,20 @@ use plan::LineAnswer;
 use plan::TestAnswer;
 use railway::Railway;
 
-// A railway and a plan's text. The tables are made fresh first.
-pub fn check_plan(r: Railway, plan: &[u8], figures: &mut [u32], settings: &mut [u32]) -> TestAnswer
-    ensures { λ a. ⌜ PlanPost r (now (plan .entry)) (now (figures .entry)) (now (settings .entry)) a (now (figures .exit)) (now (settings .exit)) ⌝ }
+// As many entries has each of the two tables that a plan is entered into.
+pub const ENTRIES: usize = 8192;
+
+// A railway and a plan's text. The tables are the call's own.
+pub fn check_plan(r: Railway, plan: &[u8]) -> TestAnswer
+    ensures { λ a. ⌜ PlanPost r (now (plan .entry)) a ⌝ }
 {
-    let mut checker = Checker::fresh(figures, settings);
+    let mut figures = [0u32; ENTRIES];
+    let mut settings = [0u32; ENTRIES];
+    let mut checker = Checker::fresh(&mut figures, &mut settings);
     let mut at: usize = 0;
     while at < plan.len() {
         let end = line_end(plan, at);
-        let taken = checker.take(r, &plan[at..end], figures, settings);
+        let taken = checker.take(r, &plan[at..end], &mut figures, &mut settings);
         let answer = taken.answer;
         checker = taken.checker;
         if let LineAnswer::Refused(f) = answer {
@@ -25,7 +30,7 @@ pub fn check_plan(r: Railway, plan: &[u8], figures: &mut [u32], settings: &mut [
         }
         at = end;
     }
-    let tested = checker.test(r, figures, settings);
+    let tested = checker.test(r, &figures, &settings);
     tested.answer
 }
 

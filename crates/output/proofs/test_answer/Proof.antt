@@ -8,8 +8,8 @@ use Rattle.output.proofs.test_answer.Tie as tie
 enum-told : tie.Need-enum-told
 enum-told c = search needs
 
-put-pass-requires : tie.Need-put-pass-requires
-put-pass-requires c κs = search needs
+put-word-requires : tie.Need-put-word-requires
+put-word-requires c κs = search needs
 
 write-front-requires : tie.Need-write-front-requires
 write-front-requires c κs = search needs
@@ -24,7 +24,7 @@ same-length : tie.Need-same-length
 same-length c = search needs
 
 returns : tie.Need-returns
-returns c = passed-line _ _ _ (c .before .before .before .before .before .before .enum-told .given .1) (c .before .before .before .before .put-pass .ensures .bytes)
+returns c = passed-line _ _ _ (c .before .before .before .before .before .before .enum-told .given .1) (c .before .before .before .before .put-word .ensures .bytes)
 
 same-length-2 : tie.Need-same-length-2
 same-length-2 c = search needs
@@ -37,7 +37,7 @@ test-answer-spec =
     tie.close
     (tie.spec
     enum-told
-    put-pass-requires
+    put-word-requires
     write-front-requires
     enum-known-a
     refusal-requires

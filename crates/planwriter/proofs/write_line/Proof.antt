@@ -1,9 +1,10 @@
--- `planwriter::write_line` is safe: the part of the buffer that is written out is what the emitter says, and lies within it.
+-- `planwriter::write_line` meets its contract by the emitter's, and is safe: the part of the buffer that is written out is what the emitter says, and lies within it.
 -- Assumes nothing.
 use borrow.Author.Needs.{needs}
 use native.Mathlib.Omega.{arith}
+use mathlib.Core.Path.{refl}
 use lib.ListN.{length-take}
-use Rattle.planwriter.proofs.Fitting.{line-fits}
+use Rattle.planwriter.proofs.Fitting.{line-fits, line-written}
 use Rattle.planwriter.proofs.write_line.Statement.{statement}
 use Rattle.planwriter.proofs.write_line.Tie as tie
 
@@ -28,10 +29,12 @@ write-all-requires : tie.Need-write-all-requires
 write-all-requires c κs = search needs
 
 returns : tie.Need-returns
-returns c = search needs
+returns c =
+    let e = c .before .before .before .before .before .before in
+    line-written _ _ _ _ _ _ _ _ (e .emit-line .ensures) refl (c .before .before .before .emitted .given .1)
 
 returns-2 : tie.Need-returns-2
-returns-2 c = search needs
+returns-2 c = line-written _ _ _ _ _ _ _ _ (c .before .before .emit-line .ensures) refl refl
 
 pub write-line-spec : {M : Type 1} → statement M
 write-line-spec =

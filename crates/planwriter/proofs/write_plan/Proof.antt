@@ -16,11 +16,8 @@ write-refusal-requires c κs = search needs
 enum-told : tie.Need-enum-told
 enum-told c = search needs
 
-slice-aggregate-write-all : tie.Need-slice-aggregate-write-all
-slice-aggregate-write-all c = search needs
-
-write-all-requires : tie.Need-write-all-requires
-write-all-requires c κs = search needs
+write-none-requires : tie.Need-write-none-requires
+write-none-requires c κs = search needs
 
 enum-told-2 : tie.Need-enum-told-2
 enum-told-2 c = search needs
@@ -63,8 +60,7 @@ write-plan-spec =
     enum-known-answer
     write-refusal-requires
     enum-told
-    slice-aggregate-write-all
-    write-all-requires
+    write-none-requires
     enum-told-2
     write-lines-requires
     same-length
