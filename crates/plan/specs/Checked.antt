@@ -39,22 +39,22 @@ pub record Form (r : Railway) (texts : List (List ℕ)) (m : ℕ) (ds : List Pla
   pub fit : all (fits r) (planOf m ds) ≡ true
   pub rising : rises 0 (map (lineCode r) ds) ≡ true
 
--- They are so for a plan of which something holds.
+-- Texts in form, of whose plan something holds.
 pub record PlanWith (r : Railway) (P : ℕ → List PlacementLine → Type 0) (texts : List (List ℕ)) : Type 0 where
   pub start : ℕ
   pub lines : List PlacementLine
   pub form : Form r texts start lines
   pub holds : P start lines
 
--- .. anything: they are in form.
+-- Texts in form.
 abbrev pub InForm : Railway → List (List ℕ) → Type 0
 InForm r = PlanWith r (λ m ds. Unit {0})
 
--- .. that it passes its test.
+-- Texts in form whose plan passes its test.
 abbrev pub Passing : Railway → List (List ℕ) → Type 0
 Passing r = PlanWith r (λ m ds. Test r m (byLines r ds))
 
--- .. that it fails: a plan fault.
+-- Texts in form whose plan fails it: a plan fault.
 abbrev pub Failing : Railway → List (List ℕ) → Type 0
 Failing r = PlanWith r (λ m ds. ¬ (Test r m (byLines r ds)))
 

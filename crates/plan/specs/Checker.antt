@@ -53,7 +53,7 @@ pub record Left (Answer : Type 0) : Type 0 where
   pub answer : Answer
   pub checking : Checking
 
--- .. by its parts.
+-- An answer with state and tables.
 abbrev pub left : {A : Type 0} → A → Checking → Left A
 left a c = record { answer = a; checking = c }
 

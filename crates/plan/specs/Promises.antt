@@ -26,7 +26,7 @@ pub record LinePost (r : Railway) (old : Checking) (text : List ℕ) (a : LineAn
   pub numbered : lineNumber a ≡ lineNumber (takeLine r old text .answer)
   pub checking : new ≡ takeLine r old text .checking
 
--- .. asked for the test.
+-- The checker, asked for the test.
 pub record TestPost (r : Railway) (old : Checking) (a : TestAnswer) (new : Checking) : Type 0 where
   pub answer : a ≡ testPlan r old .answer
   pub numbered : testNumber a ≡ testNumber (testPlan r old .answer)

@@ -22,11 +22,11 @@ pub record KnownFigure : Type 0 where
   pub sections : List ℕ
   pub figure : Option ℕ
 
--- .. said of a placement.
+-- A figure said of a placement.
 abbrev pub placed : Railway → List ℕ → Option ℕ → KnownFigure
 placed r xs f = record { yard = r; ofStart = false; sections = xs; figure = f }
 
--- .. said of the start.
+-- A figure said of the start.
 abbrev pub started : Railway → List ℕ → Option ℕ → KnownFigure
 started r xs f = record { yard = r; ofStart = true; sections = xs; figure = f }
 

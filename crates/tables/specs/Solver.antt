@@ -19,7 +19,7 @@ refusalGiven (Refused f) = some f
 refusalGiven Unsolvable = none
 refusalGiven (Figure n) = none
 
--- .. its number in the table.
+-- The number of that refusal in the table.
 abbrev pub numberGiven : SolverAnswer → Option ℕ
 numberGiven a = numberOf (refusalGiven a)
 
