@@ -13,12 +13,12 @@ use Rattle.acceptance.specs.declared.Flaw.the-variants.{UnknownLink, Unk
 use Rattle.railway.specs.Refusals.{numberOf}
 use Rattle.railway.specs.Rows.{recordRefusal, unknownLinkAt, unknownSignalAt, unknownTrainAt, wrongLinkAt, unreturnedAt, looseAt, sharesWith}
 
--- The refusal that a test answers, if it does, and its number in the table.
+-- The refusal that a test answers, if it does.
 abbrev pub refusalGiven : Tested → Option Refusal
 refusalGiven Accepted = none
 refusalGiven (Refused f) = some f
 
--- .. its number.
+-- Its number in the table.
 abbrev pub numberGiven : Tested → Option ℕ
 numberGiven t = numberOf (refusalGiven t)
 

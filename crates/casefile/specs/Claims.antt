@@ -128,7 +128,8 @@ WriterAnswers =
     (r : Railway) (buffer : List ℕ) (w : Written) (after : List ℕ)
     → ((w ≡ written r buffer) × (after ≡ bufferAfter r buffer)) ↔ WriterPost r buffer w after
 
--- THE WRITER'S ORDER. Where an end stands in it: section ends by number, down before up, and ports behind them all.
+-- THE WRITER'S ORDER. Where an end stands in it: section ends by number, down before up, and ports behind them all
+-- (2,000 is past every section end, for numbers are below 1,000).
 abbrev pub rank : EndField → ℕ
 rank (section n Down) = 2 * n
 rank (section n Up) = suc (2 * n)

@@ -107,20 +107,20 @@ spell d =
 abbrev pub Writable : ℕ → Type 0
 Writable n = n < 1000
 
--- .. in an end.
+-- The number in an end can be written so.
 abbrev pub WritableEnd : EndField → Type 0
 WritableEnd (section n s) = Writable n
 WritableEnd (port n l) = Writable n
 
--- .. in both ends of a J line.
+-- Both numbers in a J line can.
 abbrev pub WritableJoin : JoinLine → Type 0
 WritableJoin j = WritableEnd (j .one) × WritableEnd (j .other)
 
--- .. in a G line.
+-- The number in a G line can.
 abbrev pub WritableSignal : SignalLine → Type 0
 WritableSignal g = Writable (g .number)
 
--- .. in a T line, at start and destination; the line's own number is at most the H line's.
+-- Start and destination in a T line can; the line's own number is at most the H line's.
 abbrev pub WritableTrain : TrainLine → Type 0
 WritableTrain t = Writable (t .start) × Writable (t .destination)
 

@@ -21,11 +21,11 @@ use Rattle.casefile.specs.Form.{Description, Describes}
 use Rattle.casefile.specs.Rows.{mostBytes, LengthRow, FormRow, countRow, unknownRow, joinRow, looseRow, doubleRow, placeRow, descriptionRows}
 use Rattle.casefile.specs.Recording.{railwayOf}
 
--- The answers: accepted, with a railway.
+-- The answer that accepts a text, with its railway.
 abbrev pub accepted : Railway → CaseRead
 accepted r = record { answer = Accepted; railway = r }
 
--- .. refused, with the empty record, so that nothing else is answered.
+-- The answer that refuses it, with the empty record, so that nothing else is answered.
 abbrev pub refused : Refusal → CaseRead
 refused f = record { answer = Refused f; railway = emptyRailway }
 
@@ -34,11 +34,11 @@ abbrev pub refusalOf : CaseAnswer → Option Refusal
 refusalOf Accepted = none
 refusalOf (Refused f) = some f
 
--- .. by the answer with its record.
+-- The refusal in an answer that has a record beside it.
 abbrev pub readRefusal : CaseRead → Option Refusal
 readRefusal a = refusalOf (a .answer)
 
--- .. its number in the table.
+-- The number of that refusal in the table.
 abbrev pub readNumber : CaseRead → Option ℕ
 readNumber a = numberOf (readRefusal a)
 

@@ -96,7 +96,7 @@ joinRow d = any (wrongJoin d) (d .joins) || repeats sameEnd (joinEnds (d .joins)
 abbrev pub looseEnd : Description → EndField → Bool
 looseEnd d e = not (any (sameEnd e) (joinEnds (d .joins)))
 
--- .. one of the three ports of point i + 1.
+-- One of the three ports of point i + 1 is such an end.
 abbrev pub looseAt : Description → ℕ → Bool
 looseAt d i = looseEnd d (port (suc i) Stem) || looseEnd d (port (suc i) Plus) || looseEnd d (port (suc i) Minus)
 

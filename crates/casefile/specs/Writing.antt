@@ -26,12 +26,13 @@ use Rattle.casefile.specs.Form.{JoinLine, SignalLine, TrainLine, Descrip
 use Rattle.casefile.specs.Recording.{fieldOf, signalOf}
 
 -- THE TEXT. A walk over the section ends by index, where a section's down end goes before its up end, makes the J lines, and another one the G lines.
--- The J line that begins with a section end, if one does: the other end has a later index, so it is a later section end or a port.
+-- The J line that begins with the section end of index i, by what that end is joined to: there is one if the other end has a later index, and so is a
+-- later section end or a port.
 abbrev pub joinFrom : ℕ → Joined → List JoinLine
 joinFrom i Nothing = []
 joinFrom i (With f) = cond (ltb i (endIndex f)) (record { one = fieldOf (endAt i); other = fieldOf f } ∷ []) []
 
--- .. given the record.
+-- That line, if there is one, in a record.
 abbrev pub joinAt : Railway → ℕ → List JoinLine
 joinAt r i = joinFrom i (linkAt r i)
 
@@ -90,16 +91,16 @@ written r buffer = writerAnswer (writtenText r) (writerRefusal r buffer)
 unfoldable pub bufferAfter : Railway → List ℕ → List ℕ
 bufferAfter r buffer = writerBuffer (writtenText r) buffer (writerRefusal r buffer)
 
--- What an answer stands for: the refusal given, if one is.
+-- The refusal that an answer gives, if it does.
 abbrev pub writtenRefusal : Written → Option Refusal
 writtenRefusal (Bytes n) = none
 writtenRefusal (Refused f) = some f
 
--- .. its number in the table.
+-- The number of that refusal in the table.
 abbrev pub writtenNumber : Written → Option ℕ
 writtenNumber w = numberOf (writtenRefusal w)
 
--- .. the count of bytes written, if some are.
+-- The count of bytes written, if the answer has one.
 abbrev pub writtenCount : Written → Option ℕ
 writtenCount (Bytes n) = some n
 writtenCount (Refused f) = none

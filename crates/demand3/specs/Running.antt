@@ -1,6 +1,6 @@
--- Demand 3 of the solver, the emitter and the checker as they run (document 01, "Agreement"). `Learnt` of a function is what its contract in src/ tells whoever calls it, as the prover makes it from the contract:
--- of the arguments, the answer, and what was lent, as the call leaves it. Each is the promise of which plan/Demand3 speaks, and nothing else: the same
--- proposition. Arguments stand in the order of the signature, one within the other: `a .0` is the first, `a .1 .0` the second. Assumes nothing.
+-- Demand 3 of the solver, the emitter and the checker as they run (document 01, "Agreement"). `Learnt` of a function is what its contract tells whoever calls
+-- it, as the prover makes it: of the arguments, the answer, and what was lent, as the call leaves it. Each is the promise of which plan/Demand3 speaks, and
+-- nothing else: the same proposition. Arguments stand in the order of the signature, one within the other: `a .0` is the first, `a .1 .0` the second. Assumes nothing.
 use mathlib.Core.Path.{_≡_}
 use mathlib.Core.Option.{none}
 use Prim.Native.Nat.{_≤_}

@@ -20,10 +20,10 @@ use Rattle.tables.specs.Entries.{settingAt, entryFrom}
 use Rattle.tables.specs.Tables.{Filled}
 use Rattle.tables.specs.Find.{tryOpen, firstFound, find}
 use Rattle.tables.proofs.Certify.{certified, certify}
-use Rattle.tables.proofs.KnownYards.{Sure, figsA, setsA, yardA-accepted, yardA-filled}
+use Rattle.tables.proofs.KnownYards.{Sure, figsA, setsA, yardA-accepted, yardA-filled, known-figures}
 use Rattle.plan.specs.Lines.{spell}
 use Rattle.plan.specs.Text.{lineFor, planLines, planTexts, planText}
-use Rattle.plan.specs.Outputs.{Output, outputA, outputOne, Writes, OutputsHold}
+use Rattle.plan.specs.Outputs.{Output, outputA, outputOne, Writes, OutputsHold, KnownYardsHold}
 use Rattle.plan.proofs.Plan.{texts-one}
 
 one-sure : Sure yardOne (0 ∷ []) (0 ∷ [])
@@ -44,3 +44,7 @@ outputs-hold = (
   writes outputA figsA setsA yardA-accepted yardA-filled (computed .0),
   (writes outputOne (0 ∷ []) (0 ∷ []) (one-sure .accepted) (certify yardOne (one-sure .accepted) (0 ∷ []) (0 ∷ []) (one-sure .passes)) (computed .1), tt),
 )
+
+-- FIGURES AND TEXTS
+pub known-yards : KnownYardsHold
+known-yards = record { figures = known-figures; texts = outputs-hold }

@@ -26,6 +26,7 @@ use Rattle.railway.specs.declared.Railway.{Railway}
 use Rattle.tables.specs.Tables.{noFigure}
 use Rattle.plan.specs.Lines.{PlacementLine, PlanLine, startLine, placementLine, orByte, openField, sign, pointField, sectionField, planWord, spell, fits, Spells}
 use Rattle.plan.specs.Reading.{guessPlacement, guess, readIf, readLine}
+use Rattle.plan.specs.Checked.{ReadsLine}
 
 -- WHAT FITS, part by part
 pub record Fits (r : Railway) (d : PlacementLine) : Type 0 where
@@ -193,7 +194,7 @@ read-spells r text g l e = go (fits r g && sameText (spell g) text) refl e
     go false y e = some-none e refl
 
 -- THE FORM OF A LINE rests on `spell` and `fits` alone
-pub reads-line : (r : Railway) → r .sections < noFigure → (text : List ℕ) (l : PlanLine) → (readLine r text ≡ some l) ↔ Spells r text l
+pub reads-line : ReadsLine
 unfolding readLine
 reads-line r s text l = (read-spells r text (guess r (fields text)) l, λ x. ap (readLine r) (sym (x .spelled)) ∙ reads r s l (x .fit))
 

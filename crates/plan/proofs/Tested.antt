@@ -26,7 +26,7 @@ use Rattle.game.proofs.Homing.{comes-home}
 use Rattle.tables.proofs.Entries.{open-same}
 use Rattle.plan.specs.Test.{Listing, listedSetting, Test}
 use Rattle.plan.specs.Computed.{isFigure, trainFine, listedFine, fineIf, placementFine, testHolds}
-use Rattle.plan.specs.Checked.{PlanWorks}
+use Rattle.plan.specs.Checked.{TestComputed, PlanWorks}
 
 is-figure : (m : ℕ) (o : Option ℕ) → isFigure m o ≡ true → o ≡ some m
 is-figure m none e = clash e refl
@@ -93,9 +93,9 @@ module _ (r : Railway) (L : Listing) where
               (is-fine p (f .0) (record { apart = t .apart p (f .0) l (f .1); signalled = λ u k o. t .signalled p (f .0) u l (f .1) k o; kept = λ h. t .kept p (f .0) l (f .1) h }))
         ]))
 
-    -- COMPUTED, the test is true exactly if the plan passes
-    pub tested : (testHolds r m L ≡ true) ↔ Test r m L
-    tested = (test-of, of-test)
+-- COMPUTED, the test is true exactly if the plan passes
+pub tested : TestComputed
+tested r L m = (test-of r L m, of-test r L m)
 
 -- PLANS THAT LIST THE SAME, at the placements, trains and points that are there
 pub record SameListing (r : Railway) (L M : Listing) : Type 0 where

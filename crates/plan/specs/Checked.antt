@@ -1,11 +1,11 @@
--- What the checker's calls say of a plan by any maker, over its lines (document 01, "The two tables and the plan": the form of a plan, its test).
--- Assumes nothing.
+-- What the checker's calls say of a plan by any maker, over its lines (document 01, "The two tables and the plan": the form of a plan, its test);
+-- before that, what the two computations say that Checker uses, by which Reading and Computed need not be read. Assumes nothing.
 use mathlib.Core.Path.{_≡_}
 use mathlib.Core.Logic.{_⊎_, _↔_}
 use mathlib.Core.Bool.{true}
 use mathlib.Core.List.{List, [], _∷_, _++_, map, List·Memᴰ}
-use mathlib.Core.Option.{none}
-use Prim.Native.Nat.{ℕ, _≤_}
+use mathlib.Core.Option.{none, some}
+use Prim.Native.Nat.{ℕ, _≤_, _<_}
 use lib.ListN.{length}
 use Rattle.laws.specs.Lists.{all}
 use Rattle.railway.specs.declared.Railway.{Railway}
@@ -15,12 +15,23 @@ use Rattle.game.specs.Placement.{placements, startCode}
 use Rattle.game.specs.Game.{Choice, following, HomeWithin}
 use Rattle.game.specs.Setting.{Setting}
 use Rattle.game.specs.Moves.{gameOf}
+use Rattle.tables.specs.Tables.{noFigure}
 use Rattle.plan.specs.declared.LineAnswer.{LineAnswer}
 use Rattle.plan.specs.declared.LineAnswer.the-variants.{Taken, Refused as LineRefused}
 use Rattle.plan.specs.declared.TestAnswer.the-variants.{Pass, Refused as TestRefused}
-use Rattle.plan.specs.Lines.{PlacementLine, spell, fits, lineCode, rises, planOf}
+use Rattle.plan.specs.Lines.{PlacementLine, PlanLine, spell, fits, Spells, lineCode, rises, planOf}
 use Rattle.plan.specs.Test.{Listing, listedSetting, Test, byLines}
+use Rattle.plan.specs.Reading.{readLine}
+use Rattle.plan.specs.Computed.{testHolds}
 use Rattle.plan.specs.Checker.{Checking, freshChecking, takeLine, testPlan, Run, run, isTaken, takenTexts}
+
+-- A text is read as a line exactly if it is the spelling of that line and the line fits the case. (An accepted case has so few sections.)
+abbrev pub ReadsLine : Type 0
+ReadsLine = (r : Railway) → r .sections < noFigure → (text : List ℕ) (l : PlanLine) → (readLine r text ≡ some l) ↔ Spells r text l
+
+-- The computed test is true exactly if the plan passes the test, sentence by sentence.
+abbrev pub TestComputed : Type 0
+TestComputed = (r : Railway) (L : Listing) (m : ℕ) → (testHolds r m L ≡ true) ↔ Test r m L
 
 -- Texts in the form of a plan: they spell a first line with figure m and lines ds for placements, which fit the case, their codes strictly rising.
 pub record Form (r : Railway) (texts : List (List ℕ)) (m : ℕ) (ds : List PlacementLine) : Type 0 where
@@ -28,22 +39,22 @@ pub record Form (r : Railway) (texts : List (List ℕ)) (m : ℕ) (ds : List Pla
   pub fit : all (fits r) (planOf m ds) ≡ true
   pub rising : rises 0 (map (lineCode r) ds) ≡ true
 
--- They are so for a plan of which something holds.
+-- Texts in form, of whose plan something holds.
 pub record PlanWith (r : Railway) (P : ℕ → List PlacementLine → Type 0) (texts : List (List ℕ)) : Type 0 where
   pub start : ℕ
   pub lines : List PlacementLine
   pub form : Form r texts start lines
   pub holds : P start lines
 
--- .. anything: they are in form.
+-- Texts in form.
 abbrev pub InForm : Railway → List (List ℕ) → Type 0
 InForm r = PlanWith r (λ m ds. Unit {0})
 
--- .. that it passes its test.
+-- Texts in form whose plan passes its test.
 abbrev pub Passing : Railway → List (List ℕ) → Type 0
 Passing r = PlanWith r (λ m ds. Test r m (byLines r ds))
 
--- .. that it fails: a plan fault.
+-- Texts in form whose plan fails it: a plan fault.
 abbrev pub Failing : Railway → List (List ℕ) → Type 0
 Failing r = PlanWith r (λ m ds. ¬ (Test r m (byLines r ds)))
 

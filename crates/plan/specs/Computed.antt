@@ -1,5 +1,4 @@
--- The test of a plan, computed. Nothing of document 01 rests on this file: `tested`, in proofs/, says that it is true exactly if the plan passes.
--- Assumes nothing.
+-- The test of a plan, computed. Nothing of document 01 rests on this file: `TestComputed`, in Checked, says when it is true. Assumes nothing.
 use mathlib.Core.Bool.{Bool, true, false, not, _&&_, _||_}
 use mathlib.Core.Option.{Option, none, some}
 use Prim.Native.Nat.{ℕ}

@@ -27,7 +27,7 @@ refusalGiven End = none
 refusalGiven NoPlan = none
 refusalGiven (Refused f) = some f
 
--- .. its number in the table.
+-- The number of that refusal in the table.
 abbrev pub numberGiven : Emitted → Option ℕ
 numberGiven a = numberOf (refusalGiven a)
 

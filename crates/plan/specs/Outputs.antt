@@ -1,5 +1,5 @@
--- The plan texts that document 01, "Yards to try", writes out, as one table with one statement. The one of the yard with one section
--- stands here, apart from the known figures (tables/KnownYards), because it speaks of the plan's text. Assumes nothing.
+-- What document 01, "Yards to try", says of its yards, as one statement: the known figures (tables/KnownYards), and the plan texts that it writes out.
+-- The texts stand here, for crate tables knows no plan's text. Assumes nothing.
 use mathlib.Core.Path.{_≡_}
 use mathlib.Core.List.{List, [], _∷_}
 use mathlib.Core.Option.{none}
@@ -10,6 +10,7 @@ use Rattle.railway.specs.declared.Railway.{Railway}
 use Rattle.railway.specs.Rows.{recordRefusal}
 use Rattle.railway.specs.Yards.{yardA, yardOne}
 use Rattle.tables.specs.Tables.{Filled}
+use Rattle.tables.specs.KnownYards.{KnownFiguresHold}
 use Rattle.plan.specs.Text.{planText}
 
 -- A yard, and the plan's text for it.
@@ -35,6 +36,11 @@ abbrev pub AllWrite : List Output → Type 0
 AllWrite [] = Unit {0}
 AllWrite (x ∷ xs) = Writes x × AllWrite xs
 
--- The statement for both.
+-- The statement for both texts.
 abbrev pub OutputsHold : Type 0
 OutputsHold = AllWrite (outputA ∷ outputOne ∷ [])
+
+-- THE STATEMENT FOR THE WHOLE: every known figure, and both texts.
+pub record KnownYardsHold : Type 0 where
+  pub figures : KnownFiguresHold
+  pub texts : OutputsHold

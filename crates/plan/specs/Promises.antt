@@ -30,7 +30,7 @@ pub record LinePost (r : Railway) (old : Checking) (text : List ℕ) (a : LineAn
   pub numbered : (f : Refusal) → caseRefusal r (old .figs) (old .sets) ≡ some f → lineNumber a ≡ some (number f)
   pub checking : new ≡ takeLine r old text .checking
 
--- .. asked for the test.
+-- The checker, asked for the test.
 pub record TestPost (r : Railway) (old : Checking) (a : TestAnswer) (new : Checking) : Type 0 where
   pub answer : a ≡ testPlan r old .answer
   pub numbered : (f : Refusal) → caseRefusal r (old .figs) (old .sets) ≡ some f → testNumber a ≡ some (number f)

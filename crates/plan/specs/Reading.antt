@@ -1,5 +1,4 @@
--- Reading a plan line, as a program may do it. Nothing of document 01 rests on this file: `reads-line`, in proofs/, says that a line is read exactly if it fits
--- the case and the text is its spelling, in every record with fewer sections than the number for none, as accepted ones have. Assumes nothing.
+-- Reading a plan line, as a program may do it. Nothing of document 01 rests on this file: `ReadsLine`, in Checked, says what is read. Assumes nothing.
 use mathlib.Core.Bool.{cond, _&&_}
 use mathlib.Core.List.{List, [], map}
 use mathlib.Core.Option.{Option, none, some}

@@ -1,5 +1,5 @@
--- The answers, by what the walk has taken and what the comparison has said. A line that fits and spells the text is the line that the walk takes; so where nothing is taken, or
--- what is taken is spelled otherwise, no line is read, and else the line that is taken. Assumes nothing.
+-- The answers, by what the walk has taken and what the comparison has said. A line that fits and spells the text is the line that the walk takes;
+-- so no line is read where nothing is taken or what is taken is spelled otherwise, and else the line that is taken. Assumes nothing.
 use Prim.Native.Nat.{ℕ, suc, _≤_, _<_}
 use mathlib.Core.Path.{_≡_, refl, sym, _∙_, ap}
 use mathlib.Core.Logic.{inl, inr}

@@ -2,30 +2,30 @@
 -- `Railway::empty` promises that the associated constants of the type are these numbers. Assumes nothing.
 use Prim.Native.Nat.{ℕ, _+_, _*_}
 
--- Sections: from so many to so many.
+-- The fewest sections that a railway may have.
 abbrev pub fewestSections : ℕ
 fewestSections = 1
 
--- .. at most.
+-- The most sections.
 abbrev pub mostSections : ℕ
 mostSections = 48
 
--- Points, of which there need be none.
+-- The most points; there need be none.
 abbrev pub mostPoints : ℕ
 mostPoints = 16
 
--- Trains: from so many to so many.
+-- The fewest trains.
 abbrev pub fewestTrains : ℕ
 fewestTrains = 1
 
--- .. at most.
+-- The most trains.
 abbrev pub mostTrains : ℕ
 mostTrains = 4
 
--- A section has two ends, a point three.
+-- The ends of that many sections: each has two.
 abbrev pub sectionEnds : ℕ
 sectionEnds = 2 * mostSections
 
--- All ends.
+-- All ends: those, and the three ports of each point.
 abbrev pub allEnds : ℕ
 allEnds = sectionEnds + 3 * mostPoints

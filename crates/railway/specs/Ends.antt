@@ -35,7 +35,7 @@ abbrev pub sideIndex : Side → ℕ
 sideIndex Down = 0
 sideIndex Up = 1
 
--- .. and of a port among its point's.
+-- The index of a port among its point's.
 abbrev pub legIndex : Leg → ℕ
 legIndex Stem = 0
 legIndex Plus = 1
@@ -46,15 +46,15 @@ abbrev pub endIndex : End → ℕ
 endIndex (Section n s) = cond (ltb (n .0) mostSections) (2 * n .0 + sideIndex s) allEnds
 endIndex (Port n l) = cond (ltb (n .0) mostPoints) (sectionEnds + 3 * n .0 + legIndex l) allEnds
 
--- The end of an index.
+-- The side of an index.
 abbrev pub sideAt : ℕ → Side
 sideAt i = cond (eqb i 0) Down Up
 
--- .. and the port.
+-- The port of an index.
 abbrev pub legAt : ℕ → Leg
 legAt i = cond (eqb i 0) Stem (cond (eqb i 1) Plus Minus)
 
--- A section end below, a port from there on.
+-- The end of an index: a section end below `sectionEnds`, a port from there on.
 unfoldable pub endAt : ℕ → End
 endAt i =
     cond (ltb i sectionEnds) (Section (record { 0 = i / 2 }) (sideAt (i % 2)))

@@ -40,7 +40,7 @@ abbrev pub unknownLink : Railway → End → Joined → Bool
 unknownLink r e Nothing = false
 unknownLink r e (With f) = not (known r e && known r f)
 
--- .. the link of an index.
+-- The link at index i names something beyond the counts.
 abbrev pub unknownLinkAt : Railway → ℕ → Bool
 unknownLinkAt r i = unknownLink r (endAt i) (linkAt r i)
 
@@ -95,7 +95,7 @@ abbrev pub wrongLink : Railway → End → Joined → Bool
 wrongLink r e Nothing = false
 wrongLink r e (With f) = wrongPair (tied r e) (tied r f)
 
--- .. the link of an index.
+-- The link at index i ties two ends that no join may tie.
 abbrev pub wrongLinkAt : Railway → ℕ → Bool
 wrongLinkAt r i = wrongLink r (endAt i) (linkAt r i)
 
@@ -109,7 +109,7 @@ abbrev pub unreturned : Railway → End → Joined → Bool
 unreturned r e Nothing = false
 unreturned r e (With f) = not (leadsTo (joined r f) e)
 
--- .. the link of an index.
+-- The link at index i is not returned.
 abbrev pub unreturnedAt : Railway → ℕ → Bool
 unreturnedAt r i = unreturned r (endAt i) (linkAt r i)
 

@@ -4,7 +4,7 @@
 ghost use mathlib.Core.Path.{_≡_};
 ghost use lib.ListN.{set};
 ghost use Rattle.railway.specs.declared.Joined.the-variants.{With};
-ghost use Rattle.railway.specs.Bounds.{fewestSections, fewestTrains, mostSections, mostPoints, mostTrains, allEnds};
+ghost use Rattle.railway.specs.Bounds.{fewestSections, fewestTrains, mostSections, mostPoints, mostTrains, sectionEnds, allEnds};
 ghost use Rattle.railway.specs.Ends.{sideIndex, legIndex, endIndex, sideAt, legAt, endAt, portSide};
 ghost use Rattle.railway.specs.Record.{noTrain, emptyRailway, joined, hasSignal, legsOf, runOf, sideOf, withLinks, withJoin, withSignal, withLegs, withTrain};
 ghost use Rattle.railway.specs.Refusals.{number};
@@ -100,7 +100,7 @@ impl Railway {
         ensures sections { λ r. do ⌜ ((← ⟦Railway::FEWEST_SECTIONS⟧ .entry) ≡ fewestSections) × ((← ⟦Railway::SECTIONS⟧ .entry) ≡ mostSections) ⌝ }
         ensures points { λ r. do ⌜ (← ⟦Railway::POINTS⟧ .entry) ≡ mostPoints ⌝ }
         ensures trains { λ r. do ⌜ ((← ⟦Railway::FEWEST_TRAINS⟧ .entry) ≡ fewestTrains) × ((← ⟦Railway::TRAINS⟧ .entry) ≡ mostTrains) ⌝ }
-        ensures ends { λ r. do ⌜ (← ⟦Railway::ENDS⟧ .entry) ≡ allEnds ⌝ }
+        ensures ends { λ r. do ⌜ ((← ⟦Railway::SECTION_ENDS⟧ .entry) ≡ sectionEnds) × ((← ⟦Railway::ENDS⟧ .entry) ≡ allEnds) ⌝ }
     {
         let none = Link {
             to: Joined::Nothing,

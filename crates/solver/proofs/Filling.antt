@@ -13,7 +13,8 @@ use Rattle.railway.specs.declared.Railway.{Railway}
 use Rattle.railway.specs.Rows.{recordRefusal}
 use Rattle.game.specs.Placement.{placements}
 use Rattle.tables.specs.Tables.{noFigure, figureIn}
-use Rattle.tables.specs.Solver.{Kept, RoundTables, SolverTables}
+use Rattle.tables.specs.Solver.{Kept, SolverTables}
+use Rattle.tables.specs.Rounds.{RoundTables}
 use Rattle.tables.proofs.Exists.{few-placements, solution}
 use Rattle.tables.proofs.Rounds.{of-up-to}
 use Rattle.compiled.specs.Table.{Compiled}

@@ -25,7 +25,7 @@ use Rattle.game.proofs.Accepted.{facts}
 use Rattle.game.proofs.Moves.{move-inside}
 use Rattle.tables.specs.Entries.{settingAt}
 use Rattle.tables.specs.Tables.{figureIn}
-use Rattle.tables.specs.Solver.{RoundTables}
+use Rattle.tables.specs.Rounds.{RoundTables}
 use Rattle.tables.specs.Find.{find}
 use Rattle.tables.proofs.Find.{find-sound}
 use Rattle.tables.proofs.Steps.{gains-late}

@@ -21,7 +21,7 @@ use Rattle.game.proofs.Accepted.{facts}
 use Rattle.game.proofs.Figures.{home-forced}
 use Rattle.tables.specs.Entries.{settingAt}
 use Rattle.tables.specs.Tables.{noFigure, figureEntry, figureIn}
-use Rattle.tables.specs.Solver.{RoundTables}
+use Rattle.tables.specs.Rounds.{RoundTables}
 use Rattle.tables.specs.Find.{find}
 use Rattle.tables.proofs.Carry.{Carries, find-carry}
 use Rattle.settings.specs.Answers.{firstKeeping}

@@ -17,9 +17,8 @@ use Rattle.game.specs.Game.{over}
 use Rattle.game.specs.Placement.{placements}
 use Rattle.game.specs.Moves.{gameOf}
 use Rattle.tables.specs.Tables.{noFigure, figureEntry, figureIn}
-use Rattle.tables.specs.Solver.{RoundTables}
 use Rattle.tables.specs.Find.{find}
-use Rattle.tables.specs.Rounds.{Step, stays, gains}
+use Rattle.tables.specs.Rounds.{Step, stays, gains, RoundTables}
 use Rattle.tables.proofs.Steps.{next-round, last-round}
 use Rattle.compiled.specs.Table.{countByte, Compiled}
 use Rattle.moves.proofs.Placing.{trains-are}

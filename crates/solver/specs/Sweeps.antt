@@ -10,7 +10,8 @@ use Rattle.laws.specs.Below.{countBelow}
 use Rattle.railway.specs.declared.Railway.{Railway}
 use Rattle.game.specs.Placement.{placements}
 use Rattle.tables.specs.Tables.{noFigure, Filled}
-use Rattle.tables.specs.Solver.{Kept, RoundTables}
+use Rattle.tables.specs.Solver.{Kept}
+use Rattle.tables.specs.Rounds.{RoundTables}
 
 -- What n rounds have made of two lent tables.
 pub record After (r : Railway) (n : ℕ) (figs sets figs′ sets′ : List ℕ) : Type 0 where

@@ -1,7 +1,7 @@
 -- Both searches give exactly the plan's entry, in an accepted case where no two trains share a section: they find v exactly if v is the entry of the plan's
 -- setting, and nothing exactly if no whole setting keeps the figure. What is found is the plan's entry, and there is one. Assumes nothing.
 use mathlib.Core.Path.{_≡_, sym, _∙_}
-use mathlib.Core.Logic.{_↔_, inl, inr}
+use mathlib.Core.Logic.{inl, inr}
 use mathlib.Core.Bool.{false}
 use mathlib.Core.Option.{Option, none, some}
 use Prim.Native.Nat.{ℕ}
@@ -13,32 +13,23 @@ use Rattle.game.specs.Placement.{shared}
 use Rattle.game.specs.Setting.{Setting}
 use Rattle.game.specs.Moves.{gameOf}
 use Rattle.game.proofs.Accepted.{facts}
-use Rattle.tables.specs.Entries.{settingAt, entryOf}
-use Rattle.tables.specs.Tables.{IsPlanSetting}
+use Rattle.tables.specs.Entries.{settingAt}
+use Rattle.tables.specs.Tables.{Planned, Exact}
 use Rattle.tables.specs.Find.{find, findMet}
 use Rattle.tables.proofs.Find.{find-sound, find-complete, find-none}
 use Rattle.tables.proofs.Best.{Best, find-best}
 use Rattle.tables.proofs.Unique.{plan-one}
 use Rattle.tables.proofs.Points.{find-met}
 
--- Entry v is that of the plan's setting, with no bit besides.
-pub record Planned (r : Railway) (F : ℕ → Option ℕ) (p n v : ℕ) : Type 0 where
-  pub plans : IsPlanSetting r F p n (settingAt r p v)
-  pub itself : entryOf r p (settingAt r p v) ≡ v
-
-pub record Exact (r : Railway) (F : ℕ → Option ℕ) (p n : ℕ) (found : Option ℕ) : Type 0 where
-  pub finds : (v : ℕ) → (found ≡ some v) ↔ Planned r F p n v
-  pub finds-nothing : (found ≡ none) ↔ ((o : Setting) → Keeps (gameOf r) F p o n → ⊥)
-
 module _ (r : Railway) (accepted : recordRefusal r ≡ none) (p : ℕ) (apart : shared r p ≡ false) (F : ℕ → Option ℕ) (n : ℕ) where
   planned : (v : ℕ) → find r F p n ≡ some v → Planned r F p n v
-  planned v e = let b : Best r (facts r accepted) p F n v = find-best r (facts r accepted) p F n v e in record { plans = b .plans; itself = b .itself apart }
+  planned v e = let b : Best r (facts r accepted) p F n v = find-best r (facts r accepted) p F n v e in (b .plans, b .itself apart)
 
   found : (v : ℕ) → Planned r F p n v → find r F p n ≡ some v
   found v x =
-      let w = find-complete r F p n (facts r accepted) (settingAt r p v) (x .plans .keeps) in
+      let w = find-complete r F p n (facts r accepted) (settingAt r p v) (x .0 .keeps) in
       let y : Planned r F p n (w .0) = planned (w .0) (w .1) in
-      let z : w .0 ≡ v = sym (y .itself) ∙ plan-one r (facts r accepted) p apart F n (settingAt r p (w .0)) (settingAt r p v) (y .plans) (x .plans) ∙ x .itself in
+      let z : w .0 ≡ v = sym (y .1) ∙ plan-one r (facts r accepted) p apart F n (settingAt r p (w .0)) (settingAt r p v) (y .0) (x .0) ∙ x .1 in
       rw z at (w .1)
 
   nothing : ((o : Setting) → Keeps (gameOf r) F p o n → ⊥) → find r F p n ≡ none

@@ -26,7 +26,8 @@ use Rattle.railway.specs.Yards.{yardH, lineP, lineJ, lineG, lineT, sec, port, y
 use Rattle.tables.specs.declared.SolverAnswer.the-variants.{Refused, Unsolvable, Figure}
 use Rattle.tables.specs.Entries.{settingAt, entryFrom, entryOf}
 use Rattle.tables.specs.Tables.{figureIn, tablesShort, caseRefusal, openSignals, lowestOpen, pointBits, noLater}
-use Rattle.tables.specs.Solver.{numberGiven, figureGiven, upTo}
+use Rattle.tables.specs.Solver.{numberGiven, figureGiven}
+use Rattle.tables.specs.Rounds.{upTo}
 
 -- REFUSALS. 1u joined with 2u: row 5 applies.
 abbrev wrongJoin : Railway

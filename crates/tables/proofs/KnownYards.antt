@@ -91,7 +91,6 @@ known-figure {x} {figs} s start t e =
       accepted = s .accepted;
       each-train = eqb-true (length (x .sections)) (x .yard .trains) (h .0);
       there = k .0;
-      coded = l;
       start = start;
       figure = rw (← e) (filled s .figures (knownCode x) l);
     }

@@ -19,7 +19,7 @@ use Rattle.game.specs.Moves.{gameOf}
 use Rattle.game.proofs.Accepted.{facts}
 use Rattle.game.proofs.Figures.{figure-one}
 use Rattle.tables.specs.Tables.{noFigure, figureIn, IsPlanEntry, Filled}
-use Rattle.tables.specs.Solver.{upTo, RoundTables}
+use Rattle.tables.specs.Rounds.{upTo, RoundTables}
 use Rattle.tables.proofs.Carry.{entry-carry}
 use Rattle.tables.proofs.Exists.{Solution, solution, figures-written, entries-written, figure-at, in-range, settings-written}
 

@@ -25,9 +25,8 @@ use Rattle.game.proofs.Moves.{inside}
 use Rattle.game.proofs.Figures.{figure-one, figures-solved}
 use Rattle.tables.specs.Entries.{settingAt}
 use Rattle.tables.specs.Tables.{noFigure, figureEntry, figureIn, IsPlanEntry, Filled}
-use Rattle.tables.specs.Solver.{upTo, RoundTables}
 use Rattle.tables.specs.Find.{find}
-use Rattle.tables.specs.Rounds.{firstFigure, Cleared, Step, stays, gains, Stepped}
+use Rattle.tables.specs.Rounds.{firstFigure, Cleared, Step, stays, gains, Stepped, upTo, RoundTables}
 use Rattle.tables.proofs.Find.{find-sound, find-none}
 use Rattle.tables.proofs.Best.{Best, find-best}
 use Rattle.tables.proofs.Carry.{Carries, keeps-carry, entry-carry}

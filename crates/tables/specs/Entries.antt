@@ -25,7 +25,7 @@ opensEnd r p opens i t = opens t && eqb i (endIndex (headsFor r p t))
 abbrev pub settingFrom : Railway → ℕ → (ℕ → Bool) → (ℕ → Bool) → Setting
 settingFrom r p plus opens = record { plus = plus; isOpen = λ i. anyBelow (opensEnd r p opens i) (r .trains) }
 
--- .. of an entry.
+-- The whole setting of an entry.
 unfoldable pub settingAt : Railway → ℕ → ℕ → Setting
 settingAt r p v = settingFrom r p (bit v) (opensIn v)
 

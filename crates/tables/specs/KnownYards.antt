@@ -4,14 +4,14 @@ use mathlib.Core.Path.{_≡_}
 use mathlib.Core.Bool.{Bool, true, false, _&&_}
 use mathlib.Core.List.{List, [], _∷_, map}
 use mathlib.Core.Option.{Option, none, some}
-use Prim.Native.Nat.{ℕ, _-_, _<_}
+use Prim.Native.Nat.{ℕ, _-_}
 use lib.ListN.{length}
 use lib.Dec.{leb}
 use Rattle.laws.specs.Lists.{all}
 use Rattle.railway.specs.declared.Railway.{Railway}
 use Rattle.railway.specs.Rows.{recordRefusal}
 use Rattle.game.specs.Game.{IsFigure}
-use Rattle.game.specs.Placement.{codeOf, placements, startCode}
+use Rattle.game.specs.Placement.{codeOf, startCode}
 use Rattle.game.specs.Moves.{gameOf}
 use Rattle.railway.specs.Yards.{yardA, yardALess, yardOne, upOneTwo, upTwoOne, upTwoOneHeld, headOn}
 
@@ -22,11 +22,11 @@ pub record KnownFigure : Type 0 where
   pub sections : List ℕ
   pub figure : Option ℕ
 
--- .. said of a placement.
+-- A figure said of a placement.
 abbrev pub placed : Railway → List ℕ → Option ℕ → KnownFigure
 placed r xs f = record { yard = r; ofStart = false; sections = xs; figure = f }
 
--- .. said of the start.
+-- A figure said of the start.
 abbrev pub started : Railway → List ℕ → Option ℕ → KnownFigure
 started r xs f = record { yard = r; ofStart = true; sections = xs; figure = f }
 
@@ -57,7 +57,6 @@ pub record Holds (x : KnownFigure) : Type 0 where
   pub accepted : recordRefusal (x .yard) ≡ none
   pub each-train : length (x .sections) ≡ x .yard .trains
   pub there : all (λ n. leb 1 n && leb n (x .yard .sections)) (x .sections) ≡ true
-  pub coded : knownCode x < placements (x .yard)
   pub start : x .ofStart ≡ true → startCode (x .yard) ≡ knownCode x
   pub figure : IsFigure (gameOf (x .yard)) (knownCode x) (x .figure)
 

@@ -1,21 +1,17 @@
 -- What a solver promises: the meaning of its answer, and what it leaves in the two lent tables, for every record and all tables (document 01, rows 3 to 9 and what
 -- stands under the table of numbers; "The two tables and the plan"). Assumes nothing.
 use mathlib.Core.Path.{_≡_}
-use mathlib.Core.Bool.{cond}
 use mathlib.Core.List.{List}
 use mathlib.Core.Option.{Option, none, some}
-use Prim.Native.Nat.{ℕ, _≤_, _<_}
+use Prim.Native.Nat.{ℕ, _≤_}
 use lib.ListN.{length, getD}
-use lib.Dec.{leb}
 use Rattle.railway.specs.declared.Railway.{Railway}
 use Rattle.railway.specs.declared.Refusal.{Refusal}
 use Rattle.railway.specs.Refusals.{numberOf}
-use Rattle.game.specs.Game.{IsFigure}
 use Rattle.game.specs.Placement.{placements, startCode}
-use Rattle.game.specs.Moves.{gameOf}
 use Rattle.tables.specs.declared.SolverAnswer.{SolverAnswer}
 use Rattle.tables.specs.declared.SolverAnswer.the-variants.{Refused, Unsolvable, Figure}
-use Rattle.tables.specs.Tables.{noFigure, figureIn, caseRefusal, IsPlanEntry, Filled}
+use Rattle.tables.specs.Tables.{figureIn, caseRefusal, Filled}
 
 -- The refusal that an answer gives, if it does.
 abbrev pub refusalGiven : SolverAnswer → Option Refusal
@@ -23,7 +19,7 @@ refusalGiven (Refused f) = some f
 refusalGiven Unsolvable = none
 refusalGiven (Figure n) = none
 
--- .. its number in the table.
+-- The number of that refusal in the table.
 abbrev pub numberGiven : SolverAnswer → Option ℕ
 numberGiven a = numberOf (refusalGiven a)
 
@@ -54,15 +50,3 @@ pub record SolverPost (r : Railway) (a : SolverAnswer) (figs sets figs′ sets�
   pub refusal : refusalGiven a ≡ caseRefusal r figs sets
   pub numbered : numberGiven a ≡ numberOf (caseRefusal r figs sets)
   pub leaves : SolverLeaves r a figs sets figs′ sets′ (caseRefusal r figs sets)
-
--- ROUND BY ROUND. A figure that is at most n.
-abbrev pub upTo : ℕ → Option ℕ → Option ℕ
-upTo n none = none
-upTo n (some j) = cond (leb j n) (some j) none
-
--- After round n the tables have each placement's figure and the plan's setting if the figure is at most n, else none and zero.
--- Where no figure is larger than n this is `Filled`.
-pub record RoundTables (r : Railway) (n : ℕ) (figs sets : List ℕ) : Type 0 where
-  pub entries : (p : ℕ) → p < placements r → getD figs p noFigure ≤ noFigure
-  pub figures : (p : ℕ) → p < placements r → (f : Option ℕ) → IsFigure (gameOf r) p f → figureIn figs p ≡ upTo n f
-  pub settings : (p : ℕ) → p < placements r → IsPlanEntry r (figureIn figs) p (figureIn figs p) (getD sets p 0)

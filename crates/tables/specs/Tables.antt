@@ -1,6 +1,7 @@
 -- The two tables: figures, and the plan's setting by its rule over all whole settings (document 01, "The two tables and the plan"); row 9 for tables.
 -- Assumes nothing.
 use mathlib.Core.Path.{_≡_}
+use mathlib.Core.Logic.{_↔_}
 use mathlib.Core.Bool.{Bool, true, cond, _&&_, _||_}
 use mathlib.Core.List.{List, [], _∷_, _++_}
 use mathlib.Core.Option.{Option, none, some, Option·getD}
@@ -76,13 +77,23 @@ pub record IsPlanSetting (r : Railway) (F : ℕ → Option ℕ) (p n : ℕ) (s :
   pub keeps : Keeps (gameOf r) F p s n
   pub earliest : (o : Setting) → Keeps (gameOf r) F p o n → noLater r p s o ≡ true
 
--- The setting table's entry v where the figure is f: the plan's setting and no bit besides, or zero where there is no figure or figure 0.
+-- Entry v is that of the plan's setting, with no bit besides.
+abbrev pub Planned : Railway → (ℕ → Option ℕ) → ℕ → ℕ → ℕ → Type 0
+Planned r F p n v = IsPlanSetting r F p n (settingAt r p v) × (entryOf r p (settingAt r p v) ≡ v)
+
+-- What a search for it gives: an entry exactly if it is that one, and nothing exactly if no whole setting keeps the figure.
+pub record Exact (r : Railway) (F : ℕ → Option ℕ) (p n : ℕ) (found : Option ℕ) : Type 0 where
+  pub finds : (v : ℕ) → (found ≡ some v) ↔ Planned r F p n v
+  pub finds-nothing : (found ≡ none) ↔ ((o : Setting) → ¬ (Keeps (gameOf r) F p o n))
+
+-- The setting table's entry v where the figure is f: the plan's setting, or zero where there is no figure or figure 0.
 abbrev pub IsPlanEntry : Railway → (ℕ → Option ℕ) → ℕ → Option ℕ → ℕ → Type 0
 IsPlanEntry r F p none v = v ≡ 0
 IsPlanEntry r F p (some zero) v = v ≡ 0
-IsPlanEntry r F p (some (suc n)) v = IsPlanSetting r F p (suc n) (settingAt r p v) × (entryOf r p (settingAt r p v) ≡ v)
+IsPlanEntry r F p (some (suc n)) v = Planned r F p (suc n) v
 
--- At every code the two tables have the placement's figure and the plan's setting.
+-- At every code the two tables have the placement's figure and the plan's setting. That no entry is larger than the number for none
+-- follows, for figures are smaller; it is stated for the plan's lines, whose figures have to be.
 pub record Filled (r : Railway) (figs sets : List ℕ) : Type 0 where
   pub entries : (p : ℕ) → p < placements r → getD figs p noFigure ≤ noFigure
   pub figures : (p : ℕ) → p < placements r → IsFigure (gameOf r) p (figureIn figs p)

@@ -11,7 +11,7 @@ use lib.Seq.{sets, sets-eq, set-out, take-suc, take-all}
 use borrow.Author.Tests.{lt-ltb, le-ltb}
 use Rattle.laws.specs.Below.{gatherBelow}
 use Rattle.text.specs.Text.{digits, line}
-use Rattle.text.specs.Appending.{next, bytesAfter, cursorAfter, Appended}
+use Rattle.text.specs.Appending.{next, bytesAfter, cursorAfter, Appended, StandsWhole}
 
 -- NOTHING, and one byte, with room or without
 module _ (out : List ℕ) (at : ℕ) where
@@ -98,9 +98,12 @@ bytes-sets (b ∷ text) out at h =
     let k = bytes-sets text (set out at b) (suc at) (rw length-set (omega arith)) in
     (rw e (k .0), rw e (k .1 ∙ omega arith))
 
+pub stands-whole : StandsWhole
+stands-whole text out at room = bytes-sets text out at room .0 ∙ sets-eq text out at room
+
 module _ {out text out′ : List ℕ} {at at′ : ℕ} (p : Appended out at text out′ at′) (room : at + length text ≤ length out) where
   pub appended-bytes : out′ ≡ take at out ++ text ++ drop (at + length text) out
-  appended-bytes = p .bytes ∙ bytes-sets text out at room .0 ∙ sets-eq text out at room
+  appended-bytes = p .bytes ∙ stands-whole text out at room
 
   pub appended-cursor : at′ ≡ at + length text
   appended-cursor = p .cursor ∙ bytes-sets text out at room .1

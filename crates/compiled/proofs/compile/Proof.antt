@@ -1,5 +1,5 @@
--- `compiled::compile` meets its contract: the record is judged by its test, and the table filled from the first byte to the last. The loop's invariant: the bytes before i are the railway's.
--- Assumes nothing.
+-- `compiled::compile` meets its contract: the record is judged by its test, and the table filled from the first byte to the last.
+-- The loop's invariant: the bytes before i are the railway's. Assumes nothing.
 use native.Mathlib.Omega.{arith}
 use borrow.Author.Needs.{needs}
 use Rattle.compiled.proofs.Table.{FilledTo, fill-start, fill-next, post-refused, post-accepted}
