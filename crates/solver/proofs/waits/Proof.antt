@@ -1,5 +1,6 @@
 -- `solver::waits` meets its contract, test by test.
 -- Assumes nothing.
+use native.Mathlib.Omega.{arith}
 use Rattle.solver.specs.Waves.{nowhere, outside}
 use Rattle.solver.proofs.Retracing.{waits-read}
 use borrow.Author.Needs.{needs}
@@ -10,7 +11,7 @@ returns : tie.Need-returns
 returns c = nowhere (c .if1 .taken)
 
 returns-2 : tie.Need-returns-2
-returns-2 c = outside (c .if2 .taken)
+returns-2 c = outside (omega (arith, c .if2 .taken))
 
 mul-result : tie.Need-mul-result
 mul-result c = search needs
