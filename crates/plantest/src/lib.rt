@@ -1,11 +1,13 @@
 // The test of a plan on two tables, of a railway that is compiled: the start's figure first, then placement after placement. All functions are
 // total: a code past a table has no figure, and its setting is zero. What they promise, they promise of every railway whose table is handed in.
 ghost use mathlib.Core.Path.{_≡_};
+ghost use mathlib.Core.Option.{some};
 ghost use Prim.Native.Nat.{ℕ, _<_};
 ghost use Rattle.laws.specs.Below.{allBelow, anyBelow};
 ghost use Rattle.railway.specs.declared.Railway.{Railway};
-ghost use Rattle.game.specs.Game.{may};
-ghost use Rattle.game.specs.Local.{goesBelow, keepsTest};
+ghost use Rattle.game.specs.Game.{Outcome, may};
+ghost use Rattle.game.specs.Claim.{figureOf};
+ghost use Rattle.game.specs.Local.{isBelow, goesBelow, keepsTest};
 ghost use Rattle.game.specs.Placement.{placements};
 ghost use Rattle.game.specs.Moves.{gameOf};
 ghost use Rattle.tables.specs.Entries.{settingAt};
@@ -13,9 +15,11 @@ ghost use Rattle.tables.specs.Tables.{figureIn};
 ghost use Rattle.plan.specs.Test.{byTables};
 ghost use Rattle.plan.specs.Computed.{listedFine, placementFine, testHolds};
 ghost use Rattle.compiled.specs.Table.{Compiled};
+ghost use Rattle.moves.specs.Answers.{ended};
 ghost use Rattle.moves.specs.Steps.{On};
 ghost use Rattle.plantest.specs.Steps.{entryFine};
 use compiled::Table;
+use moves::Move;
 use moves::Placement;
 use tables::NO_FIGURE;
 
@@ -151,8 +155,26 @@ fn goes_below(table: &Table, figures: &[u32], p: u32, v: u32, n: u32, t: u8) -> 
     ensures { λ b. ⌜ ((r : Railway) → Compiled r (now (table .entry)) → b ≡ goesBelow (gameOf r) (figureIn (now (figures .entry))) p (settingAt r p v) n t) ⌝ }
 {
     if moves::may_move(table, p, v, t) {
-        settings::is_below(figures, moves::move_of(table, p, v, t), n)
+        is_below(figures, moves::move_of(table, p, v, t), n)
     } else {
         true
+    }
+}
+
+// What a move ends in has a figure below n.
+fn is_below(figures: &[u32], m: Move, n: u32) -> bool
+    ensures { λ b. ⌜ ((o : Outcome) → ended m ≡ some o → b ≡ isBelow n (figureOf (figureIn (now (figures .entry))) o)) ⌝ }
+{
+    match m {
+        Move::NotAllowed => false,
+        Move::Derails => false,
+        Move::Collides => false,
+        Move::At(q) => {
+            let f = tables::entry_at(figures, q, NO_FIGURE);
+            if f == NO_FIGURE {
+                return false;
+            }
+            f < n
+        }
     }
 }

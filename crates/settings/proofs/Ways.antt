@@ -9,17 +9,16 @@ use Prim.Native.Nat.{ℕ, _+_, _*_, _%_, _^_, _≤_, _<_}
 use native.Mathlib.Omega.{arith}
 use native.Mathlib.Numerals.{add-one}
 use native.Mathlib.Nat.{pow-le-pow-right, mod-eq-of-lt}
-use lib.Dec.{ltb, eqb}
+use lib.Dec.{eqb}
 use lib.ListN.{getD}
 use borrow.Author.Tests.{lt-ltb, le-ltb, eq-eqb, ne-eqb}
 use Rattle.laws.specs.Below.{allBelow, anyBelow}
 use Rattle.laws.specs.Bits.{bit, fromBits}
-use Rattle.laws.proofs.Bools.{bool?, lt?, eq?, some-none, some-one, and-off, and-both}
+use Rattle.laws.proofs.Bools.{bool?, lt?, eq?, some-one, and-off, and-both}
 use Rattle.laws.proofs.Below.{all-of, any-next, any-one}
 use Rattle.laws.proofs.Bits.{bits-same, bits-plain, bits-below, bits-none, bit-none, bits-add, bits-again, bits-past, bits-of}
 use Rattle.railway.specs.declared.Railway.{Railway}
-use Rattle.game.specs.Game.{derailment, collision, Outcome, lost, at}
-use Rattle.game.specs.Claim.{figureOf}
+use Rattle.game.specs.Game.{derailment, collision, lost, at}
 use Rattle.game.specs.Local.{isBelow}
 use Rattle.game.specs.Setting.{headsFor, held, free}
 use Rattle.game.specs.Moves.{passes, occupied, codeWith, moveOf}
@@ -30,34 +29,11 @@ use Rattle.tables.specs.Find.{needsPlus}
 use Rattle.tables.proofs.Exists.{few-placements}
 use Rattle.compiled.specs.Table.{sectionByte, countByte}
 use Rattle.moves.specs.declared.Placement.{Placement}
-use Rattle.moves.specs.declared.Move.{Move}
-use Rattle.moves.specs.declared.Move.the-variants.{NotAllowed, Derails, Collides, At}
-use Rattle.moves.specs.Answers.{codeOn, ended}
+use Rattle.moves.specs.Answers.{codeOn}
 use Rattle.moves.specs.Steps.{sectionIn, On, otherIn, allAt}
 use Rattle.moves.proofs.Moving.{other-on, code-by-weight, derails, arrives, collides, stands-at}
 use Rattle.settings.specs.Ways.{Asked, pointMet, endsBelow, harmedAtMinus, beyondHelp, neededPoints, goodAtPlus, withBit}
 use Rattle.settings.proofs.Points.{meets-is, met-small}
-
--- BELOW n: what a move ends in
-module _ (figs : List ℕ) (n : ℕ) (m : Move) where
-  pub refused-below : m ≡ NotAllowed → (o : Outcome) → ended m ≡ some o → false ≡ isBelow n (figureOf (figureIn figs) o)
-  refused-below e o h = some-none h (ap ended e)
-
-  pub derailed-below : m ≡ Derails → (o : Outcome) → ended m ≡ some o → false ≡ isBelow n (figureOf (figureIn figs) o)
-  derailed-below e o h = let z : lost derailment ≡ o = some-one (sym (ap ended e) ∙ h) in rw (← z)
-
-  pub collided-below : m ≡ Collides → (o : Outcome) → ended m ≡ some o → false ≡ isBelow n (figureOf (figureIn figs) o)
-  collided-below e o h = let z : lost collision ≡ o = some-one (sym (ap ended e) ∙ h) in rw (← z)
-
-  module _ (q f : ℕ) (e : m ≡ At q) (is : f ≡ getD figs q noFigure) (o : Outcome) (h : ended m ≡ some o) where
-    comes-to : at q ≡ o
-    comes-to = some-one (sym (ap ended e) ∙ h)
-
-    pub figure-none : f ≡ noFigure → false ≡ isBelow n (figureOf (figureIn figs) o)
-    figure-none z = rw (← comes-to, ← is, eq-eqb f noFigure z)
-
-    pub figure-some : (f ≡ noFigure → ⊥) → ltb f n ≡ isBelow n (figureOf (figureIn figs) o)
-    figure-some z = rw (← comes-to, ← is, ne-eqb f noFigure z)
 
 -- A TRAIN'S MOVE, the figure looked at before the other trains
 module _ (r : Railway) (p : ℕ) (table : List ℕ) (q : Placement) (on : On r p table q) (figs : List ℕ) (n t : ℕ) (plus : Bool) (there : t < r .trains) (y : ℕ) (leads : y ≡ sectionByte (passes r (λ i. plus) (headsFor r p t) .reached)) where

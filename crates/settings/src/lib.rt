@@ -2,25 +2,20 @@
 // time goes with the trains and not with the settings.
 ghost use mathlib.Core.Path.{_≡_};
 ghost use mathlib.Core.Bool.{true, false};
-ghost use mathlib.Core.Option.{some};
 ghost use Prim.Native.Nat.{ℕ, _≤_, _<_};
 ghost use lib.Dec.{eqb};
 ghost use Rattle.laws.specs.Below.{anyBelow, allBelow};
 ghost use Rattle.railway.specs.declared.Railway.{Railway};
-ghost use Rattle.game.specs.Game.{Outcome};
-ghost use Rattle.game.specs.Claim.{figureOf};
-ghost use Rattle.game.specs.Local.{isBelow};
 ghost use Rattle.game.specs.Setting.{free};
 ghost use Rattle.tables.specs.Tables.{figureIn};
 ghost use Rattle.tables.specs.Find.{tryMet, findMet};
 ghost use Rattle.compiled.specs.Table.{Compiled};
-ghost use Rattle.moves.specs.Answers.{codeOn, ended};
+ghost use Rattle.moves.specs.Answers.{codeOn};
 ghost use Rattle.moves.specs.Steps.{sectionIn, On};
 ghost use Rattle.settings.specs.Answers.{entryFound, firstKeeping};
 ghost use Rattle.settings.specs.Ways.{Asked, endsBelow, harmedAtMinus, neededPoints, goodAtPlus, withBit};
 use compiled::NO_BYTE;
 use compiled::Table;
-use moves::Move;
 use moves::Placement;
 use railway::Railway;
 
@@ -241,22 +236,4 @@ fn open_train(table: &Table, figures: &[u32], q: Placement, c: u32, n: u32, m: u
         return Found::Entry((1u32 << x) + open);
     }
     Found::Nothing
-}
-
-// What a move ends in has a figure below n.
-pub fn is_below(figures: &[u32], m: Move, n: u32) -> bool
-    ensures { λ b. ⌜ ((o : Outcome) → ended m ≡ some o → b ≡ isBelow n (figureOf (figureIn (now (figures .entry))) o)) ⌝ }
-{
-    match m {
-        Move::NotAllowed => false,
-        Move::Derails => false,
-        Move::Collides => false,
-        Move::At(q) => {
-            let f = tables::entry_at(figures, q, tables::NO_FIGURE);
-            if f == tables::NO_FIGURE {
-                return false;
-            }
-            f < n
-        }
-    }
 }

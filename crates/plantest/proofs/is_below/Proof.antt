@@ -1,9 +1,9 @@
--- `settings::is_below` meets its contract, by what the move ends in.
+-- `plantest::is_below` meets its contract, by what the move ends in.
 -- Assumes nothing.
 use borrow.Author.Needs.{needs}
-use Rattle.settings.proofs.Ways.{refused-below, derailed-below, collided-below, figure-none, figure-some}
-use Rattle.settings.proofs.is_below.Statement.{statement}
-use Rattle.settings.proofs.is_below.Tie as tie
+use Rattle.plantest.proofs.Ending.{refused-below, derailed-below, collided-below, figure-none, figure-some}
+use Rattle.plantest.proofs.is_below.Statement.{statement}
+use Rattle.plantest.proofs.is_below.Tie as tie
 
 enum-told : tie.Need-enum-told
 enum-told c = search needs
