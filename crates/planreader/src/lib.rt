@@ -237,7 +237,7 @@ fn is_placement(text: &[u8], k: u8, m: u8, q: Placement, n: u32, v: u32) -> bool
 fn read_start(text: &[u8]) -> LineRead
     ensures { λ a. ⌜ ((r : Railway) → recordRefusal r ≡ none → getD (now (text .entry)) 0 0 ≡ 112 → a ≡ told r (readLine r (now (text .entry)))) ⌝ }
 {
-    let Number::Value(n, end) = figure_at(text, Cursor { at: 5 }) else {
+    let Number::Value(n, _) = figure_at(text, Cursor { at: 5 }) else {
         return LineRead::NoLine;
     };
     let figure = n as u32;
@@ -260,7 +260,7 @@ fn read_placement(table: &Table, text: &[u8]) -> LineRead
     let Number::Value(n, c2) = figure_at(text, c1) else {
         return LineRead::NoLine;
     };
-    let Number::Value(v, end) = entry_at(text, m, c2) else {
+    let Number::Value(v, _) = entry_at(text, m, c2) else {
         return LineRead::NoLine;
     };
     let q = Placement {

@@ -5,7 +5,9 @@
 use acceptance::Tested;
 use libc::STDOUT_FILENO;
 use railway::End;
+use railway::Joined;
 use railway::Leg;
+use railway::Link;
 use railway::PointNo;
 use railway::Railway;
 use railway::SectionNo;
@@ -79,8 +81,12 @@ fn built(s: u8, p: u8, k: u8, pieces: &[u8]) -> Railway {
 }
 
 fn show(label: &[u8], s: u8, p: u8, k: u8, pieces: &[u8]) {
+    show_record(label, built(s, p, k, pieces));
+}
+
+fn show_record(label: &[u8], r: Railway) {
     io::write_all(STDOUT_FILENO, label);
-    match acceptance::test_record(built(s, p, k, pieces)) {
+    match acceptance::test_record(r) {
         Tested::Accepted => {
             io::write_all(STDOUT_FILENO, b"\taccepted\n");
         }
@@ -126,6 +132,17 @@ fn row5() {
     show(b"one side, legs down", 3, 1, 1, b"P1d..J1s1uJ2d1+J1-3d");
     show(b"one side, legs up", 3, 1, 1, b"P1u..J1s3dJ1u1+J1-2u");
     show(b"an end in two joins", 3, 0, 1, b"J1u2dJ3u2d");
+    show_record(b"half a join", half_join());
+}
+
+// The second end, 1u, is joined to 2d, and 2d to nothing. No update makes such a record, so the link is written here.
+fn half_join() -> Railway {
+    let mut r = built(2, 0, 1, b"");
+    let link = Link {
+        to: Joined::With(end(1, b'd')),
+    };
+    r.links[1] = link;
+    r
 }
 
 fn row6() {

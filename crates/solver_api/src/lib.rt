@@ -23,6 +23,6 @@ fn solve_railway(r: Railway, figures: &mut [u32], settings: &mut [u32]) -> u8
     match solver::solve(r, figures, settings) {
         SolverAnswer::Refused(f) => f.number(),
         SolverAnswer::Unsolvable => 0,
-        SolverAnswer::Figure(n) => 0,
+        SolverAnswer::Figure(_) => 0,
     }
 }

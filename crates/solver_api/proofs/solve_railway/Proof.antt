@@ -17,8 +17,8 @@ number-requires c κs = search needs
 enum-told : tie.Need-enum-told
 enum-told c = search needs
 
-enum-known-n : tie.Need-enum-known-n
-enum-known-n c = search needs
+enum-told-2 : tie.Need-enum-told-2
+enum-told-2 c = search needs
 
 same-length : tie.Need-same-length
 same-length c = search needs
@@ -45,7 +45,7 @@ same-length-6 : tie.Need-same-length-6
 same-length-6 c = search needs
 
 returns-3 : tie.Need-returns-3
-returns-3 c = let o = c .before .before .before .before .before .before .before in let a = o .before .before .before .before .before in solved-railway (a .args .r) (a .args .figures .now) (a .args .settings .now) _ _ _ (o .solve .ensures) _ (c .before .n .given .1) _ refl
+returns-3 c = let o = c .before .before .before .before .before .before in let a = o .before .before .before .before .before in solved-railway (a .args .r) (a .args .figures .now) (a .args .settings .now) _ _ _ (o .solve .ensures) _ (c .enum-told2 .given .1) _ refl
 
 pub solve-railway-spec : {M : Type 1} → statement M
 solve-railway-spec =
@@ -55,7 +55,7 @@ solve-railway-spec =
     enum-known-f
     number-requires
     enum-told
-    enum-known-n
+    enum-told-2
     same-length
     same-length-2
     returns
