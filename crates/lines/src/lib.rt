@@ -18,7 +18,7 @@ pub enum SideRead {
 }
 
 // `s`, `+` or `-`.
-pub enum LegRead {
+enum LegRead {
     NoLeg,
     LegIs(Leg, Cursor),
 }
@@ -29,7 +29,7 @@ pub enum NamedEnd {
     OfPoint(u64, Leg),
 }
 
-pub enum EndRead {
+enum EndRead {
     NoEnd,
     EndIs(NamedEnd, Cursor),
 }

@@ -26,7 +26,7 @@ const TAB: u8 = 9;
 const LINE_END: u8 = 10;
 
 // The parts of a case text behind its first line.
-pub enum Part {
+enum Part {
     Points,
     Joins,
     Signals,
