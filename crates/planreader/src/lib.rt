@@ -26,6 +26,7 @@ use railway::Railway;
 use text::Byte;
 use text::Cursor;
 use text::Number;
+use text::TAB;
 use text::Width;
 
 // The most bytes of a line, its end included.
@@ -64,7 +65,7 @@ fn number_tab(text: &[u8], c: Cursor, w: Width) -> Number
     let Number::Value(n, behind) = text::number_at(text, c, w) else {
         return Number::None;
     };
-    let Byte::Past(next) = text::byte_at(text, behind, 9) else {
+    let Byte::Past(next) = text::byte_at(text, behind, TAB) else {
         return Number::None;
     };
     Number::Value(n, next)
@@ -129,7 +130,7 @@ fn entry_at(text: &[u8], m: u8, c: Cursor) -> Number
     if Railway::POINTS < m {
         return Number::None;
     }
-    let Byte::Past(field) = text::byte_at(text, c, 9) else {
+    let Byte::Past(field) = text::byte_at(text, c, TAB) else {
         return Number::None;
     };
     let Number::Value(o, next) = number_tab(text, field, Width::Ten) else {
@@ -188,7 +189,7 @@ fn plus_at(text: &[u8], c: Cursor, i: u8) -> u64
     if text.len() - at <= j {
         return 0;
     }
-    if text[at + j] == 43 { 1 } else { 0 }
+    if text[at + j] == b'+' { 1 } else { 0 }
 }
 
 // What stands in front of a buffer, up to the cursor, is the text.
