@@ -8,14 +8,12 @@ use libc::STDOUT_FILENO;
 use plan::Emitted;
 use plan::LineAnswer;
 use plan::PlanPlace;
+use planlines::MOST_LINE_BYTES;
 use railway::Railway;
 use railway::Refusal;
 
 // The placements of three sections and two trains.
 const ENTRIES: usize = 9;
-
-// No line of a plan has more bytes.
-const LINE: usize = 45;
 
 fn main() {
     let mut case = io::large_buffer();
@@ -65,7 +63,7 @@ fn plan_lines(
     let mut place = PlanPlace::Top;
     let mut lines: u32 = 0;
     while lines < 4294967295 {
-        let mut line = [0u8; LINE];
+        let mut line = [0u8; MOST_LINE_BYTES];
         let emitted = emitter::emit_line(r, figures, settings, place, &mut line);
         let Emitted::Line(n, next) = emitted else {
             return checker;
