@@ -1,6 +1,6 @@
 // A case on standard input, Yard A's: what the checker makes of its plan's lines when others come before, between and after them that it has to
 // refuse. A line for each call: `taken`, `pass`, or `refused`, a tab and the number. A test comes before the first line and one after the last.
-// Then the same of a plan with a wrong figure, and of a first line that has a byte too little room, with its buffer as it was left.
+// Then the emitter's answer for a buffer that is a byte too short, and that buffer; then the checker's answers to a plan with a wrong figure.
 use casefile::CaseAnswer;
 use checker::Checker;
 use libc::STDIN_FILENO;
