@@ -1,6 +1,6 @@
 // A case on standard input, Yard A's: what the checker makes of its plan's lines when others come before, between and after them that it has to
 // refuse. A line for each call: `taken`, `pass`, or `refused`, a tab and the number. A test comes before the first line and one after the last.
-// Then the same of a plan with a wrong figure, and of a first line that has a byte too little room, with its buffer as it was left.
+// Then the emitter's answer for a buffer that is a byte too short, and that buffer; then the checker's answers to a plan with a wrong figure.
 use casefile::CaseAnswer;
 use checker::Checker;
 use libc::STDIN_FILENO;
@@ -8,14 +8,12 @@ use libc::STDOUT_FILENO;
 use plan::Emitted;
 use plan::LineAnswer;
 use plan::PlanPlace;
+use planlines::MOST_LINE_BYTES;
 use railway::Railway;
 use railway::Refusal;
 
 // The placements of three sections and two trains.
 const ENTRIES: usize = 9;
-
-// No line of a plan has more bytes.
-const LINE: usize = 45;
 
 fn main() {
     let mut case = io::large_buffer();
@@ -65,7 +63,7 @@ fn plan_lines(
     let mut place = PlanPlace::Top;
     let mut lines: u32 = 0;
     while lines < 4294967295 {
-        let mut line = [0u8; LINE];
+        let mut line = [0u8; MOST_LINE_BYTES];
         let emitted = emitter::emit_line(r, figures, settings, place, &mut line);
         let Emitted::Line(n, next) = emitted else {
             return checker;

@@ -19,13 +19,11 @@ use acceptance::Tested;
 use compiled::Table;
 use plan::Emitted;
 use plan::PlanPlace;
+use planlines::MOST_LINE_BYTES;
 use railway::Railway;
 use railway::Refusal;
 use tables::NO_FIGURE;
 use text::append;
-
-// No line of a plan has more bytes.
-const LINE: usize = 45;
 
 // Any record, tables, place and buffer: a line and the place behind it, or the end; that there is no plan; or the first of rows 3 to 9 that applies.
 pub fn emit_line(
@@ -71,7 +69,7 @@ fn emit_due(
 fn emit_start(n: u32, out: &mut [u8]) -> Emitted
     ensures { λ a. ⌜ leaves a (now (out .exit)) ≡ written (spell (startLine n)) (From 0) (now (out .entry)) ⌝ }
 {
-    let mut text: [u8; LINE] = [0; LINE];
+    let mut text: [u8; MOST_LINE_BYTES] = [0; MOST_LINE_BYTES];
     let len = planlines::start_line(&mut text, 0, n);
     put_line(out, &text[..len], PlanPlace::From(0))
 }
@@ -106,7 +104,7 @@ fn emit_placement(
     let q = moves::placement_of(table, p);
     let k = compiled::count_in(table, 2);
     let m = compiled::count_in(table, 1);
-    let mut text: [u8; LINE] = [0; LINE];
+    let mut text: [u8; MOST_LINE_BYTES] = [0; MOST_LINE_BYTES];
     let len = planlines::placement_line(&mut text, 0, k, m, q, n, v);
     put_line(out, &text[..len], PlanPlace::From(p + 1))
 }

@@ -8,7 +8,9 @@ use railway::Leg;
 use railway::Side;
 use text::Byte;
 use text::Cursor;
+use text::LINE_END;
 use text::Number;
+use text::TAB;
 use text::Width;
 
 // `u` or `d`.
@@ -18,7 +20,7 @@ pub enum SideRead {
 }
 
 // `s`, `+` or `-`.
-pub enum LegRead {
+enum LegRead {
     NoLeg,
     LegIs(Leg, Cursor),
 }
@@ -29,7 +31,7 @@ pub enum NamedEnd {
     OfPoint(u64, Leg),
 }
 
-pub enum EndRead {
+enum EndRead {
     NoEnd,
     EndIs(NamedEnd, Cursor),
 }
@@ -59,8 +61,8 @@ pub enum TrainRead {
 fn side_field(text: &[u8], c: Cursor) -> SideRead
     ensures { λ r. ⌜ sideGot r ≡ sideFieldAt (now (text .entry)) (c .at) ⌝ }
 {
-    let Byte::Past(up) = text::byte_at(text, c, 117) else {
-        let Byte::Past(down) = text::byte_at(text, c, 100) else {
+    let Byte::Past(up) = text::byte_at(text, c, b'u') else {
+        let Byte::Past(down) = text::byte_at(text, c, b'd') else {
             return SideRead::NoSide;
         };
         return SideRead::SideIs(Side::Down, down);
@@ -71,9 +73,9 @@ fn side_field(text: &[u8], c: Cursor) -> SideRead
 fn leg_field(text: &[u8], c: Cursor) -> LegRead
     ensures { λ r. ⌜ legGot r ≡ legFieldAt (now (text .entry)) (c .at) ⌝ }
 {
-    let Byte::Past(stem) = text::byte_at(text, c, 115) else {
-        let Byte::Past(plus) = text::byte_at(text, c, 43) else {
-            let Byte::Past(minus) = text::byte_at(text, c, 45) else {
+    let Byte::Past(stem) = text::byte_at(text, c, b's') else {
+        let Byte::Past(plus) = text::byte_at(text, c, b'+') else {
+            let Byte::Past(minus) = text::byte_at(text, c, b'-') else {
                 return LegRead::NoLeg;
             };
             return LegRead::LegIs(Leg::Minus, minus);
@@ -103,7 +105,7 @@ fn end_field(text: &[u8], c: Cursor) -> EndRead
 fn tab_number(text: &[u8], c: Cursor) -> Number
     ensures { λ r. ⌜ numberGot r ≡ behindTab (now (text .entry)) (caseNumberAt (now (text .entry))) (c .at) ⌝ }
 {
-    let Byte::Past(field) = text::byte_at(text, c, 9) else {
+    let Byte::Past(field) = text::byte_at(text, c, TAB) else {
         return Number::None;
     };
     text::number_at(text, field, Width::Three)
@@ -112,7 +114,7 @@ fn tab_number(text: &[u8], c: Cursor) -> Number
 fn tab_side(text: &[u8], c: Cursor) -> SideRead
     ensures { λ r. ⌜ sideGot r ≡ behindTab (now (text .entry)) (sideFieldAt (now (text .entry))) (c .at) ⌝ }
 {
-    let Byte::Past(field) = text::byte_at(text, c, 9) else {
+    let Byte::Past(field) = text::byte_at(text, c, TAB) else {
         return SideRead::NoSide;
     };
     side_field(text, field)
@@ -121,7 +123,7 @@ fn tab_side(text: &[u8], c: Cursor) -> SideRead
 fn tab_end(text: &[u8], c: Cursor) -> EndRead
     ensures { λ r. ⌜ endGot r ≡ behindTab (now (text .entry)) (endFieldAt (now (text .entry))) (c .at) ⌝ }
 {
-    let Byte::Past(field) = text::byte_at(text, c, 9) else {
+    let Byte::Past(field) = text::byte_at(text, c, TAB) else {
         return EndRead::NoEnd;
     };
     end_field(text, field)
@@ -131,7 +133,7 @@ fn tab_end(text: &[u8], c: Cursor) -> EndRead
 pub fn header_line(text: &[u8], c: Cursor) -> HeaderRead
     ensures { λ r. ⌜ countsGot r ≡ headerAt (now (text .entry)) (c .at) ⌝ }
 {
-    let Byte::Past(c1) = text::byte_at(text, c, 72) else {
+    let Byte::Past(c1) = text::byte_at(text, c, b'H') else {
         return HeaderRead::NoHeader;
     };
     let Number::Value(sections, c2) = tab_number(text, c1) else {
@@ -143,7 +145,7 @@ pub fn header_line(text: &[u8], c: Cursor) -> HeaderRead
     let Number::Value(trains, c4) = tab_number(text, c3) else {
         return HeaderRead::NoHeader;
     };
-    let Byte::Past(c5) = text::byte_at(text, c4, 10) else {
+    let Byte::Past(c5) = text::byte_at(text, c4, LINE_END) else {
         return HeaderRead::NoHeader;
     };
     HeaderRead::CountsAre(sections, points, trains, c5)
@@ -153,7 +155,7 @@ pub fn header_line(text: &[u8], c: Cursor) -> HeaderRead
 pub fn point_line(text: &[u8], c: Cursor, n: u64) -> SideRead
     ensures { λ r. ⌜ sideGot r ≡ pointLineAt (now (text .entry)) n (c .at) ⌝ }
 {
-    let Byte::Past(c1) = text::byte_at(text, c, 80) else {
+    let Byte::Past(c1) = text::byte_at(text, c, b'P') else {
         return SideRead::NoSide;
     };
     let Number::Value(m, c2) = tab_number(text, c1) else {
@@ -162,7 +164,7 @@ pub fn point_line(text: &[u8], c: Cursor, n: u64) -> SideRead
     let SideRead::SideIs(side, c3) = tab_side(text, c2) else {
         return SideRead::NoSide;
     };
-    let Byte::Past(c4) = text::byte_at(text, c3, 10) else {
+    let Byte::Past(c4) = text::byte_at(text, c3, LINE_END) else {
         return SideRead::NoSide;
     };
     if m == n {
@@ -175,7 +177,7 @@ pub fn point_line(text: &[u8], c: Cursor, n: u64) -> SideRead
 pub fn join_line(text: &[u8], c: Cursor) -> JoinRead
     ensures { λ r. ⌜ joinGot r ≡ joinLineAt (now (text .entry)) (c .at) ⌝ }
 {
-    let Byte::Past(c1) = text::byte_at(text, c, 74) else {
+    let Byte::Past(c1) = text::byte_at(text, c, b'J') else {
         return JoinRead::NoJoin;
     };
     let EndRead::EndIs(one, c2) = tab_end(text, c1) else {
@@ -184,7 +186,7 @@ pub fn join_line(text: &[u8], c: Cursor) -> JoinRead
     let EndRead::EndIs(other, c3) = tab_end(text, c2) else {
         return JoinRead::NoJoin;
     };
-    let Byte::Past(c4) = text::byte_at(text, c3, 10) else {
+    let Byte::Past(c4) = text::byte_at(text, c3, LINE_END) else {
         return JoinRead::NoJoin;
     };
     JoinRead::EndsAre(one, other, c4)
@@ -194,7 +196,7 @@ pub fn join_line(text: &[u8], c: Cursor) -> JoinRead
 pub fn signal_line(text: &[u8], c: Cursor) -> SignalRead
     ensures { λ r. ⌜ signalGot r ≡ signalLineAt (now (text .entry)) (c .at) ⌝ }
 {
-    let Byte::Past(c1) = text::byte_at(text, c, 71) else {
+    let Byte::Past(c1) = text::byte_at(text, c, b'G') else {
         return SignalRead::NoSignal;
     };
     let Number::Value(n, c2) = tab_number(text, c1) else {
@@ -203,7 +205,7 @@ pub fn signal_line(text: &[u8], c: Cursor) -> SignalRead
     let SideRead::SideIs(side, c3) = side_field(text, c2) else {
         return SignalRead::NoSignal;
     };
-    let Byte::Past(c4) = text::byte_at(text, c3, 10) else {
+    let Byte::Past(c4) = text::byte_at(text, c3, LINE_END) else {
         return SignalRead::NoSignal;
     };
     SignalRead::SignalIs(n, side, c4)
@@ -213,7 +215,7 @@ pub fn signal_line(text: &[u8], c: Cursor) -> SignalRead
 pub fn train_line(text: &[u8], c: Cursor, n: u64) -> TrainRead
     ensures { λ r. ⌜ trainGot r ≡ trainLineAt (now (text .entry)) n (c .at) ⌝ }
 {
-    let Byte::Past(c1) = text::byte_at(text, c, 84) else {
+    let Byte::Past(c1) = text::byte_at(text, c, b'T') else {
         return TrainRead::NoTrain;
     };
     let Number::Value(m, c2) = tab_number(text, c1) else {
@@ -228,7 +230,7 @@ pub fn train_line(text: &[u8], c: Cursor, n: u64) -> TrainRead
     let Number::Value(destination, c5) = tab_number(text, c4) else {
         return TrainRead::NoTrain;
     };
-    let Byte::Past(c6) = text::byte_at(text, c5, 10) else {
+    let Byte::Past(c6) = text::byte_at(text, c5, LINE_END) else {
         return TrainRead::NoTrain;
     };
     if m == n {

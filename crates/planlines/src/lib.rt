@@ -8,11 +8,12 @@ ghost use Rattle.tables.specs.Entries.{opensIn};
 ghost use Rattle.plan.specs.Lines.{startLine, placementLine, openField, sign, pointField, spell};
 ghost use Rattle.planlines.specs.Spelling.{sectionPiece, openPiece, pointPiece, lineOf};
 use moves::Placement;
+use text::LINE_END;
+use text::TAB;
 use text::append;
 
-const TAB: u8 = 9;
-
-const LINE_END: u8 = 10;
+// The most bytes of a line, its end included.
+pub const MOST_LINE_BYTES: usize = 45;
 
 // The first line of a plan.
 pub fn start_line(out: &mut [u8], at: usize, n: u32) -> usize

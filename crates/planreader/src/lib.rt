@@ -22,14 +22,13 @@ ghost use Rattle.planreader.specs.Told.{told};
 ghost use Rattle.planreader.specs.Walk.{sameAt, trainBit, openBits, plusAt, numberTab, sectionAt, sectionsAt, figureAt, entryAt, sectionsGot};
 use compiled::Table;
 use moves::Placement;
+use planlines::MOST_LINE_BYTES;
 use railway::Railway;
 use text::Byte;
 use text::Cursor;
 use text::Number;
+use text::TAB;
 use text::Width;
-
-// The most bytes of a line, its end included.
-const MOST_BYTES: usize = 45;
 
 // What a line says: the start's figure; or a placement's code, its figure and its entry of the setting table.
 pub enum LineRead {
@@ -42,7 +41,7 @@ pub enum LineRead {
 pub fn read_line(table: &Table, text: &[u8]) -> LineRead
     ensures { λ a. ⌜ ((r : Railway) → Compiled r (now (table .entry)) → a ≡ told r (readLine r (now (text .entry)))) ⌝ }
 {
-    if MOST_BYTES < text.len() {
+    if MOST_LINE_BYTES < text.len() {
         return LineRead::NoLine;
     }
     if text::peek(text, Cursor { at: 0 }) == b'p' {
@@ -64,7 +63,7 @@ fn number_tab(text: &[u8], c: Cursor, w: Width) -> Number
     let Number::Value(n, behind) = text::number_at(text, c, w) else {
         return Number::None;
     };
-    let Byte::Past(next) = text::byte_at(text, behind, 9) else {
+    let Byte::Past(next) = text::byte_at(text, behind, TAB) else {
         return Number::None;
     };
     Number::Value(n, next)
@@ -129,7 +128,7 @@ fn entry_at(text: &[u8], m: u8, c: Cursor) -> Number
     if Railway::POINTS < m {
         return Number::None;
     }
-    let Byte::Past(field) = text::byte_at(text, c, 9) else {
+    let Byte::Past(field) = text::byte_at(text, c, TAB) else {
         return Number::None;
     };
     let Number::Value(o, next) = number_tab(text, field, Width::Ten) else {
@@ -188,7 +187,7 @@ fn plus_at(text: &[u8], c: Cursor, i: u8) -> u64
     if text.len() - at <= j {
         return 0;
     }
-    if text[at + j] == 43 { 1 } else { 0 }
+    if text[at + j] == b'+' { 1 } else { 0 }
 }
 
 // What stands in front of a buffer, up to the cursor, is the text.
@@ -219,7 +218,7 @@ fn same_at(line: &[u8], text: &[u8], i: usize) -> bool
 fn is_start(text: &[u8], n: u32) -> bool
     ensures { λ b. ⌜ (length (spell (startLine n)) ≤ mostLineBytes → b ≡ sameText (spell (startLine n)) (now (text .entry))) ⌝ }
 {
-    let mut line: [u8; MOST_BYTES] = [0; MOST_BYTES];
+    let mut line: [u8; MOST_LINE_BYTES] = [0; MOST_LINE_BYTES];
     let end = planlines::start_line(&mut line, 0, n);
     same_text(&line, end, text)
 }
@@ -228,7 +227,7 @@ fn is_start(text: &[u8], n: u32) -> bool
 fn is_placement(text: &[u8], k: u8, m: u8, q: Placement, n: u32, v: u32) -> bool
     ensures { λ b. ⌜ (length (spell (placementLine (lineOf k m q n v))) ≤ mostLineBytes → b ≡ sameText (spell (placementLine (lineOf k m q n v))) (now (text .entry))) ⌝ }
 {
-    let mut line: [u8; MOST_BYTES] = [0; MOST_BYTES];
+    let mut line: [u8; MOST_LINE_BYTES] = [0; MOST_LINE_BYTES];
     let end = planlines::placement_line(&mut line, 0, k, m, q, n, v);
     same_text(&line, end, text)
 }

@@ -281,7 +281,7 @@ impl Refusal {
 }
 
 // The side that a port lies on, given the side of its point's legs.
-pub fn port_side(legs: Side, l: Leg) -> Side
+fn port_side(legs: Side, l: Leg) -> Side
     ensures { λ s. ⌜ s ≡ portSide legs l ⌝ }
 {
     match l {

@@ -20,7 +20,7 @@ use railway::Refusal;
 pub fn read_case(text: &[u8]) -> CaseRead
     ensures { λ r. ⌜ ReaderPost (now (text .entry)) r ⌝ }
 {
-    if 4096 < text.len() {
+    if casefile::MOST_BYTES < text.len() {
         return refuse(Refusal::Length);
     }
     let all = read_lines(text);

@@ -4,7 +4,7 @@ use libc::STDIN_FILENO;
 use railway::Railway;
 
 // One byte more than a case text may have: whatever follows, such a text is refused for its length.
-const CASE: usize = 4097;
+const CASE: usize = casefile::MOST_BYTES + 1;
 
 const ENTRIES: usize = 8192;
 

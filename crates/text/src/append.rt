@@ -39,10 +39,10 @@ fn digits(out: &mut [u8], at: usize, left: u8, n: u32) -> usize
         return at;
     }
     if n < 10 {
-        return byte(out, at, 48 + n as u8);
+        return byte(out, at, b'0' + n as u8);
     }
     let next = digits(out, at, left - 1, n / 10);
-    byte(out, next, 48 + (n % 10) as u8)
+    byte(out, next, b'0' + (n % 10) as u8)
 }
 
 // A whole text.

@@ -9,6 +9,11 @@ ghost use Rattle.text.specs.Answers.{moreDigits, numberGot, byteGot, byt
 
 pub mod append; // append.rt: bytes and numbers put into a lent buffer, one behind the other
 
+// What parts the fields of a line, and what ends it.
+pub const TAB: u8 = b'\t';
+
+pub const LINE_END: u8 = b'\n';
+
 pub struct Cursor {
     pub at: usize,
 }
@@ -55,10 +60,10 @@ pub fn byte_at(text: &[u8], c: Cursor, b: u8) -> Byte
 fn is_digit(b: u8) -> bool
     ensures { λ d. ⌜ d ≡ isDigit b ⌝ }
 {
-    if b < 48 {
+    if b < b'0' {
         return false;
     }
-    if 57 < b {
+    if b'9' < b {
         return false;
     }
     true
@@ -80,10 +85,10 @@ pub fn number_at(text: &[u8], c: Cursor, w: Width) -> Number
     let first = peek(text, c);
     if is_digit(first) {
         let at = c.at + 1;
-        if first == 48 {
+        if first == b'0' {
             return Number::Value(0, Cursor { at: at });
         }
-        return digits_at(text, at, (first - 48) as u64, more_digits(w));
+        return digits_at(text, at, (first - b'0') as u64, more_digits(w));
     }
     Number::None
 }
@@ -99,7 +104,7 @@ fn digits_at(text: &[u8], from: usize, value: u64, most: u8) -> Number
     while 0 < left {
         let b = peek(text, Cursor { at: at });
         if is_digit(b) {
-            n = n * 10 + (b - 48) as u64;
+            n = n * 10 + (b - b'0') as u64;
             at += 1;
             left -= 1;
         } else {

@@ -19,14 +19,12 @@ use railway::Railway;
 use railway::Refusal;
 use railway::Side;
 use railway::Train;
+use text::LINE_END;
+use text::TAB;
 use text::append;
 
-const TAB: u8 = 9;
-
-const LINE_END: u8 = 10;
-
 // The parts of a case text behind its first line.
-pub enum Part {
+enum Part {
     Points,
     Joins,
     Signals,
@@ -40,7 +38,7 @@ pub fn write_case(r: Railway, buffer: &mut [u8]) -> Written
     match acceptance::test_record(r) {
         Tested::Refused(f) => Written::Refused(f),
         Tested::Accepted => {
-            let mut text: [u8; 4096] = [0; 4096];
+            let mut text: [u8; casefile::MOST_BYTES] = [0; casefile::MOST_BYTES];
             let n = put_text(&mut text, r);
             if buffer.len() < n {
                 return Written::Refused(Refusal::Space);
