@@ -7,14 +7,12 @@ ghost use Rattle.output.specs.Lines.{refusalLine, noneLine, testLine, Fr
 use libc::STDOUT_FILENO;
 use plan::TestAnswer;
 use railway::Refusal;
+use text::LINE_END;
+use text::TAB;
 use text::append;
 
 // Room enough for every line here.
 pub const LINE: usize = 16;
-
-const TAB: u8 = 9;
-
-const LINE_END: u8 = 10;
 
 // A refusal, by its number in the table.
 pub fn refusal(f: Refusal, out: &mut [u8])

@@ -5,12 +5,12 @@ use libc::STDIN_FILENO;
 use railway::Railway;
 
 // One byte more than a case text may have: whatever follows, such a text is refused for its length.
-const CASE: usize = 4097;
+const CASE: usize = casefile::MOST_BYTES + 1;
 
 // One byte more than a plan may have: a first line and one for each entry, of 45 bytes at most. Of a longer text the checker refuses a line
 // within these bytes: one that is too long, one that is no line or whose code does not rise, or the one that is cut here. What lies behind it
 // then does not matter, and the line that is cut is refused as the whole of it would be.
-const PLAN: usize = (verdict::ENTRIES + 1) * 45 + 1;
+const PLAN: usize = (verdict::ENTRIES + 1) * planlines::MOST_LINE_BYTES + 1;
 
 fn main() {
     let mut case = [0u8; CASE];

@@ -4,12 +4,10 @@ ghost use Rattle.planwriter.specs.Written.{LineWritten, LinesWritten};
 use libc::STDOUT_FILENO;
 use plan::Emitted;
 use plan::PlanPlace;
+use planlines::MOST_LINE_BYTES;
 use railway::Railway;
 use railway::Refusal;
 use tables::SolverAnswer;
-
-// No line of a plan has more bytes.
-const LINE: usize = 45;
 
 // A railway, with two lent tables: the solver's answer, with the tables as it left them.
 pub fn write_plan(r: Railway, figures: &mut [u32], settings: &mut [u32]) -> SolverAnswer
@@ -57,7 +55,7 @@ fn write_lines(r: Railway, figures: &[u32], settings: &[u32]) -> Emitted
 fn write_line(r: Railway, figures: &[u32], settings: &[u32], place: PlanPlace) -> Emitted
     ensures { λ a. ⌜ LineWritten r (now (figures .entry)) (now (settings .entry)) place a ⌝ }
 {
-    let mut line = [0u8; LINE];
+    let mut line = [0u8; MOST_LINE_BYTES];
     let emitted = emitter::emit_line(r, figures, settings, place, &mut line);
     if let Emitted::Line(n, _) = emitted {
         io::write_all(STDOUT_FILENO, &line[..n]);
