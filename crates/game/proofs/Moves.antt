@@ -1,5 +1,5 @@
--- Laws of an accepted railway's moves: trains stand on its sections and come to its sections, so that moves stay among the placements; the start is one of them.
--- A train comes to a section that a join names, and every join names what is there. Assumes nothing.
+-- Laws of an accepted railway's moves: trains stand on its sections and come to its sections, so that moves stay among the placements; the
+-- start is one of them. A train comes to a section that a join names, and every join names what is there. Assumes nothing.
 use mathlib.Core.Path.{_≡_, refl, _∙_}
 use mathlib.Core.Bool.{Bool, true, false, cond}
 use mathlib.Core.List.{List}
@@ -60,7 +60,7 @@ module _ (r : Railway) (ok : Facts r) where
       code-below (r .sections) (set (sectionsOf r p) t x) (set-below (r .sections) (sectionsOf r p) t x (sections-below (r .sections) (r .trains) p (ok .one-section)) l) in
       rw n at c
 
-  -- .. and in it that train stands there, and the others as before
+  -- in that placement the train stands there, and the others as before
   pub sections-with : (p t x : ℕ) → x < r .sections → sectionsOf r (codeWith r p t x) ≡ set (sectionsOf r p) t x
   sections-with p t x l =
       let n : length (set (sectionsOf r p) t x) ≡ r .trains = length-set (sectionsOf r p) t x ∙ sections-length (r .sections) (r .trains) p in
