@@ -94,16 +94,6 @@ module _ (r : Railway) (ok : Facts r) where
   starts-below : AllBelow (r .sections) starts
   starts-below i l = let h : i < r .trains = rw starts-length at l in rw (list-get (λ t. runOf r t .start .0) (r .trains) i 0 h) (ok .starts i h)
 
-  starts-stand : (t : ℕ) → t < r .trains → standsOn r (codeOf (r .sections) starts) t ≡ runOf r t .start .0
-  unfolding standsOn
-  starts-stand t l =
-      let c : sectionsOf r (codeOf (r .sections) starts) ≡ starts = rw starts-length at (sections-code (r .sections) starts (ok .one-section) starts-below) in
-      rw c (list-get (λ t. runOf r t .start .0) (r .trains) t 0 l)
-
-  pub start-stands : (t : ℕ) → t < r .trains → standsOn r (startCode r) t ≡ runOf r t .start .0
-  unfolding startCode
-  start-stands = starts-stand
-
   pub start-below : startCode r < placements r
   unfolding startCode
   start-below = rw starts-length at (code-below (r .sections) starts starts-below)

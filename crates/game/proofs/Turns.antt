@@ -60,10 +60,6 @@ module _ {S : Type 0} (g : Game S) where
     ]
   ]
 
-  -- a turn without a mover moves nothing and makes the history longer by one
-  pub idle-stays : (h : List (Turn S)) (p : ℕ) (s : S) → turn g h p s none ≡ standing (grown g h p s none) p
-  idle-stays h p s = refl
-
   -- lost trains are not home, and their play has ended
   pub lost-not-home : (p : ℕ) → g .isLost p ≡ true → (home g p ≡ false) × (over g p ≡ true)
   lost-not-home p e = (rw e refl, rw e)

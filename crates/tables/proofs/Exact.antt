@@ -38,6 +38,3 @@ module _ (r : Railway) (accepted : recordRefusal r ≡ none) (p : ℕ) (apart : 
 
   pub find-exact : Exact r F p n (find r F p n)
   find-exact = record { finds = λ v. (planned v, found v); finds-nothing = (find-none r F p n (facts r accepted), nothing) }
-
-  pub met-exact : Exact r F p n (findMet r F p n)
-  met-exact = let e : findMet r F p n ≡ find r F p n = find-met r (facts r accepted) p apart F n in rw e find-exact

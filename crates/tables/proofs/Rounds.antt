@@ -92,11 +92,3 @@ module _ (r : Railway) (accepted : recordRefusal r ≡ none) (n : ℕ) where
               rw e i;
           settings = t .settings;
         }
-
-    pub filled-round : (figs sets : List ℕ) → Filled r figs sets → RoundTables r n figs sets
-    filled-round figs sets t =
-        record {
-          entries = t .entries;
-          figures = λ p l f i. figure-one (gameOf r) p (figureIn figs p) f (t .figures p l) i ∙ sym (all p l f i);
-          settings = t .settings;
-        }
