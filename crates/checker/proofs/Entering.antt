@@ -1,7 +1,7 @@
 -- Entering lines into lent tables, by the tests that code makes: a table made fresh, an entry put, a line taken or refused by what it says. Assumes nothing.
 use mathlib.Core.Path.{_≡_}
 use mathlib.Core.List.{List}
-use Prim.Native.Nat.{ℕ, _+_, _-_, _≤_, _<_}
+use Prim.Native.Nat.{ℕ, _+_, _≤_, _<_}
 use lib.ListN.{set}
 use borrow.Author.Tests.{lt-ltb, le-ltb}
 use Rattle.railway.specs.declared.Refusal.the-variants.{PlanForm}

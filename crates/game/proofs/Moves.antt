@@ -21,7 +21,7 @@ use Rattle.railway.specs.declared.Railway.{Railway}
 use Rattle.railway.specs.Record.{joined, runOf}
 use Rattle.game.specs.Game.{lost, at, collision}
 use Rattle.game.specs.Local.{Inside}
-use Rattle.game.specs.Placement.{codeOf, sectionsIn, sectionsOf, standsOn, placements, startCode}
+use Rattle.game.specs.Placement.{sectionsIn, sectionsOf, standsOn, placements, startCode}
 use Rattle.game.specs.Setting.{Setting, headsFor}
 use Rattle.game.specs.Moves.{through, behindPort, pastPoint, pastJoin, passes, occupied, codeWith, enters, moveOf, gameOf}
 use Rattle.game.proofs.Codes.{AllBelow, code-below, sections-code, sections-length, sections-below, set-below}

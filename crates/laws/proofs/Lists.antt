@@ -1,14 +1,12 @@
 -- Laws of the tests over a list: members, repeats.
 -- Assumes nothing.
 use Prim.Native.Nat.{ℕ, zero, suc, _<_}
-use mathlib.Core.Path.{_≡_, refl, _∙_, ap}
+use mathlib.Core.Path.{_≡_, refl, ap}
 use mathlib.Core.Logic.{_⊎_, inl, inr}
 use mathlib.Core.Bool.{Bool, true, false, _||_}
 use mathlib.Core.List.{List, [], _∷_, _++_, map, List·Memᴰ, List·Memᴰ·head, List·Memᴰ·tail, List·Memᴰ·append-cases}
 use native.Mathlib.Omega.{arith}
-use lib.Dec.{eqb}
 use lib.ListN.{length, getD}
-use borrow.Author.Tests.{eqb-false, ne-eqb}
 use Rattle.laws.specs.Below.{listBelow, gatherBelow}
 use Rattle.laws.specs.Lists.{any, all, repeats, Every}
 use Rattle.laws.proofs.Bools.{clash, not-false, or-false, or-none, or-assoc, and-true, and-both}

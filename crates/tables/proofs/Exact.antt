@@ -16,11 +16,10 @@ use Rattle.game.specs.Moves.{gameOf}
 use Rattle.game.proofs.Accepted.{facts}
 use Rattle.tables.specs.Entries.{settingAt}
 use Rattle.tables.specs.Tables.{Planned, Exact}
-use Rattle.tables.specs.Find.{find, findMet}
+use Rattle.tables.specs.Find.{find}
 use Rattle.tables.proofs.Find.{find-sound, find-complete, find-none}
 use Rattle.tables.proofs.Best.{Best, find-best}
 use Rattle.tables.proofs.Unique.{plan-one}
-use Rattle.tables.proofs.Points.{find-met}
 
 module _ (r : Railway) (accepted : recordRefusal r ≡ none) (p : ℕ) (apart : shared r p ≡ false) (F : ℕ → Option ℕ) (n : ℕ) where
   planned : (v : ℕ) → find r F p n ≡ some v → Planned r F p n v

@@ -1,7 +1,7 @@
 -- Round by round: for every n there are tables as they stand after round n, and where no figure is larger than n these are filled tables.
 -- They are the case's figures and entries up to n. A plan's entry looks at smaller figures alone, and those are there from their own round
 -- on. Assumes nothing.
-use mathlib.Core.Path.{_≡_, refl, sym, _∙_, ap}
+use mathlib.Core.Path.{_≡_, refl, _∙_, ap}
 use mathlib.Core.Logic.{inl, inr}
 use mathlib.Core.Bool.{Bool, true, false, cond}
 use mathlib.Core.List.{List}
