@@ -39,7 +39,7 @@ use Rattle.moves.specs.declared.Move.{Move}
 use Rattle.moves.specs.Answers.{codeOn, ended, moveUnder}
 use Rattle.moves.specs.Steps.{sectionIn, On, movedTo, otherIn, allAt}
 use Rattle.moves.proofs.Coding.{code-move}
-use Rattle.moves.proofs.Placing.{table-facts, put-section, listed}
+use Rattle.moves.proofs.Placing.{table-facts, put-section, sections-listed}
 
 -- ONE POINT AT MOST: past a join all depends on how the point met lies.
 module _ (r : Railway) (plus : ℕ → Bool) where
@@ -145,7 +145,7 @@ module _ (r : Railway) (p : ℕ) (table : List ℕ) (q : Placement) (on : On r p
     unfolding standsOn
     code-by-weight l c y w s ec ey es ew =
         let weight : w ≡ r .sections ^ t = ew (omega (arith, facts-of .few-trains)) ∙ ap (λ (a : ℕ). a ^ t) es in
-        let here : c ≡ codeOf (r .sections) (sectionsOf r p) = ec ∙ ap (codeOf (r .sections)) (listed r (sectionIn q) p (λ u m. on .stands u)) in
+        let here : c ≡ codeOf (r .sections) (sectionsOf r p) = ec ∙ ap (codeOf (r .sections)) (sections-listed r (sectionIn q) p (λ u m. on .stands u)) in
         let stood : y ≡ getD (sectionsOf r p) t 0 = ey ∙ on .stands t in
         rw (weight, here, stood) (sym (code-move (r .sections) (sectionsOf r p) t x (rw (sections-length (r .sections) (r .trains) p) l)))
 

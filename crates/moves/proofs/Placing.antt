@@ -44,9 +44,9 @@ put-section xs t x l u = elim (eq? u t) [
 ]
 
 -- The sections of a code, train by train.
-pub listed : (r : Railway) (f : ℕ → ℕ) (p : ℕ) → ((t : ℕ) → t < r .trains → f t ≡ standsOn r p t) → listBelow f (r .trains) ≡ sectionsOf r p
+pub sections-listed : (r : Railway) (f : ℕ → ℕ) (p : ℕ) → ((t : ℕ) → t < r .trains → f t ≡ standsOn r p t) → listBelow f (r .trains) ≡ sectionsOf r p
 unfolding standsOn
-listed r f p same =
+sections-listed r f p same =
     ext-getD 0 (listBelow f (r .trains)) (sectionsOf r p) (list-length f (r .trains) ∙ sym (sections-length (r .sections) (r .trains) p))
     (λ t l. let m : t < r .trains = rw (list-length f (r .trains)) at l in list-get f (r .trains) t 0 m ∙ same t m)
 

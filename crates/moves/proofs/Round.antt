@@ -19,11 +19,11 @@ use Rattle.compiled.specs.Table.{Compiled}
 use Rattle.moves.specs.declared.Placement.{Placement}
 use Rattle.moves.specs.Answers.{codeOn, homeCode}
 use Rattle.moves.specs.Steps.{sectionIn, On}
-use Rattle.moves.proofs.Placing.{table-facts, placed, listed}
+use Rattle.moves.proofs.Placing.{table-facts, placed, sections-listed}
 
 module _ (r : Railway) (facts : Facts r) where
   pub code-again : (f : ℕ → ℕ) (p : ℕ) → p < placements r → ((t : ℕ) → t < r .trains → f t ≡ standsOn r p t) → codeOn r f ≡ p
-  code-again f p l same = ap (codeOf (r .sections)) (listed r f p same) ∙ code-sections (r .sections) (r .trains) p (facts .one-section) l
+  code-again f p l same = ap (codeOf (r .sections)) (sections-listed r f p same) ∙ code-sections (r .sections) (r .trains) p (facts .one-section) l
 
   pub sections-again : (f : ℕ → ℕ) → ((t : ℕ) → t < r .trains → f t < r .sections) → (t : ℕ) → t < r .trains → standsOn r (codeOn r f) t ≡ f t
   unfolding standsOn

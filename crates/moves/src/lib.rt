@@ -231,6 +231,7 @@ pub fn other_in(q: Placement, t: u8, x: u8, n: u8) -> bool
     false
 }
 
+// Train u is another than t and stands on section x.
 fn is_other(q: Placement, t: u8, x: u8, u: u8) -> bool
     ensures { λ b. ⌜ b ≡ otherIn q t x u ⌝ }
 {
@@ -247,6 +248,7 @@ pub fn is_lost(table: &Table, p: u32) -> bool
     lost_in(table, placement_of(table, p))
 }
 
+// Two trains of a placement by value share a section.
 pub fn lost_in(table: &Table, q: Placement) -> bool
     ensures { λ b. ⌜ ((r : Railway) (p : ℕ) → On r p (now (table .entry)) q → b ≡ shared r p) ⌝ }
 {
@@ -285,6 +287,7 @@ pub fn heads_for(table: &Table, p: u32, t: u8) -> End
     end_in(table, placement_of(table, p), t)
 }
 
+// The end that a train heads for in a placement by value.
 fn end_in(table: &Table, q: Placement, t: u8) -> End
     ensures { λ e. ⌜ ((r : Railway) (p : ℕ) → On r p (now (table .entry)) q → e ≡ headsFor r p t) ⌝ }
 {
@@ -300,6 +303,7 @@ pub fn may_move(table: &Table, p: u32, v: u32, t: u8) -> bool
     may_in(table, placement_of(table, p), v, t)
 }
 
+// Whether a train of a placement by value is there and may move.
 fn may_in(table: &Table, q: Placement, v: u32, t: u8) -> bool
     ensures { λ b. ⌜ ((r : Railway) (p : ℕ) → On r p (now (table .entry)) q → b ≡ may (gameOf r) p (settingAt r p v) t) ⌝ }
 {
@@ -335,6 +339,7 @@ fn open_in(table: &Table, q: Placement, v: u32, i: u8) -> bool
     false
 }
 
+// Entry v opens train u, and train u heads for the section end of index i.
 fn opens_end(table: &Table, q: Placement, v: u32, i: u8, u: u8) -> bool
     ensures { λ b. ⌜ ((r : Railway) (p : ℕ) → On r p (now (table .entry)) q → b ≡ opensEnd r p (opensIn v) i u) ⌝ }
 {

@@ -67,8 +67,8 @@ entered r p t c (some x) e = go (occupied r p t x) e
 -- BACK FROM placement c, where the train stands on section x.
 module _ (r : Railway) (accepted : recordRefusal r ≡ none) (c p t : ℕ) (plus : Bool) (l : p < placements r) (lt : t < r .trains) (moved : moveOf r p (allAt plus) t ≡ at c)
     (x : ℕ) (here : x ≡ standsOn r c t) where
-  ok : Facts r
-  ok = facts r accepted
+  facts-of : Facts r
+  facts-of = facts r accepted
 
   into : Entered r p t c (passes r (λ i. plus) (headsFor r p t) .reached)
   unfolding moveOf
@@ -79,7 +79,7 @@ module _ (r : Railway) (accepted : recordRefusal r ≡ none) (c p t : ℕ) (plus
 
   -- The other trains stand as before.
   others : sectionsOf r c ≡ set (sectionsOf r p) t (into .section)
-  others = ap (sectionsOf r) (into .code) ∙ sections-with r ok p t (into .section) (passes-below r ok (λ i. plus) (headsFor r p t) (into .section) (into .reached))
+  others = ap (sectionsOf r) (into .code) ∙ sections-with r facts-of p t (into .section) (passes-below r facts-of (λ i. plus) (headsFor r p t) (into .section) (into .reached))
 
   section-is : x ≡ into .section
   unfolding standsOn
@@ -95,14 +95,14 @@ module _ (r : Railway) (accepted : recordRefusal r ≡ none) (c p t : ℕ) (plus
         behind ∙ ap sectionByte back
 
     pub some-behind : y ≡ noByte → ⊥
-    some-behind e = omega (arith, behind-is, section-below r ok p t lt, ok .few-sections)
+    some-behind e = omega (arith, behind-is, section-below r facts-of p t lt, facts-of .few-sections)
 
     pub before-is : p ≡ codeWith r c t y
     unfolding standsOn
     before-is =
         let a : set (sectionsOf r c) t y ≡ set (sectionsOf r p) t y = rw others (set-set (sectionsOf r p) t (into .section) y) in
         let b : set (sectionsOf r p) t y ≡ sectionsOf r p = rw behind-is (set-getD (sectionsOf r p) t 0) in
-        sym (ap (codeOf (r .sections)) (a ∙ b) ∙ code-sections (r .sections) (r .trains) p (ok .one-section) l)
+        sym (ap (codeOf (r .sections)) (a ∙ b) ∙ code-sections (r .sections) (r .trains) p (facts-of .one-section) l)
 
 -- WHAT LIES BEHIND is a section of the railway, or nothing.
 pub behind-below : (r : Railway) → recordRefusal r ≡ none → (t x : ℕ) (plus : Bool) (y : ℕ) → y ≡ sectionBehind r t x plus → (y ≡ noByte → ⊥) → y < r .sections
