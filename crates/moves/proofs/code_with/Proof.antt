@@ -1,6 +1,5 @@
 -- `moves::code_with` meets its contract: a code is worked out from the last train to the first.
 -- Assumes nothing.
-use native.Mathlib.Omega.{arith}
 use borrow.Author.Needs.{needs}
 use Rattle.moves.proofs.Placing.{code-with-is}
 use Rattle.moves.proofs.code_with.Statement.{statement}

@@ -1,6 +1,5 @@
 -- `moves::may_in` meets its contract: a train that is there and free, or whose signal is open.
 -- Assumes nothing.
-use native.Mathlib.Omega.{arith}
 use borrow.Author.Needs.{needs}
 use Rattle.moves.proofs.Moving.{not-there, free-may, held-may}
 use Rattle.moves.proofs.may_in.Statement.{statement}

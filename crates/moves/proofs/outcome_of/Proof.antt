@@ -1,6 +1,5 @@
 -- `moves::outcome_of` meets its contract: off the track, into another train, or on.
 -- Assumes nothing.
-use native.Mathlib.Omega.{arith}
 use borrow.Author.Needs.{needs}
 use Rattle.moves.proofs.Moving.{other-on, code-moved, derails, collides, stands-at}
 use Rattle.moves.proofs.outcome_of.Statement.{statement}

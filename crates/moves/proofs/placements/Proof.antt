@@ -1,6 +1,5 @@
 -- `moves::placements` meets its contract, by the counts in the table.
 -- Assumes nothing.
-use native.Mathlib.Omega.{arith}
 use borrow.Author.Needs.{needs}
 use Rattle.moves.proofs.Placing.{placements-are, few-trains}
 use Rattle.moves.proofs.placements.Statement.{statement}
