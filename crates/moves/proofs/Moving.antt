@@ -26,7 +26,7 @@ use Rattle.railway.specs.Bounds.{mostSections, mostTrains}
 use Rattle.railway.specs.Ends.{endIndex}
 use Rattle.railway.specs.Record.{joined, hasSignal, runOf}
 use Rattle.game.specs.Game.{derailment, collision, lost, at, may}
-use Rattle.game.specs.Placement.{codeOf, sectionsOf, standsOn}
+use Rattle.game.specs.Placement.{codeOf, sectionsOf, standsOn, codeOn}
 use Rattle.game.specs.Setting.{headsFor, held, mayMove}
 use Rattle.game.specs.Moves.{Passage, through, pastPoint, pastJoin, passes, otherOn, occupied, codeWith, enters, moveOf, gameOf}
 use Rattle.game.proofs.Codes.{sections-length}
@@ -36,7 +36,7 @@ use Rattle.tables.specs.Entries.{opensIn, opensEnd, settingAt}
 use Rattle.compiled.specs.Table.{noByte, pointByte, sectionByte, endOn}
 use Rattle.moves.specs.declared.Placement.{Placement}
 use Rattle.moves.specs.declared.Move.{Move}
-use Rattle.moves.specs.Answers.{codeOn, ended, moveUnder}
+use Rattle.moves.specs.Answers.{ended, moveUnder}
 use Rattle.moves.specs.Steps.{sectionIn, On, movedTo, otherIn, allAt}
 use Rattle.moves.proofs.Coding.{code-move}
 use Rattle.moves.proofs.Placing.{table-facts, put-section, sections-listed}

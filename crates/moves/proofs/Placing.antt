@@ -19,12 +19,11 @@ use Rattle.laws.proofs.Below.{any-same, any-none, any-one, all-each, all-but, l
 use Rattle.railway.specs.declared.Railway.{Railway}
 use Rattle.railway.specs.Bounds.{mostTrains}
 use Rattle.railway.specs.Record.{runOf}
-use Rattle.game.specs.Placement.{codeOf, sectionsOf, placements, standsOn, arrived, atHome, standsWith, sharesLower, shared}
+use Rattle.game.specs.Placement.{codeOf, sectionsOf, placements, standsOn, arrived, atHome, standsWith, sharesLower, shared, codeOn}
 use Rattle.game.proofs.Codes.{sections-length}
 use Rattle.game.proofs.Accepted.{Facts, facts}
 use Rattle.compiled.specs.Table.{Compiled}
 use Rattle.moves.specs.declared.Placement.{Placement}
-use Rattle.moves.specs.Answers.{codeOn}
 use Rattle.moves.specs.Steps.{sectionIn, On, movedTo, otherIn}
 use Rattle.moves.proofs.Placement as T
 use Rattle.moves.proofs.Coding.{without, section-left, code-of-sections}

@@ -12,12 +12,12 @@ use Rattle.laws.proofs.Below.{all-at, all-of, list-length, list-get}
 use Rattle.railway.specs.declared.Railway.{Railway}
 use Rattle.railway.specs.Bounds.{mostTrains}
 use Rattle.railway.specs.Record.{runOf}
-use Rattle.game.specs.Placement.{codeOf, sectionsIn, sectionsOf, placements, standsOn, arrived, atHome}
+use Rattle.game.specs.Placement.{codeOf, sectionsIn, sectionsOf, placements, standsOn, arrived, atHome, codeOn}
 use Rattle.game.proofs.Codes.{AllBelow, code-sections, sections-code}
 use Rattle.game.proofs.Accepted.{Facts}
 use Rattle.compiled.specs.Table.{Compiled}
 use Rattle.moves.specs.declared.Placement.{Placement}
-use Rattle.moves.specs.Answers.{codeOn, homeCode}
+use Rattle.moves.specs.Answers.{homeCode}
 use Rattle.moves.specs.Steps.{sectionIn, On}
 use Rattle.moves.proofs.Placing.{table-facts, placed, sections-listed}
 

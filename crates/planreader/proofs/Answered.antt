@@ -33,8 +33,8 @@ use Rattle.plan.specs.Reading.{readLine}
 use Rattle.plan.proofs.Reading.{lastFields, list-is, fits-parts, reads-line}
 use Rattle.plan.proofs.Lengths.{lines-short}
 use Rattle.compiled.specs.Table.{countByte, Compiled}
+use Rattle.game.specs.Placement.{codeOn}
 use Rattle.moves.specs.declared.Placement.{Placement}
-use Rattle.moves.specs.Answers.{codeOn}
 use Rattle.moves.specs.Steps.{sectionIn}
 use Rattle.moves.proofs.Placing.{sections-are, trains-are}
 use Rattle.planlines.specs.Spelling.{lineOf}
