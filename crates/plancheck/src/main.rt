@@ -1,5 +1,7 @@
 // The case of file case.txt in the working folder and a plan on standard input; `pass` on standard output, or `refused`, a tab and the number.
+ghost use mathlib.Core.Path.{_≡_};
 ghost use Rattle.io.specs.Counts.{Counts};
+ghost use Rattle.verdict.specs.Claims.{readBytes};
 use casefile::CaseAnswer;
 use libc::STDIN_FILENO;
 use railway::Railway;
@@ -7,9 +9,8 @@ use railway::Railway;
 // One byte more than a case text may have: whatever follows, such a text is refused for its length.
 const CASE: usize = casefile::MOST_BYTES + 1;
 
-// One byte more than a plan may have: a first line and one for each entry, of 45 bytes at most. Of a longer text the checker refuses a line
-// within these bytes: one that is too long, one that is no line or whose code does not rise, or the one that is cut here. What lies behind it
-// then does not matter, and the line that is cut is refused as the whole of it would be.
+// One byte more than a plan can have, a first line and one for each entry: so many bytes decide what any text is answered
+// (`CutDecides` in verdict/specs/Claims).
 const PLAN: usize = (verdict::ENTRIES + 1) * planlines::MOST_LINE_BYTES + 1;
 
 fn main() {
@@ -39,7 +40,10 @@ fn read_file(case: &mut [u8]) -> usize
     n
 }
 
-fn check(r: Railway) {
+// Reads the plan into a buffer of as many bytes as decide its check. The promise ties the buffer's length to the definition.
+fn check(r: Railway)
+    ensures { λ u. do ⌜ (← ⟦PLAN⟧ .entry) ≡ readBytes ⌝ }
+{
     let mut plan = [0u8; PLAN];
     let n = io::read_full(STDIN_FILENO, &mut plan);
     let answer = verdict::check_plan(r, &plan[..n]);

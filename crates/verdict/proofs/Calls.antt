@@ -2,18 +2,20 @@
 -- was to be done from the beginning. A refused railway is refused at the first call, be it for a line or for the test. Assumes nothing.
 use mathlib.Core.Path.{_≡_, refl, sym, _∙_, ap}
 use mathlib.Core.List.{List, [], _∷_}
-use mathlib.Core.Option.{some}
+use mathlib.Core.Option.{none, some}
 use Prim.Native.Nat.{ℕ, _-_, _≤_}
 use lib.ListN.{length, take, drop, drop-of-length-le}
 use Rattle.railway.specs.declared.Railway.{Railway}
 use Rattle.railway.specs.declared.Refusal.{Refusal}
 use Rattle.tables.specs.Tables.{caseRefusal}
+use Rattle.tables.proofs.Refusals.{case-none}
 use Rattle.plan.specs.declared.LineAnswer.{LineAnswer}
 use Rattle.plan.specs.declared.LineAnswer.the-variants.{Taken, Refused as LineRefused}
 use Rattle.plan.specs.declared.TestAnswer.{TestAnswer}
 use Rattle.plan.specs.declared.TestAnswer.the-variants.{Refused as TestRefused}
 use Rattle.plan.specs.Checker.{testNumber, Checking, freshChecking, takeLine, testPlan}
 use Rattle.plan.specs.Promises.{FreshPost, LinePost, TestPost}
+use Rattle.plan.proofs.Emits.{none-refused}
 use Rattle.plan.proofs.Rules.{check-rule}
 use Rattle.verdict.specs.Verdict.{linesOf, afterLine, checkLines, entries, fresh, checkText, PlanPost}
 use Rattle.verdict.proofs.Lines.{LineAt}
@@ -22,7 +24,7 @@ use Rattle.verdict.proofs.Lines.{LineAt}
 pub record Onward (r : Railway) (plan : List ℕ) (x : TestAnswer) (at : ℕ) (c : Checking) : Type 0 where
   pub same : checkLines r (linesOf (drop at plan)) c ≡ x
 
-one-line : (r : Railway) (l : List ℕ) (ls : List (List ℕ)) (c : Checking)
+pub one-line : (r : Railway) (l : List ℕ) (ls : List (List ℕ)) (c : Checking)
     → checkLines r (l ∷ ls) c ≡ afterLine (takeLine r c l .answer) (takeLine r c l .checking) (checkLines r ls)
 unfolding checkLines
 one-line r l ls c = refl
@@ -67,6 +69,14 @@ pub refused-case : (r : Railway) (ls : List (List ℕ)) (c : Checking) (f : Refu
 unfolding checkLines
 refused-case r [] c f e = check-rule r c .test-first f e
 refused-case r (l ∷ ls) c f e = rw (check-rule r c .line-first l f e) refl
+
+-- a call for a line makes no case refused that was not
+pub still-fine : (r : Railway) (c : Checking) (l : List ℕ) → caseRefusal r (c .figs) (c .sets) ≡ none
+    → caseRefusal r (takeLine r c l .checking .figs) (takeLine r c l .checking .sets) ≡ none
+still-fine r c l e =
+    let k = case-none r (c .figs) (c .sets) .0 e in
+    let w = check-rule r c .line-changes l in
+    none-refused r _ _ (k .0) (rw (w .kept-figs .as-long) (k .1 .figures)) (rw (w .kept-sets .as-long) (k .1 .settings))
 
 -- what was done is what is promised
 pub promised : (r : Railway) (plan : List ℕ) (a : TestAnswer) → a ≡ checkText r plan → PlanPost r plan a

@@ -28,7 +28,7 @@ use Rattle.plan.proofs.Forms.{no-form}
 use Rattle.plan.proofs.Rules.{check-rule}
 use Rattle.verdict.specs.Verdict.{linesOf, checkLines, entries}
 use Rattle.verdict.specs.Claims.{ByPlan, VerdictHolds, CaseHolds}
-use Rattle.verdict.proofs.Calls.{refused-case}
+use Rattle.verdict.proofs.Calls.{refused-case, still-fine}
 
 -- no more lines are taken than were handed in
 taken-few : (xs : List LineAnswer) (ls : List (List ℕ)) → length (takenTexts xs ls) ≤ length ls
@@ -63,14 +63,11 @@ unfolding checkLines run takenTexts
 either r [] c = inl (record { same = refl; taken = refl })
 either r (l ∷ ls) c = one-more r l ls c _ _ refl refl (either r ls (takeLine r c l .checking))
 
--- no call makes a case refused that was not
+-- calls for lines make no case refused that was not
 still-none : (r : Railway) (ls : List (List ℕ)) (c : Checking) → caseRefusal r (c .figs) (c .sets) ≡ none → caseRefusal r (run r ls c .end .figs) (run r ls c .end .sets) ≡ none
 unfolding run
 still-none r [] c e = e
-still-none r (l ∷ ls) c e =
-    let k = case-none r (c .figs) (c .sets) .0 e in
-    let w = check-rule r c .line-changes l in
-    still-none r ls (takeLine r c l .checking) (none-refused r _ _ (k .0) (rw (w .kept-figs .as-long) (k .1 .figures)) (rw (w .kept-sets .as-long) (k .1 .settings)))
+still-none r (l ∷ ls) c e = still-none r ls (takeLine r c l .checking) (still-fine r c l e)
 
 -- THE ANSWER by the plan is one of three.
 data ByTest (a : TestAnswer) : Type 0 where
