@@ -1,7 +1,8 @@
-// compare TABLES TABLES: holds the second file's figures and settings to the first's, entry by entry. Placements that the second has not looked at are
-// left out. Prints how many were compared; at a difference it prints the entry and answers 1.
+// compare TABLES TABLES [part]: holds the second file's figures and settings to the first's, entry by entry. With `part`, placements that the second has not
+// looked at are left out; else such an entry is a difference. Prints how many were compared; at a difference it prints the entry and answers 1.
 #include "solvers.hpp"
 #include <cstdio>
+#include <cstring>
 #include <fstream>
 #include <iterator>
 
@@ -19,8 +20,9 @@ std::vector<u32> read(const char* path) {
 }
 
 int main(int count, char** words) {
-    if (count != 3) {
-        fprintf(stderr, "usage: compare TABLES TABLES\n");
+    bool part = count == 4 && !strcmp(words[3], "part");
+    if (count != 3 && !part) {
+        fprintf(stderr, "usage: compare TABLES TABLES [part]\n");
         return 2;
     }
     std::vector<u32> one = read(words[1]), other = read(words[2]);
@@ -30,7 +32,7 @@ int main(int count, char** words) {
     }
     size_t placements = one.size() / 2, compared = 0;
     for (size_t p = 0; p < placements; p++) {
-        if (other[p] == NOT_LOOKED_AT) continue;
+        if (part && other[p] == NOT_LOOKED_AT) continue;
         compared++;
         const u32 *a = &one[p], *b = &other[p];
         if (a[0] == b[0] && a[placements] == b[placements]) continue;
