@@ -86,8 +86,9 @@ pub record Runs (t : TrainLine) (run : Train) : Type 0 where
   pub start : suc (run .start .0) ≡ t .start
   pub destination : suc (run .destination .0) ≡ t .destination
 
--- The record has what the lines say: the H line's counts, P line n the legs of point n, the J lines its joins, the G lines its signals, T line t train t.
-pub record Told (d : Description) (r : Railway) : Type 0 where
+-- The record has what the lines say: the H line its counts, P line n the legs of point n, the J lines its joins, the G lines its signals and
+-- T line t the run of train t.
+pub record AsDescribed (d : Description) (r : Railway) : Type 0 where
   pub sections : r .sections ≡ d .sections
   pub points : r .points ≡ d .points
   pub trains : r .trains ≡ d .trains
@@ -97,12 +98,12 @@ pub record Told (d : Description) (r : Railway) : Type 0 where
   pub runs : (t : ℕ) → t < d .trains → Runs (getD (d .runs) t noTrainLine) (runOf r t)
 
 -- A text that is accepted is read as a record that has what its lines say.
-abbrev pub ReadAsTold : Type 0
-ReadAsTold = (text : List ℕ) (r : Railway) → caseAnswer text ≡ accepted r → (d : Description) × Describes text d × Told d r
+abbrev pub ReadAsDescribed : Type 0
+ReadAsDescribed = (text : List ℕ) (r : Railway) → caseAnswer text ≡ accepted r → (d : Description) × Describes text d × AsDescribed d r
 
 -- So does the text that the writer makes of an accepted record: it says what the record has.
-abbrev pub WrittenAsTold : Type 0
-WrittenAsTold = (r : Railway) → recordRefusal r ≡ none → (d : Description) × Describes (writtenText r) d × Told d r
+abbrev pub WrittenAsDescribed : Type 0
+WrittenAsDescribed = (r : Railway) → recordRefusal r ≡ none → (d : Description) × Describes (writtenText r) d × AsDescribed d r
 
 -- THE ROUND TRIP. What is written of an accepted record is a case text of the same railway.
 abbrev pub RoundTrip : Type 0
