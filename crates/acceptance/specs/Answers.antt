@@ -18,7 +18,7 @@ abbrev pub refusalGiven : Tested → Option Refusal
 refusalGiven Accepted = none
 refusalGiven (Refused f) = some f
 
--- Its number in the table.
+-- The number, in the table, of the refusal that a test answers, if it does.
 abbrev pub numberGiven : Tested → Option ℕ
 numberGiven Accepted = none
 numberGiven (Refused f) = some (number f)

@@ -33,7 +33,7 @@ use Rattle.casefile.specs.Reading.{read, caseAnswer}
 abbrev pub ReadIsSpelling : Type 0
 ReadIsSpelling = (text : List ℕ) (d : Description) → (read text ≡ some d) ↔ Describes text d
 
--- So a text says one thing at most.
+-- A text says one thing at most.
 abbrev pub DescribesOne : Type 0
 DescribesOne = (text : List ℕ) (d e : Description) → Describes text d → Describes text e → d ≡ e
 
@@ -57,7 +57,7 @@ NumberedExactly = (text : List ℕ) (n : ℕ) → (readNumber (caseAnswer text) 
 abbrev pub ReaderAnswers : Type 0
 ReaderAnswers = (text : List ℕ) (a : CaseRead) → (a ≡ caseAnswer text) ↔ ReaderPost text a
 
--- Every text gets one of the two.
+-- Every text is accepted with a railway or refused.
 abbrev pub AlwaysAnswered : Type 0
 AlwaysAnswered = (text : List ℕ) → ((r : Railway) × (caseAnswer text ≡ accepted r)) ⊎ ((f : Refusal) × (caseAnswer text ≡ refused f))
 
@@ -101,7 +101,7 @@ pub record AsDescribed (d : Description) (r : Railway) : Type 0 where
 abbrev pub ReadAsDescribed : Type 0
 ReadAsDescribed = (text : List ℕ) (r : Railway) → caseAnswer text ≡ accepted r → (d : Description) × Describes text d × AsDescribed d r
 
--- So does the text that the writer makes of an accepted record: it says what the record has.
+-- The text that the writer makes of an accepted record says what the record has.
 abbrev pub WrittenAsDescribed : Type 0
 WrittenAsDescribed = (r : Railway) → recordRefusal r ≡ none → (d : Description) × Describes (writtenText r) d × AsDescribed d r
 
@@ -109,7 +109,7 @@ WrittenAsDescribed = (r : Railway) → recordRefusal r ≡ none → (d : Descrip
 abbrev pub RoundTrip : Type 0
 RoundTrip = (r : Railway) → recordRefusal r ≡ none → (q : Railway) × (caseAnswer (writtenText r) ≡ accepted q) × SameRailway r q
 
--- It fits into the bytes that a case text may have.
+-- The writer's text of an accepted record fits into the bytes that a case text may have.
 abbrev pub WrittenFits : Type 0
 WrittenFits = (r : Railway) → recordRefusal r ≡ none → length (writtenText r) ≤ mostBytes
 
@@ -117,7 +117,7 @@ WrittenFits = (r : Railway) → recordRefusal r ≡ none → length (writtenText
 abbrev pub AcceptedAgain : Type 0
 AcceptedAgain = (text : List ℕ) (r : Railway) → caseAnswer text ≡ accepted r → recordRefusal r ≡ none
 
--- So what was read, written and read again is the same railway, and what is written of it is what was written before.
+-- What was read, written and read again is the same railway, and what is written of it is what was written before.
 abbrev pub ReadAgain : Type 0
 ReadAgain =
     (text : List ℕ) (r : Railway) → caseAnswer text ≡ accepted r
@@ -155,7 +155,7 @@ WriterSorts = (r : Railway) → recordRefusal r ≡ none → (d : Description) �
 abbrev pub SameRefusal : Type 0
 SameRefusal = (r q : Railway) → SameRailway r q → recordRefusal r ≡ recordRefusal q
 
--- It has the same text.
+-- The same railway has the same text.
 abbrev pub SameText : Type 0
 SameText = (r q : Railway) → SameRailway r q → writtenText r ≡ writtenText q
 

@@ -107,24 +107,24 @@ spell d =
 abbrev pub Writable : ℕ → Type 0
 Writable n = n < 1000
 
--- The number in an end can be written so.
+-- An end whose number can be written.
 abbrev pub WritableEnd : EndField → Type 0
 WritableEnd (section n s) = Writable n
 WritableEnd (port n l) = Writable n
 
--- Both numbers in a J line can.
+-- A J line whose two numbers can be written.
 abbrev pub WritableJoin : JoinLine → Type 0
 WritableJoin j = WritableEnd (j .one) × WritableEnd (j .other)
 
--- The number in a G line can.
+-- A G line whose number can be written.
 abbrev pub WritableSignal : SignalLine → Type 0
 WritableSignal g = Writable (g .number)
 
--- Start and destination in a T line can; the line's own number is at most the H line's.
+-- A T line whose start and destination can be written; its own number is at most the H line's.
 abbrev pub WritableTrain : TrainLine → Type 0
 WritableTrain t = Writable (t .start) × Writable (t .destination)
 
--- Such numbers everywhere, one P line a point and one T line a train.
+-- Every number can be written, and there is one P line a point and one T line a train.
 pub record WellFormed (d : Description) : Type 0 where
   pub sections : Writable (d .sections)
   pub points : Writable (d .points)

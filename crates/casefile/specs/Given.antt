@@ -34,7 +34,7 @@ abbrev pub refusalOf : CaseAnswer → Option Refusal
 refusalOf Accepted = none
 refusalOf (Refused f) = some f
 
--- Its number in the table.
+-- The number of the refusal that is answered, if one is.
 abbrev pub numberGiven : CaseAnswer → Option ℕ
 numberGiven Accepted = none
 numberGiven (Refused f) = some (number f)
@@ -43,7 +43,7 @@ numberGiven (Refused f) = some (number f)
 abbrev pub readRefusal : CaseRead → Option Refusal
 readRefusal a = refusalOf (a .answer)
 
--- The number of that refusal in the table.
+-- The number in an answer that has a record beside it.
 abbrev pub readNumber : CaseRead → Option ℕ
 readNumber a = numberGiven (a .answer)
 

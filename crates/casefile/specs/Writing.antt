@@ -32,7 +32,7 @@ abbrev pub joinFrom : ℕ → Joined → List JoinLine
 joinFrom i Nothing = []
 joinFrom i (With f) = cond (ltb i (endIndex f)) (record { one = fieldOf (endAt i); other = fieldOf f } ∷ []) []
 
--- That line, if there is one, in a record.
+-- The J line that begins with the section end of index i in a record, if there is one.
 abbrev pub joinAt : Railway → ℕ → List JoinLine
 joinAt r i = joinFrom i (linkAt r i)
 

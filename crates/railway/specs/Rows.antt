@@ -65,13 +65,13 @@ pub record Tied : Type 0 where
   pub section : Option ℕ
   pub side : Side
 
--- Both are ports.
+-- Both ends are ports.
 abbrev pub bothPorts : Option ℕ → Option ℕ → Bool
 bothPorts none none = true
 bothPorts none (some n) = false
 bothPorts (some m) b = false
 
--- Both belong to one section.
+-- Both ends belong to one section.
 abbrev pub oneSection : Option ℕ → Option ℕ → Bool
 oneSection (some m) (some n) = eqb m n
 oneSection (some m) none = false
