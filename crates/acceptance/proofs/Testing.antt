@@ -1,7 +1,7 @@
 -- The test of a record as code makes it: each function's answer is the definition's, by what it looked up and what it found.
 -- Assumes nothing.
 use Prim.Native.Nat.{ℕ}
-use mathlib.Core.Path.{_≡_, ap}
+use mathlib.Core.Path.{_≡_, _∙_, ap}
 use mathlib.Core.Bool.{Bool, true, false, not, _&&_, _||_}
 use lib.Dec.{ltb}
 use Rattle.railway.specs.declared.End.{End}
@@ -17,6 +17,7 @@ use Rattle.acceptance.specs.declared.Tested.the-variants.{Accepted, Refu
 use Rattle.railway.specs.Refusals.{numberOf, first}
 use Rattle.railway.specs.Rows.{known, unknownLinkAt, unknownTrainAt, tied, wrongPair, wrongLinkAt, leadsTo, unreturnedAt, countRow, unknownRow, joinRow, looseRow, placeRow, recordRefusal}
 use Rattle.acceptance.specs.Answers.{refusalGiven, Judged}
+use Rattle.acceptance.proofs.Answers.{numbers-agree}
 
 -- what a row makes of the link at a place
 module _ (r : Railway) (i : ℕ) (j : Joined) (is : j ≡ linkAt r i) where
@@ -69,7 +70,7 @@ fails-not a p = rw p
 
 -- the rows, one after the other
 pub judged : (r : Railway) (t : Tested) → refusalGiven t ≡ recordRefusal r → Judged r t
-judged r t h = record { refusal = h; numbered = ap numberOf h }
+judged r t h = record { refusal = h; numbered = numbers-agree t ∙ ap numberOf h }
 
 module _ (r : Railway) where
   pub refused-count : countRow r ≡ true → Judged r (Refused Count)

@@ -10,7 +10,7 @@ use Rattle.acceptance.specs.declared.Tested.{Tested}
 use Rattle.acceptance.specs.declared.Tested.the-variants.{Accepted, Refused}
 use Rattle.acceptance.specs.declared.Flaw.{Flaw}
 use Rattle.acceptance.specs.declared.Flaw.the-variants.{UnknownLink, UnknownSignal, UnknownTrain, WrongLink, Unreturned, LoosePort, SharesWith}
-use Rattle.railway.specs.Refusals.{numberOf}
+use Rattle.railway.specs.Refusals.{number, numberOf}
 use Rattle.railway.specs.Rows.{recordRefusal, unknownLinkAt, unknownSignalAt, unknownTrainAt, wrongLinkAt, unreturnedAt, looseAt, sharesWith}
 
 -- The refusal that a test answers, if it does.
@@ -18,9 +18,10 @@ abbrev pub refusalGiven : Tested → Option Refusal
 refusalGiven Accepted = none
 refusalGiven (Refused f) = some f
 
--- Its number in the table.
+-- The number, in the table, of the refusal that a test answers, if it does.
 abbrev pub numberGiven : Tested → Option ℕ
-numberGiven t = numberOf (refusalGiven t)
+numberGiven Accepted = none
+numberGiven (Refused f) = some (number f)
 
 -- What the test of a record answers: the first of rows 3 to 8 that applies, by its number; accepted where none does.
 pub record Judged (r : Railway) (t : Tested) : Type 0 where

@@ -34,9 +34,9 @@ use Rattle.casefile.specs.Rows.{known, sectionOf, sideOf, sameSignal}
 use Rattle.casefile.specs.Recording.{endOf, fieldOf, partner, signalOf, trainOf, noTrainLine, railwayOf}
 use Rattle.casefile.specs.Claims.{AcceptedAgain}
 use Rattle.casefile.proofs.Exactly.{accepted-exactly}
-use Rattle.casefile.proofs.Clean.{Clean, clean-facts, within-is}
+use Rattle.casefile.proofs.Faultless.{Faultless, faultless-facts, within-is}
 use Rattle.casefile.proofs.Ends.{signal-is, end-field, field-end, ports-same, one-same, Ties, forth, back, partner-ties, partner-one, partner-other, partner-nothing}
-use Rattle.casefile.proofs.Told.{link-at, flag-at, legs-at, run-at, joined-at, counted-end, numbered-end, run-known}
+use Rattle.casefile.proofs.Described.{link-at, flag-at, legs-at, run-at, joined-at, counted-end, numbered-end, run-known}
 
 -- the tests of row 5, turned round
 ports-turned : (a b : Option ℕ) → bothPorts a b ≡ false → bothPorts b a ≡ false
@@ -57,7 +57,7 @@ side-turned Up Down h = refl
 side-turned Down Up h = refl
 side-turned Down Down h = h
 
-module _ (d : Description) (w : Clean d) where
+module _ (d : Description) (w : Faultless d) where
   known-end : (a : EndField) → known d a ≡ true → RR.known (railwayOf d) (endOf a) ≡ true
   unfolding railwayOf
   known-end (section n s) h = let k = within-is n (d .sections) h in lt-ltb (n - 1) (d .sections) (omega arith)
@@ -151,4 +151,4 @@ pub accepted-again : AcceptedAgain
 accepted-again text r e =
     let a = accepted-exactly text r .0 e in
     let d = a .description in
-    refusal-of r (railwayOf d) (a .railway) (facts-accepted (railwayOf d) (accepted-record d (clean-facts d (a .no-row)) (a .described .well-formed)))
+    refusal-of r (railwayOf d) (a .railway) (facts-accepted (railwayOf d) (accepted-record d (faultless-facts d (a .no-row)) (a .described .well-formed)))

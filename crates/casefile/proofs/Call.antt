@@ -1,6 +1,6 @@
--- The writer's call keeps a writer's promise, and nothing else does. Its rows are those of the record and then row 9, so the first that applies is the
--- record's, or else space where the text is longer than the buffer; no row of a record is row 9. Where none applies the buffer is the text and, behind
--- it, what stood there, and a list is what stands in front of a place and what stands behind.
+-- The writer's call keeps a writer's promise, and nothing else does. Its rows are those of the record and then row 9, so the first that applies is
+-- the record's, or else space where the text is longer than the buffer; no row of a record is row 9. Where none applies the buffer is the text and,
+-- behind it, what stood there, and a list is what stands in front of a place and what stands behind.
 -- Assumes nothing.
 use Prim.Native.Nat.{ℕ}
 use mathlib.Core.Path.{_≡_, refl, sym, _∙_, ap}
@@ -22,7 +22,7 @@ use Rattle.railway.specs.Rows.{countRow, unknownRow, joinRow, looseRow, doubleR
 use Rattle.railway.proofs.Refusals.{first-append}
 use Rattle.casefile.specs.declared.Written.{Written}
 use Rattle.casefile.specs.declared.Written.the-variants.{Bytes, Refused}
-use Rattle.casefile.specs.Writing.{spaceRow, writtenText, writerRefusal, written, bufferAfter, writtenRefusal, writtenCount, NoRoom, Room, WriterPost}
+use Rattle.casefile.specs.Writing.{spaceRow, writtenText, writerRefusal, written, bufferAfter, writtenRefusal, writtenNumber, writtenCount, NoRoom, Room, WriterPost}
 use Rattle.casefile.specs.Claims.{WriterAnswers}
 
 -- no row of a record is row 9
@@ -40,7 +40,7 @@ no-space : {A : Type 0} (r : Railway) → numberOf (recordRefusal r) ≡ some 9 
 unfolding recordRefusal first
 no-space r p = no-nine (countRow r) (unknownRow r) (joinRow r) (looseRow r) (doubleRow r) (placeRow r) p
 
--- an answer is told by its refusal, or by its count
+-- an answer is known by its refusal, or by its count
 refused-in : (w : Written) (f : Refusal) → writtenRefusal w ≡ some f → w ≡ Refused f
 refused-in (Bytes n) f e = some-none e refl
 refused-in (Refused g) f e = let z : g ≡ f = cc in rw z
@@ -113,10 +113,10 @@ module _ (r : Railway) (buffer : List ℕ) where
         same-length = length-front buffer t (length t) (sym (length-take-le (length t) buffer (h .fits)));
       }
 
-  -- .. and by nothing else
+  -- nothing else keeps the promise: what does is the call's answer and buffer
   kept : (w v : Written) (after left : List ℕ) → Call v left → WriterPost r buffer w after → (w ≡ v) × (after ≡ left)
-  kept w v after left (by-record f h) p = let e = p .refusal f .1 (inl h) in (refused-in w f e, p .kept (number f) (ap numberOf e))
-  kept w v after left (no-room h) p = let e = p .refusal Space .1 (inr (h, refl)) in (refused-in w Space e, p .kept (number Space) (ap numberOf e))
+  kept w v after left (by-record f h) p = let e = p .refusal f .1 (inl h) in let q = refused-in w f e in (q, p .kept (number f) (ap writtenNumber q))
+  kept w v after left (no-room h) p = let e = p .refusal Space .1 (inr (h, refl)) in let q = refused-in w Space e in (q, p .kept (number Space) (ap writtenNumber q))
   kept w v after left (done h) p =
       let n = length (writtenText r) in
       let e = p .count n .1 h in

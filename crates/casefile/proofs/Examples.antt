@@ -235,8 +235,8 @@ return : bytes "\r" ≡ 13 ∷ []
 unfolding bytes
 return = refl
 
--- THE WRITER. Yard A's text has 68 bytes: a buffer of 68 takes it, the end of one of 70 is kept, and 67 bytes are too few. A record that is refused is
--- so for its own fault, however short the buffer.
+-- THE WRITER. Yard A's text has 68 bytes: a buffer of 68 takes it, the end of one of 70 is kept, and 67 bytes are too few. A record that is refused
+-- is so for its own fault, however short the buffer.
 writes : (written recordA (replicate 68 7) ≡ W.Bytes 68) × (bufferAfter recordA (replicate 68 7) ≡ bytes yardA)
     × (written recordA (replicate 70 7) ≡ W.Bytes 68) × (bufferAfter recordA (replicate 70 7) ≡ bytes yardA ++ (7 ∷ 7 ∷ []))
     × (written recordA (replicate 67 7) ≡ W.Refused Space) × (bufferAfter recordA (replicate 67 7) ≡ replicate 67 7)

@@ -5,8 +5,8 @@ pub mod Whole
 pub mod Exactly
 pub mod Longest
 pub mod Ends
-pub mod Clean
-pub mod Told
+pub mod Faultless
+pub mod Described
 pub mod Again
 pub mod Writer
 pub mod Lengths

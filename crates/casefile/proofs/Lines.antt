@@ -8,7 +8,7 @@ use native.Mathlib.Omega.{arith}
 use lib.Dec.{eqb}
 use lib.ListN.{drop}
 use borrow.Author.Tests.{eqb-true, eq-eqb}
-use Rattle.text.specs.Text.{decimal, line}
+use Rattle.text.specs.Text.{byte, decimal, line}
 use Rattle.text.specs.Reading.{Got, bad, got, then, isDigit, byteAt}
 use Rattle.text.proofs.Walking.{bad-got, carry, Lies, Reads, steps, go-on, stop-here, byte-sound, byte-complete, Written, number-sound, number-complete}
 use Rattle.railway.specs.declared.Side.{Side}
@@ -33,7 +33,7 @@ abbrev pub WritableCounts : Counts → Type 0
 WritableCounts h = (h .sections < 1000) × (h .points < 1000) × (h .trains < 1000)
 
 abbrev pub countsLine : Counts → List ℕ
-countsLine h = line ((72 ∷ []) ∷ decimal (h .sections) ∷ decimal (h .points) ∷ decimal (h .trains) ∷ [])
+countsLine h = line ((byte "H" ∷ []) ∷ decimal (h .sections) ∷ decimal (h .points) ∷ decimal (h .trains) ∷ [])
 
 -- the number in a line is the one that is due
 check : {A : Type 0} (m n : ℕ) (p : Bool) {x y : A} {b c : ℕ} → eqb m n ≡ p → cond p (got x b) bad ≡ got y c → (m ≡ n) × (got x b ≡ got y c)
@@ -69,7 +69,7 @@ module _ (s : List ℕ) (at : ℕ) where
   pub join-sound : (j : JoinLine) (c : ℕ) → joinLineAt s at ≡ got j c → WrittenLine WritableJoin joinLine s at j c
   unfolding joinLineAt line
   join-sound j c e =
-      byte-on s at j c 74 _ (omega arith) e (λ x1 c1 e1 k1.
+      byte-on s at j c (byte "J") _ (omega arith) e (λ x1 c1 e1 k1.
       byte-on s c1 j c 9 _ (omega arith) k1 (λ x2 c2 e2 k2.
       end-on s c2 j c _ k2 (λ one c3 a k3.
       byte-on s c3 j c 9 _ (omega arith) k3 (λ x4 c4 e4 k4.
@@ -81,7 +81,7 @@ module _ (s : List ℕ) (at : ℕ) where
   pub join-complete : (j : JoinLine) (rest : List ℕ) → WritableJoin j → Lies s at (joinLine j ++ rest) → Reads s (joinLineAt s at) j rest
   unfolding joinLineAt line
   join-complete j rest h t =
-      go-on _ (byte-complete s 74 at _ (simp append-assoc at t)) (λ c1 t1.
+      go-on _ (byte-complete s (byte "J") at _ (simp append-assoc at t)) (λ c1 t1.
       go-on _ (byte-complete s 9 c1 _ t1) (λ c2 t2.
       go-on _ (end-complete s c2 (j .one) _ (h .0) t2) (λ c3 t3.
       go-on _ (byte-complete s 9 c3 _ t3) (λ c4 t4.
@@ -91,7 +91,7 @@ module _ (s : List ℕ) (at : ℕ) where
   pub signal-sound : (g : SignalLine) (c : ℕ) → signalLineAt s at ≡ got g c → WrittenLine WritableSignal signalLine s at g c
   unfolding signalLineAt line
   signal-sound g c e =
-      byte-on s at g c 71 _ (omega arith) e (λ x1 c1 e1 k1.
+      byte-on s at g c (byte "G") _ (omega arith) e (λ x1 c1 e1 k1.
       byte-on s c1 g c 9 _ (omega arith) k1 (λ x2 c2 e2 k2.
       number-on s c2 g c _ k2 (λ n c3 a k3.
       side-on s c3 g c _ k3 (λ side c4 e4 k4.
@@ -102,7 +102,7 @@ module _ (s : List ℕ) (at : ℕ) where
   pub signal-complete : (g : SignalLine) (rest : List ℕ) → WritableSignal g → Lies s at (signalLine g ++ rest) → Reads s (signalLineAt s at) g rest
   unfolding signalLineAt line
   signal-complete g rest h t =
-      go-on _ (byte-complete s 71 at _ (simp append-assoc at t)) (λ c1 t1.
+      go-on _ (byte-complete s (byte "G") at _ (simp append-assoc at t)) (λ c1 t1.
       go-on _ (byte-complete s 9 c1 _ t1) (λ c2 t2.
       go-on _ (number-complete s _ (digit-not-side s at (g .side)) 2 (g .number) c2 (omega arith) h t2) (λ c3 t3.
       go-on _ (side-complete s c3 (g .side) _ t3) (λ c4 t4.
@@ -111,7 +111,7 @@ module _ (s : List ℕ) (at : ℕ) where
   pub header-sound : (h : Counts) (c : ℕ) → headerAt s at ≡ got h c → WrittenLine WritableCounts countsLine s at h c
   unfolding headerAt line
   header-sound h c e =
-      byte-on s at h c 72 _ (omega arith) e (λ x1 c1 e1 k1.
+      byte-on s at h c (byte "H") _ (omega arith) e (λ x1 c1 e1 k1.
       byte-on s c1 h c 9 _ (omega arith) k1 (λ x2 c2 e2 k2.
       number-on s c2 h c _ k2 (λ n c3 a k3.
       byte-on s c3 h c 9 _ (omega arith) k3 (λ x4 c4 e4 k4.
@@ -125,7 +125,7 @@ module _ (s : List ℕ) (at : ℕ) where
   pub header-complete : (h : Counts) (rest : List ℕ) → WritableCounts h → Lies s at (countsLine h ++ rest) → Reads s (headerAt s at) h rest
   unfolding headerAt line
   header-complete h rest w t =
-      go-on _ (byte-complete s 72 at _ (simp append-assoc at t)) (λ c1 t1.
+      go-on _ (byte-complete s (byte "H") at _ (simp append-assoc at t)) (λ c1 t1.
       go-on _ (byte-complete s 9 c1 _ t1) (λ c2 t2.
       go-on _ (number-complete s _ tab-stops 2 (h .sections) c2 (omega arith) (w .0) t2) (λ c3 t3.
       go-on _ (byte-complete s 9 c3 _ t3) (λ c4 t4.
@@ -137,7 +137,7 @@ module _ (s : List ℕ) (at : ℕ) where
   pub point-sound : (n : ℕ) (x : Side) (c : ℕ) → pointLineAt s n at ≡ got x c → WrittenLine (λ x. n < 1000) (pointLine n) s at x c
   unfolding pointLineAt line
   point-sound n x c e =
-      byte-on s at x c 80 _ (omega arith) e (λ x1 c1 e1 k1.
+      byte-on s at x c (byte "P") _ (omega arith) e (λ x1 c1 e1 k1.
       byte-on s c1 x c 9 _ (omega arith) k1 (λ x2 c2 e2 k2.
       number-on s c2 x c _ k2 (λ m c3 a k3.
       byte-on s c3 x c 9 _ (omega arith) k3 (λ x4 c4 e4 k4.
@@ -150,7 +150,7 @@ module _ (s : List ℕ) (at : ℕ) where
   pub point-complete : (n : ℕ) (x : Side) (rest : List ℕ) → n < 1000 → Lies s at (pointLine n x ++ rest) → Reads s (pointLineAt s n at) x rest
   unfolding pointLineAt line
   point-complete n x rest h t =
-      go-on _ (byte-complete s 80 at _ (simp append-assoc at t)) (λ c1 t1.
+      go-on _ (byte-complete s (byte "P") at _ (simp append-assoc at t)) (λ c1 t1.
       go-on _ (byte-complete s 9 c1 _ t1) (λ c2 t2.
       go-on _ (number-complete s _ tab-stops 2 n c2 (omega arith) h t2) (λ c3 t3.
       go-on _ (byte-complete s 9 c3 _ t3) (λ c4 t4.
@@ -160,7 +160,7 @@ module _ (s : List ℕ) (at : ℕ) where
   pub train-sound : (n : ℕ) (x : TrainLine) (c : ℕ) → trainLineAt s n at ≡ got x c → WrittenLine (λ x. WritableTrain x × (n < 1000)) (trainLine n) s at x c
   unfolding trainLineAt line
   train-sound n x c e =
-      byte-on s at x c 84 _ (omega arith) e (λ x1 c1 e1 k1.
+      byte-on s at x c (byte "T") _ (omega arith) e (λ x1 c1 e1 k1.
       byte-on s c1 x c 9 _ (omega arith) k1 (λ x2 c2 e2 k2.
       number-on s c2 x c _ k2 (λ m c3 a k3.
       byte-on s c3 x c 9 _ (omega arith) k3 (λ x4 c4 e4 k4.
@@ -180,7 +180,7 @@ module _ (s : List ℕ) (at : ℕ) where
   pub train-complete : (n : ℕ) (x : TrainLine) (rest : List ℕ) → n < 1000 → WritableTrain x → Lies s at (trainLine n x ++ rest) → Reads s (trainLineAt s n at) x rest
   unfolding trainLineAt line
   train-complete n x rest h w t =
-      go-on _ (byte-complete s 84 at _ (simp append-assoc at t)) (λ c1 t1.
+      go-on _ (byte-complete s (byte "T") at _ (simp append-assoc at t)) (λ c1 t1.
       go-on _ (byte-complete s 9 c1 _ t1) (λ c2 t2.
       go-on _ (number-complete s _ tab-stops 2 n c2 (omega arith) h t2) (λ c3 t3.
       go-on _ (byte-complete s 9 c3 _ t3) (λ c4 t4.

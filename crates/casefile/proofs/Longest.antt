@@ -41,9 +41,9 @@ long short wide =
       runs = record { heading = Up; start = 1; destination = 1 } ∷ [];
     }
 
-long-said : (a b : ℕ) → Describes (spell (long a b)) (long a b)
+long-described : (a b : ℕ) → Describes (spell (long a b)) (long a b)
 unfolding long
-long-said a b =
+long-described a b =
     record {
       well-formed =
           record {
@@ -64,4 +64,4 @@ lengths : (length (spell (long 813 2)) ≡ 4096) × (caseAnswer (spell (long 813
     × (length (spell (long 812 3)) ≡ 4097) × (caseAnswer (spell (long 812 3)) ≡ refused Length)
     × (caseAnswer (replicate 4096 0) ≡ refused Form) × (caseAnswer (replicate 4097 0) ≡ refused Length)
 unfolding long copies spell each rising first digits line isDigit byteAt digitsAt numberAt headerAt walk read caseAnswer anyBelow any repeats joinEnds unknownRow joinRow looseRow doubleRow placeRow
-lengths = (refl, answer-of (spell (long 813 2)) (long 813 2) (long-said 813 2), refl, answer-of (spell (long 812 3)) (long 812 3) (long-said 812 3), refl, refl)
+lengths = (refl, answer-of (spell (long 813 2)) (long 813 2) (long-described 813 2), refl, answer-of (spell (long 812 3)) (long 812 3) (long-described 812 3), refl, refl)

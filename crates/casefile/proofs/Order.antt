@@ -1,4 +1,4 @@
--- The writer's order. The line of a section end has the rank of its index, and each index has one line at most; so lines gathered by rising index rise.
+-- The writer's order. A section end's line has the rank of its index, and each index has one line at most; so lines gathered by rising index rise.
 -- Assumes nothing.
 use Prim.Native.Nat.{ℕ, zero, suc, _+_, _/_, _%_, _<_, _≤_}
 use mathlib.Core.Path.{_≡_, refl, ap}

@@ -35,13 +35,13 @@ use Rattle.casefile.specs.Recording.{fieldOf, signalOf, noTrainLine, rai
 use Rattle.casefile.specs.Writing.{joinAt, signalAt, trainFrom, descriptionOf, writtenText}
 use Rattle.casefile.specs.Given.{accepted}
 use Rattle.casefile.specs.Reading.{caseAnswer}
-use Rattle.casefile.specs.Claims.{Names, Joins, Signals, Runs, Told, WrittenAsTold, RoundTrip, ReadAgain, SameRefusal, SameText, TextSame}
+use Rattle.casefile.specs.Claims.{Names, Joins, Signals, Runs, AsDescribed, WrittenAsDescribed, RoundTrip, ReadAgain, SameRefusal, SameText, TextSame}
 use Rattle.casefile.proofs.Exactly.{accepted-exactly, accepted-one}
-use Rattle.casefile.proofs.Clean.{facts-clean}
+use Rattle.casefile.proofs.Faultless.{facts-faultless}
 use Rattle.casefile.proofs.Ends.{field-one}
-use Rattle.casefile.proofs.Told.{names-field, names-is, signal-names, told}
+use Rattle.casefile.proofs.Described.{names-field, names-is, signal-names, as-described}
 use Rattle.casefile.proofs.Again.{accepted-again}
-use Rattle.casefile.proofs.Writer.{from-link, from-flag, join-written, signal-written, joined-link, link-joined, link-back, clean, well-formed}
+use Rattle.casefile.proofs.Writer.{from-link, from-flag, join-written, signal-written, joined-link, link-joined, link-back, faultless, well-formed}
 use Rattle.casefile.proofs.Lengths.{short}
 
 -- THE SAME LINES, THE SAME RAILWAY
@@ -65,17 +65,17 @@ run-one t a b p q =
         → _≡_ {A = Train} (record { heading = g; start = record { 0 = m }; destination = record { 0 = k } }) (record { heading = h; start = record { 0 = n }; destination = record { 0 = l } })
     parts g h m n k l x y z = rw (x, y, z)
 
-module _ (d : Description) (r q : Railway) (t : Told d r) (u : Told d q) where
-  joined-told : (e : End) → joined r e ≡ joined q e
-  joined-told e =
+module _ (d : Description) (r q : Railway) (t : AsDescribed d r) (u : AsDescribed d q) where
+  joined-described : (e : End) → joined r e ≡ joined q e
+  joined-described e =
       joined-one (joined r e) (joined q e) (λ f h. u .joins e f .1 (t .joins e f .0 h)) (λ f h. t .joins e f .1 (u .joins e f .0 h))
 
-  signal-told : (e : End) → hasSignal r e ≡ hasSignal q e
-  signal-told e =
+  signal-described : (e : End) → hasSignal r e ≡ hasSignal q e
+  signal-described e =
       bool-one (hasSignal r e) (hasSignal q e) (λ h. u .signals e .1 (t .signals e .0 h)) (λ h. t .signals e .1 (u .signals e .0 h))
 
-  pub told-same : SameRailway r q
-  told-same =
+  pub described-same : SameRailway r q
+  described-same =
       record {
         sections = t .sections ∙ sym (u .sections);
         points = t .points ∙ sym (u .points);
@@ -83,10 +83,10 @@ module _ (d : Description) (r q : Railway) (t : Told d r) (u : Told d q) where
         legs = λ n h. let b : n < d .points = rw (t .points) at h in t .legs n b ∙ sym (u .legs n b);
         joins = λ i h.
             let x = sym (index-end i h) in
-            joined-there r (endAt i) i x h ∙ joined-told (endAt i) ∙ sym (joined-there q (endAt i) i x h);
+            joined-there r (endAt i) i x h ∙ joined-described (endAt i) ∙ sym (joined-there q (endAt i) i x h);
         signals = λ i h.
             let x = sym (index-end i (omega arith)) in
-            signal-there r (endAt i) i x h ∙ signal-told (endAt i) ∙ sym (signal-there q (endAt i) i x h);
+            signal-there r (endAt i) i x h ∙ signal-described (endAt i) ∙ sym (signal-there q (endAt i) i x h);
         runs = λ n h. let b : n < d .trains = rw (t .trains) at h in run-one (getD (d .runs) n noTrainLine) (runOf r n) (runOf q n) (t .runs n b) (u .runs n b);
       }
 
@@ -109,9 +109,9 @@ earlier (Port m l) (Section n t) a b p o = let x = section-below n t b in let y 
 earlier (Port m l) (Port n k) a b p o = clash refl p
 
 module _ (r : Railway) (w : Accepted r) where
-  joins-said : (e f : End) → joined r e ≡ With f → Joins (descriptionOf r .joins) e f
+  joins-described : (e f : End) → joined r e ≡ With f → Joins (descriptionOf r .joins) e f
   unfolding descriptionOf
-  joins-said e f h =
+  joins-described e f h =
       let k = joined-known r w e f h in
       let n = known-numbered r w e (k .0) in
       let m = known-numbered r w f (k .1) in
@@ -135,8 +135,8 @@ module _ (r : Railway) (w : Accepted r) where
   named-one : (a : EndField) (e f : End) → Names a e → a ≡ fieldOf f → e ≡ f
   named-one a e f n p = field-one e f (sym (names-is a e n) ∙ p)
 
-  said-joins : (e f : End) → Joins (descriptionOf r .joins) e f → joined r e ≡ With f
-  said-joins e f t =
+  described-joins : (e f : End) → Joins (descriptionOf r .joins) e f → joined r e ≡ With f
+  described-joins e f t =
       let c = from-link r w (t .join) (t .member) in
       let o = c .origin in
       let b : c .index < allEnds = omega (arith, c .below) in
@@ -145,38 +145,38 @@ module _ (r : Railway) (w : Accepted r) where
         | inr h ↦ rw (named-one (t .join .one) f (endAt (c .index)) (h .0) (o .one), named-one (t .join .other) e (o .to) (h .1) (o .other)) (link-back r w (c .index) (o .to) b (o .link))
       ]
 
-  signals-said : (e : End) → Flagged r e → Signals (descriptionOf r .signals) e
+  signals-described : (e : End) → Flagged r e → Signals (descriptionOf r .signals) e
   unfolding descriptionOf
-  signals-said e t =
+  signals-described e t =
       record {
         signal = signalOf (endIndex e);
         member = signal-written r (endIndex e) (t .below) (t .flag);
         names = rw (end-index e (numbered-of e (omega (arith, t .below)))) at (signal-names (endIndex e) (t .below));
       }
 
-  said-signals : (e : End) → Signals (descriptionOf r .signals) e → hasSignal r e ≡ true
-  said-signals e t =
+  described-signals : (e : End) → Signals (descriptionOf r .signals) e → hasSignal r e ≡ true
+  described-signals e t =
       from-flag r w (λ g. Names (section (g .number) (g .side)) e → hasSignal r e ≡ true)
       (λ i b l n.
       let z : e ≡ endAt i = field-one e (endAt i) (sym (names-is (section (signalOf i .number) (signalOf i .side)) e n) ∙ names-is (section (signalOf i .number) (signalOf i .side)) (endAt i) (signal-names i b)) in
       sym (signal-there r e i (sym (ap endIndex z ∙ index-end i (omega arith))) b) ∙ l)
       (t .signal) (t .member) (t .names)
 
-  runs-said : (t : ℕ) → t < r .trains → Runs (getD (descriptionOf r .runs) t noTrainLine) (runOf r t)
+  runs-described : (t : ℕ) → t < r .trains → Runs (getD (descriptionOf r .runs) t noTrainLine) (runOf r t)
   unfolding descriptionOf
-  runs-said t h = rw (list-get (λ t. trainFrom (runOf r t)) (r .trains) t noTrainLine h) (record { heading = refl; start = refl; destination = refl })
+  runs-described t h = rw (list-get (λ t. trainFrom (runOf r t)) (r .trains) t noTrainLine h) (record { heading = refl; start = refl; destination = refl })
 
-  pub said : Told (descriptionOf r) r
+  pub self-described : AsDescribed (descriptionOf r) r
   unfolding descriptionOf
-  said =
+  self-described =
       record {
         sections = refl;
         points = refl;
         trains = refl;
         legs = λ n h. sym (list-get (legsOf r) (r .points) n Up h);
-        joins = λ e f. (joins-said e f, said-joins e f);
-        signals = λ e. (λ h. signals-said e (signal-flag r e h), said-signals e);
-        runs = runs-said;
+        joins = λ e f. (joins-described e f, described-joins e f);
+        signals = λ e. (λ h. signals-described e (signal-flag r e h), described-signals e);
+        runs = runs-described;
       }
 
   pub described : Describes (writtenText r) (descriptionOf r)
@@ -188,13 +188,13 @@ module _ (r : Railway) (w : Accepted r) where
   trip =
       let d = descriptionOf r in
       accepted-exactly (writtenText r) (railwayOf d) .1
-      (record { short = short r w; description = d; described = described; no-row = facts-clean d (clean r w); railway = refl })
+      (record { short = short r w; description = d; described = described; no-row = facts-faultless d (faultless r w); railway = refl })
 
   same : SameRailway r (railwayOf (descriptionOf r))
-  same = told-same (descriptionOf r) r (railwayOf (descriptionOf r)) said (told (descriptionOf r) (clean r w) (well-formed r w))
+  same = described-same (descriptionOf r) r (railwayOf (descriptionOf r)) self-described (as-described (descriptionOf r) (faultless r w) (well-formed r w))
 
-pub written-as-told : WrittenAsTold
-written-as-told r e = let w = accepted-facts r e in (descriptionOf r, described r w, said r w)
+pub written-as-described : WrittenAsDescribed
+written-as-described r e = let w = accepted-facts r e in (descriptionOf r, described r w, self-described r w)
 
 pub round-trip : RoundTrip
 round-trip r e = let w = accepted-facts r e in (railwayOf (descriptionOf r), trip r w, same r w)

@@ -12,7 +12,7 @@ use lib.ListN.{length, getD, drop, length-append, length-drop, drop-of-length-le
 use borrow.Author.Tests.{ltb-false, le-ltb}
 use Rattle.laws.specs.Lists.{Every}
 use Rattle.laws.proofs.Lists.{every-none, every-more}
-use Rattle.text.specs.Text.{line}
+use Rattle.text.specs.Text.{byte, line}
 use Rattle.text.specs.Reading.{Got, bad, got, then, value}
 use Rattle.text.proofs.Walking.{bad-got, carry, Lies, Reads, steps, on, go-on, stop-here, here}
 use Rattle.railway.specs.declared.Side.{Side}
@@ -114,14 +114,14 @@ module _ (s : List ℕ) where
       value-some (walk s) d e (λ c k.
       on (headerAt s 0) _ d c k (λ h c1 f1 k1.
       on (counted (pointLineAt s) (h .points) 1 c1) _ d c k1 (λ legs c2 f2 k2.
-      on (while (λ c. eqb (getD s c 0) 74) (joinLineAt s) (length s) c2) _ d c k2 (λ joins c3 f3 k3.
-      on (while (λ c. eqb (getD s c 0) 71) (signalLineAt s) (length s) c3) _ d c k3 (λ signals c4 f4 k4.
+      on (while (λ c. eqb (getD s c 0) (byte "J")) (joinLineAt s) (length s) c2) _ d c k2 (λ joins c3 f3 k3.
+      on (while (λ c. eqb (getD s c 0) (byte "G")) (signalLineAt s) (length s) c3) _ d c k3 (λ signals c4 f4 k4.
       on (counted (trainLineAt s) (h .trains) 1 c4) _ d c k4 (λ runs c5 f5 k5.
       let z = ended s c5 (ltb c5 (length s)) refl k5 in
       let w1 = header-sound s 0 h c1 f1 in
       let w2 = counted-sound (λ x. Unit {0}) pointLine s (pointLineAt s) points-sound (h .points) 1 c1 legs c2 f2 in
-      let w3 = while-sound WritableJoin joinLine s (λ c. eqb (getD s c 0) 74) (joinLineAt s) (join-sound s) (length s) c2 joins c3 f3 in
-      let w4 = while-sound WritableSignal signalLine s (λ c. eqb (getD s c 0) 71) (signalLineAt s) (signal-sound s) (length s) c3 signals c4 f4 in
+      let w3 = while-sound WritableJoin joinLine s (λ c. eqb (getD s c 0) (byte "J")) (joinLineAt s) (join-sound s) (length s) c2 joins c3 f3 in
+      let w4 = while-sound WritableSignal signalLine s (λ c. eqb (getD s c 0) (byte "G")) (signalLineAt s) (signal-sound s) (length s) c3 signals c4 f4 in
       let w5 = counted-sound WritableTrain trainLine s (trainLineAt s) trains-sound (h .trains) 1 c4 runs c5 f5 in
       carry (λ d c. Describes s d) (z .1)
       (record {
@@ -162,31 +162,31 @@ module _ (s : List ℕ) where
   fits c l rest t = omega (arith, length-drop c s, simp length-append at (ap length (t .text)))
 
   -- no J line begins where the signals do, no G line where the trains do
-  no-join : (gs : List SignalLine) (ts : List TrainLine) (at : ℕ) → Lies s at (each signalLine gs ++ rising trainLine 1 ts) → eqb (getD s at 0) 74 ≡ false
+  no-join : (gs : List SignalLine) (ts : List TrainLine) (at : ℕ) → Lies s at (each signalLine gs ++ rising trainLine 1 ts) → eqb (getD s at 0) (byte "J") ≡ false
   unfolding each rising line
   no-join [] [] at t = rw (here t)
   no-join [] (x ∷ ts) at t = rw (here t)
   no-join (g ∷ gs) ts at t = rw (here t)
 
-  no-signal : (ts : List TrainLine) (at : ℕ) → Lies s at (rising trainLine 1 ts) → eqb (getD s at 0) 71 ≡ false
+  no-signal : (ts : List TrainLine) (at : ℕ) → Lies s at (rising trainLine 1 ts) → eqb (getD s at 0) (byte "G") ≡ false
   unfolding rising line
   no-signal [] at t = rw (here t)
   no-signal (x ∷ ts) at t = rw (here t)
 
   joins-complete : (c : ℕ) (js : List JoinLine) (gs : List SignalLine) (ts : List TrainLine) → Every WritableJoin js
       → Lies s c (each joinLine js ++ (each signalLine gs ++ rising trainLine 1 ts))
-      → Reads s (while (λ c. eqb (getD s c 0) 74) (joinLineAt s) (length s) c) js (each signalLine gs ++ rising trainLine 1 ts)
+      → Reads s (while (λ c. eqb (getD s c 0) (byte "J")) (joinLineAt s) (length s) c) js (each signalLine gs ++ rising trainLine 1 ts)
   unfolding line
   joins-complete c js gs ts a t =
-      while-complete WritableJoin joinLine s (λ c. eqb (getD s c 0) 74) (joinLineAt s) (join-complete s) (λ at x rest t. rw (here t)) _ (no-join gs ts) (length s) c js
+      while-complete WritableJoin joinLine s (λ c. eqb (getD s c 0) (byte "J")) (joinLineAt s) (join-complete s) (λ at x rest t. rw (here t)) _ (no-join gs ts) (length s) c js
       (omega (arith, each-long joinLine (λ x. omega arith) js, fits c (each joinLine js) _ t)) a t
 
   signals-complete : (c : ℕ) (gs : List SignalLine) (ts : List TrainLine) → Every WritableSignal gs
       → Lies s c (each signalLine gs ++ rising trainLine 1 ts)
-      → Reads s (while (λ c. eqb (getD s c 0) 71) (signalLineAt s) (length s) c) gs (rising trainLine 1 ts)
+      → Reads s (while (λ c. eqb (getD s c 0) (byte "G")) (signalLineAt s) (length s) c) gs (rising trainLine 1 ts)
   unfolding line
   signals-complete c gs ts a t =
-      while-complete WritableSignal signalLine s (λ c. eqb (getD s c 0) 71) (signalLineAt s) (signal-complete s) (λ at x rest t. rw (here t)) _ (no-signal ts) (length s) c gs
+      while-complete WritableSignal signalLine s (λ c. eqb (getD s c 0) (byte "G")) (signalLineAt s) (signal-complete s) (λ at x rest t. rw (here t)) _ (no-signal ts) (length s) c gs
       (omega (arith, each-long signalLine (λ x. omega arith) gs, fits c (each signalLine gs) _ t)) a t
 
   at-end : (c : ℕ) → Lies s c [] → ltb c (length s) ≡ false

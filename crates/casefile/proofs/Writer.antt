@@ -35,7 +35,7 @@ use Rattle.casefile.specs.Form.{EndField, section, port, JoinLine, Signa
 use Rattle.casefile.specs.Rows.{within, known, sectionOf, sideOf, sameEnd, joinEnds, sameSignal}
 use Rattle.casefile.specs.Recording.{fieldOf, signalOf}
 use Rattle.casefile.specs.Writing.{joinFrom, joinAt, signalAt, trainFrom, descriptionOf}
-use Rattle.casefile.proofs.Clean.{Clean, RightJoin, is-within}
+use Rattle.casefile.proofs.Faultless.{Faultless, RightJoin, is-within}
 use Rattle.casefile.proofs.Ends.{same-self, not-same, signal-is, field-one, other-end}
 
 -- the tests of row 5, of the record's ends and of ends as written
@@ -293,9 +293,9 @@ module _ (r : Railway) (w : Accepted r) where
       let k : RR.known r (Section (record { 0 = i / 2 }) (sideAt (i % 2))) ≡ true = rw (end-section i b) at (w .signal-known i b l) in
       ltb-true (i / 2) (r .sections) k
 
-  pub clean : Clean (descriptionOf r)
+  pub faultless : Faultless (descriptionOf r)
   unfolding descriptionOf
-  clean =
+  faultless =
       record {
         bounds = w .bounds;
         join-known = join-known;

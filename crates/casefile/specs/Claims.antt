@@ -33,7 +33,7 @@ use Rattle.casefile.specs.Reading.{read, caseAnswer}
 abbrev pub ReadIsSpelling : Type 0
 ReadIsSpelling = (text : List ℕ) (d : Description) → (read text ≡ some d) ↔ Describes text d
 
--- So a text says one thing at most.
+-- A text says one thing at most.
 abbrev pub DescribesOne : Type 0
 DescribesOne = (text : List ℕ) (d e : Description) → Describes text d → Describes text e → d ≡ e
 
@@ -57,7 +57,7 @@ NumberedExactly = (text : List ℕ) (n : ℕ) → (readNumber (caseAnswer text) 
 abbrev pub ReaderAnswers : Type 0
 ReaderAnswers = (text : List ℕ) (a : CaseRead) → (a ≡ caseAnswer text) ↔ ReaderPost text a
 
--- Every text gets one of the two.
+-- Every text is accepted with a railway or refused.
 abbrev pub AlwaysAnswered : Type 0
 AlwaysAnswered = (text : List ℕ) → ((r : Railway) × (caseAnswer text ≡ accepted r)) ⊎ ((f : Refusal) × (caseAnswer text ≡ refused f))
 
@@ -86,8 +86,9 @@ pub record Runs (t : TrainLine) (run : Train) : Type 0 where
   pub start : suc (run .start .0) ≡ t .start
   pub destination : suc (run .destination .0) ≡ t .destination
 
--- The record has what the lines say: the H line's counts, P line n the legs of point n, the J lines its joins, the G lines its signals, T line t train t.
-pub record Told (d : Description) (r : Railway) : Type 0 where
+-- The record has what the lines say: the H line its counts, P line n the legs of point n, the J lines its joins, the G lines its signals and
+-- T line t the run of train t.
+pub record AsDescribed (d : Description) (r : Railway) : Type 0 where
   pub sections : r .sections ≡ d .sections
   pub points : r .points ≡ d .points
   pub trains : r .trains ≡ d .trains
@@ -97,18 +98,18 @@ pub record Told (d : Description) (r : Railway) : Type 0 where
   pub runs : (t : ℕ) → t < d .trains → Runs (getD (d .runs) t noTrainLine) (runOf r t)
 
 -- A text that is accepted is read as a record that has what its lines say.
-abbrev pub ReadAsTold : Type 0
-ReadAsTold = (text : List ℕ) (r : Railway) → caseAnswer text ≡ accepted r → (d : Description) × Describes text d × Told d r
+abbrev pub ReadAsDescribed : Type 0
+ReadAsDescribed = (text : List ℕ) (r : Railway) → caseAnswer text ≡ accepted r → (d : Description) × Describes text d × AsDescribed d r
 
--- So does the text that the writer makes of an accepted record: it says what the record has.
-abbrev pub WrittenAsTold : Type 0
-WrittenAsTold = (r : Railway) → recordRefusal r ≡ none → (d : Description) × Describes (writtenText r) d × Told d r
+-- The text that the writer makes of an accepted record says what the record has.
+abbrev pub WrittenAsDescribed : Type 0
+WrittenAsDescribed = (r : Railway) → recordRefusal r ≡ none → (d : Description) × Describes (writtenText r) d × AsDescribed d r
 
 -- THE ROUND TRIP. What is written of an accepted record is a case text of the same railway.
 abbrev pub RoundTrip : Type 0
 RoundTrip = (r : Railway) → recordRefusal r ≡ none → (q : Railway) × (caseAnswer (writtenText r) ≡ accepted q) × SameRailway r q
 
--- It fits into the bytes that a case text may have.
+-- The writer's text of an accepted record fits into the bytes that a case text may have.
 abbrev pub WrittenFits : Type 0
 WrittenFits = (r : Railway) → recordRefusal r ≡ none → length (writtenText r) ≤ mostBytes
 
@@ -116,7 +117,7 @@ WrittenFits = (r : Railway) → recordRefusal r ≡ none → length (writtenText
 abbrev pub AcceptedAgain : Type 0
 AcceptedAgain = (text : List ℕ) (r : Railway) → caseAnswer text ≡ accepted r → recordRefusal r ≡ none
 
--- So what was read, written and read again is the same railway, and what is written of it is what was written before.
+-- What was read, written and read again is the same railway, and what is written of it is what was written before.
 abbrev pub ReadAgain : Type 0
 ReadAgain =
     (text : List ℕ) (r : Railway) → caseAnswer text ≡ accepted r
@@ -154,7 +155,7 @@ WriterSorts = (r : Railway) → recordRefusal r ≡ none → (d : Description) �
 abbrev pub SameRefusal : Type 0
 SameRefusal = (r q : Railway) → SameRailway r q → recordRefusal r ≡ recordRefusal q
 
--- It has the same text.
+-- The same railway has the same text.
 abbrev pub SameText : Type 0
 SameText = (r q : Railway) → SameRailway r q → writtenText r ≡ writtenText q
 

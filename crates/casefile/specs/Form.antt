@@ -5,7 +5,7 @@ use mathlib.Core.List.{List, [], _∷_, _++_}
 use Prim.Native.Nat.{ℕ, suc, _<_}
 use lib.ListN.{length}
 use Rattle.laws.specs.Lists.{Every}
-use Rattle.text.specs.Text.{decimal, line}
+use Rattle.text.specs.Text.{byte, decimal, line}
 use Rattle.railway.specs.declared.Side.{Side}
 use Rattle.railway.specs.declared.Side.the-variants.{Up, Down}
 use Rattle.railway.specs.declared.Leg.{Leg}
@@ -44,14 +44,14 @@ pub record Description : Type 0 where
 
 -- FIELDS. A side or a heading: `u` or `d`.
 abbrev pub sideByte : Side → ℕ
-sideByte Up = 117
-sideByte Down = 100
+sideByte Up = byte "u"
+sideByte Down = byte "d"
 
 -- A point's port: `s` is the stem, `+` plus, `-` minus.
 abbrev pub legByte : Leg → ℕ
-legByte Stem = 115
-legByte Plus = 43
-legByte Minus = 45
+legByte Stem = byte "s"
+legByte Plus = byte "+"
+legByte Minus = byte "-"
 
 -- A section end: the number, its side behind it.
 abbrev pub sectionField : ℕ → Side → List ℕ
@@ -64,32 +64,32 @@ endField (port n l) = decimal n ++ (legByte l ∷ [])
 
 -- LINES. H: the three counts.
 abbrev pub headerLine : Description → List ℕ
-headerLine d = line ((72 ∷ []) ∷ decimal (d .sections) ∷ decimal (d .points) ∷ decimal (d .trains) ∷ [])
+headerLine d = line ((byte "H" ∷ []) ∷ decimal (d .sections) ∷ decimal (d .points) ∷ decimal (d .trains) ∷ [])
 
 -- P: a point's number, and on which side its legs are.
 abbrev pub pointLine : ℕ → Side → List ℕ
-pointLine n s = line ((80 ∷ []) ∷ decimal n ∷ (sideByte s ∷ []) ∷ [])
+pointLine n s = line ((byte "P" ∷ []) ∷ decimal n ∷ (sideByte s ∷ []) ∷ [])
 
 -- J: the ends that are tied.
 abbrev pub joinLine : JoinLine → List ℕ
-joinLine j = line ((74 ∷ []) ∷ endField (j .one) ∷ endField (j .other) ∷ [])
+joinLine j = line ((byte "J" ∷ []) ∷ endField (j .one) ∷ endField (j .other) ∷ [])
 
 -- G: where the signal stands.
 abbrev pub signalLine : SignalLine → List ℕ
-signalLine g = line ((71 ∷ []) ∷ sectionField (g .number) (g .side) ∷ [])
+signalLine g = line ((byte "G" ∷ []) ∷ sectionField (g .number) (g .side) ∷ [])
 
 -- T: a train's number, which way it heads, from which section and to which.
 abbrev pub trainLine : ℕ → TrainLine → List ℕ
-trainLine n t = line ((84 ∷ []) ∷ decimal n ∷ (sideByte (t .heading) ∷ []) ∷ decimal (t .start) ∷ decimal (t .destination) ∷ [])
+trainLine n t = line ((byte "T" ∷ []) ∷ decimal n ∷ (sideByte (t .heading) ∷ []) ∷ decimal (t .start) ∷ decimal (t .destination) ∷ [])
 
 -- THE TEXT. Lines one after the other.
 module _ {A : Type 0} where
-  -- .. one for each element, as J and G lines are.
+  -- One line for each element, as J and G lines are.
   unfoldable pub each : (A → List ℕ) → List A → List ℕ
   each f [] = []
   each f (x ∷ xs) = f x ++ each f xs
 
-  -- .. numbered from n upwards, as P and T lines are.
+  -- Lines numbered from n upwards, as P and T lines are.
   unfoldable pub rising : (ℕ → A → List ℕ) → ℕ → List A → List ℕ
   rising f n [] = []
   rising f n (x ∷ xs) = f n x ++ rising f (suc n) xs
@@ -107,24 +107,24 @@ spell d =
 abbrev pub Writable : ℕ → Type 0
 Writable n = n < 1000
 
--- The number in an end can be written so.
+-- An end whose number can be written.
 abbrev pub WritableEnd : EndField → Type 0
 WritableEnd (section n s) = Writable n
 WritableEnd (port n l) = Writable n
 
--- Both numbers in a J line can.
+-- A J line whose two numbers can be written.
 abbrev pub WritableJoin : JoinLine → Type 0
 WritableJoin j = WritableEnd (j .one) × WritableEnd (j .other)
 
--- The number in a G line can.
+-- A G line whose number can be written.
 abbrev pub WritableSignal : SignalLine → Type 0
 WritableSignal g = Writable (g .number)
 
--- Start and destination in a T line can; the line's own number is at most the H line's.
+-- A T line whose start and destination can be written; its own number is at most the H line's.
 abbrev pub WritableTrain : TrainLine → Type 0
 WritableTrain t = Writable (t .start) × Writable (t .destination)
 
--- Such numbers everywhere, one P line a point and one T line a train.
+-- Every number can be written, and there is one P line a point and one T line a train.
 pub record WellFormed (d : Description) : Type 0 where
   pub sections : Writable (d .sections)
   pub points : Writable (d .points)

@@ -12,7 +12,7 @@ use Rattle.laws.specs.Lists.{Every}
 use Rattle.railway.specs.declared.Railway.{Railway}
 use Rattle.railway.specs.declared.Refusal.{Refusal}
 use Rattle.railway.specs.declared.Refusal.the-variants.{Length, Form, Count, Unknown, Join, Loose, Double, Place, Space, PlanForm, PlanFault}
-use Rattle.railway.specs.Refusals.{number, numberOf, FirstOf}
+use Rattle.railway.specs.Refusals.{number, FirstOf}
 use Rattle.railway.specs.Record.{emptyRailway}
 use Rattle.casefile.specs.declared.CaseRead.{CaseRead}
 use Rattle.casefile.specs.declared.CaseAnswer.{CaseAnswer}
@@ -34,13 +34,18 @@ abbrev pub refusalOf : CaseAnswer → Option Refusal
 refusalOf Accepted = none
 refusalOf (Refused f) = some f
 
+-- The number of the refusal that is answered, if one is.
+abbrev pub numberGiven : CaseAnswer → Option ℕ
+numberGiven Accepted = none
+numberGiven (Refused f) = some (number f)
+
 -- The refusal in an answer that has a record beside it.
 abbrev pub readRefusal : CaseRead → Option Refusal
 readRefusal a = refusalOf (a .answer)
 
--- The number of that refusal in the table.
+-- The number in an answer that has a record beside it.
 abbrev pub readNumber : CaseRead → Option ℕ
-readNumber a = numberOf (readRefusal a)
+readNumber a = numberGiven (a .answer)
 
 -- A record that stands beside a refusal is no railway read.
 abbrev pub railwayUnless : Railway → Option Refusal → Option Railway

@@ -6,6 +6,7 @@ use mathlib.Core.Option.{Option, none, some}
 use Prim.Native.Nat.{ℕ, zero, suc, _+_}
 use lib.Dec.{ltb, eqb}
 use lib.ListN.{length, getD}
+use Rattle.text.specs.Text.{byte, tab, lineEnd}
 use Rattle.text.specs.Reading.{Got, bad, got, then, value, byteAt, numberAt}
 use Rattle.railway.specs.declared.Side.{Side}
 use Rattle.railway.specs.declared.Side.the-variants.{Up, Down}
@@ -67,52 +68,52 @@ module _ (s : List ℕ) where
   -- The H line.
   unfoldable pub headerAt : ℕ → Got Counts
   headerAt c =
-      then (byteAt s 72 c) (λ x c.
-      then (byteAt s 9 c) (λ x c. then (caseNumberAt c) (λ sections c.
-      then (byteAt s 9 c) (λ x c. then (caseNumberAt c) (λ points c.
-      then (byteAt s 9 c) (λ x c. then (caseNumberAt c) (λ trains c.
-      then (byteAt s 10 c) (λ x c. got (record { sections = sections; points = points; trains = trains }) c))))))))
+      then (byteAt s (byte "H") c) (λ x c.
+      then (byteAt s tab c) (λ x c. then (caseNumberAt c) (λ sections c.
+      then (byteAt s tab c) (λ x c. then (caseNumberAt c) (λ points c.
+      then (byteAt s tab c) (λ x c. then (caseNumberAt c) (λ trains c.
+      then (byteAt s lineEnd c) (λ x c. got (record { sections = sections; points = points; trains = trains }) c))))))))
 
   -- A P line, whose number must be n.
   unfoldable pub pointLineAt : ℕ → ℕ → Got Side
   pointLineAt n c =
-      then (byteAt s 80 c) (λ x c.
-      then (byteAt s 9 c) (λ x c. then (caseNumberAt c) (λ m c.
-      then (byteAt s 9 c) (λ x c. then (sideFieldAt c) (λ side c.
-      then (byteAt s 10 c) (λ x c. cond (eqb m n) (got side c) bad))))))
+      then (byteAt s (byte "P") c) (λ x c.
+      then (byteAt s tab c) (λ x c. then (caseNumberAt c) (λ m c.
+      then (byteAt s tab c) (λ x c. then (sideFieldAt c) (λ side c.
+      then (byteAt s lineEnd c) (λ x c. cond (eqb m n) (got side c) bad))))))
 
   -- A J line.
   unfoldable pub joinLineAt : ℕ → Got JoinLine
   joinLineAt c =
-      then (byteAt s 74 c) (λ x c.
-      then (byteAt s 9 c) (λ x c. then (endFieldAt c) (λ one c.
-      then (byteAt s 9 c) (λ x c. then (endFieldAt c) (λ other c.
-      then (byteAt s 10 c) (λ x c. got (record { one = one; other = other }) c))))))
+      then (byteAt s (byte "J") c) (λ x c.
+      then (byteAt s tab c) (λ x c. then (endFieldAt c) (λ one c.
+      then (byteAt s tab c) (λ x c. then (endFieldAt c) (λ other c.
+      then (byteAt s lineEnd c) (λ x c. got (record { one = one; other = other }) c))))))
 
   -- A G line.
   unfoldable pub signalLineAt : ℕ → Got SignalLine
   signalLineAt c =
-      then (byteAt s 71 c) (λ x c.
-      then (byteAt s 9 c) (λ x c. then (caseNumberAt c) (λ n c. then (sideFieldAt c) (λ side c.
-      then (byteAt s 10 c) (λ x c. got (record { number = n; side = side }) c)))))
+      then (byteAt s (byte "G") c) (λ x c.
+      then (byteAt s tab c) (λ x c. then (caseNumberAt c) (λ n c. then (sideFieldAt c) (λ side c.
+      then (byteAt s lineEnd c) (λ x c. got (record { number = n; side = side }) c)))))
 
   -- A T line, whose number must be n.
   unfoldable pub trainLineAt : ℕ → ℕ → Got TrainLine
   trainLineAt n c =
-      then (byteAt s 84 c) (λ x c.
-      then (byteAt s 9 c) (λ x c. then (caseNumberAt c) (λ m c.
-      then (byteAt s 9 c) (λ x c. then (sideFieldAt c) (λ heading c.
-      then (byteAt s 9 c) (λ x c. then (caseNumberAt c) (λ start c.
-      then (byteAt s 9 c) (λ x c. then (caseNumberAt c) (λ destination c.
-      then (byteAt s 10 c) (λ x c. cond (eqb m n) (got (record { heading = heading; start = start; destination = destination }) c) bad))))))))))
+      then (byteAt s (byte "T") c) (λ x c.
+      then (byteAt s tab c) (λ x c. then (caseNumberAt c) (λ m c.
+      then (byteAt s tab c) (λ x c. then (sideFieldAt c) (λ heading c.
+      then (byteAt s tab c) (λ x c. then (caseNumberAt c) (λ start c.
+      then (byteAt s tab c) (λ x c. then (caseNumberAt c) (λ destination c.
+      then (byteAt s lineEnd c) (λ x c. cond (eqb m n) (got (record { heading = heading; start = start; destination = destination }) c) bad))))))))))
 
   -- The whole text: the lines in their order, and nothing behind the last.
   unfoldable pub walk : Got Description
   walk =
       then (headerAt 0) (λ h c.
       then (counted pointLineAt (h .points) 1 c) (λ legs c.
-      then (while (λ c. eqb (getD s c 0) 74) joinLineAt (length s) c) (λ joins c.
-      then (while (λ c. eqb (getD s c 0) 71) signalLineAt (length s) c) (λ signals c.
+      then (while (λ c. eqb (getD s c 0) (byte "J")) joinLineAt (length s) c) (λ joins c.
+      then (while (λ c. eqb (getD s c 0) (byte "G")) signalLineAt (length s) c) (λ signals c.
       then (counted trainLineAt (h .trains) 1 c) (λ runs c.
       cond (ltb c (length s)) bad
       (got (record { sections = h .sections; points = h .points; trains = h .trains; legs = legs; joins = joins; signals = signals; runs = runs }) c))))))
@@ -126,7 +127,7 @@ abbrev pub formRows : Option Description → List Row
 formRows none = row Form true ∷ []
 formRows (some d) = row Form false ∷ descriptionRows d
 
--- .. row 1 before them.
+-- Rows 1 to 8 of a text, given what was read of it.
 abbrev pub caseRows : List ℕ → Option Description → List Row
 caseRows text o = row Length (ltb mostBytes (length text)) ∷ formRows o
 

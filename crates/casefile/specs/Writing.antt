@@ -17,7 +17,7 @@ use Rattle.railway.specs.declared.Refusal.{Refusal}
 use Rattle.railway.specs.declared.Refusal.the-variants.{Space}
 use Rattle.railway.specs.Bounds.{sectionEnds}
 use Rattle.railway.specs.Ends.{endIndex, endAt}
-use Rattle.railway.specs.Refusals.{Row, row, first, numberOf}
+use Rattle.railway.specs.Refusals.{number, Row, row, first}
 use Rattle.railway.specs.Record.{linkAt, flagAt, legsOf, runOf}
 use Rattle.railway.specs.Rows.{recordRows, recordRefusal}
 use Rattle.casefile.specs.declared.Written.{Written}
@@ -32,7 +32,7 @@ abbrev pub joinFrom : ℕ → Joined → List JoinLine
 joinFrom i Nothing = []
 joinFrom i (With f) = cond (ltb i (endIndex f)) (record { one = fieldOf (endAt i); other = fieldOf f } ∷ []) []
 
--- That line, if there is one, in a record.
+-- The J line that begins with the section end of index i in a record, if there is one.
 abbrev pub joinAt : Railway → ℕ → List JoinLine
 joinAt r i = joinFrom i (linkAt r i)
 
@@ -98,7 +98,8 @@ writtenRefusal (Refused f) = some f
 
 -- The number of that refusal in the table.
 abbrev pub writtenNumber : Written → Option ℕ
-writtenNumber w = numberOf (writtenRefusal w)
+writtenNumber (Bytes n) = none
+writtenNumber (Refused f) = some (number f)
 
 -- The count of bytes written, if the answer has one.
 abbrev pub writtenCount : Written → Option ℕ
@@ -121,7 +122,7 @@ pub record Room (r : Railway) (buffer : List ℕ) (n : ℕ) : Type 0 where
 -- it is kept; the buffer's length is kept.
 pub record WriterPost (r : Railway) (buffer : List ℕ) (w : Written) (after : List ℕ) : Type 0 where
   pub refusal : (f : Refusal) → (writtenRefusal w ≡ some f) ↔ ((recordRefusal r ≡ some f) ⊎ (NoRoom r buffer × (f ≡ Space)))
-  pub record-number : (f : Refusal) → recordRefusal r ≡ some f → writtenNumber w ≡ numberOf (some f)
+  pub record-number : (f : Refusal) → recordRefusal r ≡ some f → writtenNumber w ≡ some (number f)
   pub space : (writtenNumber w ≡ some 9) ↔ NoRoom r buffer
   pub count : (n : ℕ) → (writtenCount w ≡ some n) ↔ Room r buffer n
   pub kept : (n : ℕ) → writtenNumber w ≡ some n → after ≡ buffer

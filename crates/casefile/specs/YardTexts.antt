@@ -12,8 +12,8 @@ pub record YardText : Type 0 where
   pub yard : Railway
   pub text : String
 
--- All of them, in the document's order: Yard A, and without its signal at 1d; one section; two sections and a train up, from 1 to 2, from 2 to 1, and the
--- same with a signal at 2u; two trains head on there.
+-- All of them, in the document's order: Yard A, and without its signal at 1d; one section; two sections and a train up, from 1 to 2, from 2 to 1,
+-- and the same with a signal at 2u; two trains head on there.
 unfoldable pub yardTexts : List YardText
 yardTexts =
     record { yard = yardA; text = "H\t3\t1\t2\nP\t1\td\nJ\t1u\t1+\nJ\t2u\t1-\nJ\t3d\t1s\nG\t1d\nG\t2u\nT\t1\tu\t2\t3\nT\t2\td\t3\t1\n" }

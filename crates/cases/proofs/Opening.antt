@@ -17,6 +17,7 @@ use Rattle.railway.specs.Refusals.{numberOf}
 use Rattle.railway.specs.Rows.{recordRefusal}
 use Rattle.acceptance.specs.declared.Tested.the-variants.{Accepted, Refused}
 use Rattle.acceptance.specs.Answers.{refusalGiven}
+use Rattle.acceptance.proofs.Answers.{numbers-agree}
 use Rattle.game.specs.Placement.{placements}
 use Rattle.tables.specs.Tables.{tablesShort, caseRefusal}
 use Rattle.tables.proofs.Refusals.{case-record, case-accepted, case-none}
@@ -30,7 +31,7 @@ module _ (r : Railway) (figs sets : List ℕ) where
   refuses c f given due zeros =
       record {
         refusal = given ∙ sym due;
-        numbered = ap numberOf (given ∙ sym due);
+        numbered = numbers-agree (c .tested) ∙ ap numberOf (given ∙ sym due);
         compiled = λ e. some-none due e;
         room = λ e. some-none due e;
         zero = λ g e. zeros;
@@ -72,7 +73,7 @@ module _ (r : Railway) (figs sets : List ℕ) where
         let given : refusalGiven (c .tested) ≡ none = ap refusalGiven e in
         record {
           refusal = given ∙ sym fine;
-          numbered = ap numberOf (given ∙ sym fine);
+          numbered = numbers-agree (c .tested) ∙ ap numberOf (given ∙ sym fine);
           compiled = λ x. p .accepted a;
           room = λ x. room;
           zero = λ g x. some-none x fine;

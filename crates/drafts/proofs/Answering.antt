@@ -35,12 +35,12 @@ use Rattle.casefile.specs.Form.{EndField, port, JoinLine, SignalLine, TrainLine
 use Rattle.casefile.specs.Rows.{within, known, unknownJoin, unknownSignal, unknownTrain, wrongJoin, sameEnd, joinEnds, looseEnd, looseAt, countRow, unknownRow, joinRow, looseRow, doubleRow, placeRow, descriptionRows}
 use Rattle.casefile.specs.Recording.{partner, trainOf, noTrainLine, railwayOf}
 use Rattle.casefile.specs.Reading.{judged}
-use Rattle.casefile.proofs.Clean.{within-is}
+use Rattle.casefile.proofs.Faultless.{within-is}
 use Rattle.casefile.proofs.Ends.{less-one, partner-nothing}
-use Rattle.casefile.proofs.Told.{joined-at, run-at}
+use Rattle.casefile.proofs.Described.{joined-at, run-at}
 use Rattle.drafts.specs.declared.Draft.{Draft}
 use Rattle.drafts.specs.Drafting.{opened, putPoint, putJoin, putSignal, putTrain, draftRows, answerOf, draftAnswer}
-use Rattle.drafts.proofs.Feeding.{putRising, putEach, drafted}
+use Rattle.drafts.proofs.Folding.{putRising, putEach, drafted}
 use Rattle.drafts.proofs.Stored.{same-everywhere}
 use Rattle.drafts.proofs.Sized.{Sized, sized-bare, sized-rising, sized-each, sized-point, sized-put-join, sized-put-signal, sized-put-train}
 use Rattle.drafts.proofs.Known.{unknown-noted}

@@ -18,10 +18,10 @@ use Rattle.railway.specs.Record.{hasSignal, withJoin, withSignal, withLegs, wit
 use Rattle.casefile.specs.Form.{EndField, section, JoinLine, SignalLine, TrainLine, Description}
 use Rattle.casefile.specs.Rows.{within, known}
 use Rattle.casefile.specs.Recording.{endOf, trainOf}
-use Rattle.casefile.proofs.Clean.{is-within}
+use Rattle.casefile.proofs.Faultless.{is-within}
 use Rattle.drafts.specs.declared.Draft.{Draft}
 use Rattle.drafts.specs.Drafting.{putPoint, faulty, putJoin, putSignal, putTrain, withRailway}
-use Rattle.drafts.proofs.Feeding.{putRising, putEach}
+use Rattle.drafts.proofs.Folding.{putRising, putEach}
 use Rattle.drafts.proofs.Stored.{storeFrom}
 use Rattle.drafts.proofs.Sized.{sized-point, sized-put-join, sized-put-signal}
 use Rattle.drafts.proofs.Known.{or-nothing, or-assoc, SizedBy, there-known}

@@ -30,7 +30,7 @@ use Rattle.railway.proofs.Accepted.{Bounded}
 use Rattle.casefile.specs.Form.{EndField, section, port, JoinLine, Description}
 use Rattle.casefile.specs.Rows.{known, sideOf, tied, wrongJoin, sameEnd, joinEnds}
 use Rattle.casefile.specs.Recording.{endOf, fieldOf, partner}
-use Rattle.casefile.proofs.Clean.{within-is}
+use Rattle.casefile.proofs.Faultless.{within-is}
 use Rattle.casefile.proofs.Ends.{same-is, same-self, not-same, end-field, Counted, field-end, ports-same, one-same}
 use Rattle.drafts.specs.Drafting.{faulty}
 use Rattle.drafts.proofs.Sized.{sized-join}

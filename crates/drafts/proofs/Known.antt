@@ -14,11 +14,11 @@ use Rattle.railway.specs.declared.Railway.{Railway}
 use Rattle.casefile.specs.Form.{EndField, section, port, JoinLine, SignalLine, TrainLine, Description, WellFormed}
 use Rattle.casefile.specs.Rows.{within, known, unknownJoin, unknownSignal, unknownTrain, unknownRow}
 use Rattle.casefile.specs.Recording.{endOf}
-use Rattle.casefile.proofs.Clean.{is-within}
+use Rattle.casefile.proofs.Faultless.{is-within}
 use Rattle.drafts.specs.declared.Draft.{Draft}
 use Rattle.drafts.specs.declared.KnownEnd.the-variants.{NotThere, There}
 use Rattle.drafts.specs.Drafting.{isThere, putPoint, putEnds, putJoin, putAt, putSignal, putTrain, withRailway, unknownIn}
-use Rattle.drafts.proofs.Feeding.{putRising, putEach}
+use Rattle.drafts.proofs.Folding.{putRising, putEach}
 use Rattle.drafts.proofs.Sized.{Sized, SizedDraft, sized-rising, sized-each, sized-point, sized-put-join, sized-put-signal, sized-put-train}
 
 -- or

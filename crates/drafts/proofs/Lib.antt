@@ -1,4 +1,4 @@
-pub mod Feeding
+pub mod Folding
 pub mod Stored
 pub mod Sized
 pub mod Known

@@ -30,10 +30,10 @@ use Rattle.railway.proofs.Accepted.{Bounded}
 use Rattle.casefile.specs.Form.{JoinLine, SignalLine, Description, WellFormed}
 use Rattle.casefile.specs.Rows.{sameSignal}
 use Rattle.casefile.specs.Recording.{endOf, fieldOf, partner, signalOf, trainOf, noTrainLine, railwayOf}
-use Rattle.casefile.proofs.Clean.{within-is}
+use Rattle.casefile.proofs.Faultless.{within-is}
 use Rattle.drafts.specs.declared.Draft.{Draft}
 use Rattle.drafts.specs.Drafting.{opened, putPoint, putJoin, putSignal}
-use Rattle.drafts.proofs.Feeding.{putRising, putEach, drafted}
+use Rattle.drafts.proofs.Folding.{putRising, putEach, drafted}
 use Rattle.drafts.proofs.Stored.{storeFrom, store-length, store-all, same-everywhere}
 use Rattle.drafts.proofs.Sized.{Sized, sized-bare, sized-join, sized-signal}
 use Rattle.drafts.proofs.Known.{SizedBy, or-nothing}

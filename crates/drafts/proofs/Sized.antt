@@ -20,7 +20,7 @@ use Rattle.drafts.specs.declared.Draft.{Draft}
 use Rattle.drafts.specs.declared.KnownEnd.{KnownEnd}
 use Rattle.drafts.specs.declared.KnownEnd.the-variants.{NotThere, There}
 use Rattle.drafts.specs.Drafting.{endIn, putPoint, putEnds, putJoin, putAt, putSignal, putTrain, withRailway, unknownIn}
-use Rattle.drafts.proofs.Feeding.{putRising, putEach}
+use Rattle.drafts.proofs.Folding.{putRising, putEach}
 use Rattle.drafts.proofs.Stored.{everywhere-length}
 
 pub record Sized (s p k : ℕ) (r : Railway) : Type 0 where

@@ -18,7 +18,7 @@ use Rattle.casefile.specs.Reading.{walk, read, judged, caseAnswer}
 use Rattle.casefile.proofs.Whole.{read-sound}
 use Rattle.drafts.specs.declared.Draft.{Draft}
 use Rattle.drafts.specs.Drafting.{draftOf, draftAnswer}
-use Rattle.drafts.proofs.Feeding.{drafted, draft-walked}
+use Rattle.drafts.proofs.Folding.{drafted, draft-walked}
 use Rattle.drafts.proofs.Answering.{draft-answered}
 
 module _ (s : List ℕ) where

@@ -7,6 +7,7 @@ use mathlib.Core.Option.{Option, none, some}
 use Prim.Native.Nat.{ℕ, zero, suc, _-_, _≤_}
 use lib.Dec.{ltb, leb, eqb}
 use lib.ListN.{length, getD}
+use Rattle.text.specs.Text.{byte}
 use Rattle.text.specs.Reading.{Got, bad, got, then}
 use Rattle.railway.specs.declared.Side.{Side}
 use Rattle.railway.specs.declared.End.{End}
@@ -103,32 +104,32 @@ lineInto s T n c d = then (trainLineAt s n c) (λ x c. got (putTrain d n x) c)
 
 -- The letter that a line of a kind begins with.
 abbrev pub letter : Kind → ℕ
-letter P = 80
-letter J = 74
-letter G = 71
-letter T = 84
+letter P = byte "P"
+letter J = byte "J"
+letter G = byte "G"
+letter T = byte "T"
 
 -- Lines one after the other; `line n c r` makes of r what the line that begins at c and has number n says.
 module _ {R : Type 0} (line : ℕ → ℕ → R → Got R) where
   -- As many as the count says, numbered from n upwards.
-  unfoldable pub fed : ℕ → ℕ → ℕ → R → Got R
-  fed zero n c r = got r c
-  fed (suc k) n c r = then (line n c r) (λ r c. fed k (suc n) c r)
+  unfoldable pub foldCounted : ℕ → ℕ → ℕ → R → Got R
+  foldCounted zero n c r = got r c
+  foldCounted (suc k) n c r = then (line n c r) (λ r c. foldCounted k (suc n) c r)
 
 -- `begins c` says whether such a line begins at c.
 module _ {R : Type 0} (begins : ℕ → Bool) (line : ℕ → R → Got R) where
   -- As many as there are; `most` is a number that they cannot pass.
-  unfoldable pub fedWhile : ℕ → ℕ → R → Got R
-  fedWhile zero c r = got r c
-  fedWhile (suc most) c r = elim (begins c) [ true ↦ then (line c r) (λ r c. fedWhile most c r) | false ↦ got r c ]
+  unfoldable pub foldWhile : ℕ → ℕ → R → Got R
+  foldWhile zero c r = got r c
+  foldWhile (suc most) c r = elim (begins c) [ true ↦ then (line c r) (λ r c. foldWhile most c r) | false ↦ got r c ]
 
 -- All P lines, or all T lines.
 abbrev pub countedInto : List ℕ → Kind → ℕ → ℕ → Draft → Got Draft
-countedInto s kind count c d = fed (lineInto s kind) count 1 c d
+countedInto s kind count c d = foldCounted (lineInto s kind) count 1 c d
 
 -- All J lines, or all G lines.
 abbrev pub manyInto : List ℕ → Kind → ℕ → Draft → Got Draft
-manyInto s kind c d = fedWhile (λ c. eqb (getD s c 0) (letter kind)) (lineInto s kind 0) (length s) c d
+manyInto s kind c d = foldWhile (λ c. eqb (getD s c 0) (letter kind)) (lineInto s kind 0) (length s) c d
 
 -- Nothing stands behind the last line.
 abbrev pub endAt : List ℕ → Draft → ℕ → Got Draft

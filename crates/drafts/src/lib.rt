@@ -1,5 +1,5 @@
 // What a reader keeps of a case text on its way: the record as it is built, line by line, beside three flags for what the record cannot show.
-// Declared here are the types; specs/ has what each line makes of a draft and what a draft is answered with, proofs/ that this is the casefile's answer.
+// The types are declared here; specs/ has what each line makes of a draft and what a draft is answered with, proofs/ that it is the text's answer.
 use railway::End;
 use railway::Railway;
 use text::Cursor;

@@ -1,4 +1,5 @@
--- Whether a record was read, and what is left of the space that was lent for it. Which bytes come from standard input no definition can say. Nothing of document 01 rests on this.
+-- Whether a record was read, and what is left of the space that was lent for it. Which bytes come from standard input no definition can say.
+-- Nothing of document 01 rests on this.
 -- Assumes nothing.
 use mathlib.Core.Path.{_≡_}
 use mathlib.Core.Bool.{Bool, true, false, cond}
@@ -26,6 +27,6 @@ KeptBy Whole n old new = drop n new ≡ drop n old
 KeptBy Ended n old new = (n ≡ 0) × (new ≡ old)
 KeptBy Broken n old new = (n ≡ 0) × (length new ≡ length old)
 
--- What is left of the space, by what was read.
+-- What a call leaves of the space, by the record that it answers.
 abbrev pub Kept : Record → List ℕ → List ℕ → Type 0
 Kept r old new = KeptBy (r .reading) (r .bytes) old new

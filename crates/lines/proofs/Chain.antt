@@ -1,4 +1,4 @@
--- A line as code reads it: a field behind a tab is read or not as one step, and sides, legs and ends are read by looking for one byte after the other.
+-- A line as code reads it: a field behind a tab is one step, read or not; sides, legs and ends are read by looking for one byte after the other.
 -- Assumes nothing.
 use Prim.Native.Nat.{ℕ, _+_}
 use mathlib.Core.Path.{_≡_, refl}

@@ -1,6 +1,7 @@
 -- What the answers of the line functions stand for. Contracts cite these; nothing of document 01 rests on them. Assumes nothing.
 use mathlib.Core.List.{List}
 use Prim.Native.Nat.{ℕ}
+use Rattle.text.specs.Text.{tab}
 use Rattle.text.specs.Reading.{Got, bad, got, then, byteAt}
 use Rattle.railway.specs.declared.Side.{Side}
 use Rattle.railway.specs.declared.Leg.{Leg}
@@ -25,7 +26,7 @@ use Rattle.lines.specs.declared.TrainRead.the-variants.{NoTrain, RunIs}
 
 -- A tab, and a field behind it.
 abbrev pub behindTab : {A : Type 0} → List ℕ → (ℕ → Got A) → ℕ → Got A
-behindTab s field c = then (byteAt s 9 c) (λ x c. field c)
+behindTab s field c = then (byteAt s tab c) (λ x c. field c)
 
 -- `u` or `d`, as it was read.
 abbrev pub sideGot : SideRead → Got Side

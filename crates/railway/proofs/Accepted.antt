@@ -1,4 +1,4 @@
--- What it is for a record to be accepted, fact by fact, both ways; and what follows: an accepted record's lookups stay within its counts and are returned.
+-- What it is for a record to be accepted, fact by fact, both ways; and what follows: its lookups stay within its counts and are returned.
 -- Assumes nothing.
 use Prim.Native.Nat.{ℕ, _<_, _≤_}
 use mathlib.Core.Path.{_≡_, refl, _∙_, ap}
@@ -200,20 +200,20 @@ joined-link r e f h = cases (ltb (endIndex e) allEnds) refl h
     cases false p q = let z : _≡_ {A = ℕ} 0 1 = cc in absurd (omega arith)
 
 module _ (r : Railway) (w : Accepted r) where
-  -- .. stay within its counts
+  -- ends that are joined are within the counts
   pub joined-known : (e f : End) → joined r e ≡ With f → (known r e ≡ true) × (known r f ≡ true)
   joined-known e f h =
       let l = joined-link r e f h in
       let k = w .link-known (endIndex e) f (l .0) (l .1) in
       (rw (end-index e (numbered-of e (l .0))) at (k .0), k .1)
 
-  -- .. are joins as they should be
+  -- ends that are joined are a pair that a join may tie
   pub joined-right : (e f : End) → joined r e ≡ With f → Right r e f
   joined-right e f h =
       let l = joined-link r e f h in
       rw (end-index e (numbered-of e (l .0))) at (w .link-right (endIndex e) f (l .0) (l .1))
 
-  -- .. and are returned
+  -- joins are returned: what an end is joined to is joined to it
   pub joined-back : (e f : End) → joined r e ≡ With f → joined r f ≡ With e
   joined-back e f h = cases (joined r f) refl (joined-right e f h .back)
     where

@@ -87,7 +87,8 @@ cases =
     ∷ gets (some 4) (signal (d 3) two)
     ∷ gets (some 4) (train 1 Up 3 1 two)
     ∷ gets (some 4) (train 1 Up 1 3 two)
-    -- 5: two ports, one section, an end with itself, one side (of sections, of a port with legs down and with legs up), a link that is not returned, an end in two joins
+    -- 5: two ports, one section, an end with itself, one side (of sections, of a port with legs down and with legs up), a link that is not
+    -- returned, an end in two joins
     ∷ gets (some 5) (join (port Plus 1) (port Stem 1) (bareRailway 2 1 1))
     ∷ gets (some 5) (join (u 1) (d 1) two)
     ∷ gets (some 5) (join (u 1) (u 1) two)

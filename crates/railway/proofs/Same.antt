@@ -148,7 +148,7 @@ module _ (r q : Railway) (h : SameRailway r q) where
   count-same : countRow r ≡ countRow q
   count-same = rw (h .sections, h .points, h .trains)
 
-  -- .. and the test's answer
+  -- THE ANSWER OF THE TEST is the same, for each row is
   pub refusal-same : recordRefusal r ≡ recordRefusal q
   unfolding recordRefusal
   refusal-same =

@@ -94,7 +94,7 @@ withLinks r links =
 abbrev pub setLink : End → End → List Link → List Link
 setLink a b links = set links (endIndex a) (record { to = With b })
 
--- Both directions, where both ends are ends that a railway can have.
+-- A join added, in both directions, where both ends are ends that a railway can have.
 unfoldable pub withJoin : Railway → End → End → Railway
 withJoin r a b = cond (ltb (endIndex a) allEnds && ltb (endIndex b) allEnds) (withLinks r (setLink b a (setLink a b (r .links)))) r
 

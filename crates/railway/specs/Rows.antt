@@ -1,5 +1,5 @@
 -- Rows 3 to 8 of the table of numbers, for a record handed in: one definition a row, and the first that applies.
--- A record can be crooked where no text can be; each row says what it makes of that (docs/DECISIONS.md gives the reasons). Assumes nothing.
+-- A record can have faults that no text can express; each row says what it makes of them (docs/DECISIONS.md gives the reasons). Assumes nothing.
 use mathlib.Core.Bool.{Bool, true, false, not, _&&_, _||_}
 use mathlib.Core.List.{List, [], _∷_}
 use mathlib.Core.Option.{Option, none, some}
@@ -65,13 +65,13 @@ pub record Tied : Type 0 where
   pub section : Option ℕ
   pub side : Side
 
--- Both are ports.
+-- Both ends are ports.
 abbrev pub bothPorts : Option ℕ → Option ℕ → Bool
 bothPorts none none = true
 bothPorts none (some n) = false
 bothPorts (some m) b = false
 
--- Both belong to one section.
+-- Both ends belong to one section.
 abbrev pub oneSection : Option ℕ → Option ℕ → Bool
 oneSection (some m) (some n) = eqb m n
 oneSection (some m) none = false

@@ -11,18 +11,18 @@ use Rattle.railway.specs.Rows.{recordRefusal}
 use Rattle.casefile.specs.declared.CaseRead.{CaseRead}
 use Rattle.casefile.specs.Given.{accepted, refused, RefusedWith, AcceptedWith, ReaderPost}
 
--- It accepts exactly the texts to which no row applies, each with the railway that it describes.
+-- A reader accepts exactly the texts to which no row applies, each with the railway that it describes.
 abbrev pub ReaderAccepts : Type 0
 ReaderAccepts = (text : List ℕ) (r : CaseRead) → ReaderPost text r → (q : Railway) → (r ≡ accepted q) ↔ AcceptedWith text q
 
--- It refuses exactly where a row applies, with the first that does.
+-- A reader refuses exactly where a row applies, with the first that does.
 abbrev pub ReaderRefuses : Type 0
 ReaderRefuses = (text : List ℕ) (r : CaseRead) → ReaderPost text r → (f : Refusal) → (r ≡ refused f) ↔ RefusedWith text f
 
--- It does one of the two.
+-- A reader accepts or refuses every text.
 abbrev pub ReaderSettles : Type 0
 ReaderSettles = (text : List ℕ) (r : CaseRead) → ReaderPost text r → ((q : Railway) × (r ≡ accepted q)) ⊎ ((f : Refusal) × (r ≡ refused f))
 
--- A railway that it gives passes the test of a record.
+-- A railway that a reader gives passes the test of a record.
 abbrev pub ReaderGives : Type 0
 ReaderGives = (text : List ℕ) (r : CaseRead) → ReaderPost text r → (q : Railway) → r ≡ accepted q → recordRefusal q ≡ none

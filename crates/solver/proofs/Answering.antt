@@ -16,6 +16,7 @@ use Rattle.tables.specs.declared.SolverAnswer.the-variants.{Refused as Refuses}
 use Rattle.tables.specs.Tables.{noFigure, figureIn, caseRefusal}
 use Rattle.tables.specs.Solver.{refusalGiven, figureGiven, SolverTables, SolverPost}
 use Rattle.tables.proofs.Exists.{few-placements}
+use Rattle.tables.proofs.Promise.{numbers-agree}
 use Rattle.compiled.specs.declared.Compilation.{Compilation}
 use Rattle.compiled.specs.Table.{Compiled}
 use Rattle.cases.specs.Cases.{CasePost}
@@ -55,4 +56,4 @@ module _ (r : Railway) (figs sets : List ℕ) (c : Compilation) (p : CasePost r 
     answer-solved a figs′ sets′ fills starts =
         let s = starts r its-table in
         let given : refusalGiven a ≡ caseRefusal r figs sets = s .0 ∙ sym fine in
-        record { refusal = given; numbered = ap numberOf given; leaves = rw fine (fills its-table (counts r its-table), s .1) }
+        record { refusal = given; numbered = numbers-agree a ∙ ap numberOf given; leaves = rw fine (fills its-table (counts r its-table), s .1) }

@@ -15,10 +15,16 @@ use Rattle.game.proofs.Moves.{start-below}
 use Rattle.tables.specs.declared.SolverAnswer.{SolverAnswer}
 use Rattle.tables.specs.declared.SolverAnswer.the-variants.{Refused, Unsolvable, Figure}
 use Rattle.tables.specs.Tables.{figureIn, caseRefusal}
-use Rattle.tables.specs.Solver.{refusalGiven, figureGiven, SolverTables, SolverPost}
+use Rattle.tables.specs.Solver.{refusalGiven, numberGiven, figureGiven, SolverTables, SolverPost}
 use Rattle.tables.proofs.Refusals.{case-none}
 use Rattle.tables.proofs.Exists.{Made, tables-exist}
 use Rattle.tables.proofs.Unique.{figure-same}
+
+-- The number that an answer gives is that of the refusal that it gives.
+pub numbers-agree : (a : SolverAnswer) → numberGiven a ≡ numberOf (refusalGiven a)
+numbers-agree (Refused f) = refl
+numbers-agree Unsolvable = refl
+numbers-agree (Figure n) = refl
 
 -- The answer that has this figure.
 abbrev answerOf : Option ℕ → SolverAnswer
@@ -59,7 +65,7 @@ promised r figs sets = elim (option? (caseRefusal r figs sets)) [
         keeps =
             record {
               refusal = answer-refusal f ∙ sym x;
-              numbered = ap numberOf (answer-refusal f ∙ sym x);
+              numbered = numbers-agree (answerOf f) ∙ ap numberOf (answer-refusal f ∙ sym x);
               leaves = rw x (m .made, answer-figure f);
             };
       }

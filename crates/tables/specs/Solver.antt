@@ -7,7 +7,7 @@ use Prim.Native.Nat.{ℕ, _≤_}
 use lib.ListN.{length, getD}
 use Rattle.railway.specs.declared.Railway.{Railway}
 use Rattle.railway.specs.declared.Refusal.{Refusal}
-use Rattle.railway.specs.Refusals.{numberOf}
+use Rattle.railway.specs.Refusals.{number, numberOf}
 use Rattle.game.specs.Placement.{placements, startCode}
 use Rattle.tables.specs.declared.SolverAnswer.{SolverAnswer}
 use Rattle.tables.specs.declared.SolverAnswer.the-variants.{Refused, Unsolvable, Figure}
@@ -21,7 +21,9 @@ refusalGiven (Figure n) = none
 
 -- The number of that refusal in the table.
 abbrev pub numberGiven : SolverAnswer → Option ℕ
-numberGiven a = numberOf (refusalGiven a)
+numberGiven (Refused f) = some (number f)
+numberGiven Unsolvable = none
+numberGiven (Figure n) = none
 
 -- The start's figure, if the answer has one.
 abbrev pub figureGiven : SolverAnswer → Option ℕ

@@ -56,7 +56,7 @@ cut-line f (g ∷ fs) p q =
     let h = and-true (all isPlain g) (all (all isPlain) fs) q in
     cut-tab f (line (g ∷ fs)) p ∙ ap (λ (gs : List (List ℕ)). f ∷ gs) (cut-line g fs (h .0) (h .1))
 
--- .. so a line has one list of fields
+-- A line has one list of fields, for it is cut into them
 pub line-one : (f g : List ℕ) (fs gs : List (List ℕ)) → all isPlain f ≡ true → all (all isPlain) fs ≡ true → all isPlain g ≡ true → all (all isPlain) gs ≡ true
     → line (f ∷ fs) ≡ line (g ∷ gs) → f ∷ fs ≡ g ∷ gs
 line-one f g fs gs p q u v e = sym (cut-line f fs p q) ∙ ap fields e ∙ cut-line g gs u v

@@ -54,7 +54,7 @@ pub on : {A B : Type 0} {P : Type 0} (g : Got A) (k : A → ℕ → Got B) (y : 
     → ((x : A) (b : ℕ) → g ≡ got x b → k x b ≡ got y c → P) → P
 on g k y c e f = let t = steps g k y c e in f (t .value) (t .cursor) (t .first) (t .second)
 
--- .. and the two steps made
+-- two steps of `then` made, one after the other
 pub go-on : {A B : Type 0} {s : List ℕ} {g : Got A} {x : A} {rest : List ℕ} (k : A → ℕ → Got B) {y : B} {more : List ℕ}
     → Reads s g x rest → ((c : ℕ) → Lies s c rest → Reads s (k x c) y more) → Reads s (then g k) y more
 go-on k r f = let t = f (r .cursor) (r .left) in record { cursor = t .cursor; is = rw (r .is) (t .is); left = t .left }
@@ -97,7 +97,7 @@ pub record Written (s : List ℕ) (most at n c : ℕ) : Type 0 where
   pub small : n < 10 ^ suc most
   pub text : drop at s ≡ decimal n ++ drop c s
 
--- .. with no more digits than were looked for
+-- a number read, with no more digits than were looked for
 record Spelled (s : List ℕ) (most at n c : ℕ) : Type 0 where
   small : n < 10 ^ suc most
   text : drop at s ≡ digits (suc most) n ++ drop c s
@@ -166,7 +166,7 @@ module _ (s : List ℕ) (at : ℕ) where
       let w = number-cases most n c (isDigit (getD s at 0)) (eqb (getD s at 0) 48) refl refl e in
       record { small = w .small; text = w .text ∙ ap (λ (d : List ℕ). d ++ drop c s) (digits-decimal most n l (w .small)) }
 
--- .. and what is written is read
+-- NUMBERS: what is written is read
 module _ (s rest : List ℕ) (stop : isDigit (getD rest 0 0) ≡ false) where
   digits-complete : (ds : List ℕ) (most v c : ℕ) → all isDigit ds ≡ true → length ds ≤ most → Lies s c (ds ++ rest) → Reads s (digitsAt s most v c) (valueOf v ds) rest
   unfolding digitsAt valueOf all

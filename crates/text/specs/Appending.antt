@@ -1,5 +1,5 @@
--- Writing into a buffer at a cursor, as code does it. Contracts cite this file; nothing of document 01 rests on it: `StandsWhole`, at its end, says what a
--- text leaves where there is room. Assumes nothing.
+-- Writing into a buffer at a cursor, as code does it. Contracts cite this file; nothing of document 01 rests on it: `StandsWhole`, at its end, says
+-- what a text leaves where there is room. Assumes nothing.
 use mathlib.Core.Path.{_≡_}
 use mathlib.Core.Bool.{cond}
 use mathlib.Core.List.{List, [], _∷_, _++_}

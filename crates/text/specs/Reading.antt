@@ -6,14 +6,15 @@ use mathlib.Core.Option.{Option, none, some}
 use Prim.Native.Nat.{ℕ, zero, suc, _+_, _-_, _*_}
 use lib.Dec.{ltb, eqb}
 use lib.ListN.{getD}
+use Rattle.text.specs.Text.{byte, tab, lineEnd}
 
--- A byte that is a digit.
+-- A byte that is a digit: `0` is byte 48, `9` is 57.
 unfoldable pub isDigit : ℕ → Bool
 isDigit b = ltb 47 b && ltb b 58
 
 -- A byte that neither parts fields nor ends a line.
 unfoldable pub isPlain : ℕ → Bool
-isPlain b = not (eqb b 9) && not (eqb b 10)
+isPlain b = not (eqb b tab) && not (eqb b lineEnd)
 
 -- WITH A CURSOR. What was read, with the cursor past it; or it is not in form, which ends the reading.
 pub data Got (A : Type 0) : Type 0 where
@@ -38,13 +39,13 @@ module _ (s : List ℕ) where
   -- Up to so many digits behind those whose number is n.
   unfoldable pub digitsAt : ℕ → ℕ → ℕ → Got ℕ
   digitsAt zero n c = got n c
-  digitsAt (suc most) n c = cond (isDigit (getD s c 0)) (digitsAt most (n * 10 + (getD s c 0 - 48)) (c + 1)) (got n c)
+  digitsAt (suc most) n c = cond (isDigit (getD s c 0)) (digitsAt most (n * 10 + (getD s c 0 - byte "0")) (c + 1)) (got n c)
 
   -- A number of 1 + most digits at most: as many as there are, and a zero by itself.
   unfoldable pub numberAt : ℕ → ℕ → Got ℕ
   numberAt most c =
       cond (isDigit (getD s c 0))
-      (cond (eqb (getD s c 0) 48) (got 0 (c + 1)) (digitsAt most (getD s c 0 - 48) (c + 1)))
+      (cond (eqb (getD s c 0) (byte "0")) (got 0 (c + 1)) (digitsAt most (getD s c 0 - byte "0") (c + 1)))
       bad
 
 -- BY CUTTING. One byte more in front of the first field.
@@ -52,15 +53,15 @@ abbrev pub onFirst : ℕ → List (List ℕ) → List (List ℕ)
 onFirst b [] = (b ∷ []) ∷ []
 onFirst b (f ∷ fs) = (b ∷ f) ∷ fs
 
--- A text cut at its tabs; bytes 10 fall away.
+-- A text cut at its tabs; line ends fall away.
 unfoldable pub fields : List ℕ → List (List ℕ)
 fields [] = [] ∷ []
-fields (b ∷ bs) = cond (eqb b 9) ([] ∷ fields bs) (cond (eqb b 10) (fields bs) (onFirst b (fields bs)))
+fields (b ∷ bs) = cond (eqb b tab) ([] ∷ fields bs) (cond (eqb b lineEnd) (fields bs) (onFirst b (fields bs)))
 
 -- The number that digits write, behind those whose number is n.
 unfoldable pub valueOf : ℕ → List ℕ → ℕ
 valueOf n [] = n
-valueOf n (b ∷ bs) = valueOf (n * 10 + (b - 48)) bs
+valueOf n (b ∷ bs) = valueOf (n * 10 + (b - byte "0")) bs
 
 -- Two texts are the same.
 unfoldable pub sameText : List ℕ → List ℕ → Bool

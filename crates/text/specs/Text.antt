@@ -5,13 +5,17 @@ use mathlib.Core.List.{List, [], _∷_, _++_}
 use Prim.Native.Nat.{ℕ, zero, suc, _+_, _/_, _%_}
 use Prim.Native.String as Str
 use Prim.Native.String.{String}
-use Prim.Native.Char.{code}
+use Prim.Native.Char.{Char, code}
 use lib.Dec.{ltb}
+
+-- The byte of a character.
+abbrev pub byte : Char → ℕ
+byte c = code c
 
 -- The decimal digits of a number, none in front that is zero; `0` is zero. At most as many as the first number says.
 unfoldable pub digits : ℕ → ℕ → List ℕ
 digits zero n = []
-digits (suc left) n = cond (ltb n 10) ((48 + n) ∷ []) (digits left (n / 10) ++ ((48 + n % 10) ∷ []))
+digits (suc left) n = cond (ltb n 10) ((byte "0" + n) ∷ []) (digits left (n / 10) ++ ((byte "0" + n % 10) ∷ []))
 
 -- A number as it is written. Ten digits are enough for both formats: a case file writes numbers below 1,000, a plan figures below 4,294,967,295.
 abbrev pub decimal : ℕ → List ℕ
@@ -25,7 +29,7 @@ tab = 9
 abbrev pub lineEnd : ℕ
 lineEnd = 10
 
--- A line: its fields, byte 9 between one and the next, byte 10 behind the last.
+-- A line: its fields, a tab between one and the next, a line end behind the last.
 unfoldable pub line : List (List ℕ) → List ℕ
 line [] = lineEnd ∷ []
 line (f ∷ []) = f ++ (lineEnd ∷ [])
@@ -34,4 +38,4 @@ line (f ∷ g ∷ fs) = f ++ (tab ∷ line (g ∷ fs))
 -- The bytes of a text that is written out in a table.
 unfoldable pub bytes : String → List ℕ
 bytes Str.[] = []
-bytes (Str._∷_ c s) = code c ∷ bytes s
+bytes (Str._∷_ c s) = byte c ∷ bytes s

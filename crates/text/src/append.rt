@@ -31,7 +31,7 @@ pub fn number(out: &mut [u8], at: usize, n: u32, after: u8) -> usize
     byte(out, next, after)
 }
 
-// So many digits of a number at most: those in front first.
+// A number in decimal, of so many digits at most: those in front first.
 fn digits(out: &mut [u8], at: usize, left: u8, n: u32) -> usize
     ensures { λ r. ⌜ Appended (now (out .entry)) at (digits left n) (now (out .exit)) r ⌝ }
 {

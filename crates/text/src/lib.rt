@@ -93,7 +93,7 @@ pub fn number_at(text: &[u8], c: Cursor, w: Width) -> Number
     Number::None
 }
 
-// So many digits more at most, behind those of the number so far.
+// At most so many more digits, behind those of the number so far.
 fn digits_at(text: &[u8], from: usize, value: u64, most: u8) -> Number
     requires { ⌜ (value < 10 ^ (10 - most)) × (most ≤ 9) × (from ≤ length (now text)) ⌝ }
     ensures { λ r. ⌜ numberGot r ≡ digitsAt (now (text .entry)) most value from ⌝ }

@@ -1,5 +1,6 @@
--- A thin function over a reader, walked once for all of them: the slice and the place are read out of the reader, a function is called on them and the
--- walk, and its answer is returned. What is asked of the function called is that it runs, from what it is passed, to an answer that it says something of.
+-- A thin function over a reader, walked once for all of them: the slice and the place are read out of the reader, a function is called on them and
+-- the walk, and its answer is returned. What is asked of the function called is that it runs, from what it is passed, to an answer that it says
+-- something of.
 -- Assumes nothing.
 use mathlib.Core.Path.{refl}
 use mathlib.Core.List.{[], _∷_}

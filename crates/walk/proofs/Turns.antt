@@ -12,7 +12,7 @@ use lib.Dec.{ltb, eqb}
 use lib.ListN.{length, getD, drop, length-append, length-drop, List·getD-eq-default}
 use borrow.Author.Tests.{lt-ltb, le-ltb, ltb-true, ltb-false, eqb-true}
 use Rattle.laws.proofs.Bools.{bool?, lt?, and-true}
-use Rattle.text.specs.Text.{line}
+use Rattle.text.specs.Text.{byte, line}
 use Rattle.text.specs.Reading.{Got, bad, got, then}
 use Rattle.text.proofs.Walking.{steps}
 use Rattle.casefile.specs.Form.{joinLine, signalLine}
@@ -22,7 +22,7 @@ use Rattle.drafts.specs.declared.Draft.{Draft}
 use Rattle.drafts.specs.declared.Kind.{Kind}
 use Rattle.drafts.specs.declared.Kind.the-variants.{P, J, G, T}
 use Rattle.drafts.specs.declared.Lines.{Lines}
-use Rattle.drafts.specs.Drafting.{putJoin, putSignal, lineInto, letter, fed, fedWhile, linesGot}
+use Rattle.drafts.specs.Drafting.{putJoin, putSignal, lineInto, letter, foldCounted, foldWhile, linesGot}
 use Rattle.walk.specs.declared.Walk.{Walk}
 use Rattle.walk.specs.Walking.{another, goesOn, numberDue, LineRead, leftInto, restInto, asLines}
 
@@ -49,24 +49,24 @@ line-read s at w n h l e = record { kind = refl; count = refl; read = h; lines =
 
 -- AS MANY AS A COUNT SAYS
 module _ (s : List ℕ) (k : Kind) (read c : ℕ) (d : Draft) where
-  fed-more : (t : ℕ) → fed (lineInto s k) (suc t) (read + 1) c d ≡ then (lineInto s k (read + 1) c d) (λ d c. fed (lineInto s k) t (read + 1 + 1) c d)
-  unfolding fed
-  fed-more t = let y : read + 1 + 1 ≡ suc (read + 1) = omega arith in rw y
+  fold-more : (t : ℕ) → foldCounted (lineInto s k) (suc t) (read + 1) c d ≡ then (lineInto s k (read + 1) c d) (λ d c. foldCounted (lineInto s k) t (read + 1 + 1) c d)
+  unfolding foldCounted
+  fold-more t = let y : read + 1 + 1 ≡ suc (read + 1) = omega arith in rw y
 
-  fed-none : (t : ℕ) → t ≡ 0 → got d c ≡ fed (lineInto s k) t (read + 1) c d
-  unfolding fed
-  fed-none t e = rw e
+  fold-none : (t : ℕ) → t ≡ 0 → got d c ≡ foldCounted (lineInto s k) t (read + 1) c d
+  unfolding foldCounted
+  fold-none t e = rw e
 
 -- AS MANY AS THERE ARE
 module _ (test : ℕ → Bool) (ln : ℕ → Draft → Got Draft) (c : ℕ) (d : Draft) where
-  while-more : (m : ℕ) → test c ≡ true → fedWhile test ln (suc m) c d ≡ then (ln c d) (λ d c. fedWhile test ln m c d)
-  unfolding fedWhile
-  while-more m e = rw (e, fedWhile)
+  while-more : (m : ℕ) → test c ≡ true → foldWhile test ln (suc m) c d ≡ then (ln c d) (λ d c. foldWhile test ln m c d)
+  unfolding foldWhile
+  while-more m e = rw (e, foldWhile)
 
-  while-none : (m : ℕ) → test c ≡ false → got d c ≡ fedWhile test ln m c d
-  unfolding fedWhile
+  while-none : (m : ℕ) → test c ≡ false → got d c ≡ foldWhile test ln m c d
+  unfolding foldWhile
   while-none zero e = refl
-  while-none (suc m) e = rw (e, fedWhile)
+  while-none (suc m) e = rw (e, foldWhile)
 
 ahead : (s l : List ℕ) (a c : ℕ) → drop a s ≡ l ++ drop c s → 1 ≤ length l → a < length s → a < c
 ahead s l a c e h b = omega (arith, length-drop a s, length-drop c s, simp length-append at (ap length e))
@@ -101,10 +101,10 @@ module _ (s : List ℕ) where
   begins k c = eqb (getD s c 0) (letter k)
 
   abbrev pub turned : ℕ → ℕ → Kind → ℕ → Draft → Got Draft
-  turned t read P c d = fed (lineInto s P) t (read + 1) c d
-  turned t read J c d = fedWhile (begins J) (lineInto s J 0) t c d
-  turned t read G c d = fedWhile (begins G) (lineInto s G 0) t c d
-  turned t read T c d = fed (lineInto s T) t (read + 1) c d
+  turned t read P c d = foldCounted (lineInto s P) t (read + 1) c d
+  turned t read J c d = foldWhile (begins J) (lineInto s J 0) t c d
+  turned t read G c d = foldWhile (begins G) (lineInto s G 0) t c d
+  turned t read T c d = foldCounted (lineInto s T) t (read + 1) c d
 
   abbrev turns : Kind → ℕ → ℕ → ℕ
   turns P read count = count - read
@@ -120,18 +120,18 @@ module _ (s : List ℕ) where
     pub on : (e : Draft) (b : ℕ) → g ≡ got e b → enough left b n count k
 
   module _ (read count c : ℕ) (d : Draft) (t n : ℕ) (g : Got Draft) where
-    fed-turn : (k : Kind) → t ≡ count - read → ltb read count ≡ true → n ≡ cond (ltb read count) (read + 1) read → g ≡ lineInto s k n c d
-        → (fed (lineInto s k) t (read + 1) c d ≡ then g (λ d c. fed (lineInto s k) (count - n) (n + 1) c d)) × (count - n < t)
-    fed-turn k e b h q =
+    fold-turn : (k : Kind) → t ≡ count - read → ltb read count ≡ true → n ≡ cond (ltb read count) (read + 1) read → g ≡ lineInto s k n c d
+        → (foldCounted (lineInto s k) t (read + 1) c d ≡ then g (λ d c. foldCounted (lineInto s k) (count - n) (n + 1) c d)) × (count - n < t)
+    fold-turn k e b h q =
         let z : n ≡ read + 1 = h ∙ rw b in
         let l = ltb-true read count b in
         let y : t ≡ suc (count - (read + 1)) = omega arith in
-        (rw (y, fed-more s k read c d (count - (read + 1)), q, z), omega arith)
+        (rw (y, fold-more s k read c d (count - (read + 1)), q, z), omega arith)
 
     record While (test : ℕ → Bool) (ln : ℕ → Draft → Got Draft) : Type 0 where
       pub left : ℕ
       pub less : left < t
-      pub is : fedWhile test ln t c d ≡ then g (λ d c. fedWhile test ln left c d)
+      pub is : foldWhile test ln t c d ≡ then g (λ d c. foldWhile test ln left c d)
       pub on : (e : Draft) (b : ℕ) → g ≡ got e b → length s ≤ b + left
 
     while-turn : (test : ℕ → Bool) (ln : ℕ → Draft → Got Draft) → length s ≤ c + t → test c ≡ true → c < length s → g ≡ ln c d → ((e : Draft) (b : ℕ) → ln c d ≡ got e b → c < b) → While test ln
@@ -142,23 +142,23 @@ module _ (s : List ℕ) where
         go (suc m) h z = record { left = m; less = omega arith; is = rw (z, while-more test ln c d m b, e); on = λ w k l. let y = f w k (sym e ∙ l) in omega arith }
 
     turn-at : (k : Kind) → enough t c read count k → another s c read count k ≡ true → n ≡ cond (ltb read count) (read + 1) read → g ≡ lineInto s k n c d → Turned k read count c d t n g
-    turn-at P e b h q = let f = fed-turn P e b h q in record { left = count - n; less = f .1; is = f .0; on = λ w k l. refl }
+    turn-at P e b h q = let f = fold-turn P e b h q in record { left = count - n; less = f .1; is = f .0; on = λ w k l. refl }
     turn-at J e b h q =
-        let i = letter-inside c 74 (omega arith) b in
+        let i = letter-inside c (byte "J") (omega arith) b in
         let f = while-turn (begins J) (lineInto s J 0) e b i q (λ w k l. forward-join c k d w l i) in
         record { left = f .left; less = f .less; is = f .is; on = f .on }
     turn-at G e b h q =
-        let i = letter-inside c 71 (omega arith) b in
+        let i = letter-inside c (byte "G") (omega arith) b in
         let f = while-turn (begins G) (lineInto s G 0) e b i q (λ w k l. forward-signal c k d w l i) in
         record { left = f .left; less = f .less; is = f .is; on = f .on }
-    turn-at T e b h q = let f = fed-turn T e b h q in record { left = count - n; less = f .1; is = f .0; on = λ w k l. refl }
+    turn-at T e b h q = let f = fold-turn T e b h q in record { left = count - n; less = f .1; is = f .0; on = λ w k l. refl }
 
   -- no turn at one kind
   stop-at : (k : Kind) (read count c : ℕ) (d : Draft) (t : ℕ) → enough t c read count k → another s c read count k ≡ false → got d c ≡ turned t read k c d
-  stop-at P read count c d t e b = let l = ltb-false read count b in fed-none s P read c d t (omega arith)
+  stop-at P read count c d t e b = let l = ltb-false read count b in fold-none s P read c d t (omega arith)
   stop-at J read count c d t e b = while-none (begins J) (lineInto s J 0) c d t b
   stop-at G read count c d t e b = while-none (begins G) (lineInto s G 0) c d t b
-  stop-at T read count c d t e b = let l = ltb-false read count b in fed-none s T read c d t (omega arith)
+  stop-at T read count c d t e b = let l = ltb-false read count b in fold-none s T read c d t (omega arith)
 
   -- THE WALK, where at most t turns are left of it
   pub record Left (w₀ w : Walk) (t : ℕ) : Type 0 where

@@ -11,7 +11,7 @@ use Rattle.drafts.specs.declared.Draft.{Draft}
 use Rattle.drafts.specs.declared.Kind.{Kind}
 use Rattle.drafts.specs.declared.Kind.the-variants.{P, J, G, T}
 use Rattle.drafts.specs.declared.Lines.{Lines}
-use Rattle.drafts.specs.Drafting.{lineInto, letter, fed, manyInto, linesGot}
+use Rattle.drafts.specs.Drafting.{lineInto, letter, foldCounted, manyInto, linesGot}
 use Rattle.walk.specs.declared.Walk.{Walk}
 
 -- ANOTHER LINE: of a kind with a count one is due; of the others one begins at the place.
@@ -21,7 +21,7 @@ another s at read count J = eqb (getD s at 0) (letter J)
 another s at read count G = eqb (getD s at 0) (letter G)
 another s at read count T = ltb read count
 
--- .. while all lines before were in form.
+-- A walk goes on while all lines before were in form and there is another.
 abbrev pub goesOn : List ℕ → ℕ → Walk → Bool
 goesOn s at w = w .lines .good && another s at (w .read) (w .count) (w .kind)
 
@@ -38,16 +38,16 @@ pub record LineRead (s : List ℕ) (at : ℕ) (w r : Walk) : Type 0 where
 
 -- ALL LINES THAT ARE LEFT of a kind, from a place on.
 abbrev pub leftInto : List ℕ → ℕ → ℕ → Kind → ℕ → Draft → Got Draft
-leftInto s read count P c d = fed (lineInto s P) (count - read) (read + 1) c d
+leftInto s read count P c d = foldCounted (lineInto s P) (count - read) (read + 1) c d
 leftInto s read count J c d = manyInto s J c d
 leftInto s read count G c d = manyInto s G c d
-leftInto s read count T c d = fed (lineInto s T) (count - read) (read + 1) c d
+leftInto s read count T c d = foldCounted (lineInto s T) (count - read) (read + 1) c d
 
--- .. of a walk.
+-- The lines that are left of a walk.
 abbrev pub restInto : List ℕ → Walk → ℕ → Draft → Got Draft
 restInto s w = leftInto s (w .read) (w .count) (w .kind)
 
--- What they gave, as an answer: in form, or not, with the draft as it was before them
+-- What they gave, as an answer: in form, or not, with the draft as it was before them.
 abbrev pub asLines : Lines → Got Draft → Lines
 asLines before bad = record { good = false; draft = before .draft; next = record { at = 0 } }
 asLines before (got d c) = record { good = true; draft = d; next = record { at = c } }

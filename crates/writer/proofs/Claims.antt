@@ -1,5 +1,5 @@
--- What follows from the writer's promise: an accepted record's text has no more bytes than a case text may have, and is read back as the same railway; the
--- promise says that those bytes stand in front of the buffer, and the case file's theorems speak of them.
+-- What follows from the writer's promise: an accepted record's text has no more bytes than a case text may have, and is read back as the same
+-- railway; the promise says that those bytes stand in front of the buffer, and the case file's theorems speak of them.
 -- Assumes nothing.
 use Prim.Native.Nat.{ℕ}
 use mathlib.Core.Path.{_≡_, refl, sym, _∙_, ap}

@@ -7,7 +7,7 @@ use mathlib.Core.Bool.{Bool, true, false}
 use mathlib.Core.List.{List, [], _∷_, _++_}
 use native.Mathlib.Numerals.{add-one}
 use borrow.Author.Tests.{lt-ltb, le-ltb}
-use Rattle.text.specs.Text.{decimal}
+use Rattle.text.specs.Text.{byte, tab, lineEnd, decimal}
 use Rattle.text.specs.Appending.{Appended}
 use Rattle.text.proofs.Appending.{append-none, append-then, line-more, line-last}
 use Rattle.railway.specs.declared.Side.{Side}
@@ -41,28 +41,28 @@ module _ {o o₁ o₂ : List ℕ} {a a₁ a₂ : ℕ} (e : End) (b after : ℕ) 
 
 -- THE LINES
 module _ {o o₁ o₂ : List ℕ} {a a₁ a₂ : ℕ} where
-  pub header-line : {o₃ o₄ : List ℕ} {a₃ a₄ : ℕ} (s p k : ℕ) → Appended o a (72 ∷ 9 ∷ []) o₁ a₁ → Appended o₁ a₁ (decimal s ++ (9 ∷ [])) o₂ a₂
-      → Appended o₂ a₂ (decimal p ++ (9 ∷ [])) o₃ a₃ → Appended o₃ a₃ (decimal k ++ (10 ∷ [])) o₄ a₄ → Appended o a (headerText s p k) o₄ a₄
+  pub header-line : {o₃ o₄ : List ℕ} {a₃ a₄ : ℕ} (s p k : ℕ) → Appended o a (byte "H" ∷ tab ∷ []) o₁ a₁ → Appended o₁ a₁ (decimal s ++ (tab ∷ [])) o₂ a₂
+      → Appended o₂ a₂ (decimal p ++ (tab ∷ [])) o₃ a₃ → Appended o₃ a₃ (decimal k ++ (lineEnd ∷ [])) o₄ a₄ → Appended o a (headerText s p k) o₄ a₄
   header-line s p k h x y z =
-      line-more (72 ∷ []) (decimal s) (decimal p ∷ decimal k ∷ []) h
+      line-more (byte "H" ∷ []) (decimal s) (decimal p ∷ decimal k ∷ []) h
       (line-more (decimal s) (decimal p) (decimal k ∷ []) x
       (line-more (decimal p) (decimal k) [] y (line-last (decimal k) z)))
 
-  pub point-line : {o₃ : List ℕ} {a₃ : ℕ} (i : ℕ) (legs : Side) (b : ℕ) → b ≡ sideByte legs → Appended o a (80 ∷ 9 ∷ []) o₁ a₁
-      → Appended o₁ a₁ (decimal (i + 1) ++ (9 ∷ [])) o₂ a₂ → Appended o₂ a₂ (b ∷ 10 ∷ []) o₃ a₃ → Appended o a (pointLine (suc i) legs) o₃ a₃
+  pub point-line : {o₃ : List ℕ} {a₃ : ℕ} (i : ℕ) (legs : Side) (b : ℕ) → b ≡ sideByte legs → Appended o a (byte "P" ∷ tab ∷ []) o₁ a₁
+      → Appended o₁ a₁ (decimal (i + 1) ++ (tab ∷ [])) o₂ a₂ → Appended o₂ a₂ (b ∷ lineEnd ∷ []) o₃ a₃ → Appended o a (pointLine (suc i) legs) o₃ a₃
   point-line i legs b is h x y =
       rw (← is, ← add-one i)
-      (line-more (80 ∷ []) (decimal (i + 1)) ((b ∷ []) ∷ []) h (line-more (decimal (i + 1)) (b ∷ []) [] x (line-last (b ∷ []) y)))
+      (line-more (byte "P" ∷ []) (decimal (i + 1)) ((b ∷ []) ∷ []) h (line-more (decimal (i + 1)) (b ∷ []) [] x (line-last (b ∷ []) y)))
 
-  pub train-line : {o₃ o₄ o₅ : List ℕ} {a₃ a₄ a₅ : ℕ} (i : ℕ) (t : Train) (b : ℕ) → b ≡ sideByte (t .heading) → Appended o a (84 ∷ 9 ∷ []) o₁ a₁
-      → Appended o₁ a₁ (decimal (i + 1) ++ (9 ∷ [])) o₂ a₂ → Appended o₂ a₂ (b ∷ 9 ∷ []) o₃ a₃
-      → Appended o₃ a₃ (decimal (t .start .0 + 1) ++ (9 ∷ [])) o₄ a₄ → Appended o₄ a₄ (decimal (t .destination .0 + 1) ++ (10 ∷ [])) o₅ a₅
+  pub train-line : {o₃ o₄ o₅ : List ℕ} {a₃ a₄ a₅ : ℕ} (i : ℕ) (t : Train) (b : ℕ) → b ≡ sideByte (t .heading) → Appended o a (byte "T" ∷ tab ∷ []) o₁ a₁
+      → Appended o₁ a₁ (decimal (i + 1) ++ (tab ∷ [])) o₂ a₂ → Appended o₂ a₂ (b ∷ tab ∷ []) o₃ a₃
+      → Appended o₃ a₃ (decimal (t .start .0 + 1) ++ (tab ∷ [])) o₄ a₄ → Appended o₄ a₄ (decimal (t .destination .0 + 1) ++ (lineEnd ∷ [])) o₅ a₅
       → Appended o a (trainLine (suc i) (trainFrom t)) o₅ a₅
   train-line i t b is h x y z w =
       let from = decimal (t .start .0 + 1) in
       let to = decimal (t .destination .0 + 1) in
       rw (← is, ← add-one i, ← add-one (t .start .0), ← add-one (t .destination .0))
-      (line-more (84 ∷ []) (decimal (i + 1)) ((b ∷ []) ∷ from ∷ to ∷ []) h
+      (line-more (byte "T" ∷ []) (decimal (i + 1)) ((b ∷ []) ∷ from ∷ to ∷ []) h
       (line-more (decimal (i + 1)) (b ∷ []) (from ∷ to ∷ []) x
       (line-more (b ∷ []) from (to ∷ []) y
       (line-more from to [] z (line-last to w)))))
@@ -75,21 +75,21 @@ module _ (i : ℕ) (j : Joined) (f : End) (k : ℕ) (to : j ≡ With f) (is : k 
   pub join-earlier : k ≤ i → Appended o a (joinPiece i j) o a
   join-earlier h = rw (to, ← is, le-ltb i k h) (append-none o a)
 
-  pub join-line : {o₁ o₂ o₃ : List ℕ} {a₁ a₂ a₃ : ℕ} (e : End) → e ≡ endAt i → i < k → Appended o a (74 ∷ 9 ∷ []) o₁ a₁
-      → Appended o₁ a₁ (endField (fieldOf e) ++ (9 ∷ [])) o₂ a₂ → Appended o₂ a₂ (endField (fieldOf f) ++ (10 ∷ [])) o₃ a₃ → Appended o a (joinPiece i j) o₃ a₃
+  pub join-line : {o₁ o₂ o₃ : List ℕ} {a₁ a₂ a₃ : ℕ} (e : End) → e ≡ endAt i → i < k → Appended o a (byte "J" ∷ tab ∷ []) o₁ a₁
+      → Appended o₁ a₁ (endField (fieldOf e) ++ (tab ∷ [])) o₂ a₂ → Appended o₂ a₂ (endField (fieldOf f) ++ (lineEnd ∷ [])) o₃ a₃ → Appended o a (joinPiece i j) o₃ a₃
   join-line e at h x y z =
       let one = endField (fieldOf e) in
       let other = endField (fieldOf f) in
-      rw (to, ← is, lt-ltb i k h, ← at) (line-more (74 ∷ []) one (other ∷ []) x (line-more one other [] y (line-last other z)))
+      rw (to, ← is, lt-ltb i k h, ← at) (line-more (byte "J" ∷ []) one (other ∷ []) x (line-more one other [] y (line-last other z)))
 
--- .. and among the G lines
+-- A SECTION END among the G lines
 module _ (i : ℕ) (stands : Bool) {o : List ℕ} {a : ℕ} where
   pub signal-none : stands ≡ false → Appended o a (signalPiece i stands) o a
   signal-none e = rw e (append-none o a)
 
-  pub signal-line : {o₁ o₂ : List ℕ} {a₁ a₂ : ℕ} (e : End) → e ≡ endAt i → stands ≡ true → Appended o a (71 ∷ 9 ∷ []) o₁ a₁
-      → Appended o₁ a₁ (endField (fieldOf e) ++ (10 ∷ [])) o₂ a₂ → Appended o a (signalPiece i stands) o₂ a₂
-  signal-line e at h x y = let f = endField (fieldOf e) in rw (h, ← at) (line-more (71 ∷ []) f [] x (line-last f y))
+  pub signal-line : {o₁ o₂ : List ℕ} {a₁ a₂ : ℕ} (e : End) → e ≡ endAt i → stands ≡ true → Appended o a (byte "G" ∷ tab ∷ []) o₁ a₁
+      → Appended o₁ a₁ (endField (fieldOf e) ++ (lineEnd ∷ [])) o₂ a₂ → Appended o a (signalPiece i stands) o₂ a₂
+  signal-line e at h x y = let f = endField (fieldOf e) in rw (h, ← at) (line-more (byte "G" ∷ []) f [] x (line-last f y))
 
 -- PIECES of the four parts
 module _ (r : Railway) (part : Part) (i : ℕ) {o o₁ : List ℕ} {a a₁ : ℕ} where

@@ -34,7 +34,7 @@ pub record ReadBack (r : Railway) (buffer after : List ℕ) (n : ℕ) : Type 0 w
   pub within : n ≤ length buffer
   pub behind : drop n after ≡ drop n buffer
 
--- So it is whenever a count of bytes is answered.
+-- Whenever a count of bytes is answered, these bytes are read back.
 abbrev pub BytesReadBack : Type 0
 BytesReadBack = (r : Railway) (buffer : List ℕ) (w : Written) (after : List ℕ) → WriterPost r buffer w after → (n : ℕ) → w ≡ Bytes n → ReadBack r buffer after n
 

@@ -4,7 +4,7 @@ use mathlib.Core.Bool.{Bool, cond}
 use mathlib.Core.List.{List, [], _∷_}
 use Prim.Native.Nat.{ℕ, suc}
 use lib.Dec.{ltb}
-use Rattle.text.specs.Text.{decimal, line}
+use Rattle.text.specs.Text.{byte, decimal, line}
 use Rattle.railway.specs.declared.Joined.{Joined}
 use Rattle.railway.specs.declared.Joined.the-variants.{Nothing, With}
 use Rattle.railway.specs.declared.Railway.{Railway}
@@ -18,16 +18,16 @@ use Rattle.writer.specs.declared.Part.the-variants.{Points, Joins, Signa
 
 -- The first line.
 abbrev pub headerText : ℕ → ℕ → ℕ → List ℕ
-headerText s p k = line ((72 ∷ []) ∷ decimal s ∷ decimal p ∷ decimal k ∷ [])
+headerText s p k = line ((byte "H" ∷ []) ∷ decimal s ∷ decimal p ∷ decimal k ∷ [])
 
 -- What stands for a section end among the J lines, given what it is joined to.
 abbrev pub joinPiece : ℕ → Joined → List ℕ
 joinPiece i Nothing = []
 joinPiece i (With f) = cond (ltb i (endIndex f)) (joinLine (record { one = fieldOf (endAt i); other = fieldOf f })) []
 
--- .. among the G lines, given whether a signal stands there.
+-- What stands for a section end among the G lines, given whether a signal stands there.
 abbrev pub signalPiece : ℕ → Bool → List ℕ
-signalPiece i stands = cond stands (line ((71 ∷ []) ∷ endField (fieldOf (endAt i)) ∷ [])) []
+signalPiece i stands = cond stands (line ((byte "G" ∷ []) ∷ endField (fieldOf (endAt i)) ∷ [])) []
 
 -- A piece of each part.
 abbrev pub pieceOf : Railway → Part → ℕ → List ℕ

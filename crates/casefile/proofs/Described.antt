@@ -29,9 +29,9 @@ use Rattle.railway.proofs.Lookups.{Flagged, signal-flag}
 use Rattle.casefile.specs.Form.{EndField, section, port, SignalLine, Description, WellFormed}
 use Rattle.casefile.specs.Rows.{known, sameSignal}
 use Rattle.casefile.specs.Recording.{endOf, fieldOf, partner, signalOf, trainOf, noTrainLine, railwayOf}
-use Rattle.casefile.specs.Claims.{Names, Joins, Signals, Runs, Told, ReadAsTold}
+use Rattle.casefile.specs.Claims.{Names, Joins, Signals, Runs, AsDescribed, ReadAsDescribed}
 use Rattle.casefile.proofs.Exactly.{accepted-exactly}
-use Rattle.casefile.proofs.Clean.{Clean, clean-facts, within-is}
+use Rattle.casefile.proofs.Faultless.{Faultless, faultless-facts, within-is}
 use Rattle.casefile.proofs.Ends.{signal-is, signal-self, end-field, Counted, Ties, forth, back, partner-ties, partner-one, partner-other}
 
 -- NAMES. The written end of a record's end names it, and no other does.
@@ -67,7 +67,7 @@ module _ (d : Description) where
   unfolding railwayOf runOf
   run-at t h b = rw (lt-ltb t (d .trains) h) (list-get (λ t. trainOf (getD (d .runs) t noTrainLine)) mostTrains t noTrain (omega arith))
 
-  -- .. and by end
+  -- a lookup by end
   pub joined-at : (e : End) → Numbered e → joined (railwayOf d) e ≡ partner (d .joins) (fieldOf e)
   unfolding joined
   joined-at e h = rw (lt-ltb (endIndex e) allEnds (index-below e h)) (link-at (endIndex e) (index-below e h) ∙ rw (end-index e h))
@@ -100,7 +100,7 @@ pub same-signal : (g h : SignalLine) → g ≡ h → sameSignal g h ≡ true
 same-signal g h p = rw p (signal-self h)
 
 -- WHAT THE LINES SAY
-module _ (d : Description) (w : Clean d) where
+module _ (d : Description) (w : Faultless d) where
   pub counted-end : (a : EndField) → known d a ≡ true → Counted a
   counted-end (section n s) h = within-is n (d .sections) h .0
   counted-end (port n l) h = within-is n (d .points) h .0
@@ -112,16 +112,16 @@ module _ (d : Description) (w : Clean d) where
   numbered-named : (a : EndField) (e : End) → known d a ≡ true → Names a e → Numbered e
   numbered-named a e k n = rw (ap endOf (names-is a e n) ∙ end-field e) at (numbered-end a k)
 
-  joins-told : (e f : End) → Ties (d .joins) (fieldOf e) f → Joins (d .joins) e f
-  joins-told e f (forth j m p q) =
+  joins-described : (e f : End) → Ties (d .joins) (fieldOf e) f → Joins (d .joins) e f
+  joins-described e f (forth j m p q) =
       let k = w .join-known j m in
       record { join = j; member = m; ties = inl (rw p at (names-field e), rw q (names-end (j .other) (counted-end (j .other) (k .1)))) }
-  joins-told e f (back j m p q) =
+  joins-described e f (back j m p q) =
       let k = w .join-known j m in
       record { join = j; member = m; ties = inr (rw q (names-end (j .one) (counted-end (j .one) (k .0))), rw p at (names-field e)) }
 
-  told-joins : (e f : End) → Joins (d .joins) e f → joined (railwayOf d) e ≡ With f
-  told-joins e f t =
+  described-joins : (e f : End) → Joins (d .joins) e f → joined (railwayOf d) e ≡ With f
+  described-joins e f t =
       let j = t .join in
       let k = w .join-known j (t .member) in
       elim (t .ties) [
@@ -133,16 +133,16 @@ module _ (d : Description) (w : Clean d) where
             joined-at d e (numbered-named (j .other) e (k .1) (h .1)) ∙ (rw (names-is (j .other) e (h .1), names-is (j .one) f (h .0), end-field f) at p)
       ]
 
-  signals-told : (e : End) → Flagged (railwayOf d) e → Signals (d .signals) e
-  signals-told e t =
+  signals-described : (e : End) → Flagged (railwayOf d) e → Signals (d .signals) e
+  signals-described e t =
       let i = endIndex e in
       let f = any-found (sameSignal (signalOf i)) (d .signals) (sym (flag-at d i (t .below)) ∙ t .flag) in
       let n : Names (section (signalOf i .number) (signalOf i .side)) e = rw (end-index e (numbered-of e (omega (arith, t .below)))) at (signal-names i (t .below)) in
       record { signal = f .element; member = f .member; names = names-signal (signalOf i) (f .element) e (signal-is (signalOf i) (f .element) (f .passes)) n }
 
-  told-signal : (n : SectionNo) (s : Side) → Signals (d .signals) (Section n s) → hasSignal (railwayOf d) (Section n s) ≡ true
+  described-signal : (n : SectionNo) (s : Side) → Signals (d .signals) (Section n s) → hasSignal (railwayOf d) (Section n s) ≡ true
   unfolding hasSignal
-  told-signal n s t =
+  described-signal n s t =
       let b = w .bounds in
       let g = t .signal in
       let k = within-is (g .number) (d .sections) (w .signal-known g (t .member)) in
@@ -153,9 +153,9 @@ module _ (d : Description) (w : Clean d) where
       let f : any (sameSignal (signalOf i)) (d .signals) ≡ true = any-true (sameSignal (signalOf i)) (d .signals) g (t .member) (same-signal (signalOf i) g z) in
       rw (lt-ltb i sectionEnds l) (flag-at d i l ∙ f)
 
-  told-signals : (e : End) → Signals (d .signals) e → hasSignal (railwayOf d) e ≡ true
-  told-signals (Section n s) t = told-signal n s t
-  told-signals (Port n l) t = absurd (t .names)
+  described-signals : (e : End) → Signals (d .signals) e → hasSignal (railwayOf d) e ≡ true
+  described-signals (Section n s) t = described-signal n s t
+  described-signals (Port n l) t = absurd (t .names)
 
   -- the T lines
   module _ (f : WellFormed d) where
@@ -169,29 +169,29 @@ module _ (d : Description) (w : Clean d) where
         let b = within-is (getD (d .runs) t noTrainLine .destination) (d .sections) (k .1) in
         (a .0, a .1, b .0, b .1)
 
-    runs-told : (t : ℕ) → t < d .trains → Runs (getD (d .runs) t noTrainLine) (runOf (railwayOf d) t)
-    runs-told t h =
+    runs-described : (t : ℕ) → t < d .trains → Runs (getD (d .runs) t noTrainLine) (runOf (railwayOf d) t)
+    runs-described t h =
         let k = run-known t h in
         rw (run-at d t h (w .bounds .few-trains)) (record { heading = refl; start = omega arith; destination = omega arith })
 
-    pub told : Told d (railwayOf d)
+    pub as-described : AsDescribed d (railwayOf d)
     unfolding railwayOf
-    told =
+    as-described =
         record {
           sections = refl;
           points = refl;
           trains = refl;
           legs = λ n h. legs-at d n h (w .bounds .few-points);
-          joins = λ e x. (λ h. joins-told e x (partner-ties (d .joins) (fieldOf e) x (sym (joined-at d e (joined-numbered (railwayOf d) e x h)) ∙ h)), told-joins e x);
-          signals = λ e. (λ h. signals-told e (signal-flag (railwayOf d) e h), told-signals e);
-          runs = runs-told;
+          joins = λ e x. (λ h. joins-described e x (partner-ties (d .joins) (fieldOf e) x (sym (joined-at d e (joined-numbered (railwayOf d) e x h)) ∙ h)), described-joins e x);
+          signals = λ e. (λ h. signals-described e (signal-flag (railwayOf d) e h), described-signals e);
+          runs = runs-described;
         }
 
-told-of : (d : Description) (r q : Railway) → r ≡ q → Told d q → Told d r
-told-of d r q p t = rw p t
+described-along : (d : Description) (r q : Railway) → r ≡ q → AsDescribed d q → AsDescribed d r
+described-along d r q p t = rw p t
 
-pub read-as-told : ReadAsTold
-read-as-told text r e =
+pub read-as-described : ReadAsDescribed
+read-as-described text r e =
     let a = accepted-exactly text r .0 e in
     let d = a .description in
-    (d, a .described, told-of d r (railwayOf d) (a .railway) (told d (clean-facts d (a .no-row)) (a .described .well-formed)))
+    (d, a .described, described-along d r (railwayOf d) (a .railway) (as-described d (faultless-facts d (a .no-row)) (a .described .well-formed)))

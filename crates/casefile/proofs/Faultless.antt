@@ -28,7 +28,7 @@ pub record RightJoin (d : Description) (j : JoinLine) : Type 0 where
   pub not-one : oneSection (sectionOf (j .one)) (sectionOf (j .other)) ≡ false
   pub sides : sameSide (sideOf d (j .one)) (sideOf d (j .other)) ≡ false
 
-pub record Clean (d : Description) : Type 0 where
+pub record Faultless (d : Description) : Type 0 where
   pub bounds : Bounded (d .sections) (d .points) (d .trains)
   pub join-known : Every (λ j. (known d (j .one) ≡ true) × (known d (j .other) ≡ true)) (d .joins)
   pub signal-known : Every (λ g. within (g .number) (d .sections) ≡ true) (d .signals)
@@ -61,9 +61,9 @@ module _ (d : Description) where
       let b = or-false (looseEnd d (port (suc n) Stem)) (looseEnd d (port (suc n) Plus)) (a .0) in
       elim l [ Stem ↦ b .0 | Plus ↦ b .1 | Minus ↦ a .1 ]
 
-  pub clean-facts : Every Off (descriptionRows d) → Clean d
+  pub faultless-facts : Every Off (descriptionRows d) → Faultless d
   unfolding unknownRow joinRow looseRow doubleRow placeRow
-  clean-facts h =
+  faultless-facts h =
       let r3 = h (row Count (countRow d)) (List·Memᴰ·head refl) in
       let r4 = h (row Unknown (unknownRow d)) (List·Memᴰ·tail (List·Memᴰ·head refl)) in
       let r5 = h (row Join (joinRow d)) (List·Memᴰ·tail (List·Memᴰ·tail (List·Memᴰ·head refl))) in
@@ -89,7 +89,7 @@ module _ (d : Description) where
         destinations = places .1;
       }
 
-  module _ (w : Clean d) where
+  module _ (w : Faultless d) where
     no-unknown : unknownRow d ≡ false
     unfolding unknownRow
     no-unknown =
@@ -115,8 +115,8 @@ module _ (d : Description) where
     unfolding placeRow
     no-place = or-none _ _ (w .starts) (w .destinations)
 
-    pub facts-clean : Every Off (descriptionRows d)
-    facts-clean =
+    pub facts-faultless : Every Off (descriptionRows d)
+    facts-faultless =
         every-more Off _ _ (within-bounds (d .sections) (d .points) (d .trains) (w .bounds))
         (every-more Off _ _ no-unknown
         (every-more Off _ _ no-join
