@@ -1,5 +1,5 @@
--- DEMAND 3, for any solver, emitter and checker that keep their promises. The tables are filled, so they are right for whole plays; the emitter writes their plan;
--- that plan is in form and passes, and lines that the checker refuses leave no trace. Assumes nothing.
+-- DEMAND 3, for any solver, emitter and checker that keep their promises. The tables are filled, so they are right for whole plays; the emitter
+-- writes their plan; that plan is in form and passes, and lines that the checker refuses leave no trace. Assumes nothing.
 use mathlib.Core.Path.{_≡_, refl, sym, _∙_, ap, subst}
 use mathlib.Core.Bool.{Bool, true, false, not, cond, _&&_, _||_}
 use mathlib.Core.List.{List, [], _∷_, _++_, map, append-assoc}
@@ -107,12 +107,12 @@ module _ (r : Railway) (accepted : recordRefusal r ≡ none) where
 
 pub demand3-holds : Demand3Holds
 demand3-holds r a figs sets figs′ sets′ accepted lf ls post =
-    let fine : caseRefusal r figs sets ≡ none = none-refused r figs sets accepted lf ls in
-    let leaves : SolverLeaves r a figs sets figs′ sets′ none = subst (SolverLeaves r a figs sets figs′ sets′) fine (post .leaves) in
+    let unrefused : caseRefusal r figs sets ≡ none = none-refused r figs sets accepted lf ls in
+    let leaves : SolverLeaves r a figs sets figs′ sets′ none = subst (SolverLeaves r a figs sets figs′ sets′) unrefused (post .leaves) in
     let filled = leaves .0 .filled in
     let still : caseRefusal r figs′ sets′ ≡ none = none-refused r figs′ sets′ accepted (rw (leaves .0 .kept-figs .as-long) lf) (rw (leaves .0 .kept-sets .as-long) ls) in
     record {
-      solved = post .refusal ∙ fine;
+      solved = post .refusal ∙ unrefused;
       answer = leaves .1;
       figures = filled .figures;
       settings = filled .settings;

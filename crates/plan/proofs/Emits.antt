@@ -1,5 +1,5 @@
--- The emitter's calls write the plan's lines, and end. From code c on the plan's lines are those of the placements from c on that have a figure; the lowest of
--- them is written by the next call, and those behind it are the lines from there on. Assumes nothing.
+-- The emitter's calls write the plan's lines, and end. From code c on the plan's lines are those of the placements from c on that have a figure;
+-- the lowest of them is written by the next call, and those behind it are the lines from there on. Assumes nothing.
 use mathlib.Core.Path.{_≡_, refl, sym, _∙_, ap, subst}
 use mathlib.Core.Logic.{inl, inr}
 use mathlib.Core.Bool.{true}
@@ -40,16 +40,16 @@ no-buffers (l ∷ ls) e = clash e refl
 put-line : (l : List ℕ) (next : PlanPlace) (b : List ℕ) → length l ≤ length b → written l next b ≡ record { answer = Line (length l) next; buffer = l ++ drop (length l) b }
 put-line l next b h = rw (le-ltb (length b) (length l) h)
 
-module _ (r : Railway) (figs sets : List ℕ) (fine : caseRefusal r figs sets ≡ none) where
+module _ (r : Railway) (figs sets : List ℕ) (unrefused : caseRefusal r figs sets ≡ none) where
   -- none is answered where the start has no figure
   pub emits-none : figureIn figs (startCode r) ≡ none → (place : PlanPlace) (buffer : List ℕ) → emitLine r figs sets place buffer ≡ unwritten NoPlan buffer
   unfolding emitLine
-  emits-none e place buffer = rw (fine, e)
+  emits-none e place buffer = rw (unrefused, e)
 
   module _ (n : ℕ) (start : figureIn figs (startCode r) ≡ some n) where
     emit-at : (place : PlanPlace) (buffer : List ℕ) → emitLine r figs sets place buffer ≡ writtenDue buffer (due r figs sets place)
     unfolding emitLine
-    emit-at place buffer = rw (fine, start)
+    emit-at place buffer = rw (unrefused, start)
 
     abbrev textFor : ℕ → List ℕ
     textFor p = spell (placementLine (lineFor r figs sets p))

@@ -1,5 +1,5 @@
--- The hypotheses can be met: Yard A's tables are what a solver leaves that keeps its promise, its start has a figure, buffers are long enough, and lines that
--- the checker refuses come among the plan's; there are plans that pass and plans that fail. Assumes nothing.
+-- The hypotheses can be met: Yard A's tables are what a solver leaves that keeps its promise, its start has a figure, buffers are long enough,
+-- and lines that the checker refuses come among the plan's; there are plans that pass and plans that fail. Assumes nothing.
 use mathlib.Core.Path.{_≡_, refl, sym, _∙_}
 use mathlib.Core.Bool.{true, false}
 use mathlib.Core.List.{List, [], _∷_, map}
@@ -36,7 +36,7 @@ use Rattle.plan.specs.Text.{lineFor, planLines, planTexts}
 use Rattle.plan.specs.Calls.{Emission, longEnough}
 use Rattle.plan.specs.Test.{listedSetting}
 use Rattle.plan.specs.Reading.{guess, readLine}
-use Rattle.plan.specs.Computed.{placementFine, testHolds}
+use Rattle.plan.specs.Computed.{placementPasses, testHolds}
 use Rattle.plan.specs.Checker.{freshChecking, takeLine, testPlan, Run, run, takenTexts}
 use Rattle.plan.specs.Checked.{Passing, Failing}
 use Rattle.plan.specs.Demand3.{Handed, ownTexts, othersRefused, Passed, Demand3}
@@ -93,7 +93,7 @@ computed :
     × (othersRefused handed (handedRun .answers) ≡ true)
     × (testPlan yardA (firstAlone .end) .answer ≡ Refused PlanFault)
     × (Pass ≡ testPlan yardA (handedRun .end) .answer)
-unfolding longEnough planTexts planLines lineFor ownTexts othersRefused bytes run takeLine testPlan caseRefusal tablesShort first unknownRow joinRow looseRow placeRow endAt joined hasSignal legsOf runOf withJoin withSignal withLegs withTrain allBelow anyBelow sumBelow whichBelow listBelow fromBits any all readLine guess fields valueOf sameText spell line digits fits entryFrom codeOf testHolds placementFine listedSetting keepsTest sectionsIn standsOn startCode atHome shared headsFor held mayMove passes occupied moveOf
+unfolding longEnough planTexts planLines lineFor ownTexts othersRefused bytes run takeLine testPlan caseRefusal tablesShort first unknownRow joinRow looseRow placeRow endAt joined hasSignal legsOf runOf withJoin withSignal withLegs withTrain allBelow anyBelow sumBelow whichBelow listBelow fromBits any all readLine guess fields valueOf sameText spell line digits fits entryFrom codeOf testHolds placementPasses listedSetting keepsTest sectionsIn standsOn startCode atHome shared headsFor held mayMove passes occupied moveOf
 computed = (refl, refl, refl, refl, refl, refl, refl)
 
 -- so demand 3 speaks of calls that there are: those of the functions, with buffers that are long enough and with buffers of the most bytes

@@ -127,9 +127,9 @@ module _ (r : Railway) (ls : List (List ℕ)) (c : Checking) (k : Checked r ls (
       let e : length (takenTexts (run r ls c .answers) ls) ≡ length ls = ap length (k .whole w) in
       absurd (omega (arith, m, e))
 
-  module _ (fine : caseRefusal r (c .figs) (c .sets) ≡ none) where
+  module _ (unrefused : caseRefusal r (c .figs) (c .sets) ≡ none) where
     end-by-test : ByTest (testPlan r (run r ls c .end) .answer)
-    end-by-test = tested-by r (run r ls c .end) (still-none r ls c fine) _ refl
+    end-by-test = tested-by r (run r ls c .end) (still-none r ls c unrefused) _ refl
 
     by-plan : AllTaken r ls c ⊎ OneRefused r ls c → ByPlan r ls (checkLines r ls c)
     by-plan (inl h) =
@@ -142,12 +142,12 @@ module _ (r : Railway) (ls : List (List ℕ)) (c : Checking) (k : Checked r ls (
     one-of-three (inr h) = unformed (plan-form h)
 
 -- FROM FRESH TABLES of n and m entries
-fresh-fine : (r : Railway) (n m : ℕ) → recordRefusal r ≡ none → placements r ≤ n → placements r ≤ m
+fresh-unrefused : (r : Railway) (n m : ℕ) → recordRefusal r ≡ none → placements r ≤ n → placements r ≤ m
     → caseRefusal r (freshChecking n m .figs) (freshChecking n m .sets) ≡ none
-fresh-fine r n m ok p q = none-refused r _ _ ok (rw (length-replicate {A = ℕ} n noFigure) p) (rw (length-replicate {A = ℕ} m 0) q)
+fresh-unrefused r n m ok p q = none-refused r _ _ ok (rw (length-replicate {A = ℕ} n noFigure) p) (rw (length-replicate {A = ℕ} m 0) q)
 
 fresh-by-plan : (r : Railway) (n m : ℕ) → recordRefusal r ≡ none → placements r ≤ n → placements r ≤ m → (ls : List (List ℕ)) → ByPlan r ls (checkLines r ls (freshChecking n m))
-fresh-by-plan r n m ok p q ls = by-plan r ls (freshChecking n m) (checked-holds r ok n m p q ls) (fresh-fine r n m ok p q) (either r ls (freshChecking n m))
+fresh-by-plan r n m ok p q ls = by-plan r ls (freshChecking n m) (checked-holds r ok n m p q ls) (fresh-unrefused r n m ok p q) (either r ls (freshChecking n m))
 
 -- a case that is refused, or one that is not and whose answer is one of the three
 module _ (r : Railway) (ls : List (List ℕ)) (c : Checking) (f : Refusal) (other₁ : ¬ (f ≡ PlanForm)) (other₂ : ¬ (f ≡ PlanFault)) where
