@@ -1,5 +1,5 @@
--- Calls one after the other, of any emitter and any checker that keep their promises (document 01, "The two tables and the plan": how the calls are chained).
--- Each call is what it was handed, what it answered and what it left. Assumes nothing.
+-- Calls one after the other, of any emitter and any checker that keep their promises (document 01, "The two tables and the plan": how the calls
+-- are chained). Each call is what it was handed, what it answered and what it left. Assumes nothing.
 use mathlib.Core.Path.{_≡_}
 use mathlib.Core.Bool.{Bool, true, false, _&&_}
 use mathlib.Core.List.{List, [], _∷_}

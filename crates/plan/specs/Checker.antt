@@ -1,6 +1,6 @@
 -- The checker: a call for each line, into two lent tables, and a call for the test (document 01, "The two tables and the plan": the checker).
--- Each call is total: any record, state, tables and text. `readLine` gives the line that a text spells, and `testHolds` whether what the tables list passes the
--- test of a plan; both are said in Checked, and that the tables list what the lines taken do. Assumes nothing.
+-- Each call is total: any record, state, tables and text. `readLine` gives the line that a text spells, and `testHolds` whether what the tables
+-- list passes the test of a plan; both are said in Checked, and that the tables list what the lines taken do. Assumes nothing.
 use mathlib.Core.Bool.{Bool, true, false, cond}
 use mathlib.Core.List.{List, [], _∷_}
 use mathlib.Core.Option.{Option, none, some}

@@ -1,5 +1,5 @@
--- The emitter: a line of the plan a call, from two tables into a lent text buffer (document 01, "The two tables and the plan": plan text; rows 3 to 9 and what
--- stands under the table of numbers). Each call is total: any record, tables, place and buffer. Assumes nothing.
+-- The emitter: a line of the plan a call, from two tables into a lent text buffer (document 01, "The two tables and the plan": plan text; rows 3
+-- to 9 and what stands under the table of numbers). Each call is total: any record, tables, place and buffer. Assumes nothing.
 use mathlib.Core.Bool.{Bool, true, false, cond, _&&_}
 use mathlib.Core.List.{List, _++_}
 use mathlib.Core.Option.{Option, none, some}

@@ -1,6 +1,6 @@
--- What each call of emitter and checker promises: the answer and what is left, as Emitter and Checker define them, and the number of the first of rows 3 to 9
--- where one applies to the record and the tables. The contracts of the calls cite these records, and Demand3 speaks of any calls of which they hold: part of what
--- is to be believed. Assumes nothing.
+-- What each call of emitter and checker promises: the answer and what is left, as Emitter and Checker define them, and the number of the first
+-- of rows 3 to 9 where one applies to the record and the tables. The contracts of the calls cite these records, and Demand3 speaks of any calls
+-- of which they hold: part of what is to be believed. Assumes nothing.
 use mathlib.Core.Path.{_≡_}
 use mathlib.Core.List.{List}
 use mathlib.Core.Option.{some}
@@ -36,8 +36,8 @@ pub record TestPost (r : Railway) (old : Checking) (a : TestAnswer) (new : Check
   pub numbered : (f : Refusal) → caseRefusal r (old .figs) (old .sets) ≡ some f → testNumber a ≡ some (number f)
   pub checking : new ≡ testPlan r old .checking
 
--- The call that makes two lent tables fresh, whatever stands in them, and hands out the state that has taken no line: it refuses nothing, and every entry is
--- written, none in the one table and zero in the other.
+-- The call that makes two lent tables fresh, whatever stands in them, and hands out the state that has taken no line: it refuses nothing, and
+-- every entry is written, none in the one table and zero in the other.
 pub record FreshPost (figs sets : List ℕ) (new : Checking) : Type 0 where
   pub state : new .state ≡ Fresh
   pub figures : new .figs ≡ replicate (length figs) noFigure
