@@ -1,5 +1,5 @@
--- What a text checked whole is answered: pass, plan form (10) or plan fault (11) in an accepted case with room for its placements, and else the number of
--- the case (document 01, "The two tables and the plan": the form of a plan, its test; the table of numbers). Assumes nothing.
+-- What a text checked whole is answered: pass, plan form (10) or plan fault (11) in an accepted case with room for its placements, and else the
+-- number of the case (document 01, "The two tables and the plan": the form of a plan, its test; the table of numbers). Assumes nothing.
 use mathlib.Core.Path.{_≡_}
 use mathlib.Core.List.{List}
 use mathlib.Core.Logic.{_↔_}
