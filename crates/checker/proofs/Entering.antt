@@ -1,14 +1,10 @@
 -- Entering lines into lent tables, by the tests that code makes: a table made fresh, an entry put, a line taken or refused by what it says.
 -- Assumes nothing.
-use mathlib.Core.Path.{_≡_, refl, sym, _∙_}
-use mathlib.Core.Logic.{inl, inr}
+use mathlib.Core.Path.{_≡_}
 use mathlib.Core.List.{List}
 use Prim.Native.Nat.{ℕ, _+_, _-_, _≤_, _<_}
-use native.Mathlib.Omega.{arith}
-use lib.ListN.{length, getD, set, replicate, length-set, length-replicate, getD-replicate}
-use lib.Seq.{getD-set-same, getD-set-other, ext-getD}
+use lib.ListN.{set}
 use borrow.Author.Tests.{lt-ltb, le-ltb}
-use Rattle.laws.proofs.Bools.{lt?}
 use Rattle.railway.specs.declared.Refusal.the-variants.{PlanForm}
 use Rattle.plan.specs.declared.CheckerState.{CheckerState}
 use Rattle.plan.specs.declared.CheckerState.the-variants.{Fresh, Begun}
@@ -17,36 +13,6 @@ use Rattle.plan.specs.Checker.{Checking, Left, refuse}
 use Rattle.planreader.specs.declared.LineRead.{LineRead}
 use Rattle.planreader.specs.declared.LineRead.the-variants.{NoLine, Start, Placed}
 use Rattle.checker.specs.Steps.{takenWith, takesStart, takesPlacement, takesRead, CodeSmall}
-
--- A TABLE filled from the front with one number
-pub record FilledTo (v i : ℕ) (old new : List ℕ) : Type 0 where
-  pub as-long : length new ≡ length old
-  pub within : i ≤ length old
-  pub below : (q : ℕ) → q < i → getD new q 0 ≡ v
-
-module _ (v : ℕ) (old : List ℕ) where
-  pub fill-start : FilledTo v 0 old old
-  fill-start = record { as-long = refl; within = omega arith; below = λ q l. absurd (omega arith) }
-
-  module _ (i : ℕ) (new : List ℕ) (f : FilledTo v i old new) where
-    pub fill-next : i < length new → FilledTo v (i + 1) old (set new i v)
-    fill-next l =
-        record {
-          as-long = length-set new i v ∙ f .as-long;
-          within = omega (arith, f .as-long);
-          below = λ q h. elim (lt? q i) [
-            | inl m ↦ getD-set-other new i q v 0 (λ z. omega arith) ∙ f .below q m
-            | inr m ↦ let z : q ≡ i = omega arith in rw z (getD-set-same new i v 0 l)
-          ];
-        }
-
-    pub fill-less : i < length new → length old - (i + 1) < length old - i
-    fill-less l = omega (arith, f .as-long)
-
-    pub fill-end : length new ≤ i → new ≡ replicate (length old) v
-    fill-end l =
-        ext-getD 0 new (replicate (length old) v) (f .as-long ∙ sym (length-replicate (length old) v))
-        (λ q h. f .below q (omega arith) ∙ sym (getD-replicate (length old) q v 0 (omega (arith, f .as-long))))
 
 -- A LINE, w being what the call leaves
 module _ (c : Checking) (s : CheckerState) (w : Left LineAnswer) where

@@ -7,11 +7,10 @@ use mathlib.Core.Option.{Option, none, some}
 use Prim.Native.Nat.{ℕ, _+_, _-_, _*_, _/_, _%_, _≤_, _<_}
 use native.Mathlib.Omega.{arith}
 use lib.Dec.{eqb}
-use lib.ListN.{length, getD, set, replicate, length-replicate, length-set}
-use lib.Seq.{getD-set-same, getD-set-other}
+use lib.ListN.{replicate}
 use borrow.Author.Tests.{lt-ltb, le-ltb, eq-eqb, ne-eqb}
-use Rattle.laws.proofs.Bools.{eq?, some-none}
-use mathlib.Core.Logic.{inl, inr}
+use Rattle.laws.proofs.Filling.{FilledTo}
+use Rattle.laws.proofs.Bools.{some-none}
 use Rattle.railway.specs.declared.Side.{Side}
 use Rattle.railway.specs.declared.Side.the-variants.{Up, Down}
 use Rattle.railway.specs.declared.Leg.{Leg}
@@ -66,9 +65,13 @@ module _ (r : Railway) where
       unfolding wayByte passes
       way-point x to p t h = rw (ne-eqb j 0 not-signal, eq-eqb j 1 p, ← t) h
 
-      pub way-section : (x : ℕ) (to : Joined) → (j ≡ 1 → ⊥) → to ≡ joined r e → x ≡ sectionByte (pastJoin r (λ i. eqb j 3) to .reached) → x ≡ wayByte r e j
-      unfolding wayByte passes
-      way-section x to p t h = rw (ne-eqb j 0 not-signal, ne-eqb j 1 p, ← t) h
+      pub way-section : (x : ℕ) → (j ≡ 1 → ⊥) → x ≡ sectionByte (passes r (λ i. eqb j 3) e .reached) → x ≡ wayByte r e j
+      unfolding wayByte
+      way-section x p h = rw (ne-eqb j 0 not-signal, ne-eqb j 1 p) h
+
+  pub from-join : (e : End) (plus : Bool) (x : ℕ) (to : Joined) → to ≡ joined r e → x ≡ sectionByte (pastJoin r (λ i. plus) to .reached) → x ≡ sectionByte (passes r (λ i. plus) e .reached)
+  unfolding passes
+  from-join e plus x to t h = rw (← t) h
 
   -- a train's three
   module _ (i t : ℕ) (run : Train) (is : run ≡ runOf r t) where
@@ -131,6 +134,52 @@ module _ (r : Railway) (table : List ℕ) where
           let d : (4 * (48 * t + x) + j) % 4 ≡ j = omega arith in
           rw (lt-ltb (4 * (48 * t + x) + j) wayBytes (omega arith), a, b, d)
 
+-- the counts, by name
+module _ (r : Railway) (table : List ℕ) (x : ℕ) (h : Compiled r table) where
+  pub sections-there : x ≡ byteIn table 768 → x ≡ r .sections
+  unfolding countByte
+  sections-there e = count-there r table 0 x h (omega arith) e
+
+  pub points-there : x ≡ byteIn table 769 → x ≡ r .points
+  unfolding countByte
+  points-there e = count-there r table 1 x h (omega arith) e
+
+  pub trains-there : x ≡ byteIn table 770 → x ≡ r .trains
+  unfolding countByte
+  trains-there e = count-there r table 2 x h (omega arith) e
+
+-- a train's sections, by name
+module _ (r : Railway) (t x : ℕ) where
+  pub start-is : x ≡ runByte r 1 t → x ≡ runOf r t .start .0
+  unfolding runByte
+  start-is h = h
+
+  pub destination-is : x ≡ runByte r 2 t → x ≡ runOf r t .destination .0
+  unfolding runByte
+  destination-is h = h
+
+-- what lies on a train's way, by name
+module _ (r : Railway) (e : End) (x : ℕ) where
+  pub signal-is : x ≡ wayByte r e 0 → eqb x 1 ≡ hasSignal r e
+  unfolding wayByte
+  signal-is h = rw h (go (hasSignal r e))
+    where
+      go : (v : Bool) → eqb (flagByte v) 1 ≡ v
+      go true = refl
+      go false = refl
+
+  pub point-is : x ≡ wayByte r e 1 → x ≡ pointByte (passes r (λ n. false) e .met)
+  unfolding wayByte
+  point-is h = h
+
+  pub plus-is : (plus : Bool) → plus ≡ true → x ≡ wayByte r e 3 → x ≡ sectionByte (passes r (λ n. plus) e .reached)
+  unfolding wayByte
+  plus-is plus b h = rw b h
+
+  pub minus-is : (plus : Bool) → plus ≡ false → x ≡ wayByte r e 2 → x ≡ sectionByte (passes r (λ n. plus) e .reached)
+  unfolding wayByte
+  minus-is plus b h = rw b h
+
 -- a train that is not there
 module _ (r : Railway) (table : List ℕ) (i t : ℕ) (h : Compiled r table) (past : mostTrains ≤ t) where
   no-train : runOf r t ≡ noTrain
@@ -167,32 +216,13 @@ module _ (r : Railway) (t x : ℕ) where
       go Down z = absurd (z refl)
       go Up z = refl
 
--- FILLING, byte after byte
-pub record FilledTo (r : Railway) (table : List ℕ) (i : ℕ) : Type 0 where
-  pub within : i ≤ tableBytes
-  pub sized : length table ≡ tableBytes
-  pub below : (j : ℕ) → j < i → getD table j 0 ≡ compiledByte r j
-
+-- THE ANSWER, the table filled byte after byte
 module _ (r : Railway) where
-  pub fill-start : FilledTo r (replicate tableBytes 0) 0
-  fill-start = record { within = omega arith; sized = length-replicate {A = ℕ} tableBytes 0; below = λ j l. absurd (omega arith) }
-
-  pub fill-next : (table : List ℕ) (i x : ℕ) → FilledTo r table i → i < tableBytes → x ≡ compiledByte r i → FilledTo r (set table i x) (i + 1)
-  fill-next table i x h l e =
-      record {
-        within = omega arith;
-        sized = length-set table i x ∙ h .sized;
-        below = λ j m. elim (eq? j i) [
-          | inl z ↦ rw z (getD-set-same table i x 0 (rw (h .sized) l) ∙ e)
-          | inr z ↦ getD-set-other table i j x 0 z ∙ h .below j (omega arith)
-        ];
-      }
-
   module _ (t : Tested) (judged : Judged r t) where
     pub post-refused : (f : Refusal) → t ≡ Refused f → CompilePost r (record { tested = t; table = replicate tableBytes 0 })
     post-refused f e = record { judged = judged; accepted = λ a. some-none (sym (judged .refusal) ∙ ap refusalGiven e) a; refused = λ g x. refl }
 
-    pub post-accepted : (table : List ℕ) (i : ℕ) → t ≡ Accepted → FilledTo r table i → tableBytes ≤ i → CompilePost r (record { tested = t; table = table })
+    pub post-accepted : (table : List ℕ) (i : ℕ) → t ≡ Accepted → FilledTo (compiledByte r) tableBytes table i → tableBytes ≤ i → CompilePost r (record { tested = t; table = table })
     post-accepted table i e h l =
         let a : recordRefusal r ≡ none = sym (judged .refusal) ∙ ap refusalGiven e in
         record {

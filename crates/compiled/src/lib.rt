@@ -6,10 +6,11 @@ ghost use mathlib.Core.Path.{_≡_};
 ghost use mathlib.Core.Bool.{false};
 ghost use Prim.Native.Nat.{_<_};
 ghost use Rattle.railway.specs.declared.Railway.{Railway};
+ghost use Rattle.railway.specs.Bounds.{mostSections, mostTrains};
 ghost use Rattle.railway.specs.Ends.{sideIndex};
-ghost use Rattle.railway.specs.Record.{runOf};
-ghost use Rattle.game.specs.Moves.{through, behindPort, pastPoint, pastJoin};
-ghost use Rattle.compiled.specs.Table.{pointByte, sectionByte, endOn, wayByte, countByte, runByte, compiledByte, byteIn, Compiled, CompilePost};
+ghost use Rattle.railway.specs.Record.{hasSignal, runOf};
+ghost use Rattle.game.specs.Moves.{through, behindPort, pastPoint, pastJoin, passes};
+ghost use Rattle.compiled.specs.Table.{tableBytes, pointByte, sectionByte, endOn, wayByte, countByte, runByte, compiledByte, byteIn, Compiled, CompilePost};
 use acceptance::Tested;
 use railway::End;
 use railway::Joined;
@@ -24,6 +25,11 @@ pub const TABLE: usize = 783;
 
 // A railway's table. Of every function that takes one, the promise is about the railways whose table it is.
 pub type Table = [u8; TABLE];
+
+// Where the counts stand, behind four bytes for each train and section; and the trains' three, behind them.
+const COUNTS: usize = 768;
+
+const RUNS: usize = 771;
 
 // What stands for no point and for no section.
 pub const NO_BYTE: u8 = 255;
@@ -60,24 +66,31 @@ pub fn compile(r: Railway) -> Compilation
 
 // The byte at an index.
 fn byte_for(r: Railway, i: usize) -> u8
-    requires { ⌜ i < 783 ⌝ }
+    requires { ⌜ i < tableBytes ⌝ }
     ensures { λ b. ⌜ b ≡ compiledByte r i ⌝ }
 {
-    if i < 768 {
+    if i < COUNTS {
         let t = (i / 192) as u8;
         let x = (i / 4 % 48) as u8;
         let run = r.run_of(t);
         let h = run.heading;
         way_byte(r, End::Section(SectionNo(x), h), (i % 4) as u8)
-    } else if i < 771 {
-        count_byte(r, (i - 768) as u8)
+    } else if i < RUNS {
+        count_byte(r, (i - COUNTS) as u8)
     } else {
-        let j = i - 771;
+        let j = i - RUNS;
         run_byte(r, (j / 4) as u8, (j % 4) as u8)
     }
 }
 
-// What there is to know of a train that leaves by an end.
+// The section that a train enters which leaves by an end of the record, with all points at plus or all at minus; 255: it derails.
+pub fn section_from(r: Railway, e: End, plus: bool) -> u8
+    ensures { λ b. ⌜ b ≡ sectionByte (passes r (λ n. plus) e .reached) ⌝ }
+{
+    past_join(r, r.joined(e), plus)
+}
+
+// One of the four bytes on a train that leaves by an end.
 pub fn way_byte(r: Railway, e: End, j: u8) -> u8
     ensures { λ b. ⌜ b ≡ wayByte r e j ⌝ }
 {
@@ -86,7 +99,7 @@ pub fn way_byte(r: Railway, e: End, j: u8) -> u8
     } else if j == 1 {
         point_met(r, r.joined(e))
     } else {
-        past_join(r, r.joined(e), j == 3)
+        section_from(r, e, j == 3)
     }
 }
 
@@ -203,22 +216,31 @@ pub fn byte_at(table: &Table, i: usize) -> u8
 pub fn count_in(table: &Table, i: u8) -> u8
     ensures { λ b. ⌜ ((r : Railway) → Compiled r (now (table .entry)) → i < 3 → b ≡ countByte r i) ⌝ }
 {
-    byte_at(table, 768 + (i as usize))
+    byte_at(table, COUNTS + (i as usize))
 }
 
-// A train's heading, start or destination; those of no train past the table.
-pub fn run_in(table: &Table, i: u8, t: u8) -> u8
-    ensures { λ b. ⌜ ((r : Railway) → Compiled r (now (table .entry)) → i < 3 → b ≡ runByte r i t) ⌝ }
+// How many sections there are.
+pub fn sections_in(table: &Table) -> u8
+    ensures { λ b. ⌜ ((r : Railway) → Compiled r (now (table .entry)) → b ≡ r .sections) ⌝ }
 {
-    if t < Railway::TRAINS {
-        byte_at(table, 771 + 4 * (i as usize) + (t as usize))
-    } else if i == 0 {
-        1
-    } else {
-        0
-    }
+    byte_at(table, COUNTS)
 }
 
+// How many points there are.
+pub fn points_in(table: &Table) -> u8
+    ensures { λ b. ⌜ ((r : Railway) → Compiled r (now (table .entry)) → b ≡ r .points) ⌝ }
+{
+    byte_at(table, COUNTS + 1)
+}
+
+// How many trains there are.
+pub fn trains_in(table: &Table) -> u8
+    ensures { λ b. ⌜ ((r : Railway) → Compiled r (now (table .entry)) → b ≡ r .trains) ⌝ }
+{
+    byte_at(table, COUNTS + 2)
+}
+
+// Which way a train heads.
 pub fn heading_in(table: &Table, t: u8) -> Side
     ensures { λ h. ⌜ ((r : Railway) → Compiled r (now (table .entry)) → h ≡ runOf r t .heading) ⌝ }
 {
@@ -229,9 +251,61 @@ pub fn heading_in(table: &Table, t: u8) -> Side
     }
 }
 
-// What there is to know of a train's way from a section.
+// The section where a train starts.
+pub fn start_in(table: &Table, t: u8) -> u8
+    ensures { λ b. ⌜ ((r : Railway) → Compiled r (now (table .entry)) → b ≡ runOf r t .start .0) ⌝ }
+{
+    run_in(table, 1, t)
+}
+
+// The section that a train is bound for.
+pub fn destination_in(table: &Table, t: u8) -> u8
+    ensures { λ b. ⌜ ((r : Railway) → Compiled r (now (table .entry)) → b ≡ runOf r t .destination .0) ⌝ }
+{
+    run_in(table, 2, t)
+}
+
+// One of a train's three bytes; past the table those of no train.
+pub fn run_in(table: &Table, i: u8, t: u8) -> u8
+    ensures { λ b. ⌜ ((r : Railway) → Compiled r (now (table .entry)) → i < 3 → b ≡ runByte r i t) ⌝ }
+{
+    if t < Railway::TRAINS {
+        byte_at(table, RUNS + 4 * (i as usize) + (t as usize))
+    } else if i == 0 {
+        1
+    } else {
+        0
+    }
+}
+
+// Whether a signal stands at the end that a train heads for on a section.
+pub fn signal_in(table: &Table, t: u8, x: u8) -> bool
+    ensures { λ b. ⌜ ((r : Railway) → Compiled r (now (table .entry)) → t < mostTrains → x < mostSections → b ≡ hasSignal r (endOn r t x)) ⌝ }
+{
+    way_in(table, t, x, 0) == 1
+}
+
+// The point that a train meets when it leaves a section; 255: none.
+pub fn point_past(table: &Table, t: u8, x: u8) -> u8
+    ensures { λ b. ⌜ ((r : Railway) → Compiled r (now (table .entry)) → t < mostTrains → x < mostSections → b ≡ pointByte (passes r (λ n. false) (endOn r t x) .met)) ⌝ }
+{
+    way_in(table, t, x, 1)
+}
+
+// The section that it enters, with that point at plus or at minus; 255: it derails.
+pub fn section_past(table: &Table, t: u8, x: u8, plus: bool) -> u8
+    ensures { λ b. ⌜ ((r : Railway) → Compiled r (now (table .entry)) → t < mostTrains → x < mostSections → b ≡ sectionByte (passes r (λ n. plus) (endOn r t x) .reached)) ⌝ }
+{
+    if plus {
+        way_in(table, t, x, 3)
+    } else {
+        way_in(table, t, x, 2)
+    }
+}
+
+// One of the four bytes on a train's way from a section.
 pub fn way_in(table: &Table, t: u8, x: u8, j: u8) -> u8
-    ensures { λ b. ⌜ ((r : Railway) → Compiled r (now (table .entry)) → t < 4 → x < 48 → j < 4 → b ≡ wayByte r (endOn r t x) j) ⌝ }
+    ensures { λ b. ⌜ ((r : Railway) → Compiled r (now (table .entry)) → t < mostTrains → x < mostSections → j < 4 → b ≡ wayByte r (endOn r t x) j) ⌝ }
 {
     byte_at(table, 4 * (48 * (t as usize) + (x as usize)) + (j as usize))
 }

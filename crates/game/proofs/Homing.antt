@@ -8,7 +8,7 @@ use mathlib.Core.Option.{Option, none, some}
 use Prim.Native.Nat.{ℕ, zero, suc, _+_, _≤_, _<_}
 use native.Mathlib.Omega.{arith}
 use Rattle.laws.proofs.Bools.{bool?, option?, clash, some-none}
-use Rattle.game.specs.Game.{Outcome, lost, at, Game, Turn, Way, Choice, Position, wrecked, standing, may, mover, home, over, grown, arrive, turn, step, play, homeAt, HomeWithin}
+use Rattle.game.specs.Game.{Outcome, lost, at, Game, Turn, Way, Choice, Position, lostByMove, standing, may, mover, home, over, grown, arrive, turn, step, play, homeAt, HomeWithin}
 use Rattle.game.specs.Claim.{Below, figureOf, Keeps}
 use Rattle.game.specs.Local.{Inside}
 use Rattle.game.proofs.Turns.{home-over, not-over, no-keeps-zero, mover-cases}
@@ -22,7 +22,7 @@ module _ {S : Type 0} (g : Game S) (F : ℕ → Option ℕ) (f : ℕ → S) (ins
   module _ (w : Way S) (later : (h : List (Turn S)) (p : ℕ) (s : S) (m : Option ℕ) (q : ℕ) → w (grown g h p s m) q ≡ f q) where
     -- after m of n turns: at home, or with a figure that leaves enough turns; and f is what is given next
     abbrev Ahead : ℕ → ℕ → Position S → Type 0
-    Ahead n m wrecked = ⊥
+    Ahead n m lostByMove = ⊥
     Ahead n m (standing h q) = (q < g .placements) × (w h q ≡ f q) × ((home g q ≡ true) ⊎ ((j : ℕ) × (F q ≡ some j) × (j + m ≤ n)))
 
     arrives : (n m : ℕ) (h : List (Turn S)) (q : ℕ) (s : S) (t j : ℕ) (o : Outcome) → q < g .placements → may g q s t ≡ true → g .next q s t ≡ o
@@ -45,7 +45,7 @@ module _ {S : Type 0} (g : Game S) (F : ℕ → Option ℕ) (f : ℕ → S) (ins
     ]
 
     steps : (n m : ℕ) (c : Choice S) (x : Position S) → Ahead n m x → Ahead n (suc m) (step g w c x)
-    steps n m c wrecked a = a
+    steps n m c lostByMove a = a
     steps n m c (standing h q) a = elim (bool? (home g q)) [
       | inl e ↦ rw (home-over (g .isLost q) (g .isHome q) e) (a .0, a .1, inl e)
       | inr e ↦ elim (a .2) [
@@ -58,7 +58,7 @@ module _ {S : Type 0} (g : Game S) (F : ℕ → Option ℕ) (f : ℕ → S) (ins
 
     -- with no turn left it is home
     arrived : (n : ℕ) (x : Position S) → Ahead n n x → homeAt g x ≡ true
-    arrived n wrecked a = absurd a
+    arrived n lostByMove a = absurd a
     arrived n (standing h q) a = elim (a .2) [
       | inl e ↦ e
       | inr r ↦ elim (bool? (home g q)) [

@@ -15,7 +15,7 @@ use Rattle.railway.specs.Ends.{endAt}
 use Rattle.railway.specs.Refusals.{first}
 use Rattle.railway.specs.Record.{joined, hasSignal, legsOf, runOf, withJoin, withSignal, withLegs, withTrain}
 use Rattle.railway.specs.Rows.{unknownRow, joinRow, looseRow, placeRow, recordRefusal}
-use Rattle.game.specs.Game.{derailment, collision, lost, at, Turn, Way, Choice, wrecked, standing, play}
+use Rattle.game.specs.Game.{derailment, collision, lost, at, Turn, Way, Choice, lostByMove, standing, play}
 use Rattle.game.specs.Placement.{codeOf, sectionsIn, standsOn, sectionsOf, startCode, atHome, shared}
 use Rattle.game.specs.Setting.{Setting, headsFor, held, mayMove}
 use Rattle.game.specs.Moves.{passes, occupied, moveOf, gameOf}
@@ -122,7 +122,7 @@ plays :  -- home in two turns, a setting for each anew; there the play has ended
     -- with everybody held nothing moves, and the turns are played all the same
     × (play (gameOf yardA) (always shut) (names 1) 1 2 ≡ standing (turned 1 shut none ∷ turned 1 shut none ∷ []) 1)
     -- a lost play stays lost; one that starts lost, or at home, has ended
-    × (play (gameOf yardA) (always wide) (names 1) 7 3 ≡ wrecked)
+    × (play (gameOf yardA) (always wide) (names 1) 7 3 ≡ lostByMove)
     × (play (gameOf yardA) (always wide) (names 1) 0 3 ≡ standing [] 0)
     × (play (gameOf yardA) (always wide) (names 1) 2 3 ≡ standing [] 2)
     -- way and choice both look at the oldest turn, at every turn after it; and train 1 is moved on from its destination

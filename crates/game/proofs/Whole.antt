@@ -11,7 +11,7 @@ use Prim.Native.Nat.{ℕ, zero, suc, _+_, _≤_, _<_}
 use native.Mathlib.Omega.{arith}
 use Rattle.laws.proofs.Bools.{bool?, option?, lt?, clash}
 use Rattle.laws.proofs.Below.{upto}
-use Rattle.game.specs.Game.{Outcome, lost, at, Game, Turn, Way, Choice, following, positional, Position, wrecked, standing, may, mover, home, over, arrive, step, play, homeAt, HomeWithin, ComesHome, Beats, IsFigure}
+use Rattle.game.specs.Game.{Outcome, lost, at, Game, Turn, Way, Choice, following, positional, Position, lostByMove, standing, may, mover, home, over, arrive, step, play, homeAt, HomeWithin, ComesHome, Beats, IsFigure}
 use Rattle.game.specs.Claim.{Below, figureOf, Keeps, Alike, OneChoice, Whole}
 use Rattle.game.specs.Local.{Inside, Solved}
 use Rattle.game.proofs.Turns.{not-over, may-train, mover-cases}
@@ -163,7 +163,7 @@ record Bound (R : ℕ → Option ℕ → Type 0) : Type 0 where
 
 module _ {S : Type 0} (g : Game S) (F : ℕ → Option ℕ) (f : ℕ → S) (inside : Inside g) (ok : Solved g F f) (R : ℕ → Option ℕ → Type 0) (bound : Bound R) where
   abbrev Behind : ℕ → Position S → Type 0
-  Behind m wrecked = Unit {0}
+  Behind m lostByMove = Unit {0}
   Behind m (standing h q) = (q < g .placements) × R m (F q)
 
   abbrev against : Choice S
@@ -194,7 +194,7 @@ module _ {S : Type 0} (g : Game S) (F : ℕ → Option ℕ) (f : ℕ → S) (ins
   mover-none q s t n = elim (mover-cases g q s t) [ inl r ↦ clash (r .2) (n (r .0)) | inr r ↦ r .0 ]
 
   behind-step : (w : Way S) (m : ℕ) (x : Position S) → Behind m x → Behind (suc m) (step g w against x)
-  behind-step w m wrecked b = tt
+  behind-step w m lostByMove b = tt
   behind-step w m (standing h q) b = elim (bool? (over g q)) [
     | inl e ↦ rw e (b .0, bound .stay m (F q) (b .1))
     | inr e ↦ rw e (elim (worst-cases g F q (w h q)) [
@@ -210,7 +210,7 @@ module _ {S : Type 0} (g : Game S) (F : ℕ → Option ℕ) (f : ℕ → S) (ins
 
   -- who is home after m turns has the bound of figure 0
   behind-home : (m : ℕ) (x : Position S) → Behind m x → homeAt g x ≡ true → R m (some 0)
-  behind-home m wrecked b e = clash e refl
+  behind-home m lostByMove b e = clash e refl
   behind-home m (standing h q) b e = rw (ok .home-zero q (b .0) e) at (b .1)
 
   never-sooner : (w : Way S) (p : ℕ) → p < g .placements → R 0 (F p) → (m : ℕ) → homeAt g (play g w against p m) ≡ true → R m (some 0)

@@ -53,7 +53,7 @@ positional C h p s = C p s
 
 -- Where a play stands: lost by a move, or in a placement with these turns behind it.
 pub data Position (S : Type 0) : Type 0 where
-  wrecked : Position S
+  lostByMove : Position S
   standing : List (Turn S) → ℕ → Position S
 
 module _ {S : Type 0} (g : Game S) where
@@ -79,7 +79,7 @@ module _ {S : Type 0} (g : Game S) where
 
   -- Where the play stands when a move has ended so.
   abbrev pub arrive : List (Turn S) → Outcome → Position S
-  arrive h (lost l) = wrecked
+  arrive h (lost l) = lostByMove
   arrive h (at q) = standing h q
 
   -- A turn by the mover; without one nothing moves, and yet a turn has been played.
@@ -93,7 +93,7 @@ module _ {S : Type 0} (g : Game S) where
 
   -- One more turn of a way against a choice, unless the play has ended.
   abbrev pub step : Way S → Choice S → Position S → Position S
-  step w c wrecked = wrecked
+  step w c lostByMove = lostByMove
   step w c (standing h p) = cond (over p) (standing h p) (turnBy c h p (w h p))
 
   -- The play from placement p after n turns; one that has ended stays as it is.
@@ -103,7 +103,7 @@ module _ {S : Type 0} (g : Game S) where
 
   -- The play stands at home.
   abbrev pub homeAt : Position S → Bool
-  homeAt wrecked = false
+  homeAt lostByMove = false
   homeAt (standing h p) = home p
 
   -- HOME WITHIN n turns: behind one of the first n, or at the start, the trains are home.

@@ -4,3 +4,4 @@ pub mod Lists
 pub mod Bits
 pub mod Which
 pub mod Snoc
+pub mod Filling

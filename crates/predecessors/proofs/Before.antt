@@ -6,10 +6,9 @@ use mathlib.Core.List.{List}
 use mathlib.Core.Option.{Option, none, some}
 use Prim.Native.Nat.{ℕ, _+_, _*_, _/_, _%_, _≤_, _<_}
 use native.Mathlib.Omega.{arith}
-use lib.ListN.{length, getD, set, replicate, length-replicate, length-set}
-use lib.Seq.{getD-set-same, getD-set-other, set-getD, set-set}
-use Rattle.laws.proofs.Bools.{eq?}
-use mathlib.Core.Logic.{inl, inr}
+use lib.ListN.{length, set}
+use lib.Seq.{getD-set-same, set-getD, set-set}
+use Rattle.laws.proofs.Filling.{FilledTo}
 use Rattle.railway.specs.declared.Side.{Side}
 use Rattle.railway.specs.declared.End.{End}
 use Rattle.railway.specs.declared.End.the-variants.{Section}
@@ -32,27 +31,8 @@ use Rattle.predecessors.specs.Behind.{behindBytes, endBehind, behindByte
 use Rattle.predecessors.proofs.Reversing.{goes-back}
 
 -- THE TABLE, byte after byte
-pub record FilledTo (r : Railway) (behind : List ℕ) (i : ℕ) : Type 0 where
-  pub within : i ≤ behindBytes
-  pub sized : length behind ≡ behindBytes
-  pub below : (j : ℕ) → j < i → getD behind j 0 ≡ behindByte r j
-
 module _ (r : Railway) where
-  pub fill-start : FilledTo r (replicate behindBytes 0) 0
-  fill-start = record { within = omega arith; sized = length-replicate {A = ℕ} behindBytes 0; below = λ j l. absurd (omega arith) }
-
-  pub fill-next : (behind : List ℕ) (i x : ℕ) → FilledTo r behind i → i < behindBytes → x ≡ behindByte r i → FilledTo r (set behind i x) (i + 1)
-  fill-next behind i x h l e =
-      record {
-        within = omega arith;
-        sized = length-set behind i x ∙ h .sized;
-        below = λ j m. elim (eq? j i) [
-          | inl z ↦ rw z (getD-set-same behind i x 0 (rw (h .sized) l) ∙ e)
-          | inr z ↦ getD-set-other behind i j x 0 z ∙ h .below j (omega arith)
-        ];
-      }
-
-  pub fill-end : (behind : List ℕ) (i : ℕ) → FilledTo r behind i → behindBytes ≤ i → Behind r behind
+  pub fill-end : (behind : List ℕ) (i : ℕ) → FilledTo (behindByte r) behindBytes behind i → behindBytes ≤ i → Behind r behind
   fill-end behind i h l = record { bytes = λ j m. h .below j (omega arith) }
 
   pub byte-is : (i y : ℕ) (run : Train) (s : Side) → run ≡ runOf r (i / 96) → s ≡ opposite (run .heading) → y ≡ wayByte r (Section (record { 0 = i / 2 % 48 }) s) (2 + i % 2) → y ≡ behindByte r i

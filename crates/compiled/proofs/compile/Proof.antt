@@ -2,16 +2,19 @@
 -- The loop's invariant: the bytes before i are the railway's. Assumes nothing.
 use native.Mathlib.Omega.{arith}
 use borrow.Author.Needs.{needs}
-use Rattle.compiled.proofs.Table.{FilledTo, fill-start, fill-next, post-refused, post-accepted}
-use Prim.Native.Nat.{_-_}
+use lib.ListN.{length-replicate}
+use Rattle.laws.proofs.Filling.{FilledTo, fill-start, fill-next}
+use Rattle.compiled.specs.Table.{tableBytes, compiledByte}
+use Rattle.compiled.proofs.Table.{post-refused, post-accepted}
+use Prim.Native.Nat.{ℕ, _-_}
 use Rattle.compiled.proofs.compile.Statement.{statement}
 use Rattle.compiled.proofs.compile.Tie as tie
 
 abbrev Inv-loop : tie.InvT-loop
-Inv-loop r table₀ tested i₀ table i = FilledTo r table i
+Inv-loop r table₀ tested i₀ table i = FilledTo (compiledByte r) tableBytes table i
 
 abbrev μ-loop : tie.MeasureT-loop
-μ-loop r table₀ tested i₀ table i = 783 - i
+μ-loop r table₀ tested i₀ table i = tableBytes - i
 
 test-record-requires : tie.Need-test-record-requires Inv-loop μ-loop
 test-record-requires c κs = search needs
@@ -26,7 +29,7 @@ returns : tie.Need-returns Inv-loop μ-loop
 returns c = post-refused (c .before .before .before .args .r) _ (c .before .before .test-record .ensures) _ (c .enum-told2 .given .1)
 
 loop-holds : tie.Need-loop-holds Inv-loop μ-loop
-loop-holds c = fill-start (c .before .before .before .args .r)
+loop-holds c = fill-start (compiledByte (c .before .before .before .args .r)) tableBytes _ (length-replicate {A = ℕ} tableBytes 0)
 
 byte-for-requires : tie.Need-byte-for-requires Inv-loop μ-loop
 byte-for-requires c κs = omega arith
@@ -41,7 +44,7 @@ loop-less : tie.Need-loop-less Inv-loop μ-loop
 loop-less c = omega arith
 
 loop-again : tie.Need-loop-again Inv-loop μ-loop
-loop-again c = fill-next (c .before .before .before .before .before .before .args .r) _ _ _ (c .before .before .loop .inv) (c .before .loop-test .taken) (c .byte-for .ensures)
+loop-again c = fill-next (compiledByte (c .before .before .before .before .before .before .args .r)) tableBytes _ _ (c .before .before .loop .inv) _ (c .before .loop-test .taken) (c .byte-for .ensures)
 
 returns-2 : tie.Need-returns-2 Inv-loop μ-loop
 returns-2 c = post-accepted (c .before .before .before .before .before .args .r) _ (c .before .before .before .before .test-record .ensures) _ _ (c .before .before .enum-told .given .1) (c .before .loop .inv) (c .loop-test .left)

@@ -1,19 +1,22 @@
 -- `predecessors::sections_behind` meets its contract: the table is filled from the first byte to the last.
 -- Assumes nothing.
 use native.Mathlib.Omega.{arith}
-use Prim.Native.Nat.{_-_}
-use Rattle.predecessors.proofs.Before.{FilledTo, fill-start, fill-next, fill-end}
+use Prim.Native.Nat.{ℕ, _-_}
+use lib.ListN.{length-replicate}
+use Rattle.laws.proofs.Filling.{FilledTo, fill-start, fill-next}
+use Rattle.predecessors.specs.Behind.{behindBytes, behindByte}
+use Rattle.predecessors.proofs.Before.{fill-end}
 use Rattle.predecessors.proofs.sections_behind.Statement.{statement}
 use Rattle.predecessors.proofs.sections_behind.Tie as tie
 
 abbrev Inv-loop : tie.InvT-loop
-Inv-loop r behind₀ i₀ behind i = FilledTo r behind i
+Inv-loop r behind₀ i₀ behind i = FilledTo (behindByte r) behindBytes behind i
 
 abbrev μ-loop : tie.MeasureT-loop
-μ-loop r behind₀ i₀ behind i = 384 - i
+μ-loop r behind₀ i₀ behind i = behindBytes - i
 
 loop-holds : tie.Need-loop-holds Inv-loop μ-loop
-loop-holds c = fill-start (c .args .r)
+loop-holds c = fill-start (behindByte (c .args .r)) behindBytes _ (length-replicate {A = ℕ} behindBytes 0)
 
 byte-behind-requires : tie.Need-byte-behind-requires Inv-loop μ-loop
 byte-behind-requires c κs = omega arith
@@ -28,7 +31,7 @@ loop-less : tie.Need-loop-less Inv-loop μ-loop
 loop-less c = omega arith
 
 loop-again : tie.Need-loop-again Inv-loop μ-loop
-loop-again c = fill-next (c .before .before .before .args .r) _ _ _ (c .before .before .loop .inv) (c .before .loop-test .taken) (c .byte-behind .ensures)
+loop-again c = fill-next (behindByte (c .before .before .before .args .r)) behindBytes _ _ (c .before .before .loop .inv) _ (c .before .loop-test .taken) (c .byte-behind .ensures)
 
 returns : tie.Need-returns Inv-loop μ-loop
 returns c = fill-end (c .before .before .args .r) _ _ (c .before .loop .inv) (c .loop-test .left)
