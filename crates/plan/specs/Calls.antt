@@ -29,6 +29,13 @@ pub data Emitting (r : Railway) (figs sets : List ℕ) : PlanPlace → List (Lis
   stopped : (place : PlanPlace) (a : Emitted) (b b′ : List ℕ) (bs : List (List ℕ)) → isLine a ≡ false → EmitterPost r figs sets place b a b′
       → Emitting r figs sets place (b ∷ bs) (record { lines = []; last = some a })
 
+-- The same with one buffer for all lines: each call is handed it as the last one left it.
+pub data EmittingInto (r : Railway) (figs sets : List ℕ) : PlanPlace → List ℕ → Emission → Type 0 where
+  wrote : (place next : PlanPlace) (n : ℕ) (b b′ : List ℕ) (e : Emission) → EmitterPost r figs sets place b (Line n next) b′
+      → EmittingInto r figs sets next b′ e → EmittingInto r figs sets place b (record { lines = take n b′ ∷ e .lines; last = e .last })
+  stopped : (place : PlanPlace) (a : Emitted) (b b′ : List ℕ) → isLine a ≡ false → EmitterPost r figs sets place b a b′
+      → EmittingInto r figs sets place b (record { lines = []; last = some a })
+
 -- Buffers long enough: for each line one that it fits into, and one more for the call after the last.
 unfoldable pub longEnough : List (List ℕ) → List (List ℕ) → Bool
 longEnough ls [] = false

@@ -12,10 +12,10 @@ use Rattle.plan.specs.declared.LineAnswer.{LineAnswer}
 use Rattle.plan.specs.declared.LineAnswer.the-variants.{Taken, Refused as LineRefused}
 use Rattle.plan.specs.declared.TestAnswer.{TestAnswer}
 use Rattle.plan.specs.declared.TestAnswer.the-variants.{Refused as TestRefused}
-use Rattle.plan.specs.Checker.{testNumber, Checking, freshChecking, takeLine, testPlan}
+use Rattle.plan.specs.Checker.{Checking, freshChecking, takeLine, testPlan}
 use Rattle.plan.specs.Promises.{FreshPost, LinePost, TestPost}
 use Rattle.plan.proofs.Rules.{check-rule}
-use Rattle.verdict.specs.Verdict.{linesOf, afterLine, checkLines, entries, fresh, checkText, PlanPost}
+use Rattle.verdict.specs.Verdict.{linesOf, afterLine, checkLines, entries, checkText}
 use Rattle.verdict.proofs.Lines.{LineAt}
 
 -- what is done from a place on, with c, is answered by x
@@ -67,7 +67,3 @@ pub refused-case : (r : Railway) (ls : List (List ℕ)) (c : Checking) (f : Refu
 unfolding checkLines
 refused-case r [] c f e = check-rule r c .test-first f e
 refused-case r (l ∷ ls) c f e = rw (check-rule r c .line-first l f e) refl
-
--- what was done is what is promised
-pub promised : (r : Railway) (plan : List ℕ) (a : TestAnswer) → a ≡ checkText r plan → PlanPost r plan a
-promised r plan a e = record { answer = e; numbered = λ f h. ap testNumber (e ∙ refused-case r (linesOf plan) fresh f h) }
