@@ -34,24 +34,24 @@ use Rattle.compiled.specs.declared.Compilation.{Compilation}
 use Rattle.compiled.specs.Table.{Compiled}
 use Rattle.cases.specs.Cases.{CasePost}
 use Rattle.planreader.specs.declared.LineRead.{LineRead}
-use Rattle.planreader.specs.Told.{told}
+use Rattle.planreader.specs.Answers.{answerFor}
 use Rattle.checker.specs.declared.Checker.{Checker}
 use Rattle.checker.specs.Answers.{checking}
 use Rattle.checker.specs.Steps.{takesRead, CodeSmall}
 
 -- WHAT A LINE READ SAYS is what the line says
-told-takes : (r : Railway) (c : Checking) (s : CheckerState) (o : Option PlanLine) → takesRead c s (told r o) ≡ takes r c s o
-told-takes r c s none = refl
-told-takes r c Fresh (some (startLine n)) = refl
-told-takes r c (Begun m from) (some (startLine n)) = refl
-told-takes r c Fresh (some (placementLine d)) = refl
-told-takes r c (Begun m from) (some (placementLine d)) = rw (add-one (lineCode r d))
+answer-takes : (r : Railway) (c : Checking) (s : CheckerState) (o : Option PlanLine) → takesRead c s (answerFor r o) ≡ takes r c s o
+answer-takes r c s none = refl
+answer-takes r c Fresh (some (startLine n)) = refl
+answer-takes r c (Begun m from) (some (startLine n)) = refl
+answer-takes r c Fresh (some (placementLine d)) = refl
+answer-takes r c (Begun m from) (some (placementLine d)) = rw (add-one (lineCode r d))
 
 module _ (r : Railway) (accepted : recordRefusal r ≡ none) where
   ok : Facts r
   ok = facts r accepted
 
-  code-small : (text : List ℕ) (o : Option PlanLine) → readLine r text ≡ o → CodeSmall (told r o)
+  code-small : (text : List ℕ) (o : Option PlanLine) → readLine r text ≡ o → CodeSmall (answerFor r o)
   code-small text none e = tt
   code-small text (some (startLine n)) e = tt
   code-small text (some (placementLine d)) e =
@@ -73,13 +73,13 @@ module _ (r : Railway) (c : Checking) (k : Compilation) (case : CasePost r (c .f
     unfolding takeLine
     line-refused f e w h = takes-so r c text w (h ∙ sym (ap (takesIf r c text) (refused-as f e)))
 
-    module _ (e : k .tested ≡ Accepted) (line : LineRead) (is : line ≡ told r (readLine r text)) where
+    module _ (e : k .tested ≡ Accepted) (line : LineRead) (is : line ≡ answerFor r (readLine r text)) where
       pub line-small : CodeSmall line
       line-small = rw is (code-small r (compiled-if e .accepted) text (readLine r text) refl)
 
       pub line-entered : (w : Left LineAnswer) → w ≡ takesRead c (c .state) line → LinePost r c text (w .answer) (w .checking)
       unfolding takeLine
-      line-entered w h = takes-so r c text w (h ∙ ap (takesRead c (c .state)) is ∙ told-takes r c (c .state) (readLine r text) ∙ sym (ap (takesIf r c text) (nothing-refused e)))
+      line-entered w h = takes-so r c text w (h ∙ ap (takesRead c (c .state)) is ∙ answer-takes r c (c .state) (readLine r text) ∙ sym (ap (takesIf r c text) (nothing-refused e)))
 
   -- THE CALL FOR THE TEST
   tested-as : (a : TestAnswer) → a ≡ tests r c (caseRefusal r (c .figs) (c .sets)) (c .state) → TestPost r c a c

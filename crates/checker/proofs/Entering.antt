@@ -1,4 +1,5 @@
--- Entering lines into lent tables, by the tests that code makes: a table made fresh, an entry put, a line taken or refused by what it says. Assumes nothing.
+-- Entering lines into lent tables, by the tests that code makes: a table made fresh, an entry put, a line taken or refused by what it says.
+-- Assumes nothing.
 use mathlib.Core.Path.{_≡_}
 use mathlib.Core.List.{List}
 use Prim.Native.Nat.{ℕ, _+_, _≤_, _<_}

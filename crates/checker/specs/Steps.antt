@@ -1,5 +1,5 @@
--- What the contracts of a call's steps say: a line that has been read as numbers is taken or refused. Nothing of document 01 rests on this file: the laws in
--- proofs/Calling say that it is `takes` (plan/Checker) of the line read. Assumes nothing.
+-- What the contracts of a call's steps say: a line that has been read as numbers is taken or refused. Nothing of document 01 rests on this file:
+-- the laws in proofs/Calling say that it is `takes` (plan/Checker) of the line read. Assumes nothing.
 use mathlib.Core.Bool.{cond}
 use mathlib.Core.List.{List}
 use Prim.Native.Nat.{ℕ, _+_, _<_}

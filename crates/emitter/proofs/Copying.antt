@@ -1,6 +1,6 @@
--- A line is made in a buffer of its own and copied. Whatever is written there, the cursor stays within; a line of 45 bytes at most stands there whole.
--- Assumes nothing.
-use Prim.Native.Nat.{ℕ, _+_, _<_, _≤_}
+-- A line is made in a buffer of its own and copied. Whatever is written there, the cursor stays within; a
+-- line of 45 bytes at most stands there whole. Assumes nothing.
+use Prim.Native.Nat.{ℕ, _<_, _≤_}
 use mathlib.Core.Path.{_≡_, _∙_, ap}
 use mathlib.Core.Logic.{inl, inr}
 use mathlib.Core.List.{List, [], _∷_}
@@ -9,9 +9,9 @@ use lib.ListN.{length, take, set, replicate, length-set, length-replicate, lengt
 use lib.Seq.{take-append-seam}
 use borrow.Author.Tests.{lt-ltb, le-ltb}
 use Rattle.laws.proofs.Bools.{lt?}
-use Rattle.text.specs.Text.{decimal, line}
+use Rattle.text.specs.Text.{decimal, lineEnd, line, bytes}
 use Rattle.text.specs.Appending.{next, cursorAfter, Appended}
-use Rattle.text.proofs.Appending.{appended-bytes, appended-cursor}
+use Rattle.text.proofs.Appending.{front-bytes, front-cursor}
 use Rattle.text.proofs.Decimal.{digits-length}
 use Rattle.railway.specs.declared.Refusal.the-variants.{Space}
 use Rattle.plan.specs.declared.PlanPlace.{PlanPlace}
@@ -26,9 +26,7 @@ module _ (l : List ℕ) (place : PlanPlace) (old : List ℕ) where
   line-short h = rw (lt-ltb (length old) (length l) h)
 
   pub line-put : {new : List ℕ} {n : ℕ} → length l ≤ length old → Appended old 0 l new n → leaves (Line (length l) place) new ≡ written l place old
-  line-put h p =
-      let e : 0 + length l ≡ length l = omega arith in
-      rw (le-ltb (length old) (length l) h, rw e at (appended-bytes p (rw e h)))
+  line-put h p = rw (le-ltb (length old) (length l) h, front-bytes p h)
 
 -- THE CURSOR does not pass the end
 next-inside : (out : List ℕ) (at : ℕ) → at ≤ length out → next out at ≤ length out
@@ -58,15 +56,13 @@ module _ {own l text : List ℕ} {n : ℕ} (blank : own ≡ replicate mostLineBy
 
   own-text : length l ≤ mostLineBytes → take n text ≡ l
   own-text h =
-      let room : 0 + length l ≤ length own = omega (arith, own-long) in
-      let e = appended-bytes made room in
-      let z : n ≡ length l = appended-cursor made room ∙ omega arith in
-      rw (z, e) (take-append-seam l _)
+      let room : length l ≤ length own = omega (arith, own-long) in
+      rw (front-cursor made room, front-bytes made room) (take-append-seam l _)
 
   pub own-written : {w : Wrote} (place : PlanPlace) (old : List ℕ) → length l ≤ mostLineBytes → w ≡ written (take n text) place old → w ≡ written l place old
   own-written place old h e = e ∙ ap (λ (s : List ℕ). written s place old) (own-text h)
 
 -- THE FIRST LINE is short, whatever its figure
 pub start-short : (n : ℕ) → length (spell (startLine n)) ≤ mostLineBytes
-unfolding spell line
-start-short n = omega (arith, length-append (decimal n) (10 ∷ []), digits-length 10 n)
+unfolding bytes spell line
+start-short n = omega (arith, length-append (decimal n) (lineEnd ∷ []), digits-length 10 n)

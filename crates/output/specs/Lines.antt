@@ -2,28 +2,28 @@
 use mathlib.Core.Path.{_≡_}
 use mathlib.Core.List.{List, [], _∷_}
 use Prim.Native.Nat.{ℕ}
-use Rattle.text.specs.Text.{decimal, line}
+use Rattle.text.specs.Text.{decimal, line, bytes}
 use Rattle.text.specs.Appending.{bytesAfter}
 use Rattle.railway.specs.declared.Refusal.{Refusal}
 use Rattle.railway.specs.Refusals.{number}
 use Rattle.plan.specs.declared.TestAnswer.{TestAnswer}
 use Rattle.plan.specs.declared.TestAnswer.the-variants.{Pass, Refused}
 
--- The word `refused`.
+-- The word of a refusal.
 abbrev pub refusedWord : List ℕ
-refusedWord = 114 ∷ 101 ∷ 102 ∷ 117 ∷ 115 ∷ 101 ∷ 100 ∷ []
+refusedWord = bytes "refused"
 
--- A refusal: the word, and its number in the table.
+-- A refusal: its word, and its number in the table.
 abbrev pub refusalLine : Refusal → List ℕ
 refusalLine f = line (refusedWord ∷ decimal (number f) ∷ [])
 
--- The word `pass`.
+-- The plan has passed its test.
 abbrev pub passLine : List ℕ
-passLine = line ((112 ∷ 97 ∷ 115 ∷ 115 ∷ []) ∷ [])
+passLine = line (bytes "pass" ∷ [])
 
--- The word `none`: there is no plan.
+-- There is no plan.
 abbrev pub noneLine : List ℕ
-noneLine = line ((110 ∷ 111 ∷ 110 ∷ 101 ∷ []) ∷ [])
+noneLine = line (bytes "none" ∷ [])
 
 -- The answer to the call for the test of a plan.
 abbrev pub testLine : TestAnswer → List ℕ

@@ -1,5 +1,5 @@
--- Calls that keep their promises are those of the functions that Emitter and Checker define: each answers and leaves what the function does, so what follows it
--- is handed the same. And the functions' own calls are such calls. Assumes nothing.
+-- Calls that keep their promises are those of the functions that Emitter and Checker define: each answers and leaves what the function does, so
+-- what follows it is handed the same. And the functions' own calls are such calls. Assumes nothing.
 use mathlib.Core.Path.{_≡_, refl}
 use mathlib.Core.Bool.{false}
 use mathlib.Core.List.{List, [], _∷_}

@@ -1,6 +1,6 @@
--- What the checker's calls say of the lines of a plan, by any maker. After any calls the lines taken are in form, the tables have at each code what the line
--- for it says, and the state says which code may come next (`Holds`); a call that refuses leaves that, and a call that takes a line brings it forward. So the
--- test over the tables is the test over the lines. Assumes nothing.
+-- What the checker's calls say of the lines of a plan, by any maker. After any calls the lines taken are in form, the tables have at each code
+-- what the line for it says, and the state says which code may come next (`Holds`); a call that refuses leaves that, and a call that takes a
+-- line brings it forward. So the test over the tables is the test over the lines. Assumes nothing.
 use mathlib.Core.Path.{_≡_, refl, sym, _∙_, ap, subst}
 use mathlib.Core.Logic.{_⊎_, inl, inr, _↔_}
 use mathlib.Core.Bool.{Bool, true, false, cond}
@@ -121,8 +121,8 @@ module _ (r : Railway) (a : recordRefusal r ≡ none) where
     unbegun : taken ≡ [] → c .state ≡ Fresh → Tables [] c → Holds taken c
     begun : (m : ℕ) (ds : List PlacementLine) → Form r taken m ds → c .state ≡ Begun m (codeAfter 0 (codes r ds)) → Tables ds c → Holds taken c
 
-  fine : (ds : List PlacementLine) (c : Checking) → Tables ds c → caseRefusal r (c .figs) (c .sets) ≡ none
-  fine ds c t = none-refused r (c .figs) (c .sets) a (t .figs .long) (t .sets .long)
+  unrefused : (ds : List PlacementLine) (c : Checking) → Tables ds c → caseRefusal r (c .figs) (c .sets) ≡ none
+  unrefused ds c t = none-refused r (c .figs) (c .sets) a (t .figs .long) (t .sets .long)
 
   -- A CALL for one more line takes it, if with it the lines are in form; else it is refused as plan form and leaves all as it was
   pub data Call (taken : List (List ℕ)) (text : List ℕ) (c : Checking) (x : Left LineAnswer) : Type 0 where
@@ -193,8 +193,8 @@ module _ (r : Railway) (a : recordRefusal r ≡ none) where
 
   pub call : (taken : List (List ℕ)) (text : List ℕ) (c : Checking) → Holds taken c → Call taken text c (takeLine r c text)
   unfolding takeLine
-  call taken text c (unbegun e s t) = reads-on (fine [] c t) s (fresh-takes taken text c e t (readLine r text) refl)
-  call taken text c (begun m ds f s t) = reads-on (fine ds c t) s (begun-takes taken text c m ds f t (readLine r text) refl)
+  call taken text c (unbegun e s t) = reads-on (unrefused [] c t) s (fresh-takes taken text c e t (readLine r text) refl)
+  call taken text c (begun m ds f s t) = reads-on (unrefused ds c t) s (begun-takes taken text c m ds f t (readLine r text) refl)
 
   -- ALL CALLS
   pub record Ran (taken texts : List (List ℕ)) (u : Run) : Type 0 where
@@ -307,8 +307,8 @@ module _ (r : Railway) (a : recordRefusal r ≡ none) where
 
   pub answers : (taken : List (List ℕ)) (c : Checking) → Holds taken c → Answers taken (testPlan r c .answer)
   unfolding testPlan
-  answers taken c (unbegun e s t) = subst (Answers taken) (sym (tests-at c (fine [] c t) s)) (answers-unbegun taken e)
-  answers taken c (begun m ds f s t) = subst (Answers taken) (sym (tests-at c (fine ds c t) s)) (answers-begun taken m ds f (testHolds r m (byTables (c .figs) (c .sets))) (over-lines m ds c f t))
+  answers taken c (unbegun e s t) = subst (Answers taken) (sym (tests-at c (unrefused [] c t) s)) (answers-unbegun taken e)
+  answers taken c (begun m ds f s t) = subst (Answers taken) (sym (tests-at c (unrefused ds c t) s)) (answers-begun taken m ds f (testHolds r m (byTables (c .figs) (c .sets))) (over-lines m ds c f t))
 
   -- CHECKED
   checked : (texts : List (List ℕ)) (c : Checking) → Holds [] c → Checked r texts (run r texts c .answers) (takenTexts (run r texts c .answers) texts) (run r texts c .end)

@@ -1,5 +1,5 @@
--- DEMAND 3, for any solver, emitter and checker that keep their promises. The tables are filled, so they are right for whole plays; the emitter writes their plan;
--- that plan is in form and passes, and lines that the checker refuses leave no trace. Assumes nothing.
+-- DEMAND 3, for any solver, emitter and checker that keep their promises. The tables are filled, so they are right for whole plays; the emitter
+-- writes their plan; that plan is in form and passes, and lines that the checker refuses leave no trace. Assumes nothing.
 use mathlib.Core.Path.{_≡_, refl, sym, _∙_, ap, subst}
 use mathlib.Core.Bool.{Bool, true, false, not, cond, _&&_, _||_}
 use mathlib.Core.List.{List, [], _∷_, _++_, map, append-assoc}
@@ -22,7 +22,7 @@ use Rattle.plan.specs.declared.LineAnswer.{LineAnswer}
 use Rattle.plan.specs.declared.TestAnswer.{TestAnswer}
 use Rattle.plan.specs.Lines.{PlanLine, spell, fits, mostLineBytes}
 use Rattle.plan.specs.Text.{planLines, planTexts}
-use Rattle.plan.specs.Emitter.{Wrote}
+use Rattle.plan.specs.Emitter.{saysNone, Wrote}
 use Rattle.plan.specs.Checker.{Checking, Left, takeLine, testPlan, Run, onward, run, isTaken, takenTexts}
 use Rattle.plan.specs.Promises.{TestPost, FreshPost}
 use Rattle.plan.specs.Calls.{longEnough, Taking}
@@ -30,7 +30,7 @@ use Rattle.plan.specs.Checked.{InForm, Passing}
 use Rattle.plan.specs.Demand3.{Handed, ownTexts, othersRefused, Passed, Demand3Holds}
 use Rattle.plan.proofs.Lengths.{lines-short}
 use Rattle.plan.proofs.Calls.{emitting-one, taking-one, fresh-one}
-use Rattle.plan.proofs.Emits.{none-refused, emits, emits-none}
+use Rattle.plan.proofs.Emits.{none-refused, emits, emits-into, emits-none}
 use Rattle.plan.proofs.Forms.{form-front}
 use Rattle.plan.proofs.Checks.{Holds, Call, took, refused, call, ran, answers, fresh-holds}
 use Rattle.plan.proofs.Plan.{plan-fits, plan-passes}
@@ -51,6 +51,18 @@ module _ (r : Railway) (accepted : recordRefusal r ≡ none) where
   plan-room : (figs sets : List ℕ) (bs : List (List ℕ)) → all (fits r) (planLines r figs sets) ≡ true → all (λ b. leb mostLineBytes (length b)) bs ≡ true → length (planTexts r figs sets) < length bs → longEnough (planTexts r figs sets) bs ≡ true
   unfolding planTexts
   plan-room figs sets bs e h m = room (planLines r figs sets) bs e h m
+
+  -- every line of the plan fits into a buffer with room for every line
+  room-each : (k : ℕ) → mostLineBytes ≤ k → (ls : List PlanLine) → all (fits r) ls ≡ true → all (λ l. leb (length l) k) (map spell ls) ≡ true
+  unfolding all
+  room-each k long [] e = refl
+  room-each k long (l ∷ ls) e =
+      let f = and-true (fits r l) (all (fits r) ls) e in
+      and-both (leb (length (spell l)) k) (all (λ l. leb (length l) k) (map spell ls)) (le-leb (length (spell l)) k (omega (arith, lines-short r accepted l (f .0)))) (room-each k long ls (f .1))
+
+  plan-fits-in : (figs sets b : List ℕ) → all (fits r) (planLines r figs sets) ≡ true → mostLineBytes ≤ length b → all (λ l. leb (length l) (length b)) (planTexts r figs sets) ≡ true
+  unfolding planTexts
+  plan-fits-in figs sets b e long = room-each (length b) long (planLines r figs sets) e
 
   -- THE CALLS WITH OTHER LINES AMONG THEM: taken are the lines of the plan, and they alone
   record Handled (hs : List Handed) (u : Run) : Type 0 where
@@ -107,21 +119,22 @@ module _ (r : Railway) (accepted : recordRefusal r ≡ none) where
 
 pub demand3-holds : Demand3Holds
 demand3-holds r a figs sets figs′ sets′ accepted lf ls post =
-    let fine : caseRefusal r figs sets ≡ none = none-refused r figs sets accepted lf ls in
-    let leaves : SolverLeaves r a figs sets figs′ sets′ none = subst (SolverLeaves r a figs sets figs′ sets′) fine (post .leaves) in
+    let unrefused : caseRefusal r figs sets ≡ none = none-refused r figs sets accepted lf ls in
+    let leaves : SolverLeaves r a figs sets figs′ sets′ none = subst (SolverLeaves r a figs sets figs′ sets′) unrefused (post .leaves) in
     let filled = leaves .0 .filled in
     let still : caseRefusal r figs′ sets′ ≡ none = none-refused r figs′ sets′ accepted (rw (leaves .0 .kept-figs .as-long) lf) (rw (leaves .0 .kept-sets .as-long) ls) in
     record {
-      solved = post .refusal ∙ fine;
+      solved = post .refusal ∙ unrefused;
       answer = leaves .1;
-      figures = filled .figures;
       settings = filled .settings;
       plays = filled-whole r accepted figs′ sets′ filled;
       emits = λ n start buffers e calls long. emitting-one r figs′ sets′ Top buffers e calls ∙ emits r figs′ sets′ still n start buffers long;
       room = λ n start buffers each more. plan-room r accepted figs′ sets′ buffers (plan-fits r accepted figs′ sets′ filled n start) each more;
+      emits-into = λ n start buffer e calls long.
+          emits-into r figs′ sets′ still n start buffer e calls (plan-fits-in r accepted figs′ sets′ buffer (plan-fits r accepted figs′ sets′ filled n start) long);
       emits-none = λ start place b b′ e p. (
           let w = emits-none r figs′ sets′ still start place b in
-          (p .answer ∙ ap (λ (x : Wrote). x .answer) w, p .buffer ∙ ap (λ (x : Wrote). x .buffer) w)
+          (ap saysNone (p .answer ∙ ap (λ (x : Wrote). x .answer) w), p .buffer ∙ ap (λ (x : Wrote). x .buffer) w)
           );
       checks = λ n start lent₁ lent₂ c i j fresh hs u calls own e test c′ p.
           passed-calls r accepted lent₁ lent₂ c i j fresh hs u calls (subst (Passing r) (sym own) (plan-passes r accepted figs′ sets′ filled n start)) e test c′ p;

@@ -1,16 +1,18 @@
--- The emitter's calls write the plan's lines, and end. From code c on the plan's lines are those of the placements from c on that have a figure; the lowest of
--- them is written by the next call, and those behind it are the lines from there on. Assumes nothing.
+-- The emitter's calls write the plan's lines, and end. From code c on the plan's lines are those of the placements from c on that have a figure;
+-- the lowest of them is written by the next call, and those behind it are the lines from there on. Assumes nothing.
 use mathlib.Core.Path.{_≡_, refl, sym, _∙_, ap, subst}
 use mathlib.Core.Logic.{inl, inr}
 use mathlib.Core.Bool.{true}
 use mathlib.Core.List.{List, [], _∷_, _++_, map}
 use mathlib.Core.Option.{none, some}
-use Prim.Native.Nat.{ℕ, suc, _≤_}
-use lib.ListN.{length, getD, drop}
+use Prim.Native.Nat.{ℕ, zero, suc, _≤_, _<_}
+use native.Mathlib.Omega.{arith}
+use lib.ListN.{length, getD, take, drop, length-append, length-drop}
 use lib.Seq.{take-append-seam}
 use lib.Dec.{leb}
 use borrow.Author.Tests.{leb-true, le-ltb}
 use Rattle.laws.specs.Below.{whichBelow}
+use Rattle.laws.specs.Lists.{all}
 use Rattle.laws.proofs.Bools.{option?, clash, and-true}
 use Rattle.laws.proofs.Which.{fromOn, next-none, next-some, from-zero}
 use Rattle.railway.specs.declared.Railway.{Railway}
@@ -23,8 +25,9 @@ use Rattle.plan.specs.declared.PlanPlace.the-variants.{Top, From}
 use Rattle.plan.specs.declared.Emitted.the-variants.{Line, End, NoPlan}
 use Rattle.plan.specs.Lines.{startLine, placementLine, spell}
 use Rattle.plan.specs.Text.{hasFigure, lineFor, planLines, planTexts}
-use Rattle.plan.specs.Emitter.{unwritten, written, nextCode, due, writtenDue, emitLine}
-use Rattle.plan.specs.Calls.{Emission, longEnough}
+use Rattle.plan.specs.Emitter.{isLine, Wrote, unwritten, written, nextCode, due, writtenDue, emitLine}
+use Rattle.plan.specs.Calls.{Emission, EmittingInto, wrote, stopped, longEnough}
+use Rattle.plan.proofs.Promises.{emits-so}
 use Rattle.plan.proofs.Calls.{goOn, emission}
 
 -- in an accepted case with tables long enough nothing is refused
@@ -40,16 +43,16 @@ no-buffers (l ∷ ls) e = clash e refl
 put-line : (l : List ℕ) (next : PlanPlace) (b : List ℕ) → length l ≤ length b → written l next b ≡ record { answer = Line (length l) next; buffer = l ++ drop (length l) b }
 put-line l next b h = rw (le-ltb (length b) (length l) h)
 
-module _ (r : Railway) (figs sets : List ℕ) (fine : caseRefusal r figs sets ≡ none) where
+module _ (r : Railway) (figs sets : List ℕ) (unrefused : caseRefusal r figs sets ≡ none) where
   -- none is answered where the start has no figure
   pub emits-none : figureIn figs (startCode r) ≡ none → (place : PlanPlace) (buffer : List ℕ) → emitLine r figs sets place buffer ≡ unwritten NoPlan buffer
   unfolding emitLine
-  emits-none e place buffer = rw (fine, e)
+  emits-none e place buffer = rw (unrefused, e)
 
   module _ (n : ℕ) (start : figureIn figs (startCode r) ≡ some n) where
     emit-at : (place : PlanPlace) (buffer : List ℕ) → emitLine r figs sets place buffer ≡ writtenDue buffer (due r figs sets place)
     unfolding emitLine
-    emit-at place buffer = rw (fine, start)
+    emit-at place buffer = rw (unrefused, start)
 
     abbrev textFor : ℕ → List ℕ
     textFor p = spell (placementLine (lineFor r figs sets p))
@@ -98,6 +101,62 @@ module _ (r : Railway) (figs sets : List ℕ) (fine : caseRefusal r figs sets �
             let h = enough l (textsFrom next) b bs e in
             rw (c (h .0), take-append-seam l (drop (length l) b), rest next (h .1))
 
+    -- ALL CALLS, with one buffer: it stays as long as it is, so that the lines to come fit too
+    abbrev pub Fit : List ℕ → List (List ℕ) → Type 0
+    Fit b ls = all (λ l. leb (length l) (length b)) ls ≡ true
+
+    -- the first line, the buffer after it, and the others with that one
+    record Fitting (b l : List ℕ) (ls : List (List ℕ)) : Type 0 where
+      here : length l ≤ length b
+      there : Fit (l ++ drop (length l) b) ls
+
+    fitting : (b l : List ℕ) (ls : List (List ℕ)) → Fit b (l ∷ ls) → Fitting b l ls
+    unfolding all
+    fitting b l ls e =
+        let h = and-true (leb (length l) (length b)) (all (λ x. leb (length x) (length b)) ls) e in
+        let k : length l ≤ length b = leb-true (length l) (length b) (h .0) in
+        let z : length (l ++ drop (length l) b) ≡ length b = simp (length-append, length-drop) (omega arith) in
+        record { here = k; there = rw z (h .1) }
+
+    line-then : (n : ℕ) (b′ : List ℕ) (rest : Emission) (l : List ℕ) (ls : List (List ℕ)) → take n b′ ≡ l → rest ≡ Whole ls → record { lines = take n b′ ∷ rest .lines; last = rest .last } ≡ Whole (l ∷ ls)
+    line-then n b′ rest l ls p q = rw (p, q)
+
+    into-from : (place : PlanPlace) (b : List ℕ) (e : Emission) → EmittingInto r figs sets place b e → Fit b (textsFrom place) → e ≡ Whole (textsFrom place)
+    into-from place b e (wrote _ next n _ b′ rest p calls) fit = go (textsFrom place) (call place b) fit (λ h. into-from next b′ rest calls h)
+      where
+        go : (ls : List (List ℕ)) → Call place b ls → Fit b ls → (Fit b′ (textsFrom next) → rest ≡ Whole (textsFrom next))
+            → record { lines = take n b′ ∷ rest .lines; last = rest .last } ≡ Whole ls
+        go [] (ends c) fit more = clash refl (ap isLine (p .answer ∙ ap (λ (x : Wrote). x .answer) c))
+        go (l ∷ ls) (writes _ to c) fit more =
+            let h = fitting b l (textsFrom to) fit in
+            let w = c (h .here) in
+            let a : Line n next ≡ Line (length l) to = p .answer ∙ ap (λ (x : Wrote). x .answer) w in
+            let as-many : n ≡ length l = cc in
+            let same : next ≡ to = cc in
+            let new : b′ ≡ l ++ drop (length l) b = p .buffer ∙ ap (λ (x : Wrote). x .buffer) w in
+            line-then n b′ rest l (textsFrom to) (rw (as-many, new) (take-append-seam l (drop (length l) b))) (rw (new, same) at more (h .there))
+    into-from place b e (stopped _ a _ b′ i p) fit = go (textsFrom place) (call place b) fit
+      where
+        go : (ls : List (List ℕ)) → Call place b ls → Fit b ls → record { lines = []; last = some a } ≡ Whole ls
+        go [] (ends c) fit = rw (p .answer, c)
+        go (l ∷ ls) (writes _ to c) fit = clash (ap isLine (p .answer ∙ ap (λ (x : Wrote). x .answer) (c (fitting b l (textsFrom to) fit .here)))) i
+
+    -- there are such calls: as many as there are lines, and one
+    into : (k : ℕ) (place : PlanPlace) (b : List ℕ) → length (textsFrom place) < k → Fit b (textsFrom place) → EmittingInto r figs sets place b (Whole (textsFrom place))
+    into zero place b m fit = absurd (omega arith)
+    into (suc k) place b m fit = go (textsFrom place) (call place b) m fit (into k)
+      where
+        go : (ls : List (List ℕ)) → Call place b ls → length ls < suc k → Fit b ls
+            → ((next : PlanPlace) (b′ : List ℕ) → length (textsFrom next) < k → Fit b′ (textsFrom next) → EmittingInto r figs sets next b′ (Whole (textsFrom next)))
+            → EmittingInto r figs sets place b (Whole ls)
+        go [] (ends c) m fit more = stopped place End b b refl (emits-so r figs sets place b (unwritten End b) (sym c))
+        go (l ∷ ls) (writes _ to c) m fit more =
+            let h = fitting b l (textsFrom to) fit in
+            let b′ : List ℕ = l ++ drop (length l) b in
+            subst (EmittingInto r figs sets place b)
+            (line-then (length l) b′ (Whole (textsFrom to)) l (textsFrom to) (take-append-seam l (drop (length l) b)) refl)
+            (wrote place to (length l) b b′ (Whole (textsFrom to)) (emits-so r figs sets place b (record { answer = Line (length l) to; buffer = b′ }) (sym (c (h .here)))) (more to b′ (omega arith) (h .there)))
+
     -- THE PLAN'S LINES are those from the top on
     each-text : (xs : List ℕ) → map textFor xs ≡ map spell (map placementLine (map (lineFor r figs sets) xs))
     each-text [] = refl
@@ -111,3 +170,10 @@ module _ (r : Railway) (figs sets : List ℕ) (fine : caseRefusal r figs sets �
 
     pub emits : (bs : List (List ℕ)) → longEnough (planTexts r figs sets) bs ≡ true → emission r figs sets bs Top ≡ Whole (planTexts r figs sets)
     emits bs e = emission-from bs Top (subst (λ (ls : List (List ℕ)). longEnough ls bs ≡ true) (sym from-top) e) ∙ ap Whole from-top
+
+    pub emits-into : (b : List ℕ) (e : Emission) → EmittingInto r figs sets Top b e → Fit b (planTexts r figs sets) → e ≡ Whole (planTexts r figs sets)
+    emits-into b e calls fit = into-from Top b e calls (subst (Fit b) (sym from-top) fit) ∙ ap Whole from-top
+
+    pub into-whole : (b : List ℕ) → Fit b (planTexts r figs sets) → EmittingInto r figs sets Top b (Whole (planTexts r figs sets))
+    into-whole b fit =
+        subst (λ (ls : List (List ℕ)). EmittingInto r figs sets Top b (Whole ls)) from-top (into (suc (length (textsFrom Top))) Top b (omega arith) (subst (Fit b) (sym from-top) fit))

@@ -1,9 +1,9 @@
--- The checker's and the emitter's answers by computation: one table of texts handed in, with the numbers that each line and the test get; one of calls of the emitter;
--- the order of several points and open trains in a line.
+-- The checker's and the emitter's answers by computation: one table of texts handed in, with the numbers that each line and the test get; one of
+-- calls of the emitter; the order of several points and open trains in a line.
 -- Assumes nothing.
 use mathlib.Core.Path.{_≡_, refl}
 use mathlib.Core.Bool.{Bool, true, false, _&&_}
-use mathlib.Core.List.{List, [], _∷_, map}
+use mathlib.Core.List.{List, [], _∷_, _++_, map}
 use mathlib.Core.Option.{Option, none, some}
 use Prim.Native.Nat.{ℕ}
 use Prim.Native.String.{String}
@@ -38,7 +38,7 @@ use Rattle.plan.specs.Text.{lineFor}
 use Rattle.plan.specs.Emitter.{numberGiven, Wrote, unwritten, emitLine}
 use Rattle.plan.specs.Test.{listedSetting}
 use Rattle.plan.specs.Reading.{guess, readLine}
-use Rattle.plan.specs.Computed.{placementFine, testHolds}
+use Rattle.plan.specs.Computed.{placementPasses, testHolds}
 use Rattle.plan.specs.Checker.{freshChecking, lineEntry, lineNumber, testNumber, takeLine, testPlan, Run, run}
 
 -- A text and the number that its call is to get; 0: it is taken.
@@ -133,7 +133,8 @@ scripts =
     ∷ script yardOne 1 ("plan\t0\n" gets 0 ∷ "1\t0\t0\t-\n" gets 10 ∷ "1\t0\t0\t.\n" gets 0 ∷ []) 0
     -- the largest figure
     ∷ script yardOne 1 ("plan\t4294967294\n" gets 0 ∷ "1\t4294967294\t0\t.\n" gets 0 ∷ []) 0
-    -- three points: train 1 goes to 2 by point 1 and on to 4 by point 2, train 2 then to 3 by point 3; the same with the start's signs the other way round
+    -- three points: train 1 goes to 2 by point 1 and on to 4 by point 2, train 2
+    -- then to 3 by point 3; the same with the start's signs the other way round
     ∷ script ladder 49 ("plan\t3\n" gets 0 ∷ "4\t3\t0\t0\t---\n" gets 0 ∷ "1\t7\t3\t1\t+-+\n" gets 0 ∷ "2\t7\t2\t0\t-++\n" gets 0 ∷ "4\t7\t1\t2\t++-\n" gets 0 ∷ []) 0
     ∷ script ladder 49 ("plan\t3\n" gets 0 ∷ "4\t3\t0\t0\t---\n" gets 0 ∷ "1\t7\t3\t1\t-++\n" gets 0 ∷ "2\t7\t2\t0\t-++\n" gets 0 ∷ "4\t7\t1\t2\t++-\n" gets 0 ∷ []) 11
     -- a sign too few and too many; two open trains, which fall and which rise
@@ -145,27 +146,28 @@ scripts =
     ∷ []
 
 as-said : all holds scripts ≡ true
-unfolding all numbers bytes run takeLine testPlan caseRefusal tablesShort first unknownRow joinRow looseRow placeRow endAt joined hasSignal legsOf runOf withJoin withSignal withLegs withTrain allBelow anyBelow sumBelow whichBelow listBelow lowest fromBits any readLine guess fields valueOf sameText spell line digits fits entryFrom codeOf testHolds placementFine listedSetting keepsTest sectionsIn standsOn startCode atHome shared headsFor held mayMove passes occupied moveOf
+unfolding all numbers bytes run takeLine testPlan caseRefusal tablesShort first unknownRow joinRow looseRow placeRow endAt joined hasSignal legsOf runOf withJoin withSignal withLegs withTrain allBelow anyBelow sumBelow whichBelow listBelow lowest fromBits any readLine guess fields valueOf sameText spell line digits fits entryFrom codeOf testHolds placementPasses listedSetting keepsTest sectionsIn standsOn startCode atHome shared headsFor held mayMove passes occupied moveOf
 as-said = refl
 
--- THE EMITTER in Yard A, with its tables: the first line, the last line with bytes past it, a buffer that is too short, the end, a place past the last code,
--- no plan where the start has no figure, tables too short, and a record that is refused before anything else.
+-- THE EMITTER in Yard A, with its tables: the first line, the last line with bytes past it, a buffer that is too short, the end, a place past
+-- the last code, no plan where the start has no figure, tables too short, and a record that is refused before anything else.
 abbrev emit : PlanPlace → List ℕ → Wrote
 emit place buffer = emitLine yardA figsA setsA place buffer
 
 emitted :
-    (emit Top (replicate 45 7) ≡ record { answer = Line 7 (From 0); buffer = 112 ∷ 108 ∷ 97 ∷ 110 ∷ 9 ∷ 50 ∷ 10 ∷ replicate 38 7 })
-    × (emit (From 3) (replicate 12 7) ≡ record { answer = Line 10 (From 8); buffer = 50 ∷ 9 ∷ 51 ∷ 9 ∷ 50 ∷ 9 ∷ 48 ∷ 9 ∷ 43 ∷ 10 ∷ 7 ∷ 7 ∷ [] })
+    (emit Top (replicate 45 7) ≡ record { answer = Line 7 (From 0); buffer = bytes "plan\t2\n" ++ replicate 38 7 })
+    × (emit (From 3) (replicate 12 7) ≡ record { answer = Line 10 (From 8); buffer = bytes "2\t3\t2\t0\t+\n" ++ replicate 2 7 })
     × (emit (From 3) (replicate 9 7) ≡ unwritten (Refused Space) (replicate 9 7))
     × (emit (From 8) [] ≡ unwritten End [])
     × (emit (From 4000000000) [] ≡ unwritten End [])
     × (emitLine yardA (replicate 9 4294967295) setsA Top [] ≡ unwritten NoPlan [])
     × (emitLine yardA (replicate 8 4294967295) setsA Top [] ≡ unwritten (Refused Space) [])
     × (numberGiven (emitLine wrongJoin [] [] Top [] .answer) ≡ some 5)
-unfolding emitLine caseRefusal tablesShort first unknownRow joinRow looseRow placeRow endAt joined hasSignal legsOf runOf withJoin withSignal withLegs withTrain anyBelow sumBelow whichBelow listBelow lowest lineFor spell line digits codeOf sectionsIn startCode
+unfolding bytes emitLine caseRefusal tablesShort first unknownRow joinRow looseRow placeRow endAt joined hasSignal legsOf runOf withJoin withSignal withLegs withTrain anyBelow sumBelow whichBelow listBelow lowest lineFor spell line digits codeOf sectionsIn startCode
 emitted = (refl, refl, refl, refl, refl, refl, refl, refl)
 
--- THE ORDER OF SEVERAL POINTS, point 1 first and in bit 0, and of two open trains: a line of the ladder's start spelled, read, entered and emitted again.
+-- THE ORDER OF SEVERAL POINTS, point 1 first and in bit 0, and of two open
+-- trains: a line of the ladder's start spelled, read, entered and emitted again.
 abbrev startLadder : PlacementLine
 startLadder = record { sections = 0 ∷ 6 ∷ []; figure = 3; opens = true ∷ true ∷ []; plus = true ∷ false ∷ false ∷ [] }
 

@@ -1,5 +1,5 @@
--- Texts in the form of a plan: what one more line does to the form, and that no texts have it for two plans. A form with a last line is a form without it,
--- to which a line with a higher code is added; lines that fit are told apart by their spelling. Assumes nothing.
+-- Texts in the form of a plan: what one more line does to the form, and that no texts have it for two plans. A form with a last line is a form
+-- without it, to which a line with a higher code is added; lines that fit are told apart by their spelling. Assumes nothing.
 use mathlib.Core.Path.{_≡_, refl, sym, _∙_, ap, subst}
 use mathlib.Core.Bool.{Bool, true, false, _&&_}
 use mathlib.Core.List.{List, [], _∷_, _++_, map, map-append, append-assoc, append-nil}
@@ -93,7 +93,7 @@ module _ (r : Railway) where
           (sym (rises-snoc 0 (codes ds) (lineCode r d)) ∙ ap (rises 0) (sym (ap codes e ∙ map-append (lineCode r) ds (d ∷ []))) ∙ i .form .rising) in
           more (i .start) ds d (record { spelled = s .front; fit = f .0; rising = u .0 }) (s .last) (and-true (fits r (placementLine d)) true (f .1) .0) (leb-true (codeAfter 0 (codes ds)) (lineCode r d) (u .1))
 
-  -- .. so the texts before some of them in form are in form, unless there are none
+  -- of texts in form, so many from the first on are in form too, unless they are none
   pub form-front : (bs xs : List (List ℕ)) (x : List ℕ) → InForm r ((xs ++ (x ∷ [])) ++ bs) → InForm r (xs ++ (x ∷ []))
   form-front [] xs x i = subst (InForm r) (append-nil (xs ++ (x ∷ []))) i
   form-front (b ∷ bs) xs x i = go (form-last (xs ++ (x ∷ [])) b (form-front bs (xs ++ (x ∷ [])) b (subst (InForm r) (sym (append-assoc (xs ++ (x ∷ [])) (b ∷ []) bs)) i)))

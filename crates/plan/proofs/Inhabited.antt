@@ -1,12 +1,14 @@
--- The hypotheses can be met: Yard A's tables are what a solver leaves that keeps its promise, its start has a figure, buffers are long enough, and lines that
--- the checker refuses come among the plan's; there are plans that pass and plans that fail. Assumes nothing.
+-- The hypotheses can be met: Yard A's tables are what a solver leaves that keeps its promise, its start has a figure, buffers are long enough,
+-- one buffer does for all lines, and lines that the checker refuses come among the plan's; there are plans that pass and plans that fail.
+-- Assumes nothing.
 use mathlib.Core.Path.{_≡_, refl, sym, _∙_}
 use mathlib.Core.Bool.{true, false}
 use mathlib.Core.List.{List, [], _∷_, map}
-use mathlib.Core.Option.{some}
-use Prim.Native.Nat.{ℕ}
+use mathlib.Core.Option.{none, some}
+use Prim.Native.Nat.{ℕ, _≤_}
 use Prim.Native.String.{String}
 use native.Mathlib.Omega.{arith}
+use lib.Dec.{leb}
 use lib.ListN.{length, replicate, List·getD-eq-default}
 use Rattle.laws.specs.Below.{allBelow, anyBelow, sumBelow, whichBelow, listBelow}
 use Rattle.laws.specs.Bits.{fromBits}
@@ -31,17 +33,18 @@ use Rattle.tables.proofs.KnownYards.{figsA, setsA, yardA-accepted, yardA-filled
 use Rattle.plan.specs.declared.PlanPlace.the-variants.{Top}
 use Rattle.plan.specs.declared.Emitted.the-variants.{End}
 use Rattle.plan.specs.declared.TestAnswer.the-variants.{Pass, Refused}
-use Rattle.plan.specs.Lines.{spell, fits}
+use Rattle.plan.specs.Lines.{spell, fits, mostLineBytes}
 use Rattle.plan.specs.Text.{lineFor, planLines, planTexts}
-use Rattle.plan.specs.Calls.{Emission, longEnough}
+use Rattle.plan.specs.Calls.{Emission, EmittingInto, longEnough}
 use Rattle.plan.specs.Test.{listedSetting}
 use Rattle.plan.specs.Reading.{guess, readLine}
-use Rattle.plan.specs.Computed.{placementFine, testHolds}
+use Rattle.plan.specs.Computed.{placementPasses, testHolds}
 use Rattle.plan.specs.Checker.{freshChecking, takeLine, testPlan, Run, run, takenTexts}
 use Rattle.plan.specs.Checked.{Passing, Failing}
 use Rattle.plan.specs.Demand3.{Handed, ownTexts, othersRefused, Passed, Demand3}
 use Rattle.plan.proofs.Promises.{tests-so}
 use Rattle.plan.proofs.Calls.{emission, emitting, taking}
+use Rattle.plan.proofs.Emits.{none-refused, into-whole}
 use Rattle.plan.proofs.Checks.{checked-holds}
 use Rattle.plan.proofs.Plan.{plan-passes}
 use Rattle.plan.proofs.Demand.{demand3-holds}
@@ -66,7 +69,7 @@ demand : Demand3 yardA (Figure 2) figsA setsA
 demand = demand3-holds yardA (Figure 2) lent lent figsA setsA yardA-accepted (omega (arith, nine)) (omega (arith, nine)) post
 
 -- What is computed: the start has a figure; buffers are long enough for its plan of four lines; the plan's lines with refused lines among
--- them; and the first line alone fails the test.
+-- them; the first line alone fails the test; and each line fits into a buffer of the most bytes.
 abbrev stray : String → Handed
 stray s = record { own = false; text = bytes s }
 
@@ -78,6 +81,9 @@ handed = stray "2\t1\t1\t1\t-\n" ∷ ours "plan\t2\n" ∷ stray "plan\t2\n" ∷ 
 
 abbrev buffers : List (List ℕ)
 buffers = replicate 5 (replicate 10 7)
+
+abbrev widest : List ℕ
+widest = replicate mostLineBytes 7
 
 abbrev handedRun : Run
 handedRun = run yardA (map (λ h. h .text) handed) (freshChecking 9 12)
@@ -93,19 +99,27 @@ computed :
     × (othersRefused handed (handedRun .answers) ≡ true)
     × (testPlan yardA (firstAlone .end) .answer ≡ Refused PlanFault)
     × (Pass ≡ testPlan yardA (handedRun .end) .answer)
-unfolding longEnough planTexts planLines lineFor ownTexts othersRefused bytes run takeLine testPlan caseRefusal tablesShort first unknownRow joinRow looseRow placeRow endAt joined hasSignal legsOf runOf withJoin withSignal withLegs withTrain allBelow anyBelow sumBelow whichBelow listBelow fromBits any all readLine guess fields valueOf sameText spell line digits fits entryFrom codeOf testHolds placementFine listedSetting keepsTest sectionsIn standsOn startCode atHome shared headsFor held mayMove passes occupied moveOf
-computed = (refl, refl, refl, refl, refl, refl, refl)
+    × (all (λ l. leb (length l) (length widest)) (planTexts yardA figsA setsA) ≡ true)
+unfolding longEnough planTexts planLines lineFor ownTexts othersRefused bytes run takeLine testPlan caseRefusal tablesShort first unknownRow joinRow looseRow placeRow endAt joined hasSignal legsOf runOf withJoin withSignal withLegs withTrain allBelow anyBelow sumBelow whichBelow listBelow fromBits any all readLine guess fields valueOf sameText spell line digits fits entryFrom codeOf testHolds placementPasses listedSetting keepsTest sectionsIn standsOn startCode atHome shared headsFor held mayMove passes occupied moveOf
+computed = (refl, refl, refl, refl, refl, refl, refl, refl)
 
 -- so demand 3 speaks of calls that there are: those of the functions, with buffers that are long enough and with buffers of the most bytes
+unrefused : caseRefusal yardA figsA setsA ≡ none
+unrefused = none-refused yardA figsA setsA yardA-accepted (omega (arith, nine)) (omega (arith, nine))
+
 abbrev whole : Emission
 whole = record { lines = planTexts yardA figsA setsA; last = some End }
 
 emits : emission yardA figsA setsA buffers Top ≡ whole
 emits = demand .emits 2 (computed .0) buffers (emission yardA figsA setsA buffers Top) (emitting yardA figsA setsA buffers Top) (computed .1)
 
-room : longEnough (planTexts yardA figsA setsA) (replicate 5 (replicate 45 7)) ≡ true
+room : longEnough (planTexts yardA figsA setsA) (replicate 5 widest) ≡ true
 unfolding all
-room = demand .room 2 (computed .0) (replicate 5 (replicate 45 7)) refl (omega (arith, computed .2))
+room = demand .room 2 (computed .0) (replicate 5 widest) refl (omega (arith, computed .2))
+
+-- with one buffer of the most bytes, which is handed on
+emits-into : EmittingInto yardA figsA setsA Top widest whole × (mostLineBytes ≤ length widest)
+emits-into = (into-whole yardA figsA setsA unrefused 2 (computed .0) widest (computed .7), omega arith)
 
 checks : Passed handed (handedRun .answers) Pass
 checks =

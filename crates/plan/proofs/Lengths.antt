@@ -4,6 +4,7 @@ use mathlib.Core.Path.{_≡_, _∙_}
 use mathlib.Core.Bool.{true, false}
 use mathlib.Core.List.{List, [], _∷_, _++_, map}
 use Prim.Native.Nat.{ℕ, suc, _+_, _*_, _≤_, _<_}
+use Prim.Native.Char.{code}
 use native.Mathlib.Omega.{arith}
 use lib.ListN.{length, getD, length-append, length-map}
 use lib.Dec.{ltb}
@@ -12,11 +13,11 @@ use Rattle.laws.specs.Below.{whichBelow}
 use Rattle.laws.specs.Lists.{all}
 use Rattle.laws.proofs.Bools.{and-true}
 use Rattle.laws.proofs.Which.{which-length}
-use Rattle.text.specs.Text.{decimal, line}
+use Rattle.text.specs.Text.{decimal, line, bytes}
 use Rattle.text.proofs.Decimal.{digits-length, digits-short}
 use Rattle.railway.specs.declared.Railway.{Railway}
 use Rattle.game.proofs.Accepted.{Facts, facts}
-use Rattle.plan.specs.Lines.{PlanLine, startLine, placementLine, orByte, openField, sign, pointField, sectionField, planWord, spell, fits, mostLineBytes, LinesShort}
+use Rattle.plan.specs.Lines.{PlanLine, startLine, placementLine, orByte, trainDigit, openField, sign, pointField, sectionField, planWord, spell, fits, mostLineBytes, LinesShort}
 use Rattle.plan.proofs.Reading.{fits-parts}
 
 -- a line is as long as its fields, with one byte behind each
@@ -55,16 +56,16 @@ lines-total [] f fs = line-length f fs ∙ omega arith
 lines-total (x ∷ xs) f fs = line-length (decimal (suc x)) (map sectionField xs ++ (f ∷ fs)) ∙ total-append (map sectionField (x ∷ xs)) (f ∷ fs)
 
 at-most : (r : Railway) → Facts r → (l : PlanLine) → fits r l ≡ true → length (spell l) ≤ mostLineBytes
-unfolding spell total
+unfolding bytes spell total
 at-most r ok (startLine n) e = rw (line-length planWord (decimal n ∷ [])) (omega (arith, digits-length 10 n))
 at-most r ok (placementLine d) e =
     let f = fits-parts r d e in
     let s₁ : total (map sectionField (d .sections)) ≤ 3 * length (d .sections) = sections-total (d .sections) (r .sections) (ok .few-sections) (f .there) in
     let s₂ : length (decimal (d .figure)) ≤ 10 = digits-length 10 (d .figure) in
     let s₃ : length (openField (d .opens)) ≤ 4 =
-    or-length 48 (map (λ t. 49 + t) (whichBelow (λ t. getD (d .opens) t false) (length (d .opens)))) 4
-    (omega (arith, length-map (whichBelow (λ t. getD (d .opens) t false) (length (d .opens))) (λ t. 49 + t), which-length (λ t. getD (d .opens) t false) (length (d .opens)), ok .few-trains, f .opened)) (omega arith) in
-    let s₄ : length (pointField (d .plus)) ≤ 16 = or-length 46 (map sign (d .plus)) 16 (omega (arith, length-map (d .plus) sign, ok .few-points, f .pointed)) (omega arith) in
+    or-length (code "0") (map trainDigit (whichBelow (λ t. getD (d .opens) t false) (length (d .opens)))) 4
+    (omega (arith, length-map (whichBelow (λ t. getD (d .opens) t false) (length (d .opens))) trainDigit, which-length (λ t. getD (d .opens) t false) (length (d .opens)), ok .few-trains, f .opened)) (omega arith) in
+    let s₄ : length (pointField (d .plus)) ≤ 16 = or-length (code ".") (map sign (d .plus)) 16 (omega (arith, length-map (d .plus) sign, ok .few-points, f .pointed)) (omega arith) in
     rw (lines-total (d .sections) (decimal (d .figure)) (openField (d .opens) ∷ pointField (d .plus) ∷ [])) (omega (arith, ok .few-trains, f .each-train))
 
 pub lines-short : LinesShort

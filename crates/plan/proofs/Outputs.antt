@@ -1,5 +1,5 @@
--- The plan texts that are written out hold for all filled tables: they are computed for one pair, which is certified, and all filled tables make the same plan.
--- Assumes nothing.
+-- The plan texts that are written out hold for all filled tables: they are computed for one pair, which is
+-- certified, and all filled tables make the same plan. Assumes nothing.
 use mathlib.Core.Path.{_≡_, refl, _∙_, ap}
 use mathlib.Core.List.{List, [], _∷_, flatten}
 use mathlib.Core.Option.{none}

@@ -1,5 +1,6 @@
--- The plan that filled tables make: its texts are in form and pass the test of a plan, and all filled tables make the same. Its lines list what the tables list,
--- placement by placement; the tables pass because a figure is kept and the entry of a setting opens only trains that have a signal. Assumes nothing.
+-- The plan that filled tables make: its texts are in form and pass the test of a plan, and all filled tables
+-- make the same. Its lines list what the tables list, placement by placement; the tables pass because a
+-- figure is kept and the entry of a setting opens only trains that have a signal. Assumes nothing.
 use mathlib.Core.Path.{_≡_, refl, sym, _∙_, ap, subst}
 use mathlib.Core.Logic.{_⊎_, inl, inr}
 use mathlib.Core.Bool.{Bool, true, false, cond, not, _&&_}

@@ -1,4 +1,5 @@
--- A call that answers and leaves what its definition says keeps its promise: where a record or tables are refused, the definition gives that refusal.
+-- A call that answers and leaves what its definition says keeps its promise: the number that the definition gives is that of the first row that
+-- applies (Numbers). And where a record or tables are refused, the checker gives that refusal.
 -- Assumes nothing.
 use mathlib.Core.Path.{_≡_, refl, _∙_, ap}
 use mathlib.Core.List.{List}
@@ -8,7 +9,6 @@ use Rattle.railway.specs.declared.Railway.{Railway}
 use Rattle.railway.specs.declared.Refusal.{Refusal}
 use Rattle.tables.specs.Tables.{caseRefusal}
 use Rattle.plan.specs.declared.PlanPlace.{PlanPlace}
-use Rattle.plan.specs.declared.Emitted.the-variants.{Refused as EmitRefused}
 use Rattle.plan.specs.declared.LineAnswer.{LineAnswer}
 use Rattle.plan.specs.declared.LineAnswer.the-variants.{Refused as LineRefused}
 use Rattle.plan.specs.declared.TestAnswer.{TestAnswer}
@@ -16,17 +16,14 @@ use Rattle.plan.specs.declared.TestAnswer.the-variants.{Refused as TestR
 use Rattle.plan.specs.Emitter.{numberGiven, Wrote, emitLine}
 use Rattle.plan.specs.Checker.{lineNumber, testNumber, Checking, Left, takeLine, testPlan}
 use Rattle.plan.specs.Promises.{EmitterPost, LinePost, TestPost}
+use Rattle.plan.proofs.Numbers.{emit-numbered, line-numbered, test-numbered}
 
 module _ (r : Railway) (figs sets : List ℕ) (place : PlanPlace) (old : List ℕ) where
-  emit-refused : (f : Refusal) → caseRefusal r figs sets ≡ some f → emitLine r figs sets place old .answer ≡ EmitRefused f
-  unfolding emitLine
-  emit-refused f e = rw e refl
-
   pub emits-so : (w : Wrote) → w ≡ emitLine r figs sets place old → EmitterPost r figs sets place old (w .answer) (w .buffer)
   emits-so w e =
       record {
         answer = ap (λ (x : Wrote). x .answer) e;
-        numbered = λ f h. ap numberGiven (ap (λ (x : Wrote). x .answer) e ∙ emit-refused f h);
+        numbered = ap (λ (x : Wrote). numberGiven (x .answer)) e ∙ emit-numbered r figs sets place old;
         buffer = ap (λ (x : Wrote). x .buffer) e;
       }
 
@@ -39,7 +36,7 @@ module _ (r : Railway) (c : Checking) where
   takes-so text x e =
       record {
         answer = ap (λ (y : Left LineAnswer). y .answer) e;
-        numbered = λ f h. ap lineNumber (ap (λ (y : Left LineAnswer). y .answer) e ∙ line-refused text f h);
+        numbered = ap (λ (y : Left LineAnswer). lineNumber (y .answer)) e ∙ line-numbered r c text;
         checking = ap (λ (y : Left LineAnswer). y .checking) e;
       }
 
@@ -49,4 +46,4 @@ module _ (r : Railway) (c : Checking) where
 
   pub tests-so : (a : TestAnswer) → a ≡ testPlan r c .answer → TestPost r c a c
   unfolding testPlan
-  tests-so a e = record { answer = e; numbered = λ f h. ap testNumber (e ∙ test-refused f h); checking = refl }
+  tests-so a e = record { answer = e; numbered = ap testNumber e ∙ test-numbered r c; checking = refl }

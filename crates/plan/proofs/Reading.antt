@@ -1,12 +1,12 @@
--- A text is read as a line exactly if it is that line's spelling and the line fits the case. The fields of a line have no byte that parts or ends them,
--- so its text is cut into them again, and each field gives back what it was written for; what is read is spelled again and compared.
+-- A text is read as a line exactly if it is that line's spelling and the line fits the case. The fields of a line have no byte that parts or
+-- ends them, so its text is cut into them again, and each field gives back what it was written for; what is read is spelled again and compared.
 -- Assumes nothing.
 use mathlib.Core.Path.{_≡_, refl, sym, _∙_, ap}
-use mathlib.Core.Logic.{_↔_}
 use mathlib.Core.Bool.{Bool, true, false, cond, _&&_}
 use mathlib.Core.List.{List, [], _∷_, _++_, map}
 use mathlib.Core.Option.{none, some}
 use Prim.Native.Nat.{ℕ, zero, suc, _+_, _-_, _<_}
+use Prim.Native.Char.{code}
 use native.Mathlib.Omega.{arith}
 use lib.ListN.{length, getD, take, length-map}
 use lib.Seq.{ext-getD, getD-append-add, getD-at, take-at}
@@ -18,13 +18,13 @@ use Rattle.laws.proofs.Bools.{clash, some-none, same-bool, and-true, and-both}
 use Rattle.laws.proofs.Below.{any-at, any-of, list-length, list-get}
 use Rattle.laws.proofs.Lists.{all-append}
 use Rattle.laws.proofs.Which.{any-which}
-use Rattle.text.specs.Text.{decimal, line}
+use Rattle.text.specs.Text.{decimal, line, bytes}
 use Rattle.text.specs.Reading.{isDigit, isPlain, fields, valueOf, sameText}
 use Rattle.text.proofs.Decimal.{digit-is, digits-are, decimal-plain, value-decimal}
 use Rattle.text.proofs.Lines.{same-is, same-self, cut-line}
 use Rattle.railway.specs.declared.Railway.{Railway}
 use Rattle.tables.specs.Tables.{noFigure}
-use Rattle.plan.specs.Lines.{PlacementLine, PlanLine, startLine, placementLine, orByte, openField, sign, pointField, sectionField, planWord, spell, fits, Spells}
+use Rattle.plan.specs.Lines.{PlacementLine, PlanLine, startLine, placementLine, orByte, trainDigit, openField, sign, pointField, sectionField, planWord, spell, fits, Spells}
 use Rattle.plan.specs.Reading.{guessPlacement, guess, readIf, readLine}
 use Rattle.plan.specs.Checked.{ReadsLine}
 
@@ -61,10 +61,10 @@ unfolding all
 or-plain b [] p q = and-both (isPlain b) true p refl
 or-plain b (x ∷ s) p q = q
 
-trains-plain : (ts : List ℕ) → all isPlain (map (λ t. 49 + t) ts) ≡ true
+trains-plain : (ts : List ℕ) → all isPlain (map trainDigit ts) ≡ true
 unfolding all isPlain
 trains-plain [] = refl
-trains-plain (t ∷ ts) = rw (ne-eqb (49 + t) 9 (λ e. omega arith), ne-eqb (49 + t) 10 (λ e. omega arith)) (trains-plain ts)
+trains-plain (t ∷ ts) = rw (ne-eqb (trainDigit t) 9 (λ e. omega arith), ne-eqb (trainDigit t) 10 (λ e. omega arith)) (trains-plain ts)
 
 signs-plain : (ps : List Bool) → all isPlain (map sign ps) ≡ true
 unfolding all isPlain
@@ -85,8 +85,8 @@ last-plain : (d : PlacementLine) → all (all isPlain) (lastFields d) ≡ true
 unfolding all isPlain
 last-plain d =
     rw (decimal-plain (d .figure))
-    (rw (or-plain 48 (map (λ t. 49 + t) (whichBelow (λ t. getD (d .opens) t false) (length (d .opens)))) refl (trains-plain (whichBelow (λ t. getD (d .opens) t false) (length (d .opens)))))
-    (rw (or-plain 46 (map sign (d .plus)) refl (signs-plain (d .plus)))))
+    (rw (or-plain (code "0") (map trainDigit (whichBelow (λ t. getD (d .opens) t false) (length (d .opens)))) refl (trains-plain (whichBelow (λ t. getD (d .opens) t false) (length (d .opens)))))
+    (rw (or-plain (code ".") (map sign (d .plus)) refl (signs-plain (d .plus)))))
 
 -- a line is cut into its fields
 cut-placement : (xs : List ℕ) (d : PlacementLine) → fields (line (map sectionField xs ++ lastFields d)) ≡ map sectionField xs ++ lastFields d
@@ -97,7 +97,7 @@ cut-placement [] d =
 cut-placement (x ∷ xs) d = cut-line (decimal (suc x)) (map sectionField xs ++ lastFields d) (decimal-plain (suc x)) (all-append (all isPlain) (map sectionField xs) (lastFields d) (sections-plain xs) (last-plain d))
 
 cut-start : (n : ℕ) → fields (line (planWord ∷ decimal n ∷ [])) ≡ planWord ∷ decimal n ∷ []
-unfolding all isPlain
+unfolding bytes all isPlain
 cut-start n = cut-line planWord (decimal n ∷ []) refl (rw (decimal-plain n))
 
 -- WHAT FIELDS GIVE BACK. A list, by its members.
@@ -105,38 +105,38 @@ pub list-is : {A : Type 0} (f : ℕ → A) (xs : List A) (k : ℕ) (d : A) → l
 list-is f xs k d n h = ext-getD d (listBelow f k) xs (list-length f k ∙ sym n) (λ i l. let m : i < k = rw (list-length f k) at l in list-get f k i d m ∙ h i m)
 
 -- open trains
-or-byte : (s : List ℕ) (t : ℕ) → any (eqb (49 + t)) (orByte 48 s) ≡ any (eqb (49 + t)) s
+or-byte : (s : List ℕ) (t : ℕ) → any (eqb (trainDigit t)) (orByte (code "0") s) ≡ any (eqb (trainDigit t)) s
 unfolding any
-or-byte [] t = rw (ne-eqb (49 + t) 48 (λ e. omega arith))
+or-byte [] t = rw (ne-eqb (trainDigit t) (code "0") (λ e. omega arith))
 or-byte (b ∷ s) t = refl
 
-open-digit : (f : ℕ → Bool) (k t : ℕ) → t < k → any (eqb (49 + t)) (map (λ u. 49 + u) (whichBelow f k)) ≡ f t
+open-digit : (f : ℕ → Bool) (k t : ℕ) → t < k → any (eqb (trainDigit t)) (map trainDigit (whichBelow f k)) ≡ f t
 open-digit f k t l =
-    any-which (eqb (49 + t)) (λ u. 49 + u) f k
-    ∙ same-bool (anyBelow (λ u. f u && eqb (49 + t) (49 + u)) k) (f t)
-    (λ e. let x = any-at (λ u. f u && eqb (49 + t) (49 + u)) k e in
-    let y = and-true (f (x .0)) (eqb (49 + t) (49 + x .0)) (x .2) in
-    let z : 49 + t ≡ 49 + x .0 = eqb-true (49 + t) (49 + x .0) (y .1) in
+    any-which (eqb (trainDigit t)) trainDigit f k
+    ∙ same-bool (anyBelow (λ u. f u && eqb (trainDigit t) (trainDigit u)) k) (f t)
+    (λ e. let x = any-at (λ u. f u && eqb (trainDigit t) (trainDigit u)) k e in
+    let y = and-true (f (x .0)) (eqb (trainDigit t) (trainDigit (x .0))) (x .2) in
+    let z : trainDigit t ≡ trainDigit (x .0) = eqb-true (trainDigit t) (trainDigit (x .0)) (y .1) in
     let w : x .0 ≡ t = omega arith in
     rw w at (y .0))
-    (λ e. any-of (λ u. f u && eqb (49 + t) (49 + u)) k t l (and-both (f t) (eqb (49 + t) (49 + t)) e (eq-eqb (49 + t) (49 + t) refl)))
+    (λ e. any-of (λ u. f u && eqb (trainDigit t) (trainDigit u)) k t l (and-both (f t) (eqb (trainDigit t) (trainDigit t)) e (eq-eqb (trainDigit t) (trainDigit t) refl)))
 
-open-back : (os : List Bool) (k : ℕ) → length os ≡ k → listBelow (λ t. any (eqb (49 + t)) (openField os)) k ≡ os
+open-back : (os : List Bool) (k : ℕ) → length os ≡ k → listBelow (λ t. any (eqb (trainDigit t)) (openField os)) k ≡ os
 open-back os k n =
-    list-is (λ t. any (eqb (49 + t)) (openField os)) os k false n
-    (λ t l. or-byte (map (λ u. 49 + u) (whichBelow (λ u. getD os u false) (length os))) t ∙ open-digit (λ u. getD os u false) (length os) t (omega arith))
+    list-is (λ t. any (eqb (trainDigit t)) (openField os)) os k false n
+    (λ t l. or-byte (map trainDigit (whichBelow (λ u. getD os u false) (length os))) t ∙ open-digit (λ u. getD os u false) (length os) t (omega arith))
 
 -- points
-pub sign-at : (ps : List Bool) (i : ℕ) → i < length ps → eqb (getD (map sign ps) i 0) 43 ≡ getD ps i false
+pub sign-at : (ps : List Bool) (i : ℕ) → i < length ps → eqb (getD (map sign ps) i 0) (code "+") ≡ getD ps i false
 sign-at [] i l = absurd (omega arith)
 sign-at (true ∷ ps) zero l = refl
 sign-at (false ∷ ps) zero l = refl
 sign-at (p ∷ ps) (suc i) l = sign-at ps i (omega arith)
 
-points-back : (ps : List Bool) (k : ℕ) → length ps ≡ k → listBelow (λ i. eqb (getD (pointField ps) i 0) 43) k ≡ ps
+points-back : (ps : List Bool) (k : ℕ) → length ps ≡ k → listBelow (λ i. eqb (getD (pointField ps) i 0) (code "+")) k ≡ ps
 unfolding listBelow
 points-back [] k n = let z : k ≡ 0 = omega arith in rw z
-points-back (p ∷ ps) k n = list-is (λ i. eqb (getD (map sign (p ∷ ps)) i 0) 43) (p ∷ ps) k false n (λ i l. sign-at (p ∷ ps) i (omega arith))
+points-back (p ∷ ps) k n = list-is (λ i. eqb (getD (map sign (p ∷ ps)) i 0) (code "+")) (p ∷ ps) k false n (λ i l. sign-at (p ∷ ps) i (omega arith))
 
 -- sections
 sections-back : (xs : List ℕ) (s : ℕ) → s < noFigure → all (λ x. ltb x s) xs ≡ true → map (λ f. valueOf 0 f - 1) (map sectionField xs) ≡ xs
@@ -152,11 +152,11 @@ sections-back (x ∷ xs) s l a =
 
 -- no field of digits is the word of the first line
 not-word : (s : List ℕ) → all isDigit s ≡ true → sameText s planWord ≡ false
-unfolding sameText all
+unfolding bytes sameText all
 not-word [] p = refl
 not-word (b ∷ s) p =
     let l = digit-is b (and-true (isDigit b) (all isDigit s) p .0) in
-    rw (ne-eqb b 112 (λ q. omega arith))
+    rw (ne-eqb b (code "p") (λ q. omega arith))
 
 first-digits : (xs : List ℕ) (d : PlacementLine) → all isDigit (getD (map sectionField xs ++ lastFields d) 0 []) ≡ true
 first-digits [] d = digits-are 10 (d .figure)
@@ -175,7 +175,7 @@ module _ (r : Railway) (s : r .sections < noFigure) where
       rw (t, g₀, g₁, g₂, sections-back (d .sections) (r .sections) s (f .there), value-decimal (d .figure) (omega (arith, f .figured)), open-back (d .opens) (r .trains) (f .opened), points-back (d .plus) (r .points) (f .pointed))
 
   guess-right : (l : PlanLine) → fits r l ≡ true → guess r (fields (spell l)) ≡ l
-  unfolding guess spell sameText fits
+  unfolding bytes guess spell sameText fits
   guess-right (startLine n) e = let v : valueOf 0 (decimal n) ≡ n = value-decimal n (omega (arith, ltb-true n noFigure e)) in rw (cut-start n, v)
   guess-right (placementLine d) e =
       rw (cut-placement (d .sections) d, not-word _ (first-digits (d .sections) d)) (ap placementLine (guess-placement d (fits-parts r d e)))
@@ -185,7 +185,7 @@ module _ (r : Railway) (s : r .sections < noFigure) where
   unfolding readLine
   reads l e = rw (guess-right l e, e, same-self (spell l))
 
--- .. and nothing else is read
+-- what is read is a line that the text spells, and that fits
 read-spells : (r : Railway) (text : List ℕ) (g l : PlanLine) → readIf r text g ≡ some l → Spells r text l
 read-spells r text g l e = go (fits r g && sameText (spell g) text) refl e
   where
@@ -198,7 +198,7 @@ pub reads-line : ReadsLine
 unfolding readLine
 reads-line r s text l = (read-spells r text (guess r (fields text)) l, λ x. ap (readLine r) (sym (x .spelled)) ∙ reads r s l (x .fit))
 
--- .. so no text spells two lines that fit
+-- no text spells two lines that fit, for it is read as one
 pub spells-one : (r : Railway) → r .sections < noFigure → (k l : PlanLine) → fits r k ≡ true → fits r l ≡ true → spell k ≡ spell l → k ≡ l
 spells-one r s k l a b e =
     let x : readLine r (spell k) ≡ some k = reads r s k a in

@@ -1,5 +1,5 @@
--- The rule on refusals holds of every call: each answer is made in one place of its definition, which says what is left. What a line changes is read off the one
--- line that its text spells. Assumes nothing.
+-- The rule on refusals holds of every call: each answer is made in one place of its definition, which says what is left. What a line changes is
+-- read off the one line that its text spells. Assumes nothing.
 use mathlib.Core.Path.{_≡_, refl, sym, _∙_, ap, subst}
 use mathlib.Core.Logic.{_⊎_, inl, inr, _↔_}
 use mathlib.Core.Bool.{Bool, true, false, cond}
@@ -55,31 +55,30 @@ differ f e n = absurd (n (ap f e))
 
 -- THE EMITTER. Refused by rows 3 to 9.
 module _ (r : Railway) (figs sets : List ℕ) (place : PlanPlace) (buffer : List ℕ) where
-  refused-rule : (f : Refusal) → caseRefusal r figs sets ≡ some f → EmitRule r figs sets place buffer (unwritten (EmitRefused f) buffer)
-  refused-rule f e =
+  -- every answer but a line leaves the buffer
+  unwritten-rule : (a : Emitted) → isLine a ≡ false
+      → ((f : Refusal) → caseRefusal r figs sets ≡ some f → a ≡ EmitRefused f)
+      → ((f : Refusal) → caseRefusal r figs sets ≡ none → a ≡ EmitRefused f → f ≡ Space)
+      → (caseRefusal r figs sets ≡ none → (a ≡ EmitRefused Space) ↔ TooShort r figs sets place buffer)
+      → EmitRule r figs sets place buffer (unwritten a buffer)
+  unwritten-rule a o rows rest short =
       record {
-        first = λ g q. (let z : f ≡ g = cc in rw z);
-        others = λ g q p. some-none e q;
-        space = λ q. some-none e q;
+        first = rows;
+        others = rest;
+        space = short;
         leaves = λ p. refl;
-        fits = λ n next p. differ emittedKind p (λ z. omega arith);
-        past = λ n next p. differ emittedKind p (λ z. omega arith);
+        fits = λ n next p. clash (ap isLine p) o;
+        past = λ n next p. clash (ap isLine p) o;
         as-long = refl;
       }
 
-  module _ (fine : caseRefusal r figs sets ≡ none) where
+  refused-rule : (f : Refusal) → caseRefusal r figs sets ≡ some f → EmitRule r figs sets place buffer (unwritten (EmitRefused f) buffer)
+  refused-rule f e = unwritten-rule (EmitRefused f) refl (λ g q. (let z : f ≡ g = cc in rw z)) (λ g q p. some-none e q) (λ q. some-none e q)
+
+  module _ (unrefused : caseRefusal r figs sets ≡ none) where
     -- nothing to write: no plan, or its end
     idle-rule : (a : Emitted) → isLine a ≡ false → ((f : Refusal) → ¬ (a ≡ EmitRefused f)) → ¬ (TooShort r figs sets place buffer) → EmitRule r figs sets place buffer (unwritten a buffer)
-    idle-rule a o n t =
-        record {
-          first = λ f q. some-none q fine;
-          others = λ f q p. absurd (n f p);
-          space = λ q. (λ p. absurd (n Space p), λ x. absurd (t x));
-          leaves = λ p. refl;
-          fits = λ k next p. clash (ap isLine p) o;
-          past = λ k next p. clash (ap isLine p) o;
-          as-long = refl;
-        }
+    idle-rule a o n t = unwritten-rule a o (λ f q. some-none q unrefused) (λ f q p. absurd (n f p)) (λ q. (λ p. absurd (n Space p), λ x. absurd (t x)))
 
     due-rule : hasFigure figs (startCode r) ≡ true → (d : Due) → due r figs sets place ≡ some d → EmitRule r figs sets place buffer (written (d .text) (d .next) buffer)
     due-rule h d u = go (ltb (length buffer) (length (d .text))) refl
@@ -87,19 +86,12 @@ module _ (r : Railway) (figs sets : List ℕ) (place : PlanPlace) (buffer : List
         go : (b : Bool) → ltb (length buffer) (length (d .text)) ≡ b
             → EmitRule r figs sets place buffer (cond b (unwritten (EmitRefused Space) buffer) (record { answer = Line (length (d .text)) (d .next); buffer = d .text ++ drop (length (d .text)) buffer }))
         go true e =
-            record {
-              first = λ f q. some-none q fine;
-              others = λ f q p. cc;
-              space = λ q. (λ p. record { planned = h; line = d; is-due = u; shorter = ltb-true (length buffer) (length (d .text)) e }, λ x. refl);
-              leaves = λ p. refl;
-              fits = λ n next p. differ emittedKind p (λ z. omega arith);
-              past = λ n next p. differ emittedKind p (λ z. omega arith);
-              as-long = refl;
-            }
+            unwritten-rule (EmitRefused Space) refl (λ f q. some-none q unrefused) (λ f q p. cc)
+            (λ q. (λ p. record { planned = h; line = d; is-due = u; shorter = ltb-true (length buffer) (length (d .text)) e }, λ x. refl))
         go false e =
             let k : length (d .text) ≤ length buffer = ltb-false (length buffer) (length (d .text)) e in
             record {
-              first = λ f q. some-none q fine;
+              first = λ f q. some-none q unrefused;
               others = λ f q p. differ emittedKind p (λ z. omega arith);
               space = λ q. (
                 λ p. differ emittedKind p (λ z. omega arith),
@@ -146,58 +138,51 @@ record LineRule (r : Railway) (c : Checking) (text : List ℕ) (x : Left LineAns
   leaves : (f : Refusal) → x .answer ≡ LineRefused f → x .checking ≡ c
   changes : LineChanges r c text x
 
-refused-changes : (r : Railway) (c : Checking) (text : List ℕ) (f : Refusal) → LineChanges r c text (refuse c f)
-refused-changes r c text f =
-    record {
-      kept-figs = unchanged r (c .figs);
-      kept-sets = unchanged r (c .sets);
-      first-line = λ n s. (refl, refl);
-      other-codes = λ d s p n. (refl, refl);
-      own-code = λ d s p. differ lineTaken p (λ z. omega arith);
-    }
-
 module _ (r : Railway) (c : Checking) (text : List ℕ) where
+  -- tables that are left as they were, after any answer but that a placement's line was taken
+  tables-left : (a : LineAnswer) (s : CheckerState) → ((d : PlacementLine) → Spells r text (placementLine d) → ¬ (a ≡ Taken))
+      → LineChanges r c text (left a (record { state = s; figs = c .figs; sets = c .sets }))
+  tables-left a s n =
+      record {
+        kept-figs = unchanged r (c .figs);
+        kept-sets = unchanged r (c .sets);
+        first-line = λ m x. (refl, refl);
+        other-codes = λ d x p q. (refl, refl);
+        own-code = λ d x e. absurd (n d x e);
+      }
+
+  refused-changes : (f : Refusal) → LineChanges r c text (refuse c f)
+  refused-changes f = tables-left (LineRefused f) (c .state) (λ d x e. differ lineTaken e (λ z. omega arith))
+
   form-rule : LineRule r c text (refuse c PlanForm)
-  form-rule = record { others = λ f e. cc; leaves = λ f e. refl; changes = refused-changes r c text PlanForm }
+  form-rule = record { others = λ f e. cc; leaves = λ f e. refl; changes = refused-changes PlanForm }
+
+  -- a line that is taken is refused by no row
+  taken-rule : (c′ : Checking) → LineChanges r c text (left Taken c′) → LineRule r c text (left Taken c′)
+  taken-rule c′ x = record { others = λ f p. differ lineTaken p (λ z. omega arith); leaves = λ f p. differ lineTaken p (λ z. omega arith); changes = x }
 
   module _ (accepted : recordRefusal r ≡ none) (long : Enough r (c .figs) (c .sets)) where
     reads : (l : PlanLine) → Spells r text l → readLine r text ≡ some l
     reads l s = reads-line r (omega (arith, facts r accepted .few-sections)) text l .1 s
 
     begin-rule : (n : ℕ) → readLine r text ≡ some (startLine n) → LineRule r c text (left Taken (begin c n))
-    begin-rule n e =
-        record {
-          others = λ f p. differ lineTaken p (λ z. omega arith);
-          leaves = λ f p. differ lineTaken p (λ z. omega arith);
-          changes =
-              record {
-                kept-figs = unchanged r (c .figs);
-                kept-sets = unchanged r (c .sets);
-                first-line = λ m s. (refl, refl);
-                other-codes = λ d s p q. (refl, refl);
-                own-code = λ d s p. differ isStart (some-one (sym e ∙ reads (placementLine d) s)) (λ z. omega arith);
-              };
-        }
+    begin-rule n e = taken-rule (begin c n) (tables-left Taken (Begun n 0) (λ d s p. differ isStart (some-one (sym e ∙ reads (placementLine d) s)) (λ z. omega arith)))
 
     enter-rule : (m : ℕ) (d : PlacementLine) → readLine r text ≡ some (placementLine d) → LineRule r c text (left Taken (enter r c m d))
     enter-rule m d e =
+        taken-rule (enter r c m d) (
         record {
-          others = λ f p. differ lineTaken p (λ z. omega arith);
-          leaves = λ f p. differ lineTaken p (λ z. omega arith);
-          changes =
-              record {
-                kept-figs = entered (c .figs) (d .figure);
-                kept-sets = entered (c .sets) (lineEntry r d);
-                first-line = λ n s. differ isStart (some-one (sym e ∙ reads (startLine n) s)) (λ z. omega arith);
-                other-codes = λ k s p n. (
-                    let z : ¬ (p ≡ lineCode r d) = (λ q. n (q ∙ ap (lineCode r) (same k s))) in
-                    (getD-set-other (c .figs) (lineCode r d) p (d .figure) 0 z, getD-set-other (c .sets) (lineCode r d) p (lineEntry r d) 0 z)
-                    );
-                own-code = λ k s p. subst (λ (x : PlacementLine). (getD (set (c .figs) (lineCode r d) (d .figure)) (lineCode r x) 0 ≡ x .figure)
-                    × (getD (set (c .sets) (lineCode r d) (lineEntry r d)) (lineCode r x) 0 ≡ lineEntry r x)) (same k s)
-                    (getD-set-same (c .figs) (lineCode r d) (d .figure) 0 (omega (arith, inside, long .figures)), getD-set-same (c .sets) (lineCode r d) (lineEntry r d) 0 (omega (arith, inside, long .settings)));
-              };
-        }
+          kept-figs = entered (c .figs) (d .figure);
+          kept-sets = entered (c .sets) (lineEntry r d);
+          first-line = λ n s. differ isStart (some-one (sym e ∙ reads (startLine n) s)) (λ z. omega arith);
+          other-codes = λ k s p n. (
+              let z : ¬ (p ≡ lineCode r d) = (λ q. n (q ∙ ap (lineCode r) (same k s))) in
+              (getD-set-other (c .figs) (lineCode r d) p (d .figure) 0 z, getD-set-other (c .sets) (lineCode r d) p (lineEntry r d) 0 z)
+              );
+          own-code = λ k s p. subst (λ (x : PlacementLine). (getD (set (c .figs) (lineCode r d) (d .figure)) (lineCode r x) 0 ≡ x .figure)
+              × (getD (set (c .sets) (lineCode r d) (lineEntry r d)) (lineCode r x) 0 ≡ lineEntry r x)) (same k s)
+              (getD-set-same (c .figs) (lineCode r d) (d .figure) 0 (omega (arith, inside, long .figures)), getD-set-same (c .sets) (lineCode r d) (lineEntry r d) 0 (omega (arith, inside, long .settings)));
+        })
       where
         inside : lineCode r d < placements r
         inside = code-in r accepted d (reads-line r (omega (arith, facts r accepted .few-sections)) text (placementLine d) .0 e .fit)
@@ -264,4 +249,4 @@ check-rule r c =
 
     changed : (text : List ℕ) (o : Option Refusal) → caseRefusal r (c .figs) (c .sets) ≡ o → LineChanges r c text (takesIf r c text o)
     changed text none e = behind text e .changes
-    changed text (some g) e = refused-changes r c text _
+    changed text (some g) e = refused-changes r c text g

@@ -1,7 +1,7 @@
--- The test of a plan. Computed it is true exactly if the plan passes; plans that list the same pass together; and whoever follows one that passes is home
--- in time, for the figure listed falls at every turn. Assumes nothing.
+-- The test of a plan. Computed it is true exactly if the plan passes; plans that list the same pass together; and whoever follows one that
+-- passes is home in time, for the figure listed falls at every turn. Assumes nothing.
 use mathlib.Core.Path.{_≡_, refl, sym, _∙_, ap, subst}
-use mathlib.Core.Logic.{inl, inr, _↔_}
+use mathlib.Core.Logic.{inl, inr}
 use mathlib.Core.Bool.{Bool, true, false, not, _&&_, _||_}
 use mathlib.Core.Option.{Option, none, some}
 use Prim.Native.Nat.{ℕ, _<_}
@@ -25,7 +25,7 @@ use Rattle.game.proofs.Agreeing.{alike}
 use Rattle.game.proofs.Homing.{comes-home}
 use Rattle.tables.proofs.Entries.{open-same}
 use Rattle.plan.specs.Test.{Listing, listedSetting, Test}
-use Rattle.plan.specs.Computed.{isFigure, trainFine, listedFine, fineIf, placementFine, testHolds}
+use Rattle.plan.specs.Computed.{isFigure, trainSignalled, listedPasses, passesIf, placementPasses, testHolds}
 use Rattle.plan.specs.Checked.{TestComputed, PlanWorks}
 
 is-figure : (m : ℕ) (o : Option ℕ) → isFigure m o ≡ true → o ≡ some m
@@ -37,28 +37,28 @@ figure-is m o e = rw e (eq-eqb m m refl)
 
 module _ (r : Railway) (L : Listing) where
   -- a listed placement, sentence by sentence
-  record Fine (p n : ℕ) : Type 0 where
+  record PlacementTest (p n : ℕ) : Type 0 where
     apart : shared r p ≡ false
     signalled : (t : ℕ) → t < r .trains → L .opens p t ≡ true → held r p t ≡ true
     kept : atHome r p ≡ false → Keeps (gameOf r) (L .figure) p (listedSetting r L p) n
 
-  fine-is : (p n : ℕ) → listedFine r L p n ≡ true → Fine p n
-  fine-is p n e =
+  listed-test : (p n : ℕ) → listedPasses r L p n ≡ true → PlacementTest p n
+  listed-test p n e =
       let k : Bool = keepsTest (gameOf r) (L .figure) p (listedSetting r L p) n in
-      let a = and-true (not (shared r p)) (allBelow (trainFine r L p) (r .trains) && (atHome r p || k)) e in
-      let b = and-true (allBelow (trainFine r L p) (r .trains)) (atHome r p || k) (a .1) in
+      let a = and-true (not (shared r p)) (allBelow (trainSignalled r L p) (r .trains) && (atHome r p || k)) e in
+      let b = and-true (allBelow (trainSignalled r L p) (r .trains)) (atHome r p || k) (a .1) in
       record {
         apart = not-true (shared r p) (a .0);
-        signalled = λ t l o. elim (either (not (L .opens p t)) (held r p t) (all-at (trainFine r L p) (r .trains) (b .0) t l)) [ inl y ↦ clash o (not-true (L .opens p t) y) | inr y ↦ y ];
+        signalled = λ t l o. elim (either (not (L .opens p t)) (held r p t) (all-at (trainSignalled r L p) (r .trains) (b .0) t l)) [ inl y ↦ clash o (not-true (L .opens p t) y) | inr y ↦ y ];
         kept = λ h. elim (either (atHome r p) k (b .1)) [ inl y ↦ clash y h | inr y ↦ test-keeps (gameOf r) (L .figure) p (listedSetting r L p) n y ];
       }
 
-  is-fine : (p n : ℕ) → Fine p n → listedFine r L p n ≡ true
-  is-fine p n f =
+  test-listed : (p n : ℕ) → PlacementTest p n → listedPasses r L p n ≡ true
+  test-listed p n f =
       let k : Bool = keepsTest (gameOf r) (L .figure) p (listedSetting r L p) n in
-      and-both (not (shared r p)) (allBelow (trainFine r L p) (r .trains) && (atHome r p || k)) (rw (f .apart))
-      (and-both (allBelow (trainFine r L p) (r .trains)) (atHome r p || k)
-      (all-of (trainFine r L p) (r .trains) (λ t l. elim (bool? (L .opens p t)) [
+      and-both (not (shared r p)) (allBelow (trainSignalled r L p) (r .trains) && (atHome r p || k)) (rw (f .apart))
+      (and-both (allBelow (trainSignalled r L p) (r .trains)) (atHome r p || k)
+      (all-of (trainSignalled r L p) (r .trains) (λ t l. elim (bool? (L .opens p t)) [
         | inl o ↦ or-right (not (L .opens p t)) (held r p t) (f .signalled t l o)
         | inr o ↦ or-left (not (L .opens p t)) (held r p t) (rw o)
       ]))
@@ -69,28 +69,28 @@ module _ (r : Railway) (L : Listing) where
 
   module _ (m : ℕ) where
     test-of : testHolds r m L ≡ true → Test r m L
-    unfolding testHolds placementFine
+    unfolding testHolds placementPasses
     test-of e =
-        let a = and-true (isFigure m (L .figure (startCode r))) (allBelow (placementFine r L) (placements r)) e in
+        let a = and-true (isFigure m (L .figure (startCode r))) (allBelow (placementPasses r L) (placements r)) e in
         record {
           start = is-figure m (L .figure (startCode r)) (a .0);
-          apart = λ p n l f. fine (a .1) p n l f .apart;
-          signalled = λ p n t l f k o. fine (a .1) p n l f .signalled t k o;
-          kept = λ p n l f h. fine (a .1) p n l f .kept h;
+          apart = λ p n l f. each (a .1) p n l f .apart;
+          signalled = λ p n t l f k o. each (a .1) p n l f .signalled t k o;
+          kept = λ p n l f h. each (a .1) p n l f .kept h;
         }
       where
-        fine : allBelow (placementFine r L) (placements r) ≡ true → (p n : ℕ) → p < placements r → L .figure p ≡ some n → Fine p n
-        fine a p n l f = fine-is p n (subst (λ (o : Option ℕ). fineIf r L p o ≡ true) f (all-at (placementFine r L) (placements r) a p l))
+        each : allBelow (placementPasses r L) (placements r) ≡ true → (p n : ℕ) → p < placements r → L .figure p ≡ some n → PlacementTest p n
+        each a p n l f = listed-test p n (subst (λ (o : Option ℕ). passesIf r L p o ≡ true) f (all-at (placementPasses r L) (placements r) a p l))
 
     of-test : Test r m L → testHolds r m L ≡ true
-    unfolding testHolds placementFine
+    unfolding testHolds placementPasses
     of-test t =
-        and-both (isFigure m (L .figure (startCode r))) (allBelow (placementFine r L) (placements r))
+        and-both (isFigure m (L .figure (startCode r))) (allBelow (placementPasses r L) (placements r))
         (figure-is m (L .figure (startCode r)) (t .start))
-        (all-of (placementFine r L) (placements r) (λ p l. elim (option? (L .figure p)) [
+        (all-of (placementPasses r L) (placements r) (λ p l. elim (option? (L .figure p)) [
           | inl f ↦ rw f
-          | inr f ↦ subst (λ (o : Option ℕ). fineIf r L p o ≡ true) (sym (f .1))
-              (is-fine p (f .0) (record { apart = t .apart p (f .0) l (f .1); signalled = λ u k o. t .signalled p (f .0) u l (f .1) k o; kept = λ h. t .kept p (f .0) l (f .1) h }))
+          | inr f ↦ subst (λ (o : Option ℕ). passesIf r L p o ≡ true) (sym (f .1))
+              (test-listed p (f .0) (record { apart = t .apart p (f .0) l (f .1); signalled = λ u k o. t .signalled p (f .0) u l (f .1) k o; kept = λ h. t .kept p (f .0) l (f .1) h }))
         ]))
 
 -- COMPUTED, the test is true exactly if the plan passes

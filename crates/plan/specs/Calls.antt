@@ -1,5 +1,5 @@
--- Calls one after the other, of any emitter and any checker that keep their promises (document 01, "The two tables and the plan": how the calls are chained).
--- Each call is what it was handed, what it answered and what it left. Assumes nothing.
+-- Calls one after the other, of any emitter and any checker that keep their promises (document 01, "The two tables and the plan": how the calls
+-- are chained). Each call is what it was handed, what it answered and what it left. Assumes nothing.
 use mathlib.Core.Path.{_≡_}
 use mathlib.Core.Bool.{Bool, true, false, _&&_}
 use mathlib.Core.List.{List, [], _∷_}
@@ -28,6 +28,13 @@ pub data Emitting (r : Railway) (figs sets : List ℕ) : PlanPlace → List (Lis
       → Emitting r figs sets next bs e → Emitting r figs sets place (b ∷ bs) (record { lines = take n b′ ∷ e .lines; last = e .last })
   stopped : (place : PlanPlace) (a : Emitted) (b b′ : List ℕ) (bs : List (List ℕ)) → isLine a ≡ false → EmitterPost r figs sets place b a b′
       → Emitting r figs sets place (b ∷ bs) (record { lines = []; last = some a })
+
+-- The same with one buffer for all lines: each call is handed it as the last one left it.
+pub data EmittingInto (r : Railway) (figs sets : List ℕ) : PlanPlace → List ℕ → Emission → Type 0 where
+  wrote : (place next : PlanPlace) (n : ℕ) (b b′ : List ℕ) (e : Emission) → EmitterPost r figs sets place b (Line n next) b′
+      → EmittingInto r figs sets next b′ e → EmittingInto r figs sets place b (record { lines = take n b′ ∷ e .lines; last = e .last })
+  stopped : (place : PlanPlace) (a : Emitted) (b b′ : List ℕ) → isLine a ≡ false → EmitterPost r figs sets place b a b′
+      → EmittingInto r figs sets place b (record { lines = []; last = some a })
 
 -- Buffers long enough: for each line one that it fits into, and one more for the call after the last.
 unfoldable pub longEnough : List (List ℕ) → List (List ℕ) → Bool

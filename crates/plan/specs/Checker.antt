@@ -1,8 +1,8 @@
 -- The checker: a call for each line, into two lent tables, and a call for the test (document 01, "The two tables and the plan": the checker).
--- Each call is total: any record, state, tables and text. `readLine` gives the line that a text spells, and `testHolds` whether what the tables list passes the
--- test of a plan; both are said in Checked, and that the tables list what the lines taken do. Assumes nothing.
-use mathlib.Core.Bool.{Bool, true, false, cond}
-use mathlib.Core.List.{List, [], _∷_}
+-- Each call is total: any record, state, tables and text. `readLine` gives the line that a text spells, and `testHolds` whether what the tables
+-- list passes the test of a plan; both are said in Checked, and that the tables list what the lines taken do. Assumes nothing.
+use mathlib.Core.Bool.{Bool, true, false, cond, not}
+use mathlib.Core.List.{List, [], _∷_, _++_}
 use mathlib.Core.Option.{Option, none, some}
 use Prim.Native.Nat.{ℕ, suc}
 use lib.ListN.{getD, set, replicate}
@@ -10,9 +10,9 @@ use lib.Dec.{ltb}
 use Rattle.railway.specs.declared.Railway.{Railway}
 use Rattle.railway.specs.declared.Refusal.{Refusal}
 use Rattle.railway.specs.declared.Refusal.the-variants.{PlanForm, PlanFault}
-use Rattle.railway.specs.Refusals.{numberOf}
+use Rattle.railway.specs.Refusals.{number, Row, row}
 use Rattle.tables.specs.Entries.{entryFrom}
-use Rattle.tables.specs.Tables.{noFigure, caseRefusal}
+use Rattle.tables.specs.Tables.{noFigure, caseRows, caseRefusal}
 use Rattle.plan.specs.declared.CheckerState.{CheckerState}
 use Rattle.plan.specs.declared.CheckerState.the-variants.{Fresh, Begun}
 use Rattle.plan.specs.declared.LineAnswer.{LineAnswer}
@@ -24,23 +24,15 @@ use Rattle.plan.specs.Test.{byTables}
 use Rattle.plan.specs.Reading.{readLine}
 use Rattle.plan.specs.Computed.{testHolds}
 
--- THE ANSWERS. The refusal of a line, if it was refused.
-abbrev pub lineRefusal : LineAnswer → Option Refusal
-lineRefusal Taken = none
-lineRefusal (LineRefused f) = some f
-
--- The refusal of the test, if it was refused.
-abbrev pub testRefusal : TestAnswer → Option Refusal
-testRefusal Pass = none
-testRefusal (TestRefused f) = some f
-
--- The number that a line's answer gives.
+-- THE ANSWERS. The number that a line's answer gives, if the line was refused.
 abbrev pub lineNumber : LineAnswer → Option ℕ
-lineNumber a = numberOf (lineRefusal a)
+lineNumber Taken = none
+lineNumber (LineRefused f) = some (number f)
 
--- The number that the test's answer gives.
+-- The number that the test's answer gives, if it is no pass.
 abbrev pub testNumber : TestAnswer → Option ℕ
-testNumber a = numberOf (testRefusal a)
+testNumber Pass = none
+testNumber (TestRefused f) = some (number f)
 
 -- THE STATE with the two lent tables.
 pub record Checking : Type 0 where
@@ -90,6 +82,18 @@ takes r c Fresh (some (placementLine d)) = refuse c PlanForm
 takes r c (Begun m from) (some (startLine n)) = refuse c PlanForm
 takes r c (Begun m from) (some (placementLine d)) = cond (ltb (lineCode r d) from) (refuse c PlanForm) (left Taken (enter r c m d))
 
+-- 10, plan form, for a line: the text spells none, a first line that is not the first, another one that is, or a code that does not rise.
+abbrev pub outOfForm : Railway → CheckerState → Option PlanLine → Bool
+outOfForm r state none = true
+outOfForm r Fresh (some (startLine n)) = false
+outOfForm r Fresh (some (placementLine d)) = true
+outOfForm r (Begun m from) (some (startLine n)) = true
+outOfForm r (Begun m from) (some (placementLine d)) = ltb (lineCode r d) from
+
+-- The rows of a call for a line: 3 to 9 for the case, then 10 for the line.
+abbrev pub lineRows : Railway → Checking → List ℕ → List Row
+lineRows r c text = caseRows r (c .figs) (c .sets) ++ (row PlanForm (outOfForm r (c .state) (readLine r text)) ∷ [])
+
 -- Rows 3 to 9 come first.
 abbrev pub takesIf : Railway → Checking → List ℕ → Option Refusal → Left LineAnswer
 takesIf r c text (some f) = refuse c f
@@ -99,7 +103,21 @@ takesIf r c text none = takes r c (c .state) (readLine r text)
 unfoldable pub takeLine : Railway → Checking → List ℕ → Left LineAnswer
 takeLine r c text = takesIf r c text (caseRefusal r (c .figs) (c .sets))
 
--- THE TEST: rows 3 to 9; then plan form (10) before the first line; then plan fault (11) where the lines taken fail.
+-- THE TEST. 10, plan form, for the test: no line was taken.
+abbrev pub nothingTaken : CheckerState → Bool
+nothingTaken Fresh = true
+nothingTaken (Begun m from) = false
+
+-- 11, plan fault: lines were taken, and the plan in them fails.
+abbrev pub planFails : Railway → Checking → CheckerState → Bool
+planFails r c Fresh = false
+planFails r c (Begun m from) = not (testHolds r m (byTables (c .figs) (c .sets)))
+
+-- The rows of the test: 3 to 9 for the case, then 10 and 11 for the plan.
+abbrev pub testRows : Railway → Checking → List Row
+testRows r c = caseRows r (c .figs) (c .sets) ++ (row PlanForm (nothingTaken (c .state)) ∷ row PlanFault (planFails r c (c .state)) ∷ [])
+
+-- The answer: rows 3 to 9; then plan form (10) before the first line; then plan fault (11) where the lines taken fail.
 abbrev pub tests : Railway → Checking → Option Refusal → CheckerState → TestAnswer
 tests r c (some f) state = TestRefused f
 tests r c none Fresh = TestRefused PlanForm

@@ -16,26 +16,26 @@ abbrev pub isFigure : ℕ → Option ℕ → Bool
 isFigure m none = false
 isFigure m (some n) = eqb n m
 
--- At placement p: train t is closed, or has its signal.
-abbrev pub trainFine : Railway → Listing → ℕ → ℕ → Bool
-trainFine r L p t = not (L .opens p t) || held r p t
+-- Train t is closed at placement p, or a signal stands at the end that it heads for.
+abbrev pub trainSignalled : Railway → Listing → ℕ → ℕ → Bool
+trainSignalled r L p t = not (L .opens p t) || held r p t
 
--- At placement p, listed with figure n: no shared section, every open train's signal there, the figure kept unless the trains are home.
-abbrev pub listedFine : Railway → Listing → ℕ → ℕ → Bool
-listedFine r L p n =
+-- Placement p, listed with figure n, passes: no shared section, every open train's signal there, the figure kept unless the trains are home.
+abbrev pub listedPasses : Railway → Listing → ℕ → ℕ → Bool
+listedPasses r L p n =
     not (shared r p)
-    && (allBelow (trainFine r L p) (r .trains)
+    && (allBelow (trainSignalled r L p) (r .trains)
     && (atHome r p || keepsTest (gameOf r) (L .figure) p (listedSetting r L p) n))
 
--- .. nothing is asked of a placement that is not listed.
-abbrev pub fineIf : Railway → Listing → ℕ → Option ℕ → Bool
-fineIf r L p none = true
-fineIf r L p (some n) = listedFine r L p n
+-- Placement p, with its figure if it is listed: nothing is asked of one that is not.
+abbrev pub passesIf : Railway → Listing → ℕ → Option ℕ → Bool
+passesIf r L p none = true
+passesIf r L p (some n) = listedPasses r L p n
 
--- .. with what the plan lists at p.
-unfoldable pub placementFine : Railway → Listing → ℕ → Bool
-placementFine r L p = fineIf r L p (L .figure p)
+-- Placement p, with what the plan lists there.
+unfoldable pub placementPasses : Railway → Listing → ℕ → Bool
+placementPasses r L p = passesIf r L p (L .figure p)
 
 -- The whole test, of a plan with figure m in its first line.
 unfoldable pub testHolds : Railway → ℕ → Listing → Bool
-testHolds r m L = isFigure m (L .figure (startCode r)) && allBelow (placementFine r L) (placements r)
+testHolds r m L = isFigure m (L .figure (startCode r)) && allBelow (placementPasses r L) (placements r)

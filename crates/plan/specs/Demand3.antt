@@ -10,7 +10,6 @@ use lib.Dec.{leb}
 use Rattle.laws.specs.Lists.{all}
 use Rattle.railway.specs.declared.Railway.{Railway}
 use Rattle.railway.specs.Rows.{recordRefusal}
-use Rattle.game.specs.Game.{IsFigure}
 use Rattle.game.specs.Claim.{Whole}
 use Rattle.game.specs.Placement.{placements, startCode}
 use Rattle.game.specs.Moves.{gameOf}
@@ -20,15 +19,16 @@ use Rattle.tables.specs.Solver.{refusalGiven, figureGiven, SolverPost}
 use Rattle.plan.specs.declared.PlanPlace.{PlanPlace}
 use Rattle.plan.specs.declared.PlanPlace.the-variants.{Top}
 use Rattle.plan.specs.declared.Emitted.{Emitted}
-use Rattle.plan.specs.declared.Emitted.the-variants.{End, NoPlan}
+use Rattle.plan.specs.declared.Emitted.the-variants.{End}
 use Rattle.plan.specs.declared.LineAnswer.{LineAnswer}
 use Rattle.plan.specs.declared.TestAnswer.{TestAnswer}
 use Rattle.plan.specs.declared.TestAnswer.the-variants.{Pass}
 use Rattle.plan.specs.Lines.{mostLineBytes}
 use Rattle.plan.specs.Text.{planTexts}
+use Rattle.plan.specs.Emitter.{saysNone}
 use Rattle.plan.specs.Checker.{Checking, Run, isTaken}
 use Rattle.plan.specs.Promises.{EmitterPost, TestPost, FreshPost}
-use Rattle.plan.specs.Calls.{Emission, Emitting, longEnough, Taking}
+use Rattle.plan.specs.Calls.{Emission, Emitting, EmittingInto, longEnough, Taking}
 
 -- A text handed to the checker: a line of the plan, or another one.
 pub record Handed : Type 0 where
@@ -56,11 +56,11 @@ pub record Demand3 (r : Railway) (a : SolverAnswer) (figs sets : List ℕ) : Typ
   -- the solver refused nothing, and answered the start's figure or that there is none
   pub solved : refusalGiven a ≡ none
   pub answer : figureGiven a ≡ figureIn figs (startCode r)
-  -- code by code, the tables have the figure of the placement and the plan's setting for it
-  pub figures : (p : ℕ) → p < placements r → IsFigure (gameOf r) p (figureIn figs p)
+  -- code by code, the setting table has the plan's setting for the placement
   pub settings : (p : ℕ) → p < placements r → IsPlanEntry r (figureIn figs) p (figureIn figs p) (getD sets p 0)
-  -- of whole plays: the settings lead home within the figure, no way of working does better against all choices of trains, a figure is
-  -- missing just where no way comes home against them all, and one choice of trains wins from all those placements
+  -- of whole plays: code by code, the figure table has the placement's figure (`plays .figures`); the settings lead home within it, no way of
+  -- working does better against all choices of trains, a figure is missing just where no way comes home against them all, and one choice of
+  -- trains wins from all those placements
   pub plays : Whole (gameOf r) (figureIn figs) (settingIn r sets)
   -- the emitter's calls, with buffers long enough, write the plan, byte for byte, and end
   pub emits : (n : ℕ) → figureIn figs (startCode r) ≡ some n → (buffers : List (List ℕ)) (e : Emission) → Emitting r figs sets Top buffers e
@@ -68,9 +68,12 @@ pub record Demand3 (r : Railway) (a : SolverAnswer) (figs sets : List ℕ) : Typ
   -- and buffers that have room for every line are long enough, if there is one for each of the plan's lines and one more
   pub room : (n : ℕ) → figureIn figs (startCode r) ≡ some n → (buffers : List (List ℕ)) → all (λ b. leb mostLineBytes (length b)) buffers ≡ true
       → length (planTexts r figs sets) < length buffers → longEnough (planTexts r figs sets) buffers ≡ true
-  -- where the start has no figure every call answers that there is no plan, and writes nothing
+  -- one buffer with room for every line will do for all of them, handed on from call to call
+  pub emits-into : (n : ℕ) → figureIn figs (startCode r) ≡ some n → (buffer : List ℕ) (e : Emission) → EmittingInto r figs sets Top buffer e
+      → mostLineBytes ≤ length buffer → e ≡ record { lines = planTexts r figs sets; last = some End }
+  -- where the start has no figure every call answers none, and writes nothing
   pub emits-none : figureIn figs (startCode r) ≡ none → (place : PlanPlace) (b b′ : List ℕ) (e : Emitted) → EmitterPost r figs sets place b e b′
-      → (e ≡ NoPlan) × (b′ ≡ b)
+      → (saysNone e ≡ true) × (b′ ≡ b)
   -- the checker's calls for the plan's lines in their order, with any others that it refuses anywhere among them, from fresh tables that are
   -- long enough: it takes those of the plan and no others, and then answers pass to the call for the test
   pub checks : (n : ℕ) → figureIn figs (startCode r) ≡ some n

@@ -1,7 +1,7 @@
--- The emitter: a line of the plan a call, from two tables into a lent text buffer (document 01, "The two tables and the plan": plan text; rows 3 to 9 and what
--- stands under the table of numbers). Each call is total: any record, tables, place and buffer. Assumes nothing.
-use mathlib.Core.Bool.{Bool, true, false, cond, _&&_}
-use mathlib.Core.List.{List, _++_}
+-- The emitter: a line of the plan a call, from two tables into a lent text buffer (document 01, "The two tables and the plan": plan text; rows 3
+-- to 9 and what stands under the table of numbers). Each call is total: any record, tables, place and buffer. Assumes nothing.
+use mathlib.Core.Bool.{Bool, true, false, cond, _&&_, _||_}
+use mathlib.Core.List.{List, [], _∷_, _++_}
 use mathlib.Core.Option.{Option, none, some}
 use Prim.Native.Nat.{ℕ, suc}
 use lib.ListN.{length, getD, drop}
@@ -10,33 +10,41 @@ use Rattle.laws.specs.Below.{lowest}
 use Rattle.railway.specs.declared.Railway.{Railway}
 use Rattle.railway.specs.declared.Refusal.{Refusal}
 use Rattle.railway.specs.declared.Refusal.the-variants.{Space}
-use Rattle.railway.specs.Refusals.{numberOf}
+use Rattle.railway.specs.Refusals.{number, Row, row}
+use Rattle.railway.specs.Rows.{recordRows}
 use Rattle.game.specs.Placement.{placements, startCode}
-use Rattle.tables.specs.Tables.{noFigure, figureIn, caseRefusal}
+use Rattle.tables.specs.Tables.{noFigure, figureIn, tablesShort, caseRefusal}
 use Rattle.plan.specs.declared.PlanPlace.{PlanPlace}
 use Rattle.plan.specs.declared.PlanPlace.the-variants.{Top, From}
 use Rattle.plan.specs.declared.Emitted.{Emitted}
 use Rattle.plan.specs.declared.Emitted.the-variants.{Line, End, NoPlan, Refused}
 use Rattle.plan.specs.Lines.{startLine, placementLine, spell}
-use Rattle.plan.specs.Text.{hasFigure, lineFor}
+use Rattle.plan.specs.Text.{isSome, hasFigure, lineFor}
 
--- THE ANSWERS. The refusal that an answer gives, if it does.
-abbrev pub refusalGiven : Emitted → Option Refusal
-refusalGiven (Line n next) = none
-refusalGiven End = none
-refusalGiven NoPlan = none
-refusalGiven (Refused f) = some f
-
--- The number of that refusal in the table.
+-- THE ANSWERS. The number that an answer gives, if it refuses.
 abbrev pub numberGiven : Emitted → Option ℕ
-numberGiven a = numberOf (refusalGiven a)
+numberGiven (Line n next) = none
+numberGiven End = none
+numberGiven NoPlan = none
+numberGiven (Refused f) = some (number f)
+
+-- The bytes of the line that was written, if one was.
+abbrev pub lineGiven : Emitted → Option ℕ
+lineGiven (Line n next) = some n
+lineGiven End = none
+lineGiven NoPlan = none
+lineGiven (Refused f) = none
 
 -- A line was written.
 abbrev pub isLine : Emitted → Bool
-isLine (Line n next) = true
-isLine End = false
-isLine NoPlan = false
-isLine (Refused f) = false
+isLine a = isSome (lineGiven a)
+
+-- The verdict "none": there is no plan, for the start has no figure.
+abbrev pub saysNone : Emitted → Bool
+saysNone (Line n next) = false
+saysNone End = false
+saysNone NoPlan = true
+saysNone (Refused f) = false
 
 -- What a call leaves: its answer, and the lent text buffer.
 pub record Wrote : Type 0 where
@@ -82,12 +90,25 @@ abbrev pub writtenDue : List ℕ → Option Due → Wrote
 writtenDue buffer none = unwritten End buffer
 writtenDue buffer (some d) = written (d .text) (d .next) buffer
 
--- A refusal by the record or the tables comes first, then that there is no plan (the start lacks a figure), then the line.
+-- THE ROWS of a call. A line is due that is longer than the buffer.
+abbrev pub dueTooLong : List ℕ → Option Due → Bool
+dueTooLong buffer none = false
+dueTooLong buffer (some d) = ltb (length buffer) (length (d .text))
+
+-- 9, space, for the text buffer: there is a plan, and the line that is due is longer than the buffer.
+abbrev pub bufferShort : Railway → List ℕ → List ℕ → PlanPlace → List ℕ → Bool
+bufferShort r figs sets place buffer = hasFigure figs (startCode r) && dueTooLong buffer (due r figs sets place)
+
+-- 3 to 8 for the record, then 9 for the tables and the buffer.
+abbrev pub emitterRows : Railway → List ℕ → List ℕ → PlanPlace → List ℕ → List Row
+emitterRows r figs sets place buffer = recordRows r ++ (row Space (tablesShort r figs sets || bufferShort r figs sets place buffer) ∷ [])
+
+-- THE CALL. A refusal by the record or the tables comes first, then that there is no plan (the start lacks a figure), then the line.
 abbrev pub emitted : Railway → List ℕ → List ℕ → PlanPlace → List ℕ → Option Refusal → Option ℕ → Wrote
 emitted r figs sets place buffer (some f) start = unwritten (Refused f) buffer
 emitted r figs sets place buffer none none = unwritten NoPlan buffer
 emitted r figs sets place buffer none (some n) = writtenDue buffer (due r figs sets place)
 
--- A CALL of the emitter.
+-- All of it, for any record, tables, place and buffer.
 unfoldable pub emitLine : Railway → List ℕ → List ℕ → PlanPlace → List ℕ → Wrote
 emitLine r figs sets place buffer = emitted r figs sets place buffer (caseRefusal r figs sets) (figureIn figs (startCode r))

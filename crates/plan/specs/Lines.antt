@@ -5,11 +5,12 @@ use mathlib.Core.Bool.{Bool, true, false, cond, _&&_}
 use mathlib.Core.List.{List, [], _∷_, _++_, map}
 use mathlib.Core.Option.{none}
 use Prim.Native.Nat.{ℕ, suc, _+_, _≤_}
+use Prim.Native.Char.{code}
 use lib.ListN.{length, getD}
 use lib.Dec.{eqb, ltb, leb}
 use Rattle.laws.specs.Below.{whichBelow}
 use Rattle.laws.specs.Lists.{all}
-use Rattle.text.specs.Text.{decimal, line}
+use Rattle.text.specs.Text.{decimal, line, bytes}
 use Rattle.railway.specs.declared.Railway.{Railway}
 use Rattle.railway.specs.Rows.{recordRefusal}
 use Rattle.game.specs.Placement.{codeOf}
@@ -32,25 +33,29 @@ abbrev pub orByte : ℕ → List ℕ → List ℕ
 orByte b [] = b ∷ []
 orByte b (x ∷ xs) = x ∷ xs
 
--- Open trains: the digits of their numbers, rising; `0` if there are none.
+-- The digit of a train, by the document's number.
+abbrev pub trainDigit : ℕ → ℕ
+trainDigit t = code "1" + t
+
+-- Open trains: their digits, rising; `0` if there are none.
 abbrev pub openField : List Bool → List ℕ
-openField os = orByte 48 (map (λ t. 49 + t) (whichBelow (λ t. getD os t false) (length os)))
+openField os = orByte (code "0") (map trainDigit (whichBelow (λ t. getD os t false) (length os)))
 
 -- `+` for a point at plus, `-` for one at minus.
 abbrev pub sign : Bool → ℕ
-sign plus = cond plus 43 45
+sign plus = cond plus (code "+") (code "-")
 
 -- Points: a sign for each, in their order; `.` if there are none.
 abbrev pub pointField : List Bool → List ℕ
-pointField ps = orByte 46 (map sign ps)
+pointField ps = orByte (code ".") (map sign ps)
 
 -- A train's section, by the document's number.
 abbrev pub sectionField : ℕ → List ℕ
 sectionField x = decimal (suc x)
 
--- The word `plan`.
+-- The word that begins the first line.
 abbrev pub planWord : List ℕ
-planWord = 112 ∷ 108 ∷ 97 ∷ 110 ∷ []
+planWord = bytes "plan"
 
 -- The fields of a line of either kind.
 abbrev pub lineFields : PlanLine → List (List ℕ)

@@ -1,5 +1,5 @@
--- What document 01, "Yards to try", says of its yards, as one statement: the known figures (tables/KnownYards), and the plan texts that it writes out.
--- The texts stand here, for crate tables knows no plan's text. Assumes nothing.
+-- What document 01, "Yards to try", says of its yards, as one statement: the known figures (tables/KnownYards), and the plan texts that it
+-- writes out. The texts stand here, for crate tables knows no plan's text. Assumes nothing.
 use mathlib.Core.Path.{_≡_}
 use mathlib.Core.List.{List, [], _∷_}
 use mathlib.Core.Option.{none}

@@ -31,8 +31,8 @@ pub record TooShort (r : Railway) (figs sets : List ℕ) (place : PlanPlace) (bu
   pub is-due : due r figs sets place ≡ some line
   pub shorter : length buffer < length (line .text)
 
--- A call that left w: a refusal by the record or the tables comes first; the only other one is space, exactly if the line is longer than the buffer. Every answer
--- but a line leaves the buffer, and a line reaches no byte behind itself.
+-- A call that left w: a refusal by the record or the tables comes first; the only other one is space, exactly if the line is longer than the
+-- buffer. Every answer but a line leaves the buffer, and a line reaches no byte behind itself.
 pub record EmitRule (r : Railway) (figs sets : List ℕ) (place : PlanPlace) (buffer : List ℕ) (w : Wrote) : Type 0 where
   pub first : (f : Refusal) → caseRefusal r figs sets ≡ some f → w .answer ≡ EmitRefused f
   pub others : (f : Refusal) → caseRefusal r figs sets ≡ none → w .answer ≡ EmitRefused f → f ≡ Space
@@ -42,8 +42,8 @@ pub record EmitRule (r : Railway) (figs sets : List ℕ) (place : PlanPlace) (bu
   pub past : (n : ℕ) (next : PlanPlace) → w .answer ≡ Line n next → drop n (w .buffer) ≡ drop n buffer
   pub as-long : length (w .buffer) ≡ length buffer
 
--- THE CHECKER. What a call for a line that left x may change, taken or refused: no table's length and nothing past the last code; nothing in the tables for a
--- first line; for a placement's line its own code alone, where its figure and setting stand if it was taken.
+-- THE CHECKER. What a call for a line that left x may change, taken or refused: no table's length and nothing past the last code; nothing in the
+-- tables for a first line; for a placement's line its own code alone, where its figure and setting stand if it was taken.
 pub record LineChanges (r : Railway) (c : Checking) (text : List ℕ) (x : Left LineAnswer) : Type 0 where
   pub kept-figs : Kept r (c .figs) (x .checking .figs)
   pub kept-sets : Kept r (c .sets) (x .checking .sets)
@@ -53,8 +53,8 @@ pub record LineChanges (r : Railway) (c : Checking) (text : List ℕ) (x : Left 
   pub own-code : (d : PlacementLine) → Spells r text (placementLine d) → x .answer ≡ Taken
       → (getD (x .checking .figs) (lineCode r d) 0 ≡ d .figure) × (getD (x .checking .sets) (lineCode r d) 0 ≡ lineEntry r d)
 
--- Behind rows 3 to 9 a line is refused as plan form only, and the test as plan form exactly before the first line, else as plan fault only; the test leaves all as
--- it was, whatever it answers.
+-- Behind rows 3 to 9 a line is refused as plan form only, and the test as plan form exactly before the first line, else as plan fault only; the
+-- test leaves all as it was, whatever it answers.
 pub record CheckRule (r : Railway) (c : Checking) : Type 0 where
   pub line-first : (text : List ℕ) (f : Refusal) → caseRefusal r (c .figs) (c .sets) ≡ some f → takeLine r c text .answer ≡ LineRefused f
   pub line-others : (text : List ℕ) (f : Refusal) → caseRefusal r (c .figs) (c .sets) ≡ none → takeLine r c text .answer ≡ LineRefused f → f ≡ PlanForm

@@ -33,9 +33,9 @@ pub record Test (r : Railway) (m : ℕ) (L : Listing) : Type 0 where
   pub start : L .figure (startCode r) ≡ some m
   -- in a listed placement every train has its section to itself
   pub apart : (p n : ℕ) → p < placements r → L .figure p ≡ some n → shared r p ≡ false
-  -- .. and a train that is opened stands before a signal
+  -- in a listed placement a train that is opened stands before a signal
   pub signalled : (p n t : ℕ) → p < placements r → L .figure p ≡ some n → t < r .trains → L .opens p t ≡ true → held r p t ≡ true
-  -- .. and, but at home, somebody may move, and nobody can but to a placement that is listed with a smaller figure
+  -- in a listed placement that is not home somebody may move, and nobody can but to a placement that is listed with a smaller figure
   pub kept : (p n : ℕ) → p < placements r → L .figure p ≡ some n → atHome r p ≡ false → Keeps (gameOf r) (L .figure) p (listedSetting r L p) n
 
 -- WHAT LINES LIST. The line for placement p.

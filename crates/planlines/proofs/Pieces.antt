@@ -1,6 +1,7 @@
--- The pieces of a placement's line, one behind the other, are its fields: by induction on the number of trains and points. The digits of the open trains are
--- none exactly if no train is open, and then `0` stands for them. Assumes nothing.
+-- The pieces of a placement's line, one behind the other, are its fields: by induction on the number of trains and points. The digits of the
+-- open trains are none exactly if no train is open, and then `0` stands for them. Assumes nothing.
 use Prim.Native.Nat.{ℕ, zero, suc, _+_, _<_}
+use Prim.Native.Char.{code}
 use mathlib.Core.Path.{_≡_, refl, sym, _∙_, ap}
 use mathlib.Core.Logic.{inl, inr}
 use mathlib.Core.Bool.{Bool, true, false, cond}
@@ -14,11 +15,11 @@ use Rattle.laws.proofs.Bools.{lt?, either, clash}
 use Rattle.laws.proofs.Below.{any-false, list-length, list-get}
 use Rattle.laws.proofs.Lists.{map-append}
 use Rattle.laws.proofs.Which.{which-map}
-use Rattle.text.specs.Text.{decimal, line}
+use Rattle.text.specs.Text.{decimal, tab, lineEnd, line, bytes}
 use Rattle.text.specs.Appending.{Appended}
 use Rattle.text.proofs.Appending.{append-none, append-then, line-more, line-last}
 use Rattle.tables.specs.Entries.{opensIn}
-use Rattle.plan.specs.Lines.{startLine, placementLine, orByte, openField, sign, pointField, sectionField, planWord, spell}
+use Rattle.plan.specs.Lines.{startLine, placementLine, orByte, trainDigit, openField, sign, pointField, sectionField, planWord, spell}
 use Rattle.moves.specs.declared.Placement.{Placement}
 use Rattle.moves.specs.Steps.{sectionIn}
 use Rattle.moves.proofs.Coding.{bit-high}
@@ -31,14 +32,14 @@ or-kept b (x ∷ xs) h = refl
 
 -- OPEN TRAINS
 module _ (f : ℕ → Bool) where
-  one-open : (b : Bool) (t : ℕ) → map (λ t. 49 + t) (cond b (t ∷ []) []) ≡ cond b ((49 + t) ∷ []) []
+  one-open : (b : Bool) (t : ℕ) → map trainDigit (cond b (t ∷ []) []) ≡ cond b (trainDigit t ∷ []) []
   one-open true t = refl
   one-open false t = refl
 
-  which-pieces : (k : ℕ) → map (λ t. 49 + t) (whichBelow f k) ≡ gatherBelow (openPiece f) k
+  which-pieces : (k : ℕ) → map trainDigit (whichBelow f k) ≡ gatherBelow (openPiece f) k
   unfolding whichBelow gatherBelow
   which-pieces zero = refl
-  which-pieces (suc k) = map-append (λ t. 49 + t) (whichBelow f k) (cond (f k) (k ∷ []) []) ∙ rw (which-pieces k, one-open (f k) k)
+  which-pieces (suc k) = map-append trainDigit (whichBelow f k) (cond (f k) (k ∷ []) []) ∙ rw (which-pieces k, one-open (f k) k)
 
   pieces-some : (k : ℕ) → anyBelow f k ≡ true → 0 < length (gatherBelow (openPiece f) k)
   unfolding anyBelow gatherBelow
@@ -55,20 +56,20 @@ module _ (f : ℕ → Bool) where
   pieces-not zero h = refl
   pieces-not (suc k) h = rw (pieces-not k (λ t l. h t (omega arith)), h k (omega arith))
 
-  open-pieces : (k : ℕ) → openField (listBelow f k) ≡ orByte 48 (gatherBelow (openPiece f) k)
+  open-pieces : (k : ℕ) → openField (listBelow f k) ≡ orByte (code "0") (gatherBelow (openPiece f) k)
   open-pieces k =
       rw (list-length f k)
-      (ap (orByte 48) (which-map (λ t. getD (listBelow f k) t false) f (λ t. 49 + t) (λ t. 49 + t) k (λ t l. list-get f k t false l) (λ t l. refl) ∙ which-pieces k))
+      (ap (orByte (code "0")) (which-map (λ t. getD (listBelow f k) t false) f trainDigit trainDigit k (λ t l. list-get f k t false l) (λ t l. refl) ∙ which-pieces k))
 
   module _ (k : ℕ) {o o₁ : List ℕ} {a a₁ : ℕ} (b : Bool) (is : b ≡ anyBelow f k) where
     pub open-some : b ≡ true → Appended o a (gatherBelow (openPiece f) k) o₁ a₁ → Appended o a (openField (listBelow f k)) o₁ a₁
-    open-some e p = rw (open-pieces k, or-kept 48 (gatherBelow (openPiece f) k) (pieces-some k (sym is ∙ e))) p
+    open-some e p = rw (open-pieces k, or-kept (code "0") (gatherBelow (openPiece f) k) (pieces-some k (sym is ∙ e))) p
 
-    pub open-none : b ≡ false → Appended o a (48 ∷ []) o₁ a₁ → Appended o a (openField (listBelow f k)) o₁ a₁
+    pub open-none : b ≡ false → Appended o a (code "0" ∷ []) o₁ a₁ → Appended o a (openField (listBelow f k)) o₁ a₁
     open-none e p = rw (open-pieces k, pieces-not k (any-false f k (sym is ∙ e))) p
 
   module _ (t : ℕ) {o : List ℕ} {a : ℕ} (b : Bool) (is : b ≡ f t) where
-    pub train-open : {o₁ : List ℕ} {a₁ : ℕ} → b ≡ true → Appended o a ((49 + t) ∷ []) o₁ a₁ → Appended o a (openPiece f t) o₁ a₁
+    pub train-open : {o₁ : List ℕ} {a₁ : ℕ} → b ≡ true → Appended o a (trainDigit t ∷ []) o₁ a₁ → Appended o a (openPiece f t) o₁ a₁
     train-open e p = rw (← is, e) p
 
     pub train-closed : b ≡ false → Appended o a (openPiece f t) o a
@@ -79,10 +80,10 @@ pub open-digit : (v t : ℕ) (b : Bool) → v < 4294967296 → b ≡ opensIn v t
 open-digit v t b l is e = elim (lt? t 16) [ inl h ↦ h | inr h ↦ clash (sym is ∙ e) (sym (bit-high v (16 + t) l (omega arith))) ]
 
 -- POINTS
-pub sign-plus : (plus : Bool) → plus ≡ true → 43 ≡ sign plus
+pub sign-plus : (plus : Bool) → plus ≡ true → code "+" ≡ sign plus
 sign-plus plus e = rw e
 
-pub sign-minus : (plus : Bool) → plus ≡ false → 45 ≡ sign plus
+pub sign-minus : (plus : Bool) → plus ≡ false → code "-" ≡ sign plus
 sign-minus plus e = rw e
 
 module _ (f : ℕ → Bool) where
@@ -97,12 +98,12 @@ module _ (f : ℕ → Bool) where
   signs-length (suc m) = length-append (gatherBelow (pointPiece f) m) (pointPiece f m) ∙ (rw (signs-length m) (omega arith))
 
   module _ (m : ℕ) {o o₁ : List ℕ} {a a₁ : ℕ} where
-    pub points-none : m ≡ 0 → Appended o a (46 ∷ []) o₁ a₁ → Appended o a (pointField (listBelow f m)) o₁ a₁
+    pub points-none : m ≡ 0 → Appended o a (code "." ∷ []) o₁ a₁ → Appended o a (pointField (listBelow f m)) o₁ a₁
     unfolding listBelow
     points-none e p = rw e p
 
     pub points-some : (m ≡ 0 → ⊥) → Appended o a (gatherBelow (pointPiece f) m) o₁ a₁ → Appended o a (pointField (listBelow f m)) o₁ a₁
-    points-some e p = rw (sign-pieces m, or-kept 46 (gatherBelow (pointPiece f) m) (rw (signs-length m) (omega arith))) p
+    points-some e p = rw (sign-pieces m, or-kept (code ".") (gatherBelow (pointPiece f) m) (rw (signs-length m) (omega arith))) p
 
   pub sign-piece : (n b : ℕ) (plus : Bool) {o o₁ : List ℕ} {a a₁ : ℕ} → plus ≡ f n → b ≡ sign plus → Appended o a (b ∷ []) o₁ a₁ → Appended o a (pointPiece f n) o₁ a₁
   sign-piece n b plus is e p = rw (← is, ← e) p
@@ -110,7 +111,7 @@ module _ (f : ℕ → Bool) where
 -- SECTIONS: each with a tab behind it, in front of the other fields
 module _ (g : ℕ → ℕ) where
   abbrev sectionsPiece : ℕ → List ℕ
-  sectionsPiece t = sectionField (g t) ++ (9 ∷ [])
+  sectionsPiece t = sectionField (g t) ++ (tab ∷ [])
 
   section-pieces : (k : ℕ) (f : List ℕ) (fs : List (List ℕ)) → line (map sectionField (listBelow g k) ++ (f ∷ fs)) ≡ gatherBelow sectionsPiece k ++ line (f ∷ fs)
   unfolding listBelow gatherBelow line
@@ -118,22 +119,22 @@ module _ (g : ℕ → ℕ) where
   section-pieces (suc k) f fs =
       rw (map-append sectionField (listBelow g k) (g k ∷ []), append-assoc (map sectionField (listBelow g k)) (sectionField (g k) ∷ []) (f ∷ fs))
       (section-pieces k (sectionField (g k)) (f ∷ fs)
-      ∙ rw (append-assoc (gatherBelow sectionsPiece k) (sectionsPiece k) (line (f ∷ fs)), append-assoc (sectionField (g k)) (9 ∷ []) (line (f ∷ fs))))
+      ∙ rw (append-assoc (gatherBelow sectionsPiece k) (sectionsPiece k) (line (f ∷ fs)), append-assoc (sectionField (g k)) (tab ∷ []) (line (f ∷ fs))))
 
 module _ (q : Placement) (t x : ℕ) {o o₁ : List ℕ} {a a₁ : ℕ} where
-  pub section-piece : x ≡ sectionIn q t → Appended o a (decimal (x + 1) ++ (9 ∷ [])) o₁ a₁ → Appended o a (sectionPiece q t) o₁ a₁
+  pub section-piece : x ≡ sectionIn q t → Appended o a (decimal (x + 1) ++ (tab ∷ [])) o₁ a₁ → Appended o a (sectionPiece q t) o₁ a₁
   section-piece is p = rw (← is, ← add-one x) p
 
 -- THE LINES
 module _ {o o₁ o₂ o₃ o₄ : List ℕ} {a a₁ a₂ a₃ a₄ : ℕ} where
-  pub start-spelled : (n : ℕ) → Appended o a (112 ∷ 108 ∷ []) o₁ a₁ → Appended o₁ a₁ (97 ∷ 110 ∷ []) o₂ a₂ → Appended o₂ a₂ (9 ∷ []) o₃ a₃
-      → Appended o₃ a₃ (decimal n ++ (10 ∷ [])) o₄ a₄ → Appended o a (spell (startLine n)) o₄ a₄
-  unfolding spell
+  pub start-spelled : (n : ℕ) → Appended o a (code "p" ∷ code "l" ∷ []) o₁ a₁ → Appended o₁ a₁ (code "a" ∷ code "n" ∷ []) o₂ a₂ → Appended o₂ a₂ (tab ∷ []) o₃ a₃
+      → Appended o₃ a₃ (decimal n ++ (lineEnd ∷ [])) o₄ a₄ → Appended o a (spell (startLine n)) o₄ a₄
+  unfolding bytes spell
   start-spelled n p q t d = line-more planWord (decimal n) [] (append-then p (append-then q t)) (line-last (decimal n) d)
 
   pub placement-spelled : {o₅ o₆ : List ℕ} {a₅ a₆ : ℕ} (k m : ℕ) (q : Placement) (n v : ℕ) → Appended o a (gatherBelow (sectionPiece q) k) o₁ a₁
-      → Appended o₁ a₁ (decimal n ++ (9 ∷ [])) o₂ a₂ → Appended o₂ a₂ (openField (listBelow (opensIn v) k)) o₃ a₃ → Appended o₃ a₃ (9 ∷ []) o₄ a₄
-      → Appended o₄ a₄ (pointField (listBelow (bit v) m)) o₅ a₅ → Appended o₅ a₅ (10 ∷ []) o₆ a₆ → Appended o a (spell (placementLine (lineOf k m q n v))) o₆ a₆
+      → Appended o₁ a₁ (decimal n ++ (tab ∷ [])) o₂ a₂ → Appended o₂ a₂ (openField (listBelow (opensIn v) k)) o₃ a₃ → Appended o₃ a₃ (tab ∷ []) o₄ a₄
+      → Appended o₄ a₄ (pointField (listBelow (bit v) m)) o₅ a₅ → Appended o₅ a₅ (lineEnd ∷ []) o₆ a₆ → Appended o a (spell (placementLine (lineOf k m q n v))) o₆ a₆
   unfolding spell
   placement-spelled k m q n v s d e t p l =
       let opened = openField (listBelow (opensIn v) k) in

@@ -1,13 +1,13 @@
--- A placement's line by the parts that code has of it, and the pieces that it is spelled in. Contracts cite this file; nothing of document 01 rests on it.
--- Assumes nothing.
+-- A placement's line by the parts that code has of it, and the pieces that it is spelled in. Contracts cite
+-- this file; nothing of document 01 rests on it. Assumes nothing.
 use mathlib.Core.Bool.{Bool, cond}
 use mathlib.Core.List.{List, [], _∷_, _++_}
-use Prim.Native.Nat.{ℕ, _+_}
+use Prim.Native.Nat.{ℕ}
 use Rattle.laws.specs.Below.{listBelow}
 use Rattle.laws.specs.Bits.{bit}
 use Rattle.text.specs.Text.{tab}
 use Rattle.tables.specs.Entries.{opensIn}
-use Rattle.plan.specs.Lines.{PlacementLine, sign, sectionField}
+use Rattle.plan.specs.Lines.{PlacementLine, trainDigit, sign, sectionField}
 use Rattle.moves.specs.declared.Placement.{Placement}
 use Rattle.moves.specs.Steps.{sectionIn}
 
@@ -25,9 +25,9 @@ lineOf k m q n v =
 abbrev pub sectionPiece : Placement → ℕ → List ℕ
 sectionPiece q t = sectionField (sectionIn q t) ++ (tab ∷ [])
 
--- .. its digit, where it is open.
+-- What is written of train t among the open ones: its digit, where it is open.
 abbrev pub openPiece : (ℕ → Bool) → ℕ → List ℕ
-openPiece opens t = cond (opens t) ((49 + t) ∷ []) []
+openPiece opens t = cond (opens t) (trainDigit t ∷ []) []
 
 -- What is written of point n: its sign.
 abbrev pub pointPiece : (ℕ → Bool) → ℕ → List ℕ

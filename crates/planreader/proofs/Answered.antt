@@ -1,6 +1,7 @@
 -- The answers, by what the walk has taken and what the comparison has said. A line that fits and spells the text is the line that the walk takes;
 -- so no line is read where nothing is taken or what is taken is spelled otherwise, and else the line that is taken. Assumes nothing.
 use Prim.Native.Nat.{ℕ, suc, _≤_, _<_}
+use Prim.Native.Char.{code}
 use mathlib.Core.Path.{_≡_, refl, sym, _∙_, ap}
 use mathlib.Core.Logic.{inl, inr}
 use mathlib.Core.Bool.{Bool, true, false}
@@ -16,7 +17,7 @@ use Rattle.laws.specs.Bits.{bit}
 use Rattle.laws.proofs.Bools.{clash, option?, and-true}
 use Rattle.laws.proofs.Below.{listed, list-length}
 use Rattle.laws.proofs.Lists.{all-each, of-four}
-use Rattle.text.specs.Text.{decimal, line}
+use Rattle.text.specs.Text.{decimal, tab, lineEnd, line, bytes}
 use Rattle.text.specs.Reading.{isDigit, Got, bad, got, sameText}
 use Rattle.text.proofs.Decimal.{digit-is, digits-are, digits-begin}
 use Rattle.text.proofs.Lines.{same-is, same-self}
@@ -39,8 +40,8 @@ use Rattle.moves.specs.Steps.{sectionIn}
 use Rattle.moves.proofs.Placing.{sections-are, trains-are}
 use Rattle.planlines.specs.Spelling.{lineOf}
 use Rattle.planreader.specs.declared.LineRead.the-variants.{NoLine, Start, Placed}
-use Rattle.planreader.specs.Told.{told}
-use Rattle.planreader.specs.Walk.{sectionsAt, figureAt, entryAt}
+use Rattle.planreader.specs.Answers.{answerFor}
+use Rattle.planreader.specs.Walk.{BeginsLikeStart, sectionsAt, figureAt, entryAt}
 use Rattle.planreader.proofs.Taking.{sections-below, figure-below}
 use Rattle.planreader.proofs.Complete.{figure-complete, Walked, walked}
 
@@ -49,22 +50,22 @@ same-value : {A : Type 0} {g : Got A} {x y : A} {b c : ℕ} → g ≡ got x b �
 same-value p q = (cc, cc)
 
 -- A LINE FOR A PLACEMENT begins with a digit
-first-digit : (x : ℕ) (rest : List ℕ) → suc x < 10000000000 → getD (decimal (suc x) ++ rest) 0 0 ≡ 112 → ⊥
+first-digit : (x : ℕ) (rest : List ℕ) → suc x < 10000000000 → BeginsLikeStart (decimal (suc x) ++ rest) → ⊥
 unfolding all
 first-digit x rest l e =
     let b = digits-begin 10 (suc x) (omega arith) (omega arith) in
     let a : all isDigit (b .head ∷ b .rest) ≡ true = rw (b .is) at (digits-are 10 (suc x)) in
     let h = digit-is (b .head) (and-true (isDigit (b .head)) (all isDigit (b .rest)) a .0) in
-    let f : b .head ≡ 112 = rw (b .is) at e in
+    let f : b .head ≡ code "p" = rw (b .is) at e in
     omega arith
 
-first-section : (xs : List ℕ) (d : PlacementLine) (s : ℕ) → s ≤ 48 → 1 ≤ length xs → all (λ x. ltb x s) xs ≡ true → getD (line (map sectionField xs ++ lastFields d)) 0 0 ≡ 112 → ⊥
+first-section : (xs : List ℕ) (d : PlacementLine) (s : ℕ) → s ≤ 48 → 1 ≤ length xs → all (λ x. ltb x s) xs ≡ true → BeginsLikeStart (line (map sectionField xs ++ lastFields d)) → ⊥
 unfolding line all
 first-section [] d s l n a e = omega arith
-first-section (x ∷ []) d s l n a e = let h = ltb-true x s (and-true (ltb x s) true a .0) in first-digit x (9 ∷ line (lastFields d)) (omega arith) e
+first-section (x ∷ []) d s l n a e = let h = ltb-true x s (and-true (ltb x s) true a .0) in first-digit x (tab ∷ line (lastFields d)) (omega arith) e
 first-section (x ∷ y ∷ xs) d s l n a e =
     let h = ltb-true x s (and-true (ltb x s) (all (λ x. ltb x s) (y ∷ xs)) a .0) in
-    first-digit x (9 ∷ line (map sectionField (y ∷ xs) ++ lastFields d)) (omega arith) e
+    first-digit x (tab ∷ line (map sectionField (y ∷ xs) ++ lastFields d)) (omega arith) e
 
 module _ (r : Railway) (ok : recordRefusal r ≡ none) (text : List ℕ) where
   bounds : Bounded (r .sections) (r .points) (r .trains)
@@ -74,14 +75,14 @@ module _ (r : Railway) (ok : recordRefusal r ≡ none) (text : List ℕ) where
   few-sections = omega (arith, bounds .few-sections)
 
   -- NO LINE, where none that fits spells the text
-  none-read : ((l : PlanLine) → Spells r text l → ⊥) → NoLine ≡ told r (readLine r text)
+  none-read : ((l : PlanLine) → Spells r text l → ⊥) → NoLine ≡ answerFor r (readLine r text)
   none-read h = elim (option? (readLine r text)) [
     | inl e ↦ rw e
     | inr x ↦ absurd (h (x .0) (reads-line r few-sections text (x .0) .0 (x .1)))
   ]
 
-  -- .. as no text of more bytes than a line has
-  pub too-long : mostLineBytes < length text → NoLine ≡ told r (readLine r text)
+  -- a text of more bytes than a line can have is no line
+  pub too-long : mostLineBytes < length text → NoLine ≡ answerFor r (readLine r text)
   too-long l = none-read (λ x p. let s = lines-short r ok x (p .fit) in let n : length (spell x) ≡ length text = ap length (p .spelled) in omega arith)
 
   -- a line that is compared: it fits, so it is short, and the comparison says whether it spells the text
@@ -96,11 +97,11 @@ module _ (r : Railway) (ok : recordRefusal r ≡ none) (text : List ℕ) where
     read-so e = reads-line r few-sections text l .1 (said-true e)
 
   -- THE FIRST LINE
-  module _ (first : getD text 0 0 ≡ 112) where
+  module _ (first : BeginsLikeStart text) where
     start-taken : (n : ℕ) → Spells r text (startLine n) → (c : ℕ) × (figureAt text 5 ≡ got n c)
-    unfolding spell line isDigit fits
+    unfolding bytes spell line isDigit fits
     start-taken n p =
-        let x = figure-complete text (10 ∷ []) n 5 refl (ltb-true n noFigure (p .fit)) (record { text = ap (drop 5) (sym (p .spelled)) }) in
+        let x = figure-complete text (lineEnd ∷ []) n 5 refl (ltb-true n noFigure (p .fit)) (record { text = ap (drop 5) (sym (p .spelled)) }) in
         (x .cursor, x .is)
 
     start-only : {A : Type 0} → ((n : ℕ) → Spells r text (startLine n) → A) → (l : PlanLine) → Spells r text l → A
@@ -110,7 +111,7 @@ module _ (r : Railway) (ok : recordRefusal r ≡ none) (text : List ℕ) where
         let f = fits-parts r d (p .fit) in
         absurd (first-section (d .sections) d (r .sections) (bounds .few-sections) (omega (arith, f .each-train, bounds .some-train)) (f .there) (ap (λ (t : List ℕ). getD t 0 0) (p .spelled) ∙ first))
 
-    pub start-none : figureAt text 5 ≡ bad → NoLine ≡ told r (readLine r text)
+    pub start-none : figureAt text 5 ≡ bad → NoLine ≡ answerFor r (readLine r text)
     start-none e = none-read (start-only (λ n p. bad-got e (start-taken n p .1)))
 
     module _ (n c : ℕ) (e : figureAt text 5 ≡ got n c) {b : Bool} (said : length (spell (startLine n)) ≤ mostLineBytes → b ≡ sameText (spell (startLine n)) text) where
@@ -118,24 +119,24 @@ module _ (r : Railway) (ok : recordRefusal r ≡ none) (text : List ℕ) where
       unfolding fits
       start-fits = lt-ltb n noFigure (figure-below text 5 n c e)
 
-      pub start-there : b ≡ true → Start n ≡ told r (readLine r text)
+      pub start-there : b ≡ true → Start n ≡ answerFor r (readLine r text)
       start-there y = rw (read-so (startLine n) start-fits said y)
 
-      pub start-other : b ≡ false → NoLine ≡ told r (readLine r text)
+      pub start-other : b ≡ false → NoLine ≡ answerFor r (readLine r text)
       start-other y = none-read (start-only (λ x p. said-false (startLine n) start-fits said y (ap (λ (z : ℕ). spell (startLine z)) (same-value e (start-taken x p .1) .0) ∙ p .spelled)))
 
   -- A LINE FOR A PLACEMENT
-  module _ (first : getD text 0 0 ≡ 112 → ⊥) where
+  module _ (first : BeginsLikeStart text → ⊥) where
     placed-only : {A : Type 0} → ((d : PlacementLine) → Spells r text (placementLine d) → Walked text (r .sections) (r .trains) (r .points) d (lineEntry r d) → A) → (l : PlanLine) → Spells r text l → A
-    unfolding spell line
+    unfolding bytes spell line
     placed-only h (startLine n) p = absurd (first (ap (λ (t : List ℕ). getD t 0 0) (sym (p .spelled))))
     placed-only h (placementLine d) p = h d p (walked r bounds text d p)
 
-    pub sections-none : sectionsAt text (r .sections) (r .trains) ≡ bad → NoLine ≡ told r (readLine r text)
+    pub sections-none : sectionsAt text (r .sections) (r .trains) ≡ bad → NoLine ≡ answerFor r (readLine r text)
     sections-none e = none-read (placed-only (λ d p x. bad-got e (x .sections)))
 
     module _ (qs : List ℕ) (c₁ : ℕ) (es : sectionsAt text (r .sections) (r .trains) ≡ got qs c₁) where
-      pub placed-none : figureAt text c₁ ≡ bad → NoLine ≡ told r (readLine r text)
+      pub placed-none : figureAt text c₁ ≡ bad → NoLine ≡ answerFor r (readLine r text)
       placed-none e = none-read (placed-only (λ d p x. let z = same-value es (x .sections) in bad-got e (rw (sym (z .1)) at (x .figure))))
 
       module _ (n c₂ : ℕ) (en : figureAt text c₁ ≡ got n c₂) where
@@ -143,7 +144,7 @@ module _ (r : Railway) (ok : recordRefusal r ≡ none) (text : List ℕ) where
         figure-same : (d : PlacementLine) → (x : Walked text (r .sections) (r .trains) (r .points) d (lineEntry r d)) → (n ≡ d .figure) × (c₂ ≡ x .two)
         figure-same d x = let z = same-value es (x .sections) in same-value en (rw (sym (z .1)) at (x .figure))
 
-        pub entry-none : entryAt text (r .points) c₂ ≡ bad → NoLine ≡ told r (readLine r text)
+        pub entry-none : entryAt text (r .points) c₂ ≡ bad → NoLine ≡ answerFor r (readLine r text)
         entry-none e = none-read (placed-only (λ d p x. bad-got e (rw (sym (figure-same d x .1)) at (x .entry))))
 
         module _ (v c₃ : ℕ) (ev : entryAt text (r .points) c₂ ≡ got v c₃) (q : Placement) (is : q .sections ≡ qs) where
@@ -182,17 +183,17 @@ module _ (r : Railway) (ok : recordRefusal r ≡ none) (text : List ℕ) where
           taken-fits = rw (list-length (sectionIn q) (r .trains), list-length (opensIn v) (r .trains), list-length (bit v) (r .points), each-there, lt-ltb n noFigure (figure-below text c₁ n c₂ en), eq-eqb (r .trains) (r .trains) refl, eq-eqb (r .points) (r .points) refl)
 
           module _ {b : Bool} (said : length (spell (placementLine taken)) ≤ mostLineBytes → b ≡ sameText (spell (placementLine taken)) text) where
-            pub placed-other : b ≡ false → NoLine ≡ told r (readLine r text)
+            pub placed-other : b ≡ false → NoLine ≡ answerFor r (readLine r text)
             placed-other y = none-read (placed-only (λ d p x. said-false (placementLine taken) taken-fits said y (ap (λ (z : PlacementLine). spell (placementLine z)) (taken-is d p x) ∙ p .spelled)))
 
-            pub placed-there : b ≡ true → (p : ℕ) → p ≡ codeOn r (sectionIn q) → Placed p n v ≡ told r (readLine r text)
+            pub placed-there : b ≡ true → (p : ℕ) → p ≡ codeOn r (sectionIn q) → Placed p n v ≡ answerFor r (readLine r text)
             placed-there y p ep =
                 let s = said-true (placementLine taken) taken-fits said y in
                 let z : v ≡ lineEntry r taken = entry-same taken (walked r bounds text taken s) in
                 rw (read-so (placementLine taken) taken-fits said y, ep) (ap (Placed (codeOn r (sectionIn q)) n) z)
 
 -- THE SAME by a table's counts
-module _ (r : Railway) (table : List ℕ) (h : Compiled r table) (text : List ℕ) (first : getD text 0 0 ≡ 112 → ⊥) where
+module _ (r : Railway) (table : List ℕ) (h : Compiled r table) (text : List ℕ) (first : BeginsLikeStart text → ⊥) where
   module _ {s k m : ℕ} (es : s ≡ countByte r 0) (em : m ≡ countByte r 1) (ek : k ≡ countByte r 2) where
     s-is : s ≡ r .sections
     s-is = sections-are r s es
@@ -204,21 +205,21 @@ module _ (r : Railway) (table : List ℕ) (h : Compiled r table) (text : List �
     k-is : k ≡ r .trains
     k-is = trains-are r k ek
 
-    pub no-sections : sectionsAt text s k ≡ bad → NoLine ≡ told r (readLine r text)
+    pub no-sections : sectionsAt text s k ≡ bad → NoLine ≡ answerFor r (readLine r text)
     no-sections e = sections-none r (h .accepted) text first (rw (s-is, k-is) at e)
 
     module _ {qs : List ℕ} {c₁ : ℕ} (e₁ : sectionsAt text s k ≡ got qs c₁) where
-      pub no-figure : figureAt text c₁ ≡ bad → NoLine ≡ told r (readLine r text)
+      pub no-figure : figureAt text c₁ ≡ bad → NoLine ≡ answerFor r (readLine r text)
       no-figure e = placed-none r (h .accepted) text first qs c₁ (rw (s-is, k-is) at e₁) e
 
       module _ {n c₂ : ℕ} (e₂ : figureAt text c₁ ≡ got n c₂) where
-        pub no-entry : entryAt text m c₂ ≡ bad → NoLine ≡ told r (readLine r text)
+        pub no-entry : entryAt text m c₂ ≡ bad → NoLine ≡ answerFor r (readLine r text)
         no-entry e = entry-none r (h .accepted) text first qs c₁ (rw (s-is, k-is) at e₁) n c₂ e₂ (rw m-is at e)
 
         module _ {v c₃ : ℕ} (e₃ : entryAt text m c₂ ≡ got v c₃) (q : Placement) (is : q .sections ≡ qs) {b : Bool}
             (said : length (spell (placementLine (lineOf k m q n v))) ≤ mostLineBytes → b ≡ sameText (spell (placementLine (lineOf k m q n v))) text) where
-          pub other-spelling : b ≡ false → NoLine ≡ told r (readLine r text)
+          pub other-spelling : b ≡ false → NoLine ≡ answerFor r (readLine r text)
           other-spelling y = placed-other r (h .accepted) text first qs c₁ (rw (s-is, k-is) at e₁) n c₂ e₂ v c₃ (rw m-is at e₃) q is (rw (m-is, k-is) at said) y
 
-          pub placement-read : b ≡ true → (p : ℕ) → p ≡ codeOn r (sectionIn q) → Placed p n v ≡ told r (readLine r text)
+          pub placement-read : b ≡ true → (p : ℕ) → p ≡ codeOn r (sectionIn q) → Placed p n v ≡ answerFor r (readLine r text)
           placement-read y p ep = placed-there r (h .accepted) text first qs c₁ (rw (s-is, k-is) at e₁) n c₂ e₂ v c₃ (rw m-is at e₃) q is (rw (m-is, k-is) at said) y p ep

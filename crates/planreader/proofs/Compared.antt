@@ -1,6 +1,6 @@
--- A line that is spelled into a buffer which holds it stands in front there; so the bytes up to the cursor are the text's exactly if the text is the line's spelling.
--- Assumes nothing.
-use Prim.Native.Nat.{ℕ, _+_, _≤_, _<_}
+-- A line that is spelled into a buffer which holds it stands in front there; so the bytes up to the cursor
+-- are the text's exactly if the text is the line's spelling. Assumes nothing.
+use Prim.Native.Nat.{ℕ, _≤_, _<_}
 use mathlib.Core.Path.{_≡_, sym, _∙_, ap}
 use mathlib.Core.Bool.{Bool, true, _&&_}
 use mathlib.Core.List.{List, _++_}
@@ -15,7 +15,7 @@ use Rattle.laws.proofs.Below.{all-at, all-of}
 use Rattle.text.specs.Reading.{sameText}
 use Rattle.text.specs.Appending.{Appended}
 use Rattle.text.proofs.Lines.{same-is, same-self}
-use Rattle.text.proofs.Appending.{appended-bytes, appended-cursor}
+use Rattle.text.proofs.Appending.{front-bytes, front-cursor}
 use Rattle.plan.specs.Lines.{mostLineBytes}
 use Rattle.planreader.specs.Walk.{sameAt}
 
@@ -43,7 +43,5 @@ module _ (line text rest : List ℕ) where
 pub compared : (line text own out : List ℕ) (end : ℕ) (b : Bool) → Appended own 0 line out end → b ≡ (eqb end (length text) && allBelow (sameAt out text) end)
     → mostLineBytes ≤ length own → length line ≤ mostLineBytes → b ≡ sameText line text
 compared line text own out end b made e long l =
-    let room : 0 + length line ≤ length own = omega arith in
-    let o : out ≡ line ++ drop (0 + length line) own = appended-bytes made room in
-    let n : end ≡ length line = appended-cursor made room ∙ omega arith in
-    e ∙ (rw (o, n) (compare-front line text (drop (0 + length line) own)))
+    let room : length line ≤ length own = omega arith in
+    e ∙ (rw (front-bytes made room, front-cursor made room) (compare-front line text (drop (length line) own)))

@@ -1,6 +1,7 @@
--- A line that fits is taken from its spelling: every field is read where it is written. Open trains are the digits of one number, case by case for four trains.
--- Assumes nothing.
+-- A line that fits is taken from its spelling: every field is read where it is written. Open trains are the
+-- digits of one number, case by case for four trains. Assumes nothing.
 use Prim.Native.Nat.{ℕ, zero, suc, _+_, _-_, _*_, _^_, _≤_, _<_}
+use Prim.Native.Char.{code}
 use mathlib.Core.Path.{_≡_, refl, sym, _∙_, ap}
 use mathlib.Core.Logic.{inl, inr}
 use mathlib.Core.Bool.{Bool, true, false}
@@ -15,7 +16,7 @@ use Rattle.laws.specs.Bits.{fromBits}
 use Rattle.laws.proofs.Bools.{lt?}
 use Rattle.laws.proofs.Lists.{all-in, getD-member}
 use Rattle.laws.proofs.Bits.{bits-same}
-use Rattle.text.specs.Text.{digits, decimal, line}
+use Rattle.text.specs.Text.{digits, decimal, tab, lineEnd, line}
 use Rattle.text.specs.Reading.{isDigit, got, then, byteAt}
 use Rattle.text.proofs.Walking.{Lies, Reads, go-on, stop-here, peek, byte-complete, number-complete}
 use Rattle.railway.specs.declared.Railway.{Railway}
@@ -71,11 +72,11 @@ open-digits (a ∷ b ∷ c ∷ d ∷ e ∷ os) l = absurd (omega arith)
 
 module _ (text : List ℕ) where
   -- A NUMBER and the tab behind it
-  number-tab : (rest : List ℕ) (most n c : ℕ) → most < 10 → n < 10 ^ suc most → Lies text c (decimal n ++ (9 ∷ rest)) → Reads text (numberTab text most c) n rest
+  number-tab : (rest : List ℕ) (most n c : ℕ) → most < 10 → n < 10 ^ suc most → Lies text c (decimal n ++ (tab ∷ rest)) → Reads text (numberTab text most c) n rest
   unfolding numberTab isDigit
   number-tab rest most n c l h t =
-      go-on (λ n c. then (byteAt text 9 c) (λ b c. got n c)) (number-complete text (9 ∷ rest) refl most n c l h t)
-      (λ c t. go-on (λ b c. got n c) (byte-complete text 9 c rest t) (λ c t. stop-here t))
+      go-on (λ n c. then (byteAt text tab c) (λ b c. got n c)) (number-complete text (tab ∷ rest) refl most n c l h t)
+      (λ c t. go-on (λ b c. got n c) (byte-complete text tab c rest t) (λ c t. stop-here t))
 
   -- A SECTION
   section-of : (rest : List ℕ) (s x c : ℕ) → x < s → Lies text c rest → Reads text (sectionOf s (suc x) c) x rest
@@ -83,7 +84,7 @@ module _ (text : List ℕ) where
       let z : suc x - 1 ≡ x = omega arith in
       rw (ne-eqb (suc x) 0 (λ e. omega arith), z, lt-ltb x s l) (stop-here t)
 
-  section-complete : (rest : List ℕ) (s k t x c : ℕ) → s ≤ 48 → t < k → x < s → Lies text c (decimal (suc x) ++ (9 ∷ rest)) → Reads text (sectionAt text s k t c) x rest
+  section-complete : (rest : List ℕ) (s k t x c : ℕ) → s ≤ 48 → t < k → x < s → Lies text c (decimal (suc x) ++ (tab ∷ rest)) → Reads text (sectionAt text s k t c) x rest
   unfolding sectionAt
   section-complete rest s k t x c b h l i =
       rw (lt-ltb t k h) (go-on (sectionOf s) (number-tab rest 2 (suc x) c (omega arith) (omega arith) i) (λ c i. section-of rest s x c l i))
@@ -100,7 +101,7 @@ module _ (text : List ℕ) where
   signs-complete [] rest c t = refl
   signs-complete (p ∷ ps) rest c t =
       bits-same (plusAt text c) (λ n. getD (p ∷ ps) n false) (length (p ∷ ps))
-      (λ i l. ap (λ (x : ℕ). eqb x 43) (peek t i ∙ List·getD-append (map sign (p ∷ ps)) rest 0 i (rw (length-map (p ∷ ps) sign) l)) ∙ sign-at (p ∷ ps) i l)
+      (λ i l. ap (λ (x : ℕ). eqb x (code "+")) (peek t i ∙ List·getD-append (map sign (p ∷ ps)) rest 0 i (rw (length-map (p ∷ ps) sign) l)) ∙ sign-at (p ∷ ps) i l)
 
   -- THE ENTRY of open trains and points
   entry-of : (ps : List Bool) (rest : List ℕ) (o v m c : ℕ) → length ps ≡ m → openBits o ≡ v → Lies text c (pointField ps ++ rest)
@@ -109,18 +110,18 @@ module _ (text : List ℕ) where
       let w : fromBits (plusAt text c) m ≡ fromBits (λ i. getD ps i false) m = rw n at (signs-complete ps rest c t) in
       rw (e, w) (stop-here t)
 
-  entry-complete : (os ps : List Bool) (rest : List ℕ) (m c : ℕ) → length os ≤ 4 → length ps ≡ m → m ≤ 16 → Lies text c (9 ∷ (openField os ++ (9 ∷ (pointField ps ++ rest))))
+  entry-complete : (os ps : List Bool) (rest : List ℕ) (m c : ℕ) → length os ≤ 4 → length ps ≡ m → m ≤ 16 → Lies text c (tab ∷ (openField os ++ (tab ∷ (pointField ps ++ rest))))
       → Reads text (entryAt text m c) (fromBits (λ n. getD ps n false) m + 2 ^ 16 * fromBits (λ t. getD os t false) (length os)) (pointField ps ++ rest)
   unfolding entryAt
   entry-complete os ps rest m c few n l t =
       let d = open-digits os few in
       rw (le-ltb 16 m l)
-      (go-on (λ b c. then (numberTab text 9 c) (entryOf text m)) (byte-complete text 9 c (openField os ++ (9 ∷ (pointField ps ++ rest))) t)
+      (go-on (λ b c. then (numberTab text 9 c) (entryOf text m)) (byte-complete text tab c (openField os ++ (tab ∷ (pointField ps ++ rest))) t)
       (λ c t. go-on (entryOf text m) (number-tab (pointField ps ++ rest) 9 (d .number) c (omega arith) (omega (arith, d .small)) (rw (d .spelled) at t))
       (λ c t. entry-of ps rest (d .number) (2 ^ 16 * fromBits (λ t. getD os t false) (length os)) m c n (d .bits) t)))
 
 -- SECTION AFTER SECTION
-line-more : (f : List ℕ) (xs : List ℕ) (d : PlacementLine) → line (f ∷ (map sectionField xs ++ lastFields d)) ≡ f ++ (9 ∷ line (map sectionField xs ++ lastFields d))
+line-more : (f : List ℕ) (xs : List ℕ) (d : PlacementLine) → line (f ∷ (map sectionField xs ++ lastFields d)) ≡ f ++ (tab ∷ line (map sectionField xs ++ lastFields d))
 unfolding line
 line-more f [] d = refl
 line-more f (x ∷ xs) d = refl
@@ -139,7 +140,7 @@ module _ (text : List ℕ) (s : ℕ) (few : s ≤ 48) (d : PlacementLine) (there
   unfolding sectionAt
   next-section t c i = elim (lt? t (length (d .sections))) [
     | inl l ↦
-        let e : from t ≡ decimal (suc (getD (d .sections) t 0)) ++ (9 ∷ from (suc t)) =
+        let e : from t ≡ decimal (suc (getD (d .sections) t 0)) ++ (tab ∷ from (suc t)) =
         ap (λ (ys : List ℕ). line (map sectionField ys ++ lastFields d)) (drop-cons (d .sections) t 0 l) ∙ line-more (decimal (suc (getD (d .sections) t 0))) (drop (suc t) (d .sections)) d in
         section-complete text (from (suc t)) s (length (d .sections)) t (getD (d .sections) t 0) c few l (there t l) (record { text = i .text ∙ e })
     | inr l ↦
@@ -170,8 +171,8 @@ walked-on : (text : List ℕ) (s k m : ℕ) (d : PlacementLine) (v : ℕ) → le
     → Walked text s k m d v
 unfolding line isDigit
 walked-on text s k m d v a b c f e x =
-    let y = figure-complete text (9 ∷ (openField (d .opens) ++ (9 ∷ (pointField (d .plus) ++ (10 ∷ []))))) (d .figure) (x .cursor) refl f (x .left) in
-    let z = entry-complete text (d .opens) (d .plus) (10 ∷ []) m (y .cursor) a b c (y .left) in
+    let y = figure-complete text (tab ∷ (openField (d .opens) ++ (tab ∷ (pointField (d .plus) ++ (lineEnd ∷ []))))) (d .figure) (x .cursor) refl f (x .left) in
+    let z = entry-complete text (d .opens) (d .plus) (lineEnd ∷ []) m (y .cursor) a b c (y .left) in
     record { one = x .cursor; sections = x .is; two = y .cursor; figure = y .is; three = z .cursor; entry = rw e (z .is) }
 
 pub walked : (r : Railway) → Bounded (r .sections) (r .points) (r .trains) → (text : List ℕ) (d : PlacementLine) → Spells r text (placementLine d)

@@ -1,6 +1,7 @@
--- The walk over a line as code makes it, step by step: each test of the code is a test of the definition, and each loop adds one bit or one byte to what was seen before.
--- Assumes nothing.
+-- The walk over a line as code makes it, step by step: each test of the code is a test of the definition, and
+-- each loop adds one bit or one byte to what was seen before. Assumes nothing.
 use Prim.Native.Nat.{ℕ, suc, _+_, _-_, _*_, _%_, _/_, _≤_, _<_}
+use Prim.Native.Char.{code}
 use mathlib.Core.Path.{_≡_, refl, _∙_, ap}
 use mathlib.Core.Bool.{Bool, true, false, cond}
 use mathlib.Core.List.{List, [], _∷_}
@@ -12,6 +13,7 @@ use borrow.Author.Tests.{lt-ltb, le-ltb, ltb-true, ltb-false, eq-eqb, ne-eqb}
 use Rattle.laws.specs.Bits.{fromBits}
 use Rattle.laws.proofs.Lists.{of-four}
 use Rattle.laws.proofs.Bits.{bits-same, bits-below}
+use Rattle.text.specs.Text.{tab}
 use Rattle.text.specs.Reading.{Got, bad, got, then, byteAt, numberAt}
 use Rattle.text.proofs.Walking.{bad-got, steps, on}
 use Rattle.tables.specs.Tables.{noFigure}
@@ -71,13 +73,13 @@ module _ (text : List ℕ) (c : ℕ) where
   figure-none e = rw e
 
   module _ {n b : ℕ} (e : numberAt text 9 c ≡ got n b) where
-    pub figure-there : n < 4294967295 → got n b ≡ figureAt text c
+    pub figure-there : n < noFigure → got n b ≡ figureAt text c
     unfolding figureAt
-    figure-there l = rw (e, lt-ltb n 4294967295 l)
+    figure-there l = rw (e, lt-ltb n noFigure l)
 
-    pub figure-high : 4294967295 ≤ n → bad ≡ figureAt text c
+    pub figure-high : noFigure ≤ n → bad ≡ figureAt text c
     unfolding figureAt
-    figure-high l = rw (e, le-ltb n 4294967295 l)
+    figure-high l = rw (e, le-ltb n noFigure l)
 
 -- OPEN TRAINS
 module _ (d : ℕ) where
@@ -126,11 +128,11 @@ module _ (text : List ℕ) (at i : ℕ) where
   pub plus-past : length text ≤ at + i → _≡_ {A = ℕ} 0 (cond (plusAt text at i) 1 0)
   plus-past h = let e = List·getD-eq-default text 0 h in rw e
 
-  pub plus-there : getD text (at + i) 0 ≡ 43 → _≡_ {A = ℕ} 1 (cond (plusAt text at i) 1 0)
+  pub plus-there : getD text (at + i) 0 ≡ code "+" → _≡_ {A = ℕ} 1 (cond (plusAt text at i) 1 0)
   plus-there e = rw e
 
-  pub plus-not : (getD text (at + i) 0 ≡ 43 → ⊥) → _≡_ {A = ℕ} 0 (cond (plusAt text at i) 1 0)
-  plus-not e = rw (ne-eqb (getD text (at + i) 0) 43 e)
+  pub plus-not : (getD text (at + i) 0 ≡ code "+" → ⊥) → _≡_ {A = ℕ} 0 (cond (plusAt text at i) 1 0)
+  plus-not e = rw (ne-eqb (getD text (at + i) 0) (code "+") e)
 
 -- the bits from i on, of m
 module _ (f : ℕ → Bool) (m : ℕ) where
@@ -167,7 +169,7 @@ module _ (text : List ℕ) (m c : ℕ) where
   unfolding entryAt
   entry-many h = rw (lt-ltb 16 m h)
 
-  pub entry-few : m ≤ 16 → {g : Got ℕ} → g ≡ then (byteAt text 9 c) (λ b c. then (numberTab text 9 c) (entryOf text m)) → g ≡ entryAt text m c
+  pub entry-few : m ≤ 16 → {g : Got ℕ} → g ≡ then (byteAt text tab c) (λ b c. then (numberTab text 9 c) (entryOf text m)) → g ≡ entryAt text m c
   unfolding entryAt
   entry-few h e = rw (le-ltb 16 m h) e
 
@@ -207,10 +209,10 @@ module _ (text : List ℕ) (c x b : ℕ) where
   unfolding entryAt
   entry-below m e = go (ltb 16 m) refl e
     where
-      go : (p : Bool) → ltb 16 m ≡ p → cond p bad (then (byteAt text 9 c) (λ b c. then (numberTab text 9 c) (entryOf text m))) ≡ got x b → x < 4294967296
+      go : (p : Bool) → ltb 16 m ≡ p → cond p bad (then (byteAt text tab c) (λ b c. then (numberTab text 9 c) (entryOf text m))) ≡ got x b → x < 4294967296
       go true h e = bad-got refl e
       go false h e =
-          on (byteAt text 9 c) (λ b c. then (numberTab text 9 c) (entryOf text m)) x b e (λ u c₁ eu e.
+          on (byteAt text tab c) (λ b c. then (numberTab text 9 c) (entryOf text m)) x b e (λ u c₁ eu e.
           on (numberTab text 9 c₁) (entryOf text m) x b e (λ o c₂ eo e.
           let z : fromBits (plusAt text c₂) m + openBits o ≡ x = cc in
           rw z at (entry-room (plusAt text c₂) m o (fromBits (plusAt text c₂) m) (openBits o) (ltb-false 16 m h) refl refl)))

@@ -1,16 +1,23 @@
 -- Taking from a text the only line that it can be, with a cursor, as the code does it. Contracts cite this file; nothing of document 01 rests on it:
 -- what is taken counts only where it is spelled like the text (`planreader::read_line`). Assumes nothing.
+use mathlib.Core.Path.{_≡_}
 use mathlib.Core.Bool.{Bool, cond}
 use mathlib.Core.List.{List, [], _∷_}
 use Prim.Native.Nat.{ℕ, _+_, _-_, _/_, _%_}
+use Prim.Native.Char.{code}
 use lib.Dec.{eqb, ltb}
 use lib.ListN.{getD}
 use Rattle.laws.specs.Bits.{fromBits}
+use Rattle.text.specs.Text.{tab}
 use Rattle.text.specs.Reading.{Got, bad, got, then, byteAt, numberAt}
 use Rattle.railway.specs.Bounds.{mostPoints}
 use Rattle.tables.specs.Tables.{noFigure}
 use Rattle.planreader.specs.declared.Sections.{Sections}
 use Rattle.planreader.specs.declared.Sections.the-variants.{NoSections, SectionsAre}
+
+-- A text begins like a first line, with its letter `p`.
+abbrev pub BeginsLikeStart : List ℕ → Type 0
+BeginsLikeStart text = getD text 0 0 ≡ code "p"
 
 -- Two texts have the same byte at a place.
 abbrev pub sameAt : List ℕ → List ℕ → ℕ → Bool
@@ -35,11 +42,11 @@ figureOf n c = cond (ltb n noFigure) (got n c) bad
 module _ (text : List ℕ) where
   -- A `+` stands so far behind the cursor.
   abbrev pub plusAt : ℕ → ℕ → Bool
-  plusAt c i = eqb (getD text (c + i) 0) 43
+  plusAt c i = eqb (getD text (c + i) 0) (code "+")
 
   -- A number of 1 + most digits at most, and the tab behind it.
   unfoldable pub numberTab : ℕ → ℕ → Got ℕ
-  numberTab most c = then (numberAt text most c) (λ n c. then (byteAt text 9 c) (λ b c. got n c))
+  numberTab most c = then (numberAt text most c) (λ n c. then (byteAt text tab c) (λ b c. got n c))
 
   -- The section of train t; 0, and nothing is read, for a train that is not one of k.
   unfoldable pub sectionAt : ℕ → ℕ → ℕ → ℕ → Got ℕ
@@ -63,7 +70,7 @@ module _ (text : List ℕ) where
 
   -- The entry of open trains and points, behind a tab.
   unfoldable pub entryAt : ℕ → ℕ → Got ℕ
-  entryAt m c = cond (ltb mostPoints m) bad (then (byteAt text 9 c) (λ b c. then (numberTab 9 c) (entryOf m)))
+  entryAt m c = cond (ltb mostPoints m) bad (then (byteAt text tab c) (λ b c. then (numberTab 9 c) (entryOf m)))
 
 -- What the answer on the sections stands for.
 abbrev pub sectionsGot : Sections → Got (List ℕ)

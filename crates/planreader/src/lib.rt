@@ -5,9 +5,9 @@
 ghost use mathlib.Core.Path.{_≡_};
 ghost use mathlib.Core.Bool.{cond, _&&_};
 ghost use mathlib.Core.Option.{none};
-ghost use Prim.Native.Nat.{_+_, _≤_};
+ghost use Prim.Native.Nat.{_≤_};
 ghost use lib.Dec.{eqb};
-ghost use lib.ListN.{length, getD};
+ghost use lib.ListN.{length};
 ghost use Rattle.laws.specs.Below.{allBelow};
 ghost use Rattle.laws.specs.Bits.{fromBits};
 ghost use Rattle.text.specs.Reading.{sameText};
@@ -18,8 +18,8 @@ ghost use Rattle.plan.specs.Lines.{startLine, placementLine, spell, mostLineByt
 ghost use Rattle.plan.specs.Reading.{readLine};
 ghost use Rattle.compiled.specs.Table.{Compiled};
 ghost use Rattle.planlines.specs.Spelling.{lineOf};
-ghost use Rattle.planreader.specs.Told.{told};
-ghost use Rattle.planreader.specs.Walk.{sameAt, trainBit, openBits, plusAt, numberTab, sectionAt, sectionsAt, figureAt, entryAt, sectionsGot};
+ghost use Rattle.planreader.specs.Answers.{answerFor};
+ghost use Rattle.planreader.specs.Walk.{BeginsLikeStart, sameAt, trainBit, openBits, plusAt, numberTab, sectionAt, sectionsAt, figureAt, entryAt, sectionsGot};
 use compiled::Table;
 use moves::Placement;
 use planlines::MOST_LINE_BYTES;
@@ -39,7 +39,7 @@ pub enum LineRead {
 
 // One line: what it says, or that it is none.
 pub fn read_line(table: &Table, text: &[u8]) -> LineRead
-    ensures { λ a. ⌜ ((r : Railway) → Compiled r (now (table .entry)) → a ≡ told r (readLine r (now (text .entry)))) ⌝ }
+    ensures { λ a. ⌜ ((r : Railway) → Compiled r (now (table .entry)) → a ≡ answerFor r (readLine r (now (text .entry)))) ⌝ }
 {
     if MOST_LINE_BYTES < text.len() {
         return LineRead::NoLine;
@@ -234,7 +234,7 @@ fn is_placement(text: &[u8], k: u8, m: u8, q: Placement, n: u32, v: u32) -> bool
 
 // A text that begins like a first line.
 fn read_start(text: &[u8]) -> LineRead
-    ensures { λ a. ⌜ ((r : Railway) → recordRefusal r ≡ none → getD (now (text .entry)) 0 0 ≡ 112 → a ≡ told r (readLine r (now (text .entry)))) ⌝ }
+    ensures { λ a. ⌜ ((r : Railway) → recordRefusal r ≡ none → BeginsLikeStart (now (text .entry)) → a ≡ answerFor r (readLine r (now (text .entry)))) ⌝ }
 {
     let Number::Value(n, _) = figure_at(text, Cursor { at: 5 }) else {
         return LineRead::NoLine;
@@ -248,7 +248,7 @@ fn read_start(text: &[u8]) -> LineRead
 
 // Any other text.
 fn read_placement(table: &Table, text: &[u8]) -> LineRead
-    ensures { λ a. ⌜ ((r : Railway) → Compiled r (now (table .entry)) → (getD (now (text .entry)) 0 0 ≡ 112 → ⊥) → a ≡ told r (readLine r (now (text .entry)))) ⌝ }
+    ensures { λ a. ⌜ ((r : Railway) → Compiled r (now (table .entry)) → (BeginsLikeStart (now (text .entry)) → ⊥) → a ≡ answerFor r (readLine r (now (text .entry)))) ⌝ }
 {
     let m = compiled::count_in(table, 1);
     let k = compiled::count_in(table, 2);

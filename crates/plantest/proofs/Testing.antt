@@ -19,12 +19,12 @@ use Rattle.game.specs.Moves.{moveOf, gameOf}
 use Rattle.tables.specs.Entries.{opensIn, settingAt}
 use Rattle.tables.specs.Tables.{noFigure, figureIn}
 use Rattle.plan.specs.Test.{byTables, listedSetting}
-use Rattle.plan.specs.Computed.{trainFine, listedFine, fineIf, placementFine, testHolds}
+use Rattle.plan.specs.Computed.{trainSignalled, listedPasses, passesIf, placementPasses, testHolds}
 use Rattle.compiled.specs.Table.{countByte}
 use Rattle.moves.specs.declared.Move.{Move}
 use Rattle.moves.specs.Answers.{ended, moveUnder}
 use Rattle.moves.proofs.Placing.{trains-are}
-use Rattle.plantest.specs.Steps.{entryFine}
+use Rattle.plantest.specs.Steps.{signalledIn}
 
 -- LOOPS over the trains, k being the table's count of them
 pub train-there : (r : Railway) (k : ℕ) → k ≡ countByte r 2 → (t : ℕ) → t < k → t < r .trains
@@ -53,11 +53,11 @@ module _ (r : Railway) (m : ℕ) (e : m ≡ placements r) (f : ℕ → Bool) (p 
 
 -- ONE TRAIN: open without a signal
 module _ (r : Railway) (p v t : ℕ) (o : Bool) (is : o ≡ opensIn v t) where
-  pub open-fine : (h : Bool) → o ≡ true → h ≡ held r p t → h ≡ entryFine r p v t
-  open-fine h y e = rw (sym is ∙ y) e
+  pub open-signalled : (h : Bool) → o ≡ true → h ≡ held r p t → h ≡ signalledIn r p v t
+  open-signalled h y e = rw (sym is ∙ y) e
 
-  pub closed-fine : o ≡ false → true ≡ entryFine r p v t
-  closed-fine y = rw (sym is ∙ y)
+  pub closed-signalled : o ≡ false → true ≡ signalledIn r p v t
+  closed-signalled y = rw (sym is ∙ y)
 
 -- .. and where its move ends
 module _ (r : Railway) (figs : List ℕ) (p v n t : ℕ) (m : Bool) (is : m ≡ may (gameOf r) p (settingAt r p v) t) where
@@ -82,35 +82,35 @@ module _ (r : Railway) (figs : List ℕ) (p v n : ℕ) (s : Bool) (is : s ≡ an
 
 -- A LISTED PLACEMENT
 module _ (r : Railway) (figs sets : List ℕ) (p n : ℕ) (lost : Bool) (is-lost : lost ≡ shared r p) where
-  pub lost-fine : lost ≡ true → false ≡ listedFine r (byTables figs sets) p n
-  lost-fine y = rw (sym is-lost ∙ y)
+  pub lost-fails : lost ≡ true → false ≡ listedPasses r (byTables figs sets) p n
+  lost-fails y = rw (sym is-lost ∙ y)
 
-  module _ (apart : lost ≡ false) (v : ℕ) (is-v : v ≡ getD sets p 0) (o : Bool) (is-o : o ≡ allBelow (entryFine r p v) (r .trains)) where
-    opens : o ≡ allBelow (trainFine r (byTables figs sets) p) (r .trains)
+  module _ (apart : lost ≡ false) (v : ℕ) (is-v : v ≡ getD sets p 0) (o : Bool) (is-o : o ≡ allBelow (signalledIn r p v) (r .trains)) where
+    opens : o ≡ allBelow (trainSignalled r (byTables figs sets) p) (r .trains)
     opens = rw is-v at is-o
 
-    pub unsignalled-fine : o ≡ false → false ≡ listedFine r (byTables figs sets) p n
-    unsignalled-fine y = rw (sym is-lost ∙ apart, sym opens ∙ y)
+    pub unsignalled-fails : o ≡ false → false ≡ listedPasses r (byTables figs sets) p n
+    unsignalled-fails y = rw (sym is-lost ∙ apart, sym opens ∙ y)
 
     module _ (signalled : o ≡ true) (h : Bool) (is-h : h ≡ atHome r p) where
-      pub home-fine : h ≡ true → true ≡ listedFine r (byTables figs sets) p n
-      home-fine y = rw (sym is-lost ∙ apart, sym opens ∙ signalled, sym is-h ∙ y)
+      pub home-passes : h ≡ true → true ≡ listedPasses r (byTables figs sets) p n
+      home-passes y = rw (sym is-lost ∙ apart, sym opens ∙ signalled, sym is-h ∙ y)
 
-      pub kept-fine : (b : Bool) → h ≡ false → b ≡ keepsTest (gameOf r) (figureIn figs) p (settingAt r p v) n → b ≡ listedFine r (byTables figs sets) p n
+      pub kept-passes : (b : Bool) → h ≡ false → b ≡ keepsTest (gameOf r) (figureIn figs) p (settingAt r p v) n → b ≡ listedPasses r (byTables figs sets) p n
       unfolding listedSetting settingAt
-      kept-fine b y e = rw (sym is-lost ∙ apart, sym opens ∙ signalled, sym is-h ∙ y) (rw is-v at e)
+      kept-passes b y e = rw (sym is-lost ∙ apart, sym opens ∙ signalled, sym is-h ∙ y) (rw is-v at e)
 
 -- A PLACEMENT
 module _ (r : Railway) (figs sets : List ℕ) (p n : ℕ) (is : n ≡ getD figs p noFigure) where
-  pub unlisted-fine : n ≡ noFigure → true ≡ placementFine r (byTables figs sets) p
-  unfolding placementFine
-  unlisted-fine z = rw (← is, eq-eqb n noFigure z)
+  pub unlisted-passes : n ≡ noFigure → true ≡ placementPasses r (byTables figs sets) p
+  unfolding placementPasses
+  unlisted-passes z = rw (← is, eq-eqb n noFigure z)
 
-  pub listed-is-fine : (b : Bool) → (n ≡ noFigure → ⊥) → b ≡ listedFine r (byTables figs sets) p n → b ≡ placementFine r (byTables figs sets) p
-  unfolding placementFine
-  listed-is-fine b z e = go (getD figs p noFigure) is
+  pub listed-decides : (b : Bool) → (n ≡ noFigure → ⊥) → b ≡ listedPasses r (byTables figs sets) p n → b ≡ placementPasses r (byTables figs sets) p
+  unfolding placementPasses
+  listed-decides b z e = go (getD figs p noFigure) is
     where
-      go : (x : ℕ) → n ≡ x → b ≡ fineIf r (byTables figs sets) p (cond (eqb x noFigure) none (some x))
+      go : (x : ℕ) → n ≡ x → b ≡ passesIf r (byTables figs sets) p (cond (eqb x noFigure) none (some x))
       go x i = rw (← i, ne-eqb n noFigure z) e
 
 -- THE WHOLE TEST
@@ -127,6 +127,6 @@ module _ (r : Railway) (figs sets : List ℕ) (m n s : ℕ) (is-s : s ≡ startC
     unfolding testHolds
     start-other d = rw (← start-is, ne-eqb n noFigure z, ne-eqb n m d)
 
-    pub start-same : (b : Bool) → n ≡ m → b ≡ allBelow (placementFine r (byTables figs sets)) (placements r) → b ≡ testHolds r m (byTables figs sets)
+    pub start-same : (b : Bool) → n ≡ m → b ≡ allBelow (placementPasses r (byTables figs sets)) (placements r) → b ≡ testHolds r m (byTables figs sets)
     unfolding testHolds
     start-same b d e = rw (← start-is, ne-eqb n noFigure z, eq-eqb n m d) e

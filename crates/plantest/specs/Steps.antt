@@ -1,4 +1,4 @@
--- What the contract of a step of the test says. Nothing of document 01 rests on this file: over tables it is `trainFine` (plan/Computed).
+-- What the contract of a step of the test says. Nothing of document 01 rests on this file: over tables it is `trainSignalled` (plan/Computed).
 -- Assumes nothing.
 use mathlib.Core.Bool.{Bool, not, _||_}
 use Prim.Native.Nat.{ℕ}
@@ -7,5 +7,5 @@ use Rattle.game.specs.Setting.{held}
 use Rattle.tables.specs.Entries.{opensIn}
 
 -- Train t is not open in entry v, or a signal stands at the end that it heads for in placement p.
-abbrev pub entryFine : Railway → ℕ → ℕ → ℕ → Bool
-entryFine r p v t = not (opensIn v t) || held r p t
+abbrev pub signalledIn : Railway → ℕ → ℕ → ℕ → Bool
+signalledIn r p v t = not (opensIn v t) || held r p t

@@ -13,11 +13,11 @@ ghost use Rattle.game.specs.Moves.{gameOf};
 ghost use Rattle.tables.specs.Entries.{settingAt};
 ghost use Rattle.tables.specs.Tables.{figureIn};
 ghost use Rattle.plan.specs.Test.{byTables};
-ghost use Rattle.plan.specs.Computed.{listedFine, placementFine, testHolds};
+ghost use Rattle.plan.specs.Computed.{listedPasses, placementPasses, testHolds};
 ghost use Rattle.compiled.specs.Table.{Compiled};
 ghost use Rattle.moves.specs.Answers.{ended};
 ghost use Rattle.moves.specs.Steps.{On};
-ghost use Rattle.plantest.specs.Steps.{entryFine};
+ghost use Rattle.plantest.specs.Steps.{signalledIn};
 use compiled::Table;
 use moves::Move;
 use moves::Placement;
@@ -32,20 +32,20 @@ pub fn test_holds(table: &Table, figures: &[u32], settings: &[u32], m: u32) -> b
         return false;
     }
     if n == m {
-        all_fine(table, figures, settings)
+        all_pass(table, figures, settings)
     } else {
         false
     }
 }
 
 // Every placement.
-fn all_fine(table: &Table, figures: &[u32], settings: &[u32]) -> bool
-    ensures { λ b. ⌜ ((r : Railway) → Compiled r (now (table .entry)) → b ≡ allBelow (placementFine r (byTables (now (figures .entry)) (now (settings .entry)))) (placements r)) ⌝ }
+fn all_pass(table: &Table, figures: &[u32], settings: &[u32]) -> bool
+    ensures { λ b. ⌜ ((r : Railway) → Compiled r (now (table .entry)) → b ≡ allBelow (placementPasses r (byTables (now (figures .entry)) (now (settings .entry)))) (placements r)) ⌝ }
 {
     let m = moves::placements(table);
     let mut p: u32 = 0;
     while p < m {
-        if is_fine(table, figures, settings, p) {
+        if placement_passes(table, figures, settings, p) {
             p += 1;
         } else {
             return false;
@@ -55,26 +55,26 @@ fn all_fine(table: &Table, figures: &[u32], settings: &[u32]) -> bool
 }
 
 // One placement: it is not listed, or it is as listed placements must be.
-fn is_fine(table: &Table, figures: &[u32], settings: &[u32], p: u32) -> bool
-    ensures { λ b. ⌜ ((r : Railway) → Compiled r (now (table .entry)) → b ≡ placementFine r (byTables (now (figures .entry)) (now (settings .entry))) p) ⌝ }
+fn placement_passes(table: &Table, figures: &[u32], settings: &[u32], p: u32) -> bool
+    ensures { λ b. ⌜ ((r : Railway) → Compiled r (now (table .entry)) → b ≡ placementPasses r (byTables (now (figures .entry)) (now (settings .entry))) p) ⌝ }
 {
     let n = tables::entry_at(figures, p, NO_FIGURE);
     if n == NO_FIGURE {
         return true;
     }
-    listed_fine(table, figures, settings, p, n)
+    listed_passes(table, figures, settings, p, n)
 }
 
 // A placement that is listed with figure n: not lost; its open trains have signals; and it is home, or its setting keeps the figure.
-fn listed_fine(table: &Table, figures: &[u32], settings: &[u32], p: u32, n: u32) -> bool
-    ensures { λ b. ⌜ ((r : Railway) → Compiled r (now (table .entry)) → b ≡ listedFine r (byTables (now (figures .entry)) (now (settings .entry))) p n) ⌝ }
+fn listed_passes(table: &Table, figures: &[u32], settings: &[u32], p: u32, n: u32) -> bool
+    ensures { λ b. ⌜ ((r : Railway) → Compiled r (now (table .entry)) → b ≡ listedPasses r (byTables (now (figures .entry)) (now (settings .entry))) p n) ⌝ }
 {
     let q = moves::placement_of(table, p);
     if moves::lost_in(table, q) {
         return false;
     }
     let v = tables::entry_at(settings, p, 0);
-    if opens_fine(table, q, v) {
+    if opens_signalled(table, q, v) {
         if moves::is_home(table, p) {
             return true;
         }
@@ -85,13 +85,13 @@ fn listed_fine(table: &Table, figures: &[u32], settings: &[u32], p: u32, n: u32)
 }
 
 // Every train that the entry opens has a signal before it.
-fn opens_fine(table: &Table, q: Placement, v: u32) -> bool
-    ensures { λ b. ⌜ ((r : Railway) (p : ℕ) → On r p (now (table .entry)) q → b ≡ allBelow (entryFine r p v) (r .trains)) ⌝ }
+fn opens_signalled(table: &Table, q: Placement, v: u32) -> bool
+    ensures { λ b. ⌜ ((r : Railway) (p : ℕ) → On r p (now (table .entry)) q → b ≡ allBelow (signalledIn r p v) (r .trains)) ⌝ }
 {
     let k = compiled::count_in(table, 2);
     let mut t: u8 = 0;
     while t < k {
-        if train_fine(table, q, v, t) {
+        if train_signalled(table, q, v, t) {
             t += 1;
         } else {
             return false;
@@ -100,8 +100,8 @@ fn opens_fine(table: &Table, q: Placement, v: u32) -> bool
     true
 }
 
-fn train_fine(table: &Table, q: Placement, v: u32, t: u8) -> bool
-    ensures { λ b. ⌜ ((r : Railway) (p : ℕ) → On r p (now (table .entry)) q → t < r .trains → b ≡ entryFine r p v t) ⌝ }
+fn train_signalled(table: &Table, q: Placement, v: u32, t: u8) -> bool
+    ensures { λ b. ⌜ ((r : Railway) (p : ℕ) → On r p (now (table .entry)) q → t < r .trains → b ≡ signalledIn r p v t) ⌝ }
 {
     if moves::bit_at(v, 16 + (t as u32)) {
         moves::held_in(table, q, t)

@@ -1,5 +1,5 @@
--- With every line the emitter's place moves on towards the end of the figure table: behind the first line it is the first code, and behind the line of a
--- placement the code after it. Assumes nothing.
+-- With every line the emitter's place moves on towards the end of the figure table: behind the first line it is the first code, and behind the
+-- line of a placement the code after it. Assumes nothing.
 use mathlib.Core.Path.{_≡_, refl, sym, _∙_}
 use mathlib.Core.Bool.{Bool, true, false, cond}
 use mathlib.Core.List.{List, _++_}

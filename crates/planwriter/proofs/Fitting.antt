@@ -1,5 +1,5 @@
--- A line that the emitter says it wrote lies within the buffer, which is as long as it was; and the call, with a buffer for every line, is one of those by which
--- a plan is written. Assumes nothing.
+-- A line that the emitter says it wrote lies within the buffer, which is as long as it was; and the call, with a buffer for every line, is one
+-- of those by which a plan is written. Assumes nothing.
 use mathlib.Core.Path.{_≡_, sym, _∙_, ap, subst}
 use mathlib.Core.Bool.{true}
 use mathlib.Core.List.{List}

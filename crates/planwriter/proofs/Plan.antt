@@ -1,10 +1,10 @@
--- What is written is the plan: with more buffers the calls are the same, since the last one has ended them; with enough of them, demand 3 says what they are.
--- Assumes nothing.
+-- What is written is the plan: with more buffers the calls are the same, since the last one has ended them;
+-- with enough of them, demand 3 says what they are. Assumes nothing.
 use mathlib.Core.Path.{_≡_, refl, sym, _∙_, ap}
 use mathlib.Core.Bool.{true}
 use mathlib.Core.List.{List, [], _∷_, _++_}
 use mathlib.Core.Option.{some}
-use Prim.Native.Nat.{ℕ, zero, suc, _+_, _<_}
+use Prim.Native.Nat.{ℕ, zero, suc, _<_}
 use native.Mathlib.Omega.{arith}
 use lib.ListN.{length, replicate, length-append, length-replicate}
 use Rattle.laws.specs.Lists.{all}

@@ -1,5 +1,5 @@
--- The emitter's calls by which a plan is written out, each line as it comes (document 01, end of "The two tables and the plan": what `signalplan` writes).
--- Assumes nothing.
+-- The emitter's calls by which a plan is written out, each line as it comes (document 01, end of "The two
+-- tables and the plan": what `signalplan` writes). Assumes nothing.
 use mathlib.Core.Path.{_≡_}
 use mathlib.Core.Bool.{Bool, true}
 use mathlib.Core.List.{List}

@@ -3,7 +3,7 @@
 use mathlib.Core.Path.{_≡_, _∙_}
 use mathlib.Core.Logic.{_↔_, inl, inr}
 use mathlib.Core.Bool.{false}
-use mathlib.Core.List.{List, [], _∷_}
+use mathlib.Core.List.{List, [], _∷_, _++_}
 use mathlib.Core.Option.{none, some}
 use Prim.Native.Nat.{ℕ, _≤_}
 use lib.ListN.{length}
@@ -14,17 +14,22 @@ use Rattle.laws.proofs.Bools.{bool?, option?, some-none, or-false, or-none}
 use Rattle.railway.specs.declared.Railway.{Railway}
 use Rattle.railway.specs.declared.Refusal.{Refusal}
 use Rattle.railway.specs.declared.Refusal.the-variants.{Space}
-use Rattle.railway.specs.Refusals.{row, refuseIf, first}
+use Rattle.railway.specs.Refusals.{Row, row, refuseIf, first}
 use Rattle.railway.specs.Rows.{recordRows, recordRefusal}
 use Rattle.railway.proofs.Refusals.{first-append}
 use Rattle.game.specs.Placement.{placements}
-use Rattle.tables.specs.Tables.{tablesShort, caseRefusal}
+use Rattle.tables.specs.Tables.{tablesShort, caseRows, caseRefusal}
 
 module _ (r : Railway) (figs sets : List ℕ) where
   -- the record's rows, else row 9
   pub case-rows : caseRefusal r figs sets ≡ orElse (recordRefusal r) (refuseIf (tablesShort r figs sets) Space none)
   unfolding caseRefusal recordRefusal first
   case-rows = first-append (recordRows r) (row Space (tablesShort r figs sets) ∷ [])
+
+  -- rows 3 to 9, else further ones
+  pub case-then : (rest : List Row) → first (caseRows r figs sets ++ rest) ≡ orElse (caseRefusal r figs sets) (first rest)
+  unfolding caseRefusal
+  case-then rest = first-append (caseRows r figs sets) rest
 
   pub case-record : (f : Refusal) → recordRefusal r ≡ some f → caseRefusal r figs sets ≡ some f
   case-record f e = case-rows ∙ rw e

@@ -14,7 +14,7 @@ use Rattle.railway.specs.declared.Railway.{Railway}
 use Rattle.railway.specs.declared.Refusal.{Refusal}
 use Rattle.railway.specs.declared.Refusal.the-variants.{Space}
 use Rattle.railway.specs.Bounds.{sectionEnds}
-use Rattle.railway.specs.Refusals.{row, first}
+use Rattle.railway.specs.Refusals.{Row, row, first}
 use Rattle.railway.specs.Record.{flagAt}
 use Rattle.railway.specs.Rows.{recordRows}
 use Rattle.game.specs.Game.{IsFigure}
@@ -44,9 +44,13 @@ settingIn r sets p = settingAt r p (getD sets p 0)
 unfoldable pub tablesShort : Railway → List ℕ → List ℕ → Bool
 tablesShort r figs sets = ltb (length figs) (placements r) || ltb (length sets) (placements r)
 
--- The first of rows 3 to 9 that applies to a record and two lent tables.
+-- Rows 3 to 9, for a record and two lent tables.
+abbrev pub caseRows : Railway → List ℕ → List ℕ → List Row
+caseRows r figs sets = recordRows r ++ (row Space (tablesShort r figs sets) ∷ [])
+
+-- The first of them that applies.
 unfoldable pub caseRefusal : Railway → List ℕ → List ℕ → Option Refusal
-caseRefusal r figs sets = first (recordRows r ++ (row Space (tablesShort r figs sets) ∷ []))
+caseRefusal r figs sets = first (caseRows r figs sets)
 
 -- THE PLAN'S RULE. A signal stands at the section end of index i, and is open.
 abbrev pub opensSignal : Railway → Setting → ℕ → Bool

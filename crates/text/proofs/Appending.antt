@@ -108,6 +108,17 @@ module _ {out text out′ : List ℕ} {at at′ : ℕ} (p : Appended out at text
   pub appended-cursor : at′ ≡ at + length text
   appended-cursor = p .cursor ∙ bytes-sets text out at room .1
 
+-- FROM THE FRONT of a buffer that has room
+module _ {out text out′ : List ℕ} {n : ℕ} (p : Appended out 0 text out′ n) (room : length text ≤ length out) where
+  front-room : 0 + length text ≤ length out
+  front-room = omega arith
+
+  pub front-bytes : out′ ≡ text ++ drop (length text) out
+  front-bytes = let e : 0 + length text ≡ length text = omega arith in rw e at (appended-bytes p front-room)
+
+  pub front-cursor : n ≡ length text
+  front-cursor = appended-cursor p front-room ∙ omega arith
+
 -- PIECES, one for each number below a bound
 module _ (f : ℕ → List ℕ) {o : List ℕ} {a : ℕ} where
   pub pieces-none : Appended o a (gatherBelow f 0) o a

@@ -13,11 +13,11 @@ use Rattle.plan.specs.declared.LineAnswer.{LineAnswer}
 use Rattle.plan.specs.declared.LineAnswer.the-variants.{Taken, Refused as LineRefused}
 use Rattle.plan.specs.declared.TestAnswer.{TestAnswer}
 use Rattle.plan.specs.declared.TestAnswer.the-variants.{Refused as TestRefused}
-use Rattle.plan.specs.Checker.{testNumber, Checking, freshChecking, takeLine, testPlan}
+use Rattle.plan.specs.Checker.{Checking, freshChecking, takeLine, testPlan}
 use Rattle.plan.specs.Promises.{FreshPost, LinePost, TestPost}
 use Rattle.plan.proofs.Emits.{none-refused}
 use Rattle.plan.proofs.Rules.{check-rule}
-use Rattle.verdict.specs.Verdict.{linesOf, afterLine, checkLines, entries, fresh, checkText, PlanPost}
+use Rattle.verdict.specs.Verdict.{linesOf, afterLine, checkLines, entries, checkText}
 use Rattle.verdict.proofs.Lines.{LineAt}
 
 -- what is done from a place on, with c, is answered by x
@@ -77,7 +77,3 @@ still-fine r c l e =
     let k = case-none r (c .figs) (c .sets) .0 e in
     let w = check-rule r c .line-changes l in
     none-refused r _ _ (k .0) (rw (w .kept-figs .as-long) (k .1 .figures)) (rw (w .kept-sets .as-long) (k .1 .settings))
-
--- what was done is what is promised
-pub promised : (r : Railway) (plan : List ℕ) (a : TestAnswer) → a ≡ checkText r plan → PlanPost r plan a
-promised r plan a e = record { answer = e; numbered = λ f h. ap testNumber (e ∙ refused-case r (linesOf plan) fresh f h) }

@@ -1,32 +1,36 @@
 -- The calls up to the first refusal, against all calls: where every line is taken the two are the same, and where one is refused it is missing among
--- the lines taken, while a plan in form has none missing. So the answer is what all calls say of the lines. Assumes nothing.
+-- the lines taken, while a plan in form has none missing. So the answer is what all calls say of the lines,
+-- and its number that of the first row that applies. Assumes nothing.
 use mathlib.Core.Path.{_≡_, refl, sym, _∙_, ap, subst}
+use mathlib.Core.Bool.{true, false}
 use mathlib.Core.List.{List, [], _∷_, List·Memᴰ, List·Memᴰ·head, List·Memᴰ·tail}
 use mathlib.Core.Logic.{_⊎_, inl, inr, _↔_}
 use mathlib.Core.Option.{Option, none, some}
 use Prim.Native.Nat.{ℕ, _≤_, _<_}
 use native.Mathlib.Omega.{arith}
 use lib.ListN.{length, length-replicate}
+use Rattle.laws.specs.Lists.{all}
 use Rattle.railway.specs.declared.Railway.{Railway}
 use Rattle.railway.specs.declared.Refusal.{Refusal}
 use Rattle.railway.specs.declared.Refusal.the-variants.{PlanForm, PlanFault}
-use Rattle.railway.specs.Refusals.{number}
+use Rattle.railway.specs.Refusals.{number, Row, row, first, numberOf}
 use Rattle.railway.specs.Rows.{recordRefusal}
 use Rattle.game.specs.Placement.{placements}
 use Rattle.tables.specs.Tables.{noFigure, caseRefusal}
-use Rattle.tables.proofs.Refusals.{case-none}
+use Rattle.tables.proofs.Refusals.{case-then, case-none}
 use Rattle.plan.specs.declared.LineAnswer.{LineAnswer}
 use Rattle.plan.specs.declared.LineAnswer.the-variants.{Taken, Refused as LineRefused}
 use Rattle.plan.specs.declared.TestAnswer.{TestAnswer}
 use Rattle.plan.specs.declared.TestAnswer.the-variants.{Pass, Refused as TestRefused}
 use Rattle.plan.specs.Lines.{PlacementLine}
-use Rattle.plan.specs.Checker.{Checking, freshChecking, takeLine, testPlan, run, takenTexts}
+use Rattle.plan.specs.Checker.{testNumber, Checking, freshChecking, takeLine, nothingTaken, planFails, testRows, testPlan, Run, run, isTaken, takenTexts}
 use Rattle.plan.specs.Checked.{Form, PlanWith, Checked, InForm}
 use Rattle.plan.proofs.Checks.{checked-holds}
 use Rattle.plan.proofs.Emits.{none-refused}
 use Rattle.plan.proofs.Forms.{no-form}
+use Rattle.plan.proofs.Numbers.{test-numbered}
 use Rattle.plan.proofs.Rules.{check-rule}
-use Rattle.verdict.specs.Verdict.{linesOf, checkLines, entries}
+use Rattle.verdict.specs.Verdict.{linesOf, checkLines, planOutOfForm, rowsBy, entries, checkText, PlanPost}
 use Rattle.verdict.specs.Claims.{ByPlan, VerdictHolds, CaseHolds}
 use Rattle.verdict.proofs.Calls.{refused-case, still-fine}
 
@@ -42,25 +46,40 @@ taken-few (LineRefused f ∷ xs) (l ∷ ls) = let h = taken-few xs ls in omega (
 record AllTaken (r : Railway) (ls : List (List ℕ)) (c : Checking) : Type 0 where
   same : checkLines r ls c ≡ testPlan r (run r ls c .end) .answer
   taken : takenTexts (run r ls c .answers) ls ≡ ls
+  each : all isTaken (run r ls c .answers) ≡ true
 
 record OneRefused (r : Railway) (ls : List (List ℕ)) (c : Checking) : Type 0 where
   refusal : Refusal
   answer : checkLines r ls c ≡ TestRefused refusal
   among : List·Memᴰ (LineRefused refusal) (run r ls c .answers)
   missing : length (takenTexts (run r ls c .answers) ls) < length ls
+  not-each : all isTaken (run r ls c .answers) ≡ false
 
 one-more : (r : Railway) (l : List ℕ) (ls : List (List ℕ)) (c : Checking) (a : LineAnswer) (c′ : Checking) → takeLine r c l .answer ≡ a → takeLine r c l .checking ≡ c′
     → AllTaken r ls c′ ⊎ OneRefused r ls c′ → AllTaken r (l ∷ ls) c ⊎ OneRefused r (l ∷ ls) c
-unfolding checkLines run takenTexts
-one-more r l ls c Taken c′ e₁ e₂ (inl h) = inl (record { same = rw (e₁, e₂) (h .same); taken = rw (e₁, e₂) (ap (λ (x : List (List ℕ)). l ∷ x) (h .taken)) })
+unfolding checkLines run takenTexts all
+one-more r l ls c Taken c′ e₁ e₂ (inl h) =
+    inl (record { same = rw (e₁, e₂) (h .same); taken = rw (e₁, e₂) (ap (λ (x : List (List ℕ)). l ∷ x) (h .taken)); each = rw (e₁, e₂) (h .each) })
 one-more r l ls c Taken c′ e₁ e₂ (inr h) =
-    inr (record { refusal = h .refusal; answer = rw (e₁, e₂) (h .answer); among = rw (e₁, e₂) (List·Memᴰ·tail (h .among)); missing = rw (e₁, e₂) (let m = h .missing in omega (arith, m)) })
+    inr (record {
+      refusal = h .refusal;
+      answer = rw (e₁, e₂) (h .answer);
+      among = rw (e₁, e₂) (List·Memᴰ·tail (h .among));
+      missing = rw (e₁, e₂) (let m = h .missing in omega (arith, m));
+      not-each = rw (e₁, e₂) (h .not-each);
+    })
 one-more r l ls c (LineRefused f) c′ e₁ e₂ h =
-    inr (record { refusal = f; answer = rw e₁ refl; among = List·Memᴰ·head (sym e₁); missing = rw (e₁, e₂) (let m = taken-few (run r ls c′ .answers) ls in omega (arith, m)) })
+    inr (record {
+      refusal = f;
+      answer = rw e₁ refl;
+      among = List·Memᴰ·head (sym e₁);
+      missing = rw (e₁, e₂) (let m = taken-few (run r ls c′ .answers) ls in omega (arith, m));
+      not-each = rw e₁ refl;
+    })
 
 either : (r : Railway) (ls : List (List ℕ)) (c : Checking) → AllTaken r ls c ⊎ OneRefused r ls c
-unfolding checkLines run takenTexts
-either r [] c = inl (record { same = refl; taken = refl })
+unfolding checkLines run takenTexts all
+either r [] c = inl (record { same = refl; taken = refl; each = refl })
 either r (l ∷ ls) c = one-more r l ls c _ _ refl refl (either r ls (takeLine r c l .checking))
 
 -- calls for lines make no case refused that was not
@@ -124,9 +143,9 @@ module _ (r : Railway) (ls : List (List ℕ)) (c : Checking) (k : Checked r ls (
       let e : length (takenTexts (run r ls c .answers) ls) ≡ length ls = ap length (k .whole w) in
       absurd (omega (arith, m, e))
 
-  module _ (fine : caseRefusal r (c .figs) (c .sets) ≡ none) where
+  module _ (unrefused : caseRefusal r (c .figs) (c .sets) ≡ none) where
     end-by-test : ByTest (testPlan r (run r ls c .end) .answer)
-    end-by-test = tested-by r (run r ls c .end) (still-none r ls c fine) _ refl
+    end-by-test = tested-by r (run r ls c .end) (still-none r ls c unrefused) _ refl
 
     by-plan : AllTaken r ls c ⊎ OneRefused r ls c → ByPlan r ls (checkLines r ls c)
     by-plan (inl h) =
@@ -138,13 +157,39 @@ module _ (r : Railway) (ls : List (List ℕ)) (c : Checking) (k : Checked r ls (
     one-of-three (inl h) = subst ByTest (sym (h .same)) end-by-test
     one-of-three (inr h) = unformed (plan-form h)
 
+    -- the rows: where every line was taken they are those of the test, and where one was refused row 10 applies
+    abbrev after : Run
+    after = run r ls c
+
+    abbrev fault : Row
+    fault = row PlanFault (planFails r (after .end) (after .end .state))
+
+    plan-rows : first (rowsBy r c after) ≡ first (row PlanForm (planOutOfForm after) ∷ fault ∷ [])
+    plan-rows = case-then r (c .figs) (c .sets) (row PlanForm (planOutOfForm after) ∷ fault ∷ []) ∙ rw unrefused
+
+    rows-of-test : all isTaken (after .answers) ≡ true → first (rowsBy r c after) ≡ first (testRows r (after .end))
+    rows-of-test e =
+        let form : Row = row PlanForm (nothingTaken (after .end .state)) in
+        let same : first (row PlanForm (planOutOfForm after) ∷ fault ∷ []) ≡ first (form ∷ fault ∷ []) = rw e in
+        let test : first (testRows r (after .end)) ≡ first (form ∷ fault ∷ []) =
+        case-then r (after .end .figs) (after .end .sets) (form ∷ fault ∷ []) ∙ rw (still-none r ls c unrefused) in
+        plan-rows ∙ same ∙ sym test
+
+    row-of-line : all isTaken (after .answers) ≡ false → first (rowsBy r c after) ≡ some PlanForm
+    unfolding first
+    row-of-line e = let given : first (row PlanForm (planOutOfForm after) ∷ fault ∷ []) ≡ some PlanForm = rw e refl in plan-rows ∙ given
+
+    by-rows : AllTaken r ls c ⊎ OneRefused r ls c → testNumber (checkLines r ls c) ≡ numberOf (first (rowsBy r c after))
+    by-rows (inl h) = ap testNumber (h .same) ∙ test-numbered r (after .end) ∙ ap numberOf (sym (rows-of-test (h .each)))
+    by-rows (inr h) = ap testNumber (plan-form h) ∙ ap numberOf (sym (row-of-line (h .not-each)))
+
 -- FROM FRESH TABLES of n and m entries
-fresh-fine : (r : Railway) (n m : ℕ) → recordRefusal r ≡ none → placements r ≤ n → placements r ≤ m
+fresh-unrefused : (r : Railway) (n m : ℕ) → recordRefusal r ≡ none → placements r ≤ n → placements r ≤ m
     → caseRefusal r (freshChecking n m .figs) (freshChecking n m .sets) ≡ none
-fresh-fine r n m ok p q = none-refused r _ _ ok (rw (length-replicate {A = ℕ} n noFigure) p) (rw (length-replicate {A = ℕ} m 0) q)
+fresh-unrefused r n m ok p q = none-refused r _ _ ok (rw (length-replicate {A = ℕ} n noFigure) p) (rw (length-replicate {A = ℕ} m 0) q)
 
 fresh-by-plan : (r : Railway) (n m : ℕ) → recordRefusal r ≡ none → placements r ≤ n → placements r ≤ m → (ls : List (List ℕ)) → ByPlan r ls (checkLines r ls (freshChecking n m))
-fresh-by-plan r n m ok p q ls = by-plan r ls (freshChecking n m) (checked-holds r ok n m p q ls) (fresh-fine r n m ok p q) (either r ls (freshChecking n m))
+fresh-by-plan r n m ok p q ls = by-plan r ls (freshChecking n m) (checked-holds r ok n m p q ls) (fresh-unrefused r n m ok p q) (either r ls (freshChecking n m))
 
 -- a case that is refused, or one that is not and whose answer is one of the three
 module _ (r : Railway) (ls : List (List ℕ)) (c : Checking) (f : Refusal) (other₁ : ¬ (f ≡ PlanForm)) (other₂ : ¬ (f ≡ PlanFault)) where
@@ -158,16 +203,38 @@ module _ (r : Railway) (ls : List (List ℕ)) (c : Checking) (f : Refusal) (othe
   by-case three none e q = none-other (three e) q
   by-case three (some g) e q = let h = refused-case r ls c g e in let z : g ≡ f = cc in e ∙ ap some z
 
-fresh-three : (r : Railway) (n m : ℕ) (ls : List (List ℕ)) → caseRefusal r (freshChecking n m .figs) (freshChecking n m .sets) ≡ none → ByTest (checkLines r ls (freshChecking n m))
-fresh-three r n m ls e =
+fresh-enough : (r : Railway) (n m : ℕ) → caseRefusal r (freshChecking n m .figs) (freshChecking n m .sets) ≡ none → (recordRefusal r ≡ none) × (placements r ≤ n) × (placements r ≤ m)
+fresh-enough r n m e =
     let k = case-none r (freshChecking n m .figs) (freshChecking n m .sets) .0 e in
     let p : placements r ≤ n = rw (length-replicate {A = ℕ} n noFigure) at (k .1 .figures) in
     let q : placements r ≤ m = rw (length-replicate {A = ℕ} m 0) at (k .1 .settings) in
-    one-of-three r ls (freshChecking n m) (checked-holds r (k .0) n m p q ls) e (either r ls (freshChecking n m))
+    (k .0, p, q)
+
+fresh-three : (r : Railway) (n m : ℕ) (ls : List (List ℕ)) → caseRefusal r (freshChecking n m .figs) (freshChecking n m .sets) ≡ none → ByTest (checkLines r ls (freshChecking n m))
+fresh-three r n m ls e =
+    let k = fresh-enough r n m e in one-of-three r ls (freshChecking n m) (checked-holds r (k .0) n m (k .1) (k .2) ls) e (either r ls (freshChecking n m))
 
 fresh-by-case : (r : Railway) (n m : ℕ) (ls : List (List ℕ)) (f : Refusal) → ¬ (f ≡ PlanForm) → ¬ (f ≡ PlanFault)
     → (checkLines r ls (freshChecking n m) ≡ TestRefused f) ↔ (caseRefusal r (freshChecking n m .figs) (freshChecking n m .sets) ≡ some f)
 fresh-by-case r n m ls f other₁ other₂ = (by-case r ls (freshChecking n m) f other₁ other₂ (fresh-three r n m ls) _ refl, refused-case r ls (freshChecking n m) f)
+
+-- THE NUMBER is that of the first row: a case that is refused, or one that is not
+refused-rows : (r : Railway) (ls : List (List ℕ)) (c : Checking) (f : Refusal) → caseRefusal r (c .figs) (c .sets) ≡ some f
+    → testNumber (checkLines r ls c) ≡ numberOf (first (rowsBy r c (run r ls c)))
+refused-rows r ls c f e =
+    let u : Run = run r ls c in
+    let given : first (rowsBy r c u) ≡ some f =
+    case-then r (c .figs) (c .sets) (row PlanForm (planOutOfForm u) ∷ row PlanFault (planFails r (u .end) (u .end .state)) ∷ []) ∙ rw e in
+    ap testNumber (refused-case r ls c f e) ∙ ap numberOf (sym given)
+
+fresh-rows : (r : Railway) (n m : ℕ) (ls : List (List ℕ)) (o : Option Refusal) → caseRefusal r (freshChecking n m .figs) (freshChecking n m .sets) ≡ o
+    → testNumber (checkLines r ls (freshChecking n m)) ≡ numberOf (first (rowsBy r (freshChecking n m) (run r ls (freshChecking n m))))
+fresh-rows r n m ls (some f) e = refused-rows r ls (freshChecking n m) f e
+fresh-rows r n m ls none e = let k = fresh-enough r n m e in by-rows r ls (freshChecking n m) (checked-holds r (k .0) n m (k .1) (k .2) ls) e (either r ls (freshChecking n m))
+
+-- what was done is what is promised
+pub promised : (r : Railway) (plan : List ℕ) (a : TestAnswer) → a ≡ checkText r plan → PlanPost r plan a
+promised r plan a e = record { answer = e; numbered = ap testNumber e ∙ fresh-rows r entries entries (linesOf plan) _ refl }
 
 pub verdict-holds : VerdictHolds
 verdict-holds r ok p plan a post = subst (ByPlan r (linesOf plan)) (sym (post .answer)) (fresh-by-plan r entries entries ok p p (linesOf plan))

@@ -1,5 +1,6 @@
--- What a text checked whole is answered: pass, plan form (10) or plan fault (11) in an accepted case with room for its placements, and else the number of
--- the case (document 01, "The two tables and the plan": the form of a plan, its test; the table of numbers); and how much of it decides that. Assumes nothing.
+-- What a text checked whole is answered: pass, plan form (10) or plan fault (11) in an accepted case with room for its placements, and else the
+-- number of the case (document 01, "The two tables and the plan": the form of a plan, its test; the table of numbers); and how much of a text
+-- decides that. Assumes nothing.
 use mathlib.Core.Path.{_≡_}
 use mathlib.Core.List.{List}
 use mathlib.Core.Logic.{_↔_}

@@ -1,21 +1,23 @@
 -- A plan's text checked whole (document 01, end of "The two tables and the plan": what `plancheck` makes of a case and a plan).
 -- Assumes nothing.
 use mathlib.Core.Path.{_≡_}
-use mathlib.Core.Bool.{cond}
-use mathlib.Core.List.{List, [], _∷_}
-use mathlib.Core.Option.{Option, some}
+use mathlib.Core.Bool.{Bool, cond, not, _||_}
+use mathlib.Core.List.{List, [], _∷_, _++_}
+use mathlib.Core.Option.{Option}
 use Prim.Native.Nat.{ℕ}
 use lib.Dec.{eqb}
+use Rattle.laws.specs.Lists.{all}
 use Rattle.text.specs.Text.{lineEnd}
 use Rattle.railway.specs.declared.Railway.{Railway}
 use Rattle.railway.specs.declared.Refusal.{Refusal}
-use Rattle.railway.specs.Refusals.{number}
-use Rattle.tables.specs.Tables.{caseRefusal}
+use Rattle.railway.specs.declared.Refusal.the-variants.{PlanForm, PlanFault}
+use Rattle.railway.specs.Refusals.{Row, row, first, numberOf}
+use Rattle.tables.specs.Tables.{caseRows, caseRefusal}
 use Rattle.plan.specs.declared.LineAnswer.{LineAnswer}
 use Rattle.plan.specs.declared.LineAnswer.the-variants.{Taken, Refused as LineRefused}
 use Rattle.plan.specs.declared.TestAnswer.{TestAnswer}
 use Rattle.plan.specs.declared.TestAnswer.the-variants.{Refused as TestRefused}
-use Rattle.plan.specs.Checker.{testNumber, Checking, freshChecking, takeLine, testPlan}
+use Rattle.plan.specs.Checker.{testNumber, Checking, freshChecking, takeLine, nothingTaken, planFails, testPlan, Run, run, isTaken}
 
 -- A byte more in front of the first line.
 abbrev pub begun : ℕ → List (List ℕ) → List (List ℕ)
@@ -37,6 +39,14 @@ unfoldable pub checkLines : Railway → List (List ℕ) → Checking → TestAns
 checkLines r [] c = testPlan r c .answer
 checkLines r (l ∷ ls) c = afterLine (takeLine r c l .answer) (takeLine r c l .checking) (checkLines r ls)
 
+-- 10, plan form: a line is refused, or none is there.
+abbrev pub planOutOfForm : Run → Bool
+planOutOfForm u = not (all isTaken (u .answers)) || nothingTaken (u .end .state)
+
+-- The rows of a check, handed c, by what the calls for all lines answer and leave: 3 to 9 for the case, then 10 and 11 for the plan.
+abbrev pub rowsBy : Railway → Checking → Run → List Row
+rowsBy r c u = caseRows r (c .figs) (c .sets) ++ (row PlanForm (planOutOfForm u) ∷ row PlanFault (planFails r (u .end) (u .end .state)) ∷ [])
+
 -- THE TABLES of a check have so many entries.
 abbrev pub entries : ℕ
 entries = 8192
@@ -53,7 +63,11 @@ refusalOf r = caseRefusal r (fresh .figs) (fresh .sets)
 abbrev pub checkText : Railway → List ℕ → TestAnswer
 checkText r plan = checkLines r (linesOf plan) fresh
 
--- WHAT THE CHECK OF A PLAN PROMISES, handed a railway and a text: the answer, and for a railway that is refused its number, whatever the text.
+-- The rows for the plan in a text.
+abbrev pub planRows : Railway → List ℕ → List Row
+planRows r plan = rowsBy r fresh (run r (linesOf plan) fresh)
+
+-- WHAT THE CHECK OF A PLAN PROMISES, handed a railway and a text: the answer, and its number, that of the first row that applies.
 pub record PlanPost (r : Railway) (plan : List ℕ) (a : TestAnswer) : Type 0 where
   pub answer : a ≡ checkText r plan
-  pub numbered : (f : Refusal) → refusalOf r ≡ some f → testNumber a ≡ some (number f)
+  pub numbered : testNumber a ≡ numberOf (first (planRows r plan))

@@ -18,8 +18,8 @@ returns c =
     let a = f .before .before .before .before .args in
     start-unlisted r (a .figures .now) (a .settings .now) (a .m) _ _ (f .before .start-code .ensures r h) (f .entry-at .ensures) (c .if1 .taken)
 
-all-fine-requires : tie.Need-all-fine-requires
-all-fine-requires c κs = search needs
+all-pass-requires : tie.Need-all-pass-requires
+all-pass-requires c κs = search needs
 
 returns-2 : tie.Need-returns-2
 returns-2 c =
@@ -27,7 +27,7 @@ returns-2 c =
     let e = c .before .before in
     let f = e .before in
     let a = f .before .before .before .before .args in
-    start-same r (a .figures .now) (a .settings .now) (a .m) _ _ (f .before .start-code .ensures r h) (f .entry-at .ensures) (e .if1 .left) _ (c .before .if2 .taken) (c .all-fine .ensures r h)
+    start-same r (a .figures .now) (a .settings .now) (a .m) _ _ (f .before .start-code .ensures r h) (f .entry-at .ensures) (e .if1 .left) _ (c .before .if2 .taken) (c .all-pass .ensures r h)
 
 returns-3 : tie.Need-returns-3
 returns-3 c =
@@ -38,4 +38,4 @@ returns-3 c =
     start-other r (a .figures .now) (a .settings .now) (a .m) _ _ (f .before .start-code .ensures r h) (f .entry-at .ensures) (e .if1 .left) (c .if2 .left)
 
 pub test-holds-spec : {M : Type 1} → statement M
-test-holds-spec = tie.close (tie.spec start-code-requires entry-at-requires returns all-fine-requires returns-2 returns-3)
+test-holds-spec = tie.close (tie.spec start-code-requires entry-at-requires returns all-pass-requires returns-2 returns-3)

@@ -1,5 +1,5 @@
--- `planwriter::write_line` meets its contract by the emitter's, and is safe: the part of the buffer that is written out is what the emitter says, and lies within it.
--- Assumes nothing.
+-- `planwriter::write_line` meets its contract by the emitter's, and is safe: the part of the buffer that is
+-- written out is what the emitter says, and lies within it. Assumes nothing.
 use borrow.Author.Needs.{needs}
 use native.Mathlib.Omega.{arith}
 use mathlib.Core.Path.{refl}

@@ -1,5 +1,5 @@
--- `planwriter::write_lines` meets its contract. The loop's invariant: what is still to come from the place reached makes the calls from the top. It ends, for
--- each line leaves less of the figure table ahead.
+-- `planwriter::write_lines` meets its contract. The loop's invariant: what is still to come from the place reached makes the calls from the top.
+-- It ends, for each line leaves less of the figure table ahead.
 -- Assumes nothing.
 use borrow.Author.Needs.{needs}
 use native.Mathlib.Omega.{arith}

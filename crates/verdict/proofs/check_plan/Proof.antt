@@ -10,7 +10,8 @@ use lib.ListN.{length}
 use Rattle.checker.specs.Answers.{checking}
 use Rattle.verdict.specs.Verdict.{entries, checkText}
 use Rattle.verdict.proofs.Lines.{LineAt, line-at}
-use Rattle.verdict.proofs.Calls.{Onward, fresh-start, taken-on, refused-so, tested-so, promised}
+use Rattle.verdict.proofs.Calls.{Onward, fresh-start, taken-on, refused-so, tested-so}
+use Rattle.verdict.proofs.Passing.{promised}
 use Rattle.verdict.proofs.check_plan.Statement.{statement}
 use Rattle.verdict.proofs.check_plan.Tie as tie
 

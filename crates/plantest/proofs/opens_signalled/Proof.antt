@@ -1,4 +1,4 @@
--- `plantest::opens_fine` meets its contract. The loop's invariant: every open train before t has its signal.
+-- `plantest::opens_signalled` meets its contract. The loop's invariant: every open train before t has its signal.
 -- Assumes nothing.
 use native.Mathlib.Omega.{arith}
 use borrow.Author.Needs.{needs}
@@ -9,13 +9,13 @@ use Rattle.laws.specs.Below.{allBelow}
 use Rattle.laws.proofs.Below.{all-next}
 use Rattle.railway.specs.declared.Railway.{Railway}
 use Rattle.moves.specs.Steps.{On}
-use Rattle.plantest.specs.Steps.{entryFine}
+use Rattle.plantest.specs.Steps.{signalledIn}
 use Rattle.plantest.proofs.Testing.{train-there, but-a-train, every-train}
-use Rattle.plantest.proofs.opens_fine.Statement.{statement}
-use Rattle.plantest.proofs.opens_fine.Tie as tie
+use Rattle.plantest.proofs.opens_signalled.Statement.{statement}
+use Rattle.plantest.proofs.opens_signalled.Tie as tie
 
 abbrev Inv-loop : tie.InvT-loop
-Inv-loop table q v k t₀ t = (t ≤ k) × ((r : Railway) (p : ℕ) → On r p table q → allBelow (entryFine r p v) t ≡ true)
+Inv-loop table q v k t₀ t = (t ≤ k) × ((r : Railway) (p : ℕ) → On r p table q → allBelow (signalledIn r p v) t ≡ true)
 
 abbrev μ-loop : tie.MeasureT-loop
 μ-loop table q v k t₀ t = k - t
@@ -27,8 +27,8 @@ loop-holds : tie.Need-loop-holds Inv-loop μ-loop
 unfolding allBelow
 loop-holds c = (omega arith, λ r p on. refl)
 
-train-fine-requires : tie.Need-train-fine-requires Inv-loop μ-loop
-train-fine-requires c κs = search needs
+train-signalled-requires : tie.Need-train-signalled-requires Inv-loop μ-loop
+train-signalled-requires c κs = search needs
 
 add-t : tie.Need-add-t Inv-loop μ-loop
 add-t c = omega arith
@@ -39,7 +39,7 @@ loop-less c = omega arith
 loop-again : tie.Need-loop-again Inv-loop μ-loop
 loop-again c =
     let l = c .before .before .before in
-    (omega arith, λ r p on. let there = train-there r _ (l .before .count-in .ensures r (on .compiled) (omega arith)) _ (c .before .before .loop-test .taken) in all-next _ _ (l .loop .inv .1 r p on) (sym (c .before .train-fine .ensures r p on there) ∙ c .if1 .taken))
+    (omega arith, λ r p on. let there = train-there r _ (l .before .count-in .ensures r (on .compiled) (omega arith)) _ (c .before .before .loop-test .taken) in all-next _ _ (l .loop .inv .1 r p on) (sym (c .before .train-signalled .ensures r p on there) ∙ c .if1 .taken))
 
 returns : tie.Need-returns Inv-loop μ-loop
 returns c =
@@ -47,7 +47,7 @@ returns c =
     let l = c .before .before .before in
     let e = l .before .count-in .ensures r (on .compiled) (omega arith) in
     let there = train-there r _ e _ (c .before .before .loop-test .taken) in
-    but-a-train r _ e _ (l .loop .t) (c .before .before .loop-test .taken) (sym (c .before .train-fine .ensures r p on there) ∙ c .if1 .left)
+    but-a-train r _ e _ (l .loop .t) (c .before .before .loop-test .taken) (sym (c .before .train-signalled .ensures r p on there) ∙ c .if1 .left)
 
 returns-2 : tie.Need-returns-2 Inv-loop μ-loop
 returns-2 c =
@@ -55,15 +55,15 @@ returns-2 c =
     let l = c .before in
     every-train r _ (l .before .count-in .ensures r (on .compiled) (omega arith)) _ (l .loop .t) (l .loop .inv .0) (c .loop-test .left) (l .loop .inv .1 r p on)
 
-pub opens-fine-spec : {M : Type 1} → statement M
-opens-fine-spec =
+pub opens-signalled-spec : {M : Type 1} → statement M
+opens-signalled-spec =
     tie.close
     (tie.spec
     Inv-loop
     μ-loop
     count-in-requires
     loop-holds
-    train-fine-requires
+    train-signalled-requires
     add-t
     loop-less
     loop-again

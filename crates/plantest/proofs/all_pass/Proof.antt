@@ -1,4 +1,4 @@
--- `plantest::all_fine` meets its contract. The loop's invariant: every placement before p is as it must be.
+-- `plantest::all_pass` meets its contract. The loop's invariant: every placement before p is as it must be.
 -- Assumes nothing.
 use native.Mathlib.Omega.{arith}
 use borrow.Author.Needs.{needs}
@@ -9,14 +9,14 @@ use Rattle.laws.specs.Below.{allBelow}
 use Rattle.laws.proofs.Below.{all-next}
 use Rattle.railway.specs.declared.Railway.{Railway}
 use Rattle.plan.specs.Test.{byTables}
-use Rattle.plan.specs.Computed.{placementFine}
+use Rattle.plan.specs.Computed.{placementPasses}
 use Rattle.compiled.specs.Table.{Compiled}
 use Rattle.plantest.proofs.Testing.{but-a-placement, every-placement}
-use Rattle.plantest.proofs.all_fine.Statement.{statement}
-use Rattle.plantest.proofs.all_fine.Tie as tie
+use Rattle.plantest.proofs.all_pass.Statement.{statement}
+use Rattle.plantest.proofs.all_pass.Tie as tie
 
 abbrev Inv-loop : tie.InvT-loop
-Inv-loop table figures settings m p₀ p = (p ≤ m) × ((r : Railway) → Compiled r table → allBelow (placementFine r (byTables figures settings)) p ≡ true)
+Inv-loop table figures settings m p₀ p = (p ≤ m) × ((r : Railway) → Compiled r table → allBelow (placementPasses r (byTables figures settings)) p ≡ true)
 
 abbrev μ-loop : tie.MeasureT-loop
 μ-loop table figures settings m p₀ p = m - p
@@ -28,8 +28,8 @@ loop-holds : tie.Need-loop-holds Inv-loop μ-loop
 unfolding allBelow
 loop-holds c = (omega arith, λ r h. refl)
 
-is-fine-requires : tie.Need-is-fine-requires Inv-loop μ-loop
-is-fine-requires c κs = search needs
+placement-passes-requires : tie.Need-placement-passes-requires Inv-loop μ-loop
+placement-passes-requires c κs = search needs
 
 add-p : tie.Need-add-p Inv-loop μ-loop
 add-p c = omega arith
@@ -38,13 +38,13 @@ loop-less : tie.Need-loop-less Inv-loop μ-loop
 loop-less c = omega arith
 
 loop-again : tie.Need-loop-again Inv-loop μ-loop
-loop-again c = let l = c .before .before .before in (omega arith, λ r h. all-next _ _ (l .loop .inv .1 r h) (sym (c .before .is-fine .ensures r h) ∙ c .if1 .taken))
+loop-again c = let l = c .before .before .before in (omega arith, λ r h. all-next _ _ (l .loop .inv .1 r h) (sym (c .before .placement-passes .ensures r h) ∙ c .if1 .taken))
 
 returns : tie.Need-returns Inv-loop μ-loop
 returns c =
     λ r h.
     let l = c .before .before .before in
-    but-a-placement r _ (l .before .placements .ensures r h) _ (l .loop .p) (c .before .before .loop-test .taken) (sym (c .before .is-fine .ensures r h) ∙ c .if1 .left)
+    but-a-placement r _ (l .before .placements .ensures r h) _ (l .loop .p) (c .before .before .loop-test .taken) (sym (c .before .placement-passes .ensures r h) ∙ c .if1 .left)
 
 returns-2 : tie.Need-returns-2 Inv-loop μ-loop
 returns-2 c =
@@ -52,15 +52,15 @@ returns-2 c =
     let l = c .before in
     every-placement r _ (l .before .placements .ensures r h) _ (l .loop .p) (l .loop .inv .0) (c .loop-test .left) (l .loop .inv .1 r h)
 
-pub all-fine-spec : {M : Type 1} → statement M
-all-fine-spec =
+pub all-pass-spec : {M : Type 1} → statement M
+all-pass-spec =
     tie.close
     (tie.spec
     Inv-loop
     μ-loop
     placements-requires
     loop-holds
-    is-fine-requires
+    placement-passes-requires
     add-p
     loop-less
     loop-again

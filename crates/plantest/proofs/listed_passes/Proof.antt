@@ -1,9 +1,9 @@
--- `plantest::listed_fine` meets its contract: lost, open without a signal, home, and else by the setting.
+-- `plantest::listed_passes` meets its contract: lost, open without a signal, home, and else by the setting.
 -- Assumes nothing.
 use borrow.Author.Needs.{needs}
-use Rattle.plantest.proofs.Testing.{lost-fine, unsignalled-fine, home-fine, kept-fine}
-use Rattle.plantest.proofs.listed_fine.Statement.{statement}
-use Rattle.plantest.proofs.listed_fine.Tie as tie
+use Rattle.plantest.proofs.Testing.{lost-fails, unsignalled-fails, home-passes, kept-passes}
+use Rattle.plantest.proofs.listed_passes.Statement.{statement}
+use Rattle.plantest.proofs.listed_passes.Tie as tie
 
 placement-of-requires : tie.Need-placement-of-requires
 placement-of-requires c κs = search needs
@@ -16,13 +16,13 @@ returns c =
     λ r h.
     let w = c .before in
     let a = w .before .before .before .before .args in
-    lost-fine r (a .figures .now) (a .settings .now) (a .p) (a .n) _ (w .lost-in .ensures r _ (w .before .placement-of .ensures r h)) (c .if1 .taken)
+    lost-fails r (a .figures .now) (a .settings .now) (a .p) (a .n) _ (w .lost-in .ensures r _ (w .before .placement-of .ensures r h)) (c .if1 .taken)
 
 entry-at-requires : tie.Need-entry-at-requires
 entry-at-requires c κs = search needs
 
-opens-fine-requires : tie.Need-opens-fine-requires
-opens-fine-requires c κs = search needs
+opens-signalled-requires : tie.Need-opens-signalled-requires
+opens-signalled-requires c κs = search needs
 
 is-home-requires : tie.Need-is-home-requires
 is-home-requires c κs = search needs
@@ -35,7 +35,7 @@ returns-2 c =
     let w = e .before .before in
     let a = w .before .before .before .before .args in
     let on = w .before .placement-of .ensures r h in
-    home-fine r (a .figures .now) (a .settings .now) (a .p) (a .n) _ (w .lost-in .ensures r _ on) (e .before .if1 .left) _ (e .entry-at .ensures) _ (o .opens-fine .ensures r _ on) (c .before .before .if2 .taken) _
+    home-passes r (a .figures .now) (a .settings .now) (a .p) (a .n) _ (w .lost-in .ensures r _ on) (e .before .if1 .left) _ (e .entry-at .ensures) _ (o .opens-signalled .ensures r _ on) (c .before .before .if2 .taken) _
     (c .before .is-home .ensures r h) (c .if3 .taken)
 
 keeps-requires : tie.Need-keeps-requires
@@ -50,7 +50,7 @@ returns-3 c =
     let w = e .before .before in
     let a = w .before .before .before .before .args in
     let on = w .before .placement-of .ensures r h in
-    kept-fine r (a .figures .now) (a .settings .now) (a .p) (a .n) _ (w .lost-in .ensures r _ on) (e .before .if1 .left) _ (e .entry-at .ensures) _ (o .opens-fine .ensures r _ on) (i .before .if2 .taken) _
+    kept-passes r (a .figures .now) (a .settings .now) (a .p) (a .n) _ (w .lost-in .ensures r _ on) (e .before .if1 .left) _ (e .entry-at .ensures) _ (o .opens-signalled .ensures r _ on) (i .before .if2 .taken) _
     (i .is-home .ensures r h) _ (c .before .if3 .left) (c .keeps .ensures r h)
 
 returns-4 : tie.Need-returns-4
@@ -61,17 +61,17 @@ returns-4 c =
     let w = e .before .before in
     let a = w .before .before .before .before .args in
     let on = w .before .placement-of .ensures r h in
-    unsignalled-fine r (a .figures .now) (a .settings .now) (a .p) (a .n) _ (w .lost-in .ensures r _ on) (e .before .if1 .left) _ (e .entry-at .ensures) _ (o .opens-fine .ensures r _ on) (c .if2 .left)
+    unsignalled-fails r (a .figures .now) (a .settings .now) (a .p) (a .n) _ (w .lost-in .ensures r _ on) (e .before .if1 .left) _ (e .entry-at .ensures) _ (o .opens-signalled .ensures r _ on) (c .if2 .left)
 
-pub listed-fine-spec : {M : Type 1} → statement M
-listed-fine-spec =
+pub listed-passes-spec : {M : Type 1} → statement M
+listed-passes-spec =
     tie.close
     (tie.spec
     placement-of-requires
     lost-in-requires
     returns
     entry-at-requires
-    opens-fine-requires
+    opens-signalled-requires
     is-home-requires
     returns-2
     keeps-requires

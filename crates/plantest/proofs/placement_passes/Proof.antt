@@ -1,0 +1,27 @@
+-- `plantest::placement_passes` meets its contract, by whether the placement is listed.
+-- Assumes nothing.
+use borrow.Author.Needs.{needs}
+use Rattle.plantest.proofs.Testing.{unlisted-passes, listed-decides}
+use Rattle.plantest.proofs.placement_passes.Statement.{statement}
+use Rattle.plantest.proofs.placement_passes.Tie as tie
+
+entry-at-requires : tie.Need-entry-at-requires
+entry-at-requires c κs = search needs
+
+returns : tie.Need-returns
+returns c =
+    λ r h.
+    let a = c .before .before .before .before .args in
+    unlisted-passes r (a .figures .now) (a .settings .now) (a .p) _ (c .before .entry-at .ensures) (c .if1 .taken)
+
+listed-passes-requires : tie.Need-listed-passes-requires
+listed-passes-requires c κs = search needs
+
+returns-2 : tie.Need-returns-2
+returns-2 c =
+    λ r h.
+    let a = c .before .before .before .before .before .args in
+    listed-decides r (a .figures .now) (a .settings .now) (a .p) _ (c .before .before .entry-at .ensures) _ (c .before .if1 .left) (c .listed-passes .ensures r h)
+
+pub placement-passes-spec : {M : Type 1} → statement M
+placement-passes-spec = tie.close (tie.spec entry-at-requires returns listed-passes-requires returns-2)
