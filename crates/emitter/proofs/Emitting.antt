@@ -32,7 +32,7 @@ use Rattle.plan.proofs.Lengths.{lines-short}
 use Rattle.plan.proofs.Plan.{line-fits}
 use Rattle.plan.proofs.Promises.{emits-so}
 use Rattle.compiled.specs.declared.Compilation.{Compilation}
-use Rattle.compiled.specs.Table.{countByte, Compiled}
+use Rattle.compiled.specs.Table.{Compiled}
 use Rattle.moves.specs.declared.Placement.{Placement}
 use Rattle.moves.specs.Steps.{sectionIn, On}
 use Rattle.cases.specs.Cases.{CasePost}
@@ -50,13 +50,13 @@ module _ (r : Railway) (figs sets : List ℕ) (p : ℕ) where
       ext-getD 0 (listBelow (sectionIn q) (r .trains)) (sectionsOf r p) (k ∙ sym (sections-length (r .sections) (r .trains) p))
       (λ i l. list-get (sectionIn q) (r .trains) i 0 (rw k at l) ∙ on i)
 
-  line-is : (k m : ℕ) (q : Placement) (n v : ℕ) → k ≡ countByte r 2 → m ≡ countByte r 1 → ((t : ℕ) → sectionIn q t ≡ standsOn r p t) → n ≡ getD figs p noFigure → v ≡ getD sets p 0
+  line-is : (k m : ℕ) (q : Placement) (n v : ℕ) → k ≡ r .trains → m ≡ r .points → ((t : ℕ) → sectionIn q t ≡ standsOn r p t) → n ≡ getD figs p noFigure → v ≡ getD sets p 0
       → lineOf k m q n v ≡ lineFor r figs sets p
-  unfolding lineFor countByte
+  unfolding lineFor
   line-is k m q n v ek em on en ev = rw (ek, em, en, ev, same-sections q on)
 
   pub placement-written : {k m len : ℕ} {n v : ℕ} {q : Placement} {own text table : List ℕ} {w : Wrote} (old : List ℕ) → Compiled r table → hasFigure figs p ≡ true
-      → n ≡ getD figs p noFigure → n < 4294967296 → v ≡ getD sets p 0 → On r p table q → k ≡ countByte r 2 → m ≡ countByte r 1
+      → n ≡ getD figs p noFigure → n < 4294967296 → v ≡ getD sets p 0 → On r p table q → k ≡ r .trains → m ≡ r .points
       → own ≡ replicate mostLineBytes 0 → Appended own 0 (spell (placementLine (lineOf k m q n v))) text len
       → w ≡ written (take len text) (From (p + 1)) old → w ≡ written (spell (placementLine (lineFor r figs sets p))) (From (suc p)) old
   placement-written {k} {m} {len} {n} {v} {q} {own} {text} {table} {w} old compiled has en small ev on ek em blank made e =
@@ -77,7 +77,7 @@ module _ (r : Railway) (figs sets : List ℕ) (c p total : ℕ) (old : List ℕ)
   pub due-end : total ≤ p → leaves End old ≡ writtenDue old (dueFor r figs sets (nextCode r figs c))
   due-end l = let e : nextCode r figs c ≡ none = rw all at (found-none (figureFrom figs c) total p is l) in rw e
 
--- .. and at a place
+-- WHAT IS EMITTED at a place, by the start's figure
 module _ (r : Railway) (figs sets : List ℕ) (place : PlanPlace) (old : List ℕ) (p n : ℕ) (at : p ≡ startCode r) (is : n ≡ getD figs p noFigure) where
   abbrev figure : ℕ
   figure = getD figs (startCode r) noFigure

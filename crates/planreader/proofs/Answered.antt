@@ -33,11 +33,10 @@ use Rattle.plan.specs.Checker.{lineEntry}
 use Rattle.plan.specs.Reading.{readLine}
 use Rattle.plan.proofs.Reading.{lastFields, list-is, fits-parts, reads-line}
 use Rattle.plan.proofs.Lengths.{lines-short}
-use Rattle.compiled.specs.Table.{countByte, Compiled}
+use Rattle.compiled.specs.Table.{Compiled}
 use Rattle.moves.specs.declared.Placement.{Placement}
 use Rattle.moves.specs.Answers.{codeOn}
 use Rattle.moves.specs.Steps.{sectionIn}
-use Rattle.moves.proofs.Placing.{sections-are, trains-are}
 use Rattle.planlines.specs.Spelling.{lineOf}
 use Rattle.planreader.specs.declared.LineRead.the-variants.{NoLine, Start, Placed}
 use Rattle.planreader.specs.Answers.{answerFor}
@@ -194,17 +193,7 @@ module _ (r : Railway) (ok : recordRefusal r ≡ none) (text : List ℕ) where
 
 -- THE SAME by a table's counts
 module _ (r : Railway) (table : List ℕ) (h : Compiled r table) (text : List ℕ) (first : BeginsLikeStart text → ⊥) where
-  module _ {s k m : ℕ} (es : s ≡ countByte r 0) (em : m ≡ countByte r 1) (ek : k ≡ countByte r 2) where
-    s-is : s ≡ r .sections
-    s-is = sections-are r s es
-
-    m-is : m ≡ r .points
-    unfolding countByte
-    m-is = em
-
-    k-is : k ≡ r .trains
-    k-is = trains-are r k ek
-
+  module _ {s k m : ℕ} (s-is : s ≡ r .sections) (m-is : m ≡ r .points) (k-is : k ≡ r .trains) where
     pub no-sections : sectionsAt text s k ≡ bad → NoLine ≡ answerFor r (readLine r text)
     no-sections e = sections-none r (h .accepted) text first (rw (s-is, k-is) at e)
 
