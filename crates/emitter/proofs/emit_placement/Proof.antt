@@ -4,7 +4,7 @@ use native.Mathlib.Omega.{arith}
 use borrow.Author.Needs.{needs}
 use mathlib.Core.Path.{refl}
 use denote.Ref.{now}
-use Rattle.emitter.proofs.Copying.{own-fits, own-cut}
+use Rattle.text.proofs.Appending.{front-fits, front-cut}
 use Rattle.emitter.proofs.Emitting.{placement-written}
 use Rattle.emitter.proofs.emit_placement.Statement.{statement}
 use Rattle.emitter.proofs.emit_placement.Tie as tie
@@ -31,10 +31,10 @@ placement-line-requires : tie.Need-placement-line-requires
 placement-line-requires c κs = search needs
 
 array-share-prefix-text : tie.Need-array-share-prefix-text
-array-share-prefix-text c = own-fits refl (c .before .before .placement-line .ensures) (c .before .before .placement-line .kept .0)
+array-share-prefix-text c = front-fits (c .before .before .placement-line .ensures) (c .before .before .placement-line .kept .0)
 
 slice-aggregate-put-line : tie.Need-slice-aggregate-put-line
-slice-aggregate-put-line c = own-cut refl (c .before .before .before .placement-line .ensures) (c .before .before .before .placement-line .kept .0)
+slice-aggregate-put-line c = front-cut (c .before .before .before .placement-line .ensures) (c .before .before .before .placement-line .kept .0)
 
 add-t19 : tie.Need-add-t19
 add-t19 c = search needs
