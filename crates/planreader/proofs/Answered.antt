@@ -25,7 +25,7 @@ use Rattle.text.proofs.Walking.{bad-got}
 use Rattle.railway.specs.declared.Railway.{Railway}
 use Rattle.railway.specs.Rows.{recordRefusal}
 use Rattle.railway.proofs.Accepted.{Bounded, accepted-facts}
-use Rattle.game.specs.Placement.{codeOf}
+use Rattle.game.specs.Placement.{codeOf, codeOn}
 use Rattle.tables.specs.Tables.{noFigure}
 use Rattle.tables.specs.Entries.{opensIn}
 use Rattle.tables.proofs.Entries.{entry-plus, entry-opens}
@@ -35,7 +35,6 @@ use Rattle.plan.specs.Reading.{readLine}
 use Rattle.plan.proofs.Reading.{lastFields, list-is, fits-parts, reads-line}
 use Rattle.plan.proofs.Lengths.{lines-short}
 use Rattle.moves.specs.declared.Placement.{Placement}
-use Rattle.moves.specs.Answers.{codeOn}
 use Rattle.moves.specs.Steps.{sectionIn}
 use Rattle.planlines.specs.Spelling.{lineOf}
 use Rattle.planreader.specs.declared.LineRead.the-variants.{NoLine, Start, Placed}

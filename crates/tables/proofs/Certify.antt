@@ -1,6 +1,7 @@
--- How the tables of a small yard are proved by computation: tables that pass a test made at every placement are filled tables.
--- The test searches: where a figure stands, its number finds the table's entry and the number before it finds nothing; where none stands, no number that a table can
--- hold finds anything. As the search misses no whole setting, such tables agree with every single turn, and what it finds is the plan's entry. Assumes nothing.
+-- How the tables of a small yard are proved by computation: tables that pass a test made at every placement are filled tables. The test
+-- searches: where a figure stands, its number finds the table's entry and the number before it finds nothing; where none stands, no number
+-- that a table can hold finds anything. As the search misses no whole setting, such tables agree with every single turn, and what it finds
+-- is the plan's entry. Assumes nothing.
 use mathlib.Core.Path.{_≡_, refl}
 use mathlib.Core.Logic.{inl, inr}
 use mathlib.Core.Bool.{Bool, true, false, cond, not, _&&_}
