@@ -17,6 +17,7 @@ use Rattle.plan.specs.declared.PlanPlace.{PlanPlace}
 use Rattle.plan.specs.declared.PlanPlace.the-variants.{Top}
 use Rattle.plan.specs.declared.Emitted.{Emitted}
 use Rattle.plan.specs.declared.Emitted.the-variants.{End}
+use Rattle.plan.specs.Lines.{mostLineBytes}
 use Rattle.plan.specs.Text.{planTexts}
 use Rattle.plan.specs.Calls.{Emission, Emitting, unasked, wrote, stopped}
 use Rattle.plan.specs.Demand3.{Demand3}
@@ -33,7 +34,7 @@ more r figs sets xs (b ∷ bs) place e a last (stopped _ x _ b′ _ i p) = stopp
 
 -- buffers of the most bytes
 abbrev widest : List ℕ
-widest = replicate 45 0
+widest = replicate mostLineBytes 0
 
 widest-roomy : (k : ℕ) → all roomy (replicate k widest) ≡ true
 unfolding all

@@ -13,7 +13,7 @@ use Rattle.laws.specs.Lists.{all}
 use Rattle.railway.specs.declared.Railway.{Railway}
 use Rattle.railway.specs.declared.Refusal.{Refusal}
 use Rattle.railway.specs.declared.Refusal.the-variants.{PlanForm, PlanFault}
-use Rattle.railway.specs.Refusals.{number, Row, row, first, numberOf}
+use Rattle.railway.specs.Refusals.{Row, row, first, numberOf}
 use Rattle.railway.specs.Rows.{recordRefusal}
 use Rattle.game.specs.Placement.{placements}
 use Rattle.tables.specs.Tables.{noFigure, caseRefusal}
@@ -29,7 +29,7 @@ use Rattle.plan.proofs.Checks.{checked-holds}
 use Rattle.plan.proofs.Emits.{none-refused}
 use Rattle.plan.proofs.Forms.{no-form}
 use Rattle.plan.proofs.Numbers.{test-numbered}
-use Rattle.plan.proofs.Rules.{check-rule}
+use Rattle.plan.proofs.Rules.{differ, testNumbered, check-rule}
 use Rattle.verdict.specs.Verdict.{linesOf, checkLines, planOutOfForm, rowsBy, entries, checkText, PlanPost}
 use Rattle.verdict.specs.Claims.{ByPlan, VerdictHolds, CaseHolds}
 use Rattle.verdict.proofs.Calls.{refused-case, still-fine}
@@ -94,13 +94,6 @@ data ByTest (a : TestAnswer) : Type 0 where
   unformed : a ≡ TestRefused PlanForm → ByTest a
   faulty : a ≡ TestRefused PlanFault → ByTest a
 
-abbrev kind : TestAnswer → ℕ
-kind Pass = 0
-kind (TestRefused f) = number f
-
-differ : {A : Type 0} {a b c : TestAnswer} → a ≡ b → a ≡ c → ¬ (kind b ≡ kind c) → A
-differ p q n = absurd (n (sym (ap kind p) ∙ ap kind q))
-
 tested-by : (r : Railway) (c : Checking) → caseRefusal r (c .figs) (c .sets) ≡ none → (a : TestAnswer) → testPlan r c .answer ≡ a → ByTest a
 tested-by r c e Pass q = passed refl
 tested-by r c e (TestRefused f) q = elim (check-rule r c .test-others f e q) [ inl h ↦ unformed (ap TestRefused h) | inr h ↦ faulty (ap TestRefused h) ]
@@ -125,9 +118,9 @@ module _ (r : Railway) (ls : List (List ℕ)) (xs : List LineAnswer) (c : Checki
 by-line : (r : Railway) (ls : List (List ℕ)) (a : TestAnswer) → a ≡ TestRefused PlanForm → ¬ (InForm r ls) → ByPlan r ls a
 by-line r ls a e n =
     record {
-      passes = (λ q. differ q e (λ z. omega arith), λ w. absurd (n (formed r _ ls w)));
+      passes = (λ q. differ testNumbered (sym q ∙ e) (λ z. omega arith), λ w. absurd (n (formed r _ ls w)));
       unformed = (λ q. n, λ q. e);
-      faulty = (λ q. differ q e (λ z. omega arith), λ w. absurd (n (formed r _ ls w)));
+      faulty = (λ q. differ testNumbered (sym q ∙ e) (λ z. omega arith), λ w. absurd (n (formed r _ ls w)));
     }
 
 module _ (r : Railway) (ls : List (List ℕ)) (c : Checking) (k : Checked r ls (run r ls c .answers) (takenTexts (run r ls c .answers) ls) (run r ls c .end)) where
