@@ -1,5 +1,6 @@
--- First settings by computation, one table with one statement: no signal open where some train is free, else the lowest train's; a point at minus unless it is needed at plus;
--- trains that meet one point agree on it; nothing where no setting works, and at a lost placement. Assumes nothing.
+-- First settings by computation, one table with one statement: no signal open where some train is free, else the lowest train's; a point at
+-- minus unless it is needed at plus; trains that meet one point agree on it; nothing where no setting works, and at a lost placement.
+-- Assumes nothing.
 use mathlib.Core.Path.{_≡_, refl}
 use mathlib.Core.List.{List, [], _∷_, map}
 use mathlib.Core.Option.{Option, none, some}
@@ -64,7 +65,8 @@ notFive = 0 ∷ 0 ∷ 0 ∷ 0 ∷ 0 ∷ noFigure ∷ 0 ∷ 0 ∷ 0 ∷ []
 abbrev notOne : List ℕ
 notOne = 0 ∷ noFigure ∷ 0 ∷ []
 
--- Codes count from 0: (2,3) is 7, (2,1) is 1, (1,3) is 6, (1,2) is 3 and (1,1) is 0 with three sections. Bit 0 is point 1 at plus, bits 16 and 17 are the trains' signals.
+-- Codes count from 0: (2,3) is 7, (2,1) is 1, (1,3) is 6, (1,2) is 3 and (1,1) is 0 with three sections. Bit 0 is point 1 at plus, bits 16
+-- and 17 are the trains' signals.
 abbrev pub firsts : List First
 firsts =
     first yardA ofA 7 2 (some 1)

@@ -1,5 +1,5 @@
--- The point that a train meets, by its byte: it is one of the railway's or none, and where the move ends depends on how that one lies and on no other.
--- Assumes nothing.
+-- The point that a train meets, by its byte: it is one of the railway's or none, and where the move ends depends on how that one lies and on
+-- no other. Assumes nothing.
 use mathlib.Core.Path.{_≡_, refl, sym, _∙_, ap}
 use mathlib.Core.Logic.{_⊎_, inl, inr}
 use mathlib.Core.Bool.{Bool, true, false, _||_}
@@ -17,12 +17,13 @@ use Rattle.railway.specs.declared.End.the-variants.{Section, Port}
 use Rattle.railway.specs.declared.Joined.{Joined}
 use Rattle.railway.specs.declared.Joined.the-variants.{Nothing, With}
 use Rattle.railway.specs.declared.Railway.{Railway}
+use Rattle.railway.specs.Bounds.{mostPoints}
 use Rattle.railway.specs.Record.{joined}
 use Rattle.game.specs.Setting.{Setting, headsFor}
 use Rattle.game.specs.Moves.{Passage, through, pastPoint, pastJoin, passes, enters, moveOf}
 use Rattle.game.proofs.Accepted.{Known, Facts}
 use Rattle.tables.specs.Find.{meetsPoint}
-use Rattle.compiled.specs.Table.{pointByte}
+use Rattle.compiled.specs.Table.{noByte, pointByte}
 use Rattle.moves.specs.Steps.{allAt}
 use Rattle.moves.proofs.Moving.{by-point}
 use Rattle.settings.specs.Ways.{pointMet}
@@ -44,21 +45,21 @@ met-one n q = off (eqb q n) ∙ eqb-turned q n
     off true = refl
     off false = refl
 
-met-none : (q : ℕ) → q < 16 → any (eqb q) [] ≡ eqb 255 q
+met-none : (q : ℕ) → q < mostPoints → any (eqb q) [] ≡ eqb noByte q
 unfolding any
-met-none q l = sym (ne-eqb 255 q (λ z. omega arith))
+met-none q l = sym (ne-eqb noByte q (λ z. omega arith))
 
 module _ (r : Railway) where
   point-meets : (n : PointNo) (o : Option Leg) (q : ℕ) → any (eqb q) (pastPoint r n o .met) ≡ eqb (pointByte (pastPoint r n o .met)) q
   point-meets n none q = met-one (n .0) q
   point-meets n (some l) q = met-one (n .0) q
 
-  join-meets : (j : Joined) (q : ℕ) → q < 16 → any (eqb q) (pastJoin r (λ i. false) j .met) ≡ eqb (pointByte (pastJoin r (λ i. false) j .met)) q
+  join-meets : (j : Joined) (q : ℕ) → q < mostPoints → any (eqb q) (pastJoin r (λ i. false) j .met) ≡ eqb (pointByte (pastJoin r (λ i. false) j .met)) q
   join-meets Nothing q l = met-none q l
   join-meets (With (Section n s)) q l = met-none q l
   join-meets (With (Port n g)) q l = point-meets n (through g false) q
 
-  pub meets-is : (p t q : ℕ) → q < 16 → meetsPoint r p t q ≡ eqb (pointMet r p t) q
+  pub meets-is : (p t q : ℕ) → q < mostPoints → meetsPoint r p t q ≡ eqb (pointMet r p t) q
   unfolding passes
   meets-is p t q l = join-meets (joined r (headsFor r p t)) q l
 
@@ -67,12 +68,12 @@ module _ (r : Railway) where
   point-small n none l = l
   point-small n (some g) l = l
 
-  join-small : Facts r → (j : Joined) → Known r j → (pointByte (pastJoin r (λ i. false) j .met) < r .points) ⊎ (pointByte (pastJoin r (λ i. false) j .met) ≡ 255)
+  join-small : Facts r → (j : Joined) → Known r j → (pointByte (pastJoin r (λ i. false) j .met) < r .points) ⊎ (pointByte (pastJoin r (λ i. false) j .met) ≡ noByte)
   join-small ok Nothing k = inr refl
   join-small ok (With (Section n s)) k = inr refl
   join-small ok (With (Port n g)) k = inl (point-small n (through g false) (ltb-true (n .0) (r .points) k))
 
-  pub met-small : Facts r → (p t : ℕ) → (pointMet r p t < r .points) ⊎ (pointMet r p t ≡ 255)
+  pub met-small : Facts r → (p t : ℕ) → (pointMet r p t < r .points) ⊎ (pointMet r p t ≡ noByte)
   unfolding passes
   met-small ok p t = join-small ok (joined r (headsFor r p t)) (ok .joins (headsFor r p t))
 

@@ -1,6 +1,6 @@
--- A try with some trains open, and the search over tries, are the tables' definitions. Who may move, which point each needs, and where each move ends once the
--- points lie, decide a try: a train looks at its own point alone, and reads the same bit in the points and in the whole entry. Where a train is free
--- the try with no signal open decides all; where none is, the tries with one open do. Assumes nothing.
+-- A try with some trains open, and the search over tries, are the tables' definitions. Who may move, which point each needs, and where each
+-- move ends once the points lie, decide a try: a train looks at its own point alone, and reads the same bit in the points and in the whole
+-- entry. Where a train is free the try with no signal open decides all; where none is, the tries with one open do. Assumes nothing.
 use mathlib.Core.Path.{_≡_, refl, sym, _∙_, ap}
 use mathlib.Core.Logic.{_⊎_, inl, inr}
 use mathlib.Core.Bool.{Bool, true, false, cond, not, _&&_, _||_}
@@ -17,6 +17,7 @@ use Rattle.laws.proofs.Bools.{bool?, option?, lt?, eq?, clash, some-none, some-
 use Rattle.laws.proofs.Below.{all-same, any-same, all-at, all-of, all-but, any-at, any-of, any-false, none-any}
 use Rattle.laws.proofs.Bits.{bits-same, bits-plain, bits-none, bit-none, low-bit}
 use Rattle.railway.specs.declared.Railway.{Railway}
+use Rattle.railway.specs.Bounds.{mostPoints, mostTrains}
 use Rattle.game.specs.Game.{Outcome, may}
 use Rattle.game.specs.Claim.{figureOf, Keeps}
 use Rattle.game.specs.Local.{isBelow, goesBelow, keepsTest}
@@ -31,11 +32,11 @@ use Rattle.tables.proofs.Entries.{setting-may}
 use Rattle.tables.proofs.Fewer.{keeps-closed, bits-small as closed-small}
 use Rattle.tables.proofs.Find.{try-finds, find-sound}
 use Rattle.tables.proofs.Points.{met-try, find-met}
-use Rattle.compiled.specs.Table.{countByte, Compiled}
+use Rattle.compiled.specs.Table.{noByte, Compiled}
 use Rattle.moves.specs.declared.Placement.{Placement}
 use Rattle.moves.specs.Steps.{sectionIn, On}
 use Rattle.moves.proofs.Coding.{bit-high}
-use Rattle.moves.proofs.Placing.{trains-are, few-trains}
+use Rattle.moves.proofs.Placing.{few-trains}
 use Rattle.settings.specs.Answers.{firstKeeping}
 use Rattle.settings.specs.Ways.{Asked, pointMet, endsBelow, harmedAtMinus, beyondHelp, neededPoints, goodAtPlus}
 use Rattle.settings.proofs.Points.{meets-is, met-small, move-by}
@@ -63,11 +64,11 @@ module _ (r : Railway) (ok : Facts r) (p : ℕ) (apart : shared r p ≡ false) (
     plus-small = bits-small (somePlus r F p n opens) (r .points) (ok .few-points)
 
     -- a train reads its bit in the points alone
-    same-bit : (x : ℕ) → (x < r .points) ⊎ (x ≡ 255) → bit (metEntry r F p n opens) x ≡ bit (fromBits (somePlus r F p n opens) (r .points)) x
+    same-bit : (x : ℕ) → (x < r .points) ⊎ (x ≡ noByte) → bit (metEntry r F p n opens) x ≡ bit (fromBits (somePlus r F p n opens) (r .points)) x
     same-bit x (inl l) = rw entry-is (low-bit 16 plusBits (fromBits opens (r .trains)) x plus-small (omega (arith, ok .few-points)))
     same-bit x (inr z) =
         let o : fromBits opens (r .trains) < 65536 = bits-small opens (r .trains) (omega (arith, ok .few-trains)) in
-        rw (entry-is, z) (sym (bit-high (plusBits + 65536 * fromBits opens (r .trains)) 255 (omega (arith, plus-small)) (omega arith)) ∙ bit-high plusBits 255 (omega (arith, plus-small)) (omega arith))
+        rw (entry-is, z) (sym (bit-high (plusBits + 65536 * fromBits opens (r .trains)) noByte (omega (arith, plus-small)) (omega arith)) ∙ bit-high plusBits noByte (omega (arith, plus-small)) (omega arith))
 
     may-is : (t : ℕ) → t < r .trains → may (gameOf r) p (settingAt r p (metEntry r F p n opens)) t ≡ (free r p t || opens t)
     unfolding metEntry
@@ -148,15 +149,15 @@ module _ (r : Railway) (ok : Facts r) (p : ℕ) (apart : shared r p ≡ false) (
     -- a train beyond help
     helpless : (t : ℕ) → t < r .trains → beyondHelp r F p n t ≡ true → entryKeeps r F p n (metEntry r F p n (λ t. false)) ≡ false
     helpless t l e =
-        let a = and-true (harmedAtMinus r F p n t) (eqb (pointMet r p t) 255) e in
+        let a = and-true (harmedAtMinus r F p n t) (eqb (pointMet r p t) noByte) e in
         let b = and-true (free r p t) (not (endsBelow r F p n false t)) (a .0) in
-        let far : pointMet r p t ≡ 255 = eqb-true (pointMet r p t) 255 (a .1) in
+        let far : pointMet r p t ≡ noByte = eqb-true (pointMet r p t) noByte (a .1) in
         let out : bit (plusBits (λ t. false)) (pointMet r p t) ≡ false = rw far (bit-past (plusBits (λ t. false)) (plus-small (λ t. false))) in
         let bad : goodIf (λ t. false) t ≡ false = rw (b .0, out) (not-true (endsBelow r F p n false t) (b .1)) in
         keeps-is (λ t. false) ∙ (rw (sym (all-but (goodIf (λ t. false)) (r .trains) t l bad)) (off (anyBelow (λ t. free r p t || false) (r .trains))))
       where
-        bit-past : (b : ℕ) → b < 65536 → bit b 255 ≡ false
-        bit-past b l = sym (bit-high b 255 (omega arith) (omega arith))
+        bit-past : (b : ℕ) → b < 65536 → bit b noByte ≡ false
+        bit-past b l = sym (bit-high b noByte (omega arith) (omega arith))
 
         off : (b : Bool) → (b && false) ≡ false
         off true = refl
@@ -177,7 +178,7 @@ module _ (r : Railway) (ok : Facts r) (p : ℕ) (apart : shared r p ≡ false) (
           | inl y ↦ y
           | inr y ↦ elim (met-small r ok p t) [
             | inl m ↦ clash (needed-lies (λ t. false) t l (rw f) y m) e
-            | inr m ↦ clash (and-both (harmedAtMinus r F p n t) (eqb (pointMet r p t) 255) (and-both (free r p t) (not (endsBelow r F p n false t)) f (rw y)) (eq-eqb (pointMet r p t) 255 m)) (any-false (beyondHelp r F p n) (r .trains) none-lost t l)
+            | inr m ↦ clash (and-both (harmedAtMinus r F p n t) (eqb (pointMet r p t) noByte) (and-both (free r p t) (not (endsBelow r F p n false t)) f (rw y)) (eq-eqb (pointMet r p t) noByte m)) (any-false (beyondHelp r F p n) (r .trains) none-lost t l)
           ]
         ]
 
@@ -238,7 +239,7 @@ module _ (r : Railway) (ok : Facts r) (p : ℕ) (apart : shared r p ≡ false) (
           ])
 
       -- the points that it needs
-      asks : (x : ℕ) → x < 16 → somePlus r F p n (eqb u) x ≡ (eqb (pointMet r p u) x && not (endsBelow r F p n false u))
+      asks : (x : ℕ) → x < mostPoints → somePlus r F p n (eqb u) x ≡ (eqb (pointMet r p u) x && not (endsBelow r F p n false u))
       asks x l = same-bool _ _ to from
         where
           to : somePlus r F p n (eqb u) x ≡ true → (eqb (pointMet r p u) x && not (endsBelow r F p n false u)) ≡ true
@@ -297,7 +298,7 @@ module _ (r : Railway) (ok : Facts r) (p : ℕ) (apart : shared r p ≡ false) (
           pub open-neither : endsBelow r F p n true u ≡ false → none ≡ tryMet r F p n (eqb u)
           open-neither e = sym (try-none (eqb u) (one-keeps ∙ plus-is ∙ e))
 
--- .. of any tries: the first that finds something
+-- THE FIRST TRY that finds something, among any tries in their order
 first-here : (f : ℕ → Option ℕ) (k u v : ℕ) → u < k → firstFound f u ≡ none → f u ≡ some v → firstFound f k ≡ some v
 unfolding firstFound
 first-here f zero u v l e h = absurd (omega arith)
@@ -333,17 +334,13 @@ module _ (r : Railway) (F : ℕ → Option ℕ) (p n : ℕ) (lost : Bool) (is : 
       let g : find r F p n ≡ cond lost none (find r F p n) = rw e in
       h ∙ find-met r f p a F n ∙ g ∙ ap (λ (b : Bool). cond b none (find r F p n)) is
 
--- .. with the table of an accepted railway
-module _ (r : Railway) (table : List ℕ) (c : Compiled r table) (k m : ℕ) (ek : k ≡ countByte r 2) (em : m ≡ countByte r 1) where
-  points-are : m ≡ r .points
-  unfolding countByte
-  points-are = em
-
-  pub trains-few : 4 < k → (o : Option ℕ) → none ≡ o
+-- WHAT IS ASKED, with the table of an accepted railway
+module _ (r : Railway) (table : List ℕ) (c : Compiled r table) (k m : ℕ) (ek : k ≡ r .trains) (em : m ≡ r .points) where
+  pub trains-few : mostTrains < k → (o : Option ℕ) → none ≡ o
   trains-few l o = absurd (omega (arith, few-trains r table c k ek))
 
-  pub points-few : 16 < m → (o : Option ℕ) → none ≡ o
-  points-few l o = absurd (omega (arith, points-are, facts r (c .accepted) .few-points))
+  pub points-few : mostPoints < m → (o : Option ℕ) → none ≡ o
+  points-few l o = absurd (omega (arith, em, facts r (c .accepted) .few-points))
 
   pub asked : (p c : ℕ) (q : Placement) (lost : Bool) → On r p table q → c ≡ codeOn r (sectionIn q) → lost ≡ shared r p → lost ≡ false → Asked r p table q c k m
-  asked p a q lost on e is z = record { on = on; code = e; trains = trains-are r k ek; points = points-are; apart = sym is ∙ z }
+  asked p a q lost on e is z = record { on = on; code = e; trains = ek; points = em; apart = sym is ∙ z }

@@ -1,5 +1,5 @@
--- Where a train's move ends, by the table and the figures as code looks at them; and the points that free trains need at plus, train after train. Each function's answer is the
--- definition's by the tests that it made. Assumes nothing.
+-- Where a train's move ends, by the table and the figures as code looks at them; and the points that free trains need at plus, train after
+-- train. Each function's answer is the definition's by the tests that it made. Assumes nothing.
 use mathlib.Core.Path.{_≡_, refl, sym, _∙_, ap}
 use mathlib.Core.Logic.{inl, inr}
 use mathlib.Core.Bool.{Bool, true, false, cond, not, _&&_, _||_}
@@ -18,30 +18,31 @@ use Rattle.laws.proofs.Bools.{bool?, lt?, eq?, some-one, and-off, and-both}
 use Rattle.laws.proofs.Below.{all-of, any-next, any-one}
 use Rattle.laws.proofs.Bits.{bits-same, bits-plain, bits-below, bits-none, bit-none, bits-add, bits-again, bits-past, bits-of}
 use Rattle.railway.specs.declared.Railway.{Railway}
+use Rattle.railway.specs.Bounds.{mostPoints, mostTrains}
 use Rattle.game.specs.Game.{derailment, collision, lost, at}
 use Rattle.game.specs.Local.{isBelow}
 use Rattle.game.specs.Setting.{headsFor, held, free}
 use Rattle.game.specs.Moves.{passes, occupied, codeWith, moveOf}
 use Rattle.game.proofs.Accepted.{Facts, facts}
+use Rattle.game.specs.Placement.{codeOn}
 use Rattle.game.proofs.Moves.{passes-below, code-with-below}
 use Rattle.tables.specs.Tables.{noFigure, figureIn}
 use Rattle.tables.specs.Find.{needsPlus}
 use Rattle.tables.proofs.Exists.{few-placements}
-use Rattle.compiled.specs.Table.{sectionByte, countByte}
-use Rattle.game.specs.Placement.{codeOn}
+use Rattle.compiled.specs.Table.{noByte, sectionByte}
 use Rattle.moves.specs.declared.Placement.{Placement}
-use Rattle.moves.specs.Steps.{sectionIn, On, otherIn, allAt}
+use Rattle.moves.specs.Steps.{noCode, sectionIn, On, otherIn, allAt}
 use Rattle.moves.proofs.Moving.{other-on, code-by-weight, derails, arrives, collides, stands-at}
 use Rattle.settings.specs.Ways.{Asked, pointMet, endsBelow, harmedAtMinus, beyondHelp, neededPoints, goodAtPlus, withBit}
 use Rattle.settings.proofs.Points.{meets-is, met-small}
 
 -- A TRAIN'S MOVE, the figure looked at before the other trains
 module _ (r : Railway) (p : ℕ) (table : List ℕ) (q : Placement) (on : On r p table q) (figs : List ℕ) (n t : ℕ) (plus : Bool) (there : t < r .trains) (y : ℕ) (leads : y ≡ sectionByte (passes r (λ i. plus) (headsFor r p t) .reached)) where
-  pub ends-derailed : y ≡ 255 → false ≡ endsBelow r (figureIn figs) p n plus t
+  pub ends-derailed : y ≡ noByte → false ≡ endsBelow r (figureIn figs) p n plus t
   ends-derailed z = let e : lost derailment ≡ moveOf r p (allAt plus) t = some-one (derails r p table q on t plus y leads z) in rw (← e)
 
-  module _ (z : y ≡ 255 → ⊥) (c s w x b : ℕ) (code : c ≡ codeOn r (sectionIn q)) (sections : s ≡ countByte r 0) (weight : t ≤ 4 → w ≡ s ^ t) (here : x ≡ sectionIn q t)
-      (put : (p : ℕ) → p < 4294967295 → c + y * w ≡ p + x * w → b ≡ p) (f : ℕ) (is : f ≡ getD figs b noFigure) where
+  module _ (z : y ≡ noByte → ⊥) (c s w x b : ℕ) (code : c ≡ codeOn r (sectionIn q)) (sections : s ≡ r .sections) (weight : t ≤ mostTrains → w ≡ s ^ t) (here : x ≡ sectionIn q t)
+      (put : (p : ℕ) → p < noCode → c + y * w ≡ p + x * w → b ≡ p) (f : ℕ) (is : f ≡ getD figs b noFigure) where
     ok : Facts r
     ok = facts r (on .compiled .accepted)
 
@@ -68,7 +69,7 @@ module _ (r : Railway) (p : ℕ) (table : List ℕ) (q : Placement) (on : On r p
         either-way true = refl
         either-way false = sym far
 
-    pub ends-unless : n < 4294967296 → f < n → (k : ℕ) (o : Bool) → k ≡ countByte r 2 → o ≡ anyBelow (otherIn q t y) k → not o ≡ endsBelow r (figureIn figs) p n plus t
+    pub ends-unless : n < 4294967296 → f < n → (k : ℕ) (o : Bool) → k ≡ r .trains → o ≡ anyBelow (otherIn q t y) k → not o ≡ endsBelow r (figureIn figs) p n plus t
     ends-unless ln l k o ek e = turned o ∙ ends-by o (other-on r p table q on t y k o ek e)
       where
         near : isBelow n (figureIn figs b) ≡ true
@@ -114,10 +115,10 @@ pub all-at-minus : (r : Railway) (F : ℕ → Option ℕ) (p n bits : ℕ) → b
 all-at-minus r F p n bits e = sym (all-of (goodAtPlus r F p n bits) (r .trains) (λ t l. rw (e, bit-none (pointMet r p t), and-off (free r p t))))
 
 -- BITS: one more that is set
-pub power-small : (x : ℕ) → x < 16 → 2 ^ x ≤ 32768
+pub power-small : (x : ℕ) → x < mostPoints → 2 ^ x ≤ 32768
 power-small x l = omega (arith, pow-le-pow-right {n = 2} (omega arith) {i = x} {j = 15} (omega arith))
 
-pub shifted : (x : ℕ) → x < 16 → (1 * 2 ^ x) % 4294967296 ≡ 2 ^ x
+pub shifted : (x : ℕ) → x < mostPoints → (1 * 2 ^ x) % 4294967296 ≡ 2 ^ x
 shifted x l = let e : 1 * 2 ^ x ≡ 2 ^ x = omega arith in rw e (mod-eq-of-lt (omega (arith, power-small x l)))
 
 with-bits : (f : ℕ → Bool) (k x : ℕ) → withBit (fromBits f k) x k ≡ fromBits (λ n. f n || eqb x n) k
@@ -129,7 +130,7 @@ with-bits f k x = elim (lt? x k) [
   | inr l ↦ rw (le-ltb x k l) (sym (bits-past f k x l))
 ]
 
-pub with-small : (b x k : ℕ) → b < 65536 → k ≤ 16 → withBit b x k < 65536
+pub with-small : (b x k : ℕ) → b < 65536 → k ≤ mostPoints → withBit b x k < 65536
 with-small b x k lb lk = elim (lt? x k) [
   | inl l ↦ let same : withBit b x k ≡ withBit b x 16 = rw (lt-ltb x k l, lt-ltb x 16 (omega arith)) in rw same sixteen
   | inr l ↦ rw (le-ltb x k l) lb
@@ -138,7 +139,7 @@ with-small b x k lb lk = elim (lt? x k) [
     sixteen : withBit b x 16 < 65536
     sixteen = let e : fromBits (bit b) 16 ≡ b = bits-of 16 b lb in let h : withBit (fromBits (bit b) 16) x 16 < 65536 = rw (with-bits (bit b) 16 x) (bits-below (λ n. bit b n || eqb x n) 16) in rw e at h
 
-pub bits-small : (f : ℕ → Bool) (k : ℕ) → k ≤ 16 → fromBits f k < 65536
+pub bits-small : (f : ℕ → Bool) (k : ℕ) → k ≤ mostPoints → fromBits f k < 65536
 bits-small f k l = omega (arith, bits-below f k, pow-le-pow-right {n = 2} (omega arith) {i = k} {j = 16} l)
 
 -- one bit alone
@@ -150,7 +151,7 @@ pub record NeedsTo (r : Railway) (m : ℕ) (F : ℕ → Option ℕ) (n p t bits 
   pub helped : anyBelow (beyondHelp r F p n) t ≡ false
   pub needed : bits ≡ fromBits (λ x. anyBelow (needsPlus r F p n (λ u. false) x) t) m
 
-module _ (r : Railway) (table : List ℕ) (q : Placement) (c k m : ℕ) (F : ℕ → Option ℕ) (n : ℕ) (few : m ≤ 16) where
+module _ (r : Railway) (table : List ℕ) (q : Placement) (c k m : ℕ) (F : ℕ → Option ℕ) (n : ℕ) (few : m ≤ mostPoints) where
   module _ (p : ℕ) (h : Asked r p table q c k m) where
     pub needs-start : NeedsTo r m F n p 0 0
     unfolding anyBelow
@@ -158,7 +159,7 @@ module _ (r : Railway) (table : List ℕ) (q : Placement) (c k m : ℕ) (F : ℕ
 
     module _ (t bits : ℕ) (inv : NeedsTo r m F n p t bits) (b : Bool) (is : b ≡ harmedAtMinus r F p n t) where
       -- train t as it is asked: whether it needs a point
-      asks : (x : ℕ) → x < 16 → needsPlus r F p n (λ u. false) x t ≡ (b && eqb (pointMet r p t) x)
+      asks : (x : ℕ) → x < mostPoints → needsPlus r F p n (λ u. false) x t ≡ (b && eqb (pointMet r p t) x)
       asks x l = rw (meets-is r p t x l, is) (turn (free r p t) (eqb (pointMet r p t) x) (endsBelow r F p n false t))
         where
           turn : (f e g : Bool) → ((f || false) && (e && not g)) ≡ ((f && not g) && e)
@@ -168,7 +169,7 @@ module _ (r : Railway) (table : List ℕ) (q : Placement) (c k m : ℕ) (F : ℕ
           turn true false false = refl
           turn false e g = refl
 
-      next : (x : ℕ) → ((y : ℕ) → y < 16 → (b && eqb (pointMet r p t) y) ≡ eqb x y) → withBit bits x m ≡ fromBits (λ y. anyBelow (needsPlus r F p n (λ u. false) y) (t + 1)) m
+      next : (x : ℕ) → ((y : ℕ) → y < mostPoints → (b && eqb (pointMet r p t) y) ≡ eqb x y) → withBit bits x m ≡ fromBits (λ y. anyBelow (needsPlus r F p n (λ u. false) y) (t + 1)) m
       unfolding anyBelow
       next x e =
           rw (inv .needed, add-one t)
@@ -178,22 +179,22 @@ module _ (r : Railway) (table : List ℕ) (q : Placement) (c k m : ℕ) (F : ℕ
       needs-not z =
           record {
             helped = any-next (beyondHelp r F p n) t (inv .helped) (rw (sym is ∙ z));
-            needed = (let w : withBit bits 255 m ≡ bits = rw (le-ltb 255 m (omega arith)) in sym w) ∙ next 255 (λ y l. rw z (sym (ne-eqb 255 y (λ g. omega arith))));
+            needed = (let w : withBit bits noByte m ≡ bits = rw (le-ltb noByte m (omega arith)) in sym w) ∙ next noByte (λ y l. rw z (sym (ne-eqb noByte y (λ g. omega arith))));
           }
 
       module _ (x : ℕ) (met : x ≡ pointMet r p t) (z : b ≡ true) where
         pub needs-one : x < m → NeedsTo r m F n p (t + 1) (withBit bits x m)
         needs-one l =
             record {
-              helped = any-next (beyondHelp r F p n) t (inv .helped) (rw (← met, ne-eqb x 255 (λ g. omega arith)) (and-off (harmedAtMinus r F p n t)));
+              helped = any-next (beyondHelp r F p n) t (inv .helped) (rw (← met, ne-eqb x noByte (λ g. omega arith)) (and-off (harmedAtMinus r F p n t)));
               needed = next x (λ y l. rw (z, met));
             }
 
         pub needs-none : t < k → m ≤ x → none ≡ neededPoints r F p n
         needs-none lt l =
-            let far : x ≡ 255 = elim (met-small r (facts r (h .on .compiled .accepted)) p t) [ inl a ↦ absurd (omega (arith, h .points, rw (← met) at a)) | inr a ↦ met ∙ a ] in
+            let far : x ≡ noByte = elim (met-small r (facts r (h .on .compiled .accepted)) p t) [ inl a ↦ absurd (omega (arith, h .points, rw (← met) at a)) | inr a ↦ met ∙ a ] in
             let bad : anyBelow (beyondHelp r F p n) (r .trains) ≡ true =
-            sym (any-one (beyondHelp r F p n) (r .trains) t (rw (← (h .trains)) lt) (and-both (harmedAtMinus r F p n t) (eqb (pointMet r p t) 255) (sym is ∙ z) (rw (← met) (eq-eqb x 255 far)))) in
+            sym (any-one (beyondHelp r F p n) (r .trains) t (rw (← (h .trains)) lt) (and-both (harmedAtMinus r F p n t) (eqb (pointMet r p t) noByte) (sym is ∙ z) (rw (← met) (eq-eqb x noByte far)))) in
             rw bad
 
     pub needs-end : (t bits : ℕ) → t ≤ k → k ≤ t → NeedsTo r m F n p t bits → some bits ≡ neededPoints r F p n

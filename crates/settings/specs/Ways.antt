@@ -1,5 +1,5 @@
--- What the search at one placement looks at: where each train's move ends, with the point that it meets at minus and at plus. Nothing of document 01 rests on
--- this file. Assumes nothing.
+-- What the search at one placement looks at: where each train's move ends, with the point that it meets at minus and at plus. Nothing of
+-- document 01 rests on this file. Assumes nothing.
 use mathlib.Core.Path.{_≡_}
 use mathlib.Core.Bool.{Bool, true, false, cond, not, _&&_, _||_}
 use mathlib.Core.List.{List}
@@ -15,7 +15,7 @@ use Rattle.game.specs.Placement.{shared, codeOn}
 use Rattle.game.specs.Setting.{headsFor, free}
 use Rattle.game.specs.Moves.{passes, moveOf}
 use Rattle.tables.specs.Find.{somePlus}
-use Rattle.compiled.specs.Table.{pointByte}
+use Rattle.compiled.specs.Table.{noByte, pointByte}
 use Rattle.moves.specs.declared.Placement.{Placement}
 use Rattle.moves.specs.Steps.{sectionIn, On, allAt}
 
@@ -27,7 +27,7 @@ pub record Asked (r : Railway) (p : ℕ) (table : List ℕ) (q : Placement) (c k
   pub points : m ≡ r .points
   pub apart : shared r p ≡ false
 
--- The point that train t meets (none: 255).
+-- The point that train t meets, or the byte for none.
 abbrev pub pointMet : Railway → ℕ → ℕ → ℕ
 pointMet r p t = pointByte (passes r (λ i. false) (headsFor r p t) .met)
 
@@ -35,13 +35,13 @@ pointMet r p t = pointByte (passes r (λ i. false) (headsFor r p t) .met)
 abbrev pub endsBelow : Railway → (ℕ → Option ℕ) → ℕ → ℕ → Bool → ℕ → Bool
 endsBelow r F p n plus t = isBelow n (figureOf F (moveOf r p (allAt plus) t))
 
--- Train t is free and its move does not, at minus.
+-- Train t is free, and its move does not end in a figure below n with the points at minus.
 abbrev pub harmedAtMinus : Railway → (ℕ → Option ℕ) → ℕ → ℕ → ℕ → Bool
 harmedAtMinus r F p n t = free r p t && not (endsBelow r F p n false t)
 
--- .. and it meets no point, so that no setting helps.
+-- Train t is free, its move does not end below n, and it meets no point, so that no setting helps.
 abbrev pub beyondHelp : Railway → (ℕ → Option ℕ) → ℕ → ℕ → ℕ → Bool
-beyondHelp r F p n t = harmedAtMinus r F p n t && eqb (pointMet r p t) 255
+beyondHelp r F p n t = harmedAtMinus r F p n t && eqb (pointMet r p t) noByte
 
 -- The points that free trains need at plus, unless one is beyond help.
 abbrev pub neededPoints : Railway → (ℕ → Option ℕ) → ℕ → ℕ → Option ℕ

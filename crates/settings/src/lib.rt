@@ -1,11 +1,12 @@
-// The first setting that keeps a placement below a figure, or nothing: what one step of a solver asks. It looks at no train's way more than twice, so that its
-// time goes with the trains and not with the settings.
+// The first setting that keeps a placement below a figure, or nothing: what one step of a solver asks. It looks at no train's way more than
+// twice, so that its time goes with the trains and not with the settings.
 ghost use mathlib.Core.Path.{_≡_};
 ghost use mathlib.Core.Bool.{true, false};
-ghost use Prim.Native.Nat.{ℕ, _≤_, _<_};
+ghost use Prim.Native.Nat.{ℕ, _^_, _≤_, _<_};
 ghost use lib.Dec.{eqb};
 ghost use Rattle.laws.specs.Below.{anyBelow, allBelow};
 ghost use Rattle.railway.specs.declared.Railway.{Railway};
+ghost use Rattle.railway.specs.Bounds.{mostPoints, mostTrains};
 ghost use Rattle.game.specs.Setting.{free};
 ghost use Rattle.tables.specs.Tables.{figureIn};
 ghost use Rattle.tables.specs.Find.{tryMet, findMet};
@@ -18,6 +19,9 @@ use compiled::NO_BYTE;
 use compiled::Table;
 use moves::Placement;
 use railway::Railway;
+
+// The bit of the first train in an entry of the setting table, as a number: points have the bits below.
+const FIRST_TRAIN: u32 = 1u32 << Railway::POINTS;
 
 // What a search for a setting finds: nothing, or an entry of the setting table.
 pub enum Found {
@@ -34,12 +38,13 @@ pub fn find_setting(table: &Table, figures: &[u32], p: u32, n: u32) -> Found
     find_in(table, figures, q, moves::code_of(table, q), n)
 }
 
-// .. for a placement by value and its code. Where a train is free, opening a signal only adds moves, so none is opened; else one must be.
+// The first setting for a placement by value and its code. Where a train is free, opening a signal only adds moves, so none is opened; else
+// one must be.
 pub fn find_in(table: &Table, figures: &[u32], q: Placement, c: u32, n: u32) -> Found
     ensures { λ f. ⌜ ((r : Railway) (p : ℕ) → On r p (now (table .entry)) q → c ≡ codeOn r (sectionIn q) → entryFound f ≡ firstKeeping r (figureIn (now (figures .entry))) p n) ⌝ }
 {
-    let k = compiled::count_in(table, 2);
-    let m = compiled::count_in(table, 1);
+    let k = compiled::trains_in(table);
+    let m = compiled::points_in(table);
     if Railway::TRAINS < k {
         return Found::Nothing;
     }
@@ -87,17 +92,17 @@ fn ends_below(
     if y == NO_BYTE {
         return false;
     }
-    let w = moves::power(compiled::count_in(table, 0), t);
+    let w = moves::power(compiled::sections_in(table), t);
     let after = moves::code_put(c, w, moves::section_at(q, t), y);
     if n <= tables::entry_at(figures, after, tables::NO_FIGURE) {
         return false;
     }
-    !moves::other_in(q, t, y, compiled::count_in(table, 2))
+    !moves::other_in(q, t, y, compiled::trains_in(table))
 }
 
 // SOME TRAIN FREE: no signal open, and the points as the free trains need them, if that keeps the figure.
 fn guide_free(table: &Table, figures: &[u32], q: Placement, c: u32, n: u32, k: u8, m: u8) -> Found
-    requires { ⌜ m ≤ 16 ⌝ }
+    requires { ⌜ m ≤ mostPoints ⌝ }
     ensures { λ f. ⌜ ((r : Railway) (p : ℕ) → Asked r p (now (table .entry)) q c k m → anyBelow (free r p) (r .trains) ≡ true → entryFound f ≡ findMet r (figureIn (now (figures .entry))) p n) ⌝ }
 {
     let needed = plus_bits(table, figures, q, c, n, k, m);
@@ -113,7 +118,7 @@ fn guide_free(table: &Table, figures: &[u32], q: Placement, c: u32, n: u32, k: u
 
 // The points that free trains need at plus; nothing, if one needs a point and meets none.
 fn plus_bits(table: &Table, figures: &[u32], q: Placement, c: u32, n: u32, k: u8, m: u8) -> Found
-    requires { ⌜ m ≤ 16 ⌝ }
+    requires { ⌜ m ≤ mostPoints ⌝ }
     ensures { λ f. ⌜ ((r : Railway) (p : ℕ) → Asked r p (now (table .entry)) q c k m → entryFound f ≡ neededPoints r (figureIn (now (figures .entry))) p n) ⌝ }
 {
     let mut bits: u32 = 0;
@@ -143,7 +148,7 @@ fn needs_plus(table: &Table, figures: &[u32], q: Placement, c: u32, n: u32, t: u
 
 // A number of k bits with bit x set.
 fn with_bit(b: u32, x: u8, k: u8) -> u32
-    requires { ⌜ (b < 65536) × (k ≤ 16) ⌝ }
+    requires { ⌜ (b < 2 ^ mostPoints) × (k ≤ mostPoints) ⌝ }
     ensures { λ c. ⌜ c ≡ withBit b x k ⌝ }
 {
     if x < k {
@@ -181,6 +186,7 @@ fn plus_holds(
     true
 }
 
+// Train t is held, or its point is not among these, or its move ends below the figure with the point at plus.
 fn good_at_plus(
     table: &Table,
     figures: &[u32],
@@ -205,7 +211,7 @@ fn good_at_plus(
 
 // NO TRAIN FREE: the lowest train whose signal alone keeps the figure.
 fn open_one(table: &Table, figures: &[u32], q: Placement, c: u32, n: u32, k: u8, m: u8) -> Found
-    requires { ⌜ (k ≤ 4) × (m ≤ 16) ⌝ }
+    requires { ⌜ (k ≤ mostTrains) × (m ≤ mostPoints) ⌝ }
     ensures { λ f. ⌜ ((r : Railway) (p : ℕ) → Asked r p (now (table .entry)) q c k m → anyBelow (free r p) (r .trains) ≡ false → entryFound f ≡ findMet r (figureIn (now (figures .entry))) p n) ⌝ }
 {
     let mut u: u8 = 0;
@@ -221,10 +227,10 @@ fn open_one(table: &Table, figures: &[u32], q: Placement, c: u32, n: u32, k: u8,
 
 // Train u open, and its point as it needs it, if that keeps the figure.
 fn open_train(table: &Table, figures: &[u32], q: Placement, c: u32, n: u32, m: u8, u: u8) -> Found
-    requires { ⌜ (u < 4) × (m ≤ 16) ⌝ }
+    requires { ⌜ (u < mostTrains) × (m ≤ mostPoints) ⌝ }
     ensures { λ f. ⌜ ((r : Railway) (p : ℕ) → Asked r p (now (table .entry)) q c (r .trains) m → anyBelow (free r p) (r .trains) ≡ false → u < r .trains → entryFound f ≡ tryMet r (figureIn (now (figures .entry))) p n (eqb u)) ⌝ }
 {
-    let open = 65536 * (1u32 << u);
+    let open = FIRST_TRAIN * (1u32 << u);
     if ends_below(table, figures, q, c, n, u, false) {
         return Found::Entry(open);
     }

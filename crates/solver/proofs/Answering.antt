@@ -20,7 +20,7 @@ use Rattle.tables.proofs.Promise.{numbers-agree}
 use Rattle.compiled.specs.declared.Compilation.{Compilation}
 use Rattle.compiled.specs.Table.{Compiled}
 use Rattle.cases.specs.Cases.{CasePost}
-use Rattle.solver.proofs.Visiting.{entry-some, entry-none}
+use Rattle.solver.proofs.Entries.{entry-some, entry-none}
 
 -- THE START'S FIGURE
 module _ (r : Railway) (figs : List ℕ) (at f : ℕ) (start : at ≡ startCode r) (entry : f ≡ getD figs at noFigure) where

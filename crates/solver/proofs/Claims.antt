@@ -1,5 +1,5 @@
--- What follows from the solver's promise: where nothing is refused the record is accepted and the tables are filled, and filled tables are right for whole plays.
--- Assumes nothing.
+-- What follows from the solver's promise: where nothing is refused the record is accepted and the tables are filled, and filled tables are
+-- right for whole plays. Assumes nothing.
 use mathlib.Core.Path.{_≡_, sym, _∙_, ap}
 use mathlib.Core.List.{List}
 use mathlib.Core.Option.{Option, none, some}

@@ -14,7 +14,7 @@ use Rattle.tables.specs.Solver.{Kept}
 use Rattle.tables.specs.Rounds.{firstFigure}
 use Rattle.tables.proofs.Steps.{cleared-round}
 use Rattle.compiled.specs.Table.{Compiled}
-use Rattle.solver.specs.Sweeps.{After}
+use Rattle.solver.specs.Rounds.{After}
 
 -- one table below p as a function has it, whatever is read past its end, and as it was from p on
 pub record Written (f : ℕ → ℕ) (p : ℕ) (old new : List ℕ) : Type 0 where

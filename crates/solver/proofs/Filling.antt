@@ -1,5 +1,5 @@
--- Rounds until one adds nothing. Every round but the last leaves fewer placements without a figure, so that with m placements the round after the m-th adds nothing, if
--- none has before. Assumes nothing.
+-- Rounds until one adds nothing. Every round but the last leaves fewer placements without a figure, so that with m placements the round after
+-- the m-th adds nothing, if none has before. Assumes nothing.
 use mathlib.Core.Path.{_≡_, refl, sym, _∙_}
 use mathlib.Core.Bool.{Bool, true, false}
 use mathlib.Core.List.{List}
@@ -19,8 +19,12 @@ use Rattle.tables.proofs.Exists.{few-placements, solution}
 use Rattle.tables.proofs.Rounds.{of-up-to}
 use Rattle.compiled.specs.Table.{Compiled}
 use Rattle.predecessors.specs.Behind.{Behind}
-use Rattle.solver.specs.Sweeps.{After, unfigured, unfiguredIn, RoundPost}
-use Rattle.solver.specs.Waves.{Marked}
+use Rattle.solver.specs.Rounds.{After, unfigured, unfiguredIn, RoundPost}
+use Rattle.solver.specs.Visits.{stretchLength, Marked}
+
+-- one mark for each stretch of the largest table
+abbrev pub markCount : ℕ
+markCount = 12288
 
 kept-on : (r : Railway) (a b c : List ℕ) → Kept r a b → Kept r b c → Kept r a c
 kept-on r a b c x y = record { as-long = y .as-long ∙ x .as-long; past = λ p l. y .past p l ∙ x .past p l }
@@ -35,7 +39,7 @@ pub record Filling (table behind : List ℕ) (m : ℕ) (figs₀ sets₀ figs set
   pub within : n ≤ m + 1
   pub long-figs : length figs ≡ length figs₀
   pub long-sets : length sets ≡ length sets₀
-  pub long-marks : length marks ≡ 12288
+  pub long-marks : length marks ≡ markCount
   pub played : (r : Railway) → Compiled r table → Behind r behind → m ≡ placements r → Played r m n figs₀ sets₀ figs sets marks
 
 -- what a round promises of every railway of these tables
@@ -52,27 +56,27 @@ kept-self : (r : Railway) (a : List ℕ) → Kept r a a
 kept-self r a = record { as-long = refl; past = λ p l. refl }
 
 -- before the first round no figure is above 0
-first-marked : (r : Railway) (figs sets : List ℕ) → recordRefusal r ≡ none → RoundTables r 0 figs sets → Marked r figs (replicate 12288 0)
+first-marked : (r : Railway) (figs sets : List ℕ) → recordRefusal r ≡ none → RoundTables r 0 figs sets → Marked r figs (replicate markCount 0)
 first-marked r figs sets accepted t =
     record {
-      room = enough (replicate 12288 0) (length-replicate {A = ℕ} 12288 0);
+      room = enough (replicate markCount 0) (length-replicate {A = ℕ} markCount 0);
       most = λ q j l e. omega (arith, none-yet q j l e);
     }
   where
-    enough : (marks : List ℕ) → length marks ≡ 12288 → placements r ≤ 432 * length marks
+    enough : (marks : List ℕ) → length marks ≡ markCount → placements r ≤ stretchLength * length marks
     enough marks e = omega (arith, few-placements r accepted)
 
     none-yet : (q j : ℕ) → q < placements r → figureIn figs q ≡ some j → j ≤ 0
     none-yet q j l e = let s = solution r accepted in of-up-to 0 (s .figure q) j (sym (t .figures q l (s .figure q) (s .figures q l)) ∙ e) .1
 
 module _ (table behind : List ℕ) (m : ℕ) (figs sets figs₀ sets₀ : List ℕ) (cleared : Clears table m figs sets figs₀ sets₀) where
-  pub filling-start : Filling table behind m figs₀ sets₀ figs₀ sets₀ (replicate 12288 0) 0
+  pub filling-start : Filling table behind m figs₀ sets₀ figs₀ sets₀ (replicate markCount 0) 0
   filling-start =
       record {
         within = omega arith;
         long-figs = refl;
         long-sets = refl;
-        long-marks = length-replicate {A = ℕ} 12288 0;
+        long-marks = length-replicate {A = ℕ} markCount 0;
         played = λ r h d e.
             record {
               after = record { tables = cleared r h e .tables; kept-figs = kept-self r figs₀; kept-sets = kept-self r sets₀ };

@@ -1,5 +1,6 @@
--- Who gains figure n in round n has a move to a placement of figure n - 1: with all moves below n - 1 the figure would have come earlier. So in round n only placements
--- one move before those can gain. A train looks at one point at most, so that the move is one with all points alike. Assumes nothing.
+-- Who gains figure n in round n has a move to the frontier, to a placement of figure n - 1: with all moves below n - 1 the figure would have
+-- come earlier. So in round n only placements one move before the frontier can gain. A train looks at one point at most, so that the move is
+-- one with all points alike. Assumes nothing.
 use mathlib.Core.Path.{_≡_, refl, sym, _∙_, ap, subst}
 use mathlib.Core.Logic.{inl, inr}
 use mathlib.Core.Bool.{Bool, true, false, not, _&&_}
@@ -31,7 +32,7 @@ use Rattle.tables.proofs.Find.{find-sound}
 use Rattle.tables.proofs.Steps.{gains-late}
 use Rattle.compiled.specs.Table.{pointByte}
 use Rattle.moves.proofs.Moving.{by-point}
-use Rattle.solver.specs.Waves.{By, Before}
+use Rattle.solver.specs.Visits.{By, Before}
 
 -- a move of some train to a placement of figure k
 record Newest {S : Type 0} (g : Game S) (F : ℕ → Option ℕ) (p : ℕ) (s : S) (k : ℕ) : Type 0 where

@@ -1,9 +1,9 @@
-pub mod Visiting
+pub mod Entries
 pub mod Clearing
 pub mod Gaining
-pub mod Sweeping
+pub mod Visits
+pub mod Loops
 pub mod Retracing
-pub mod Waving
 pub mod Filling
 pub mod Answering
 pub mod Claims

@@ -1,6 +1,5 @@
--- What follows from the solver's promise, a sentence to each, of every call: `a` is what `solve` answers, `figs′` and `sets′` are the tables that it leaves.
--- proofs/Claims has the proofs.
--- Assumes nothing.
+-- What follows from the solver's promise, a sentence to each, of every call: `a` is what `solve` answers, `figs′` and `sets′` are the tables
+-- that it leaves. proofs/Claims has the proofs. Assumes nothing.
 use mathlib.Core.Path.{_≡_}
 use mathlib.Core.List.{List}
 use mathlib.Core.Option.{none, some}
@@ -27,7 +26,7 @@ abbrev pub FigureIsStarts : Type 0
 FigureIsStarts =
     (r : Railway) (a : SolverAnswer) (figs sets figs′ sets′ : List ℕ) → SolverPost r a figs sets figs′ sets′ → (n : ℕ) → a ≡ Figure n → IsFigure (gameOf r) (startCode r) (some n)
 
--- .. none is answered only where it has none.
+-- THE ANSWER that there is none: the start has no figure in whole plays.
 abbrev pub UnsolvableIsNone : Type 0
 UnsolvableIsNone =
     (r : Railway) (a : SolverAnswer) (figs sets figs′ sets′ : List ℕ) → SolverPost r a figs sets figs′ sets′ → a ≡ Unsolvable → IsFigure (gameOf r) (startCode r) none

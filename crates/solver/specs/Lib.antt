@@ -1,3 +1,3 @@
-pub mod Sweeps
-pub mod Waves
+pub mod Rounds
+pub mod Visits
 pub mod Claims

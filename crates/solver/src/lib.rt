@@ -1,12 +1,13 @@
-// The solver: a record and two lent tables, filled in place round by round. Round n gives figure n to every placement from which some setting lets
-// all moves end at smaller figures. The search for figure n reads only figures below n, so entries made in the same round do not disturb it.
-// A placement that gains figure n has a move to one of figure n - 1, so a round visits only what is one move before those. Marks, one for a stretch of
-// codes, say how large the figures in it are at most, so that a round passes by the stretches without figure n - 1.
+// The solver: a record and two lent tables, filled in place round by round. Round n gives figure n to every placement from which some
+// setting lets all moves end at smaller figures. The search for figure n reads only figures below n, so entries made in the same round do not
+// disturb it. A placement that gains figure n has a move to one of figure n - 1, so a round visits only what is one move before those: they
+// are its frontier. Marks, one for a stretch of codes, say how large the figures in it are at most, so that a round passes by the stretches
+// where the frontier has none.
 // The functions under `solve` promise what they do for every accepted railway whose compiled table they are handed.
 ghost use mathlib.Core.Path.{_≡_};
 ghost use mathlib.Core.Bool.{false};
 ghost use mathlib.Core.Option.{none};
-ghost use Prim.Native.Nat.{ℕ, suc, _+_, _/_, _≤_, _<_};
+ghost use Prim.Native.Nat.{ℕ, suc, _+_, _≤_, _<_};
 ghost use lib.ListN.{length, getD};
 ghost use Rattle.railway.specs.declared.Railway.{Railway};
 ghost use Rattle.game.specs.Placement.{placements, startCode};
@@ -17,8 +18,8 @@ ghost use Rattle.compiled.specs.Table.{Compiled};
 ghost use Rattle.moves.specs.Answers.{homeCode};
 ghost use Rattle.moves.specs.Steps.{On};
 ghost use Rattle.predecessors.specs.Behind.{Behind};
-ghost use Rattle.solver.specs.Sweeps.{After, RoundPost};
-ghost use Rattle.solver.specs.Waves.{Marked, Round, Swept, Passed, PutBy, Waits, One, Other, By, Comes, Before};
+ghost use Rattle.solver.specs.Rounds.{After, RoundPost};
+ghost use Rattle.solver.specs.Visits.{stretchOf, Marked, Round, Visited, Passed, PutBy, otherThan, Waits, One, Put, By, Comes, Before};
 use acceptance::Tested;
 use compiled::NO_BYTE;
 use compiled::Table;
@@ -29,9 +30,10 @@ use settings::Found;
 use tables::NO_FIGURE;
 use tables::SolverAnswer;
 
-// How many codes a stretch has, and how many stretches there are: as many as the largest table needs.
+// How many codes a stretch has.
 const STRETCH: u32 = 432;
 
+// How many marks there are: one for each stretch of the largest table.
 const MARKS: usize = 12288;
 
 // How many codes are looked at together.
@@ -99,7 +101,7 @@ fn first_entry(table: &Table, home: u32, p: u32) -> u32
     }
 }
 
-// .. of any placement.
+// The figure of any placement before the first round: 0 at home, and none elsewhere.
 fn first_figure(table: &Table, p: u32) -> u32
     ensures { λ f. ⌜ ((r : Railway) → Compiled r (now (table .entry)) → f ≡ firstFigure r p) ⌝ }
 {
@@ -129,9 +131,7 @@ fn one_round(
     let mut c: u32 = 0;
     while c < m {
         let upto = stretch_end(c, m);
-        if visit_stretch(table, behind, figures, settings, marks, m, n, c, upto) {
-            added = true;
-        }
+        added = added | visit_stretch(table, behind, figures, settings, marks, m, n, c, upto);
         c = upto;
     }
     added
@@ -140,7 +140,7 @@ fn one_round(
 // Where the stretch of code c ends, the last one at m.
 fn stretch_end(c: u32, m: u32) -> u32
     requires { ⌜ c < m ⌝ }
-    ensures { λ e. ⌜ (c < e) × (e ≤ m) × ((q : ℕ) → c ≤ q → q < e → q / 432 ≡ c / 432) ⌝ }
+    ensures { λ e. ⌜ (c < e) × (e ≤ m) × ((q : ℕ) → c ≤ q → q < e → stretchOf q ≡ stretchOf c) ⌝ }
 {
     let left = STRETCH - c % STRETCH;
     if m - c <= left {
@@ -149,7 +149,7 @@ fn stretch_end(c: u32, m: u32) -> u32
     c + left
 }
 
-// Round n for the codes of a stretch, unless its mark says that no figure there is large enough.
+// Round n for what is one move before the frontier's placements in a stretch, unless its mark says that there are none.
 fn visit_stretch(
     table: &Table,
     behind: &SectionsBehind,
@@ -162,7 +162,7 @@ fn visit_stretch(
     upto: u32,
 ) -> bool
     requires { ⌜ (m ≤ length (now figures)) × (m ≤ length (now settings)) × (upto ≤ m) ⌝ }
-    ensures { λ b. ⌜ ((r : Railway) → Behind r (now (behind .entry)) → Round r (now (table .entry)) m n (now (figures .entry)) (now (marks .entry)) → ((q : ℕ) → from ≤ q → q < upto → q / 432 ≡ from / 432) → Swept r n (Before r n (now (figures .entry)) from upto) (now (figures .entry)) (now (settings .entry)) (now (figures .exit)) (now (settings .exit)) (now (marks .exit)) b) ⌝ }
+    ensures { λ b. ⌜ ((r : Railway) → Behind r (now (behind .entry)) → Round r (now (table .entry)) m n (now (figures .entry)) (now (marks .entry)) → ((q : ℕ) → from ≤ q → q < upto → stretchOf q ≡ stretchOf from) → Visited r n (Before r n (now (figures .entry)) from upto) (now (figures .entry)) (now (settings .entry)) (now (figures .exit)) (now (settings .exit)) (now (marks .exit)) b) ⌝ }
 {
     if n == 0 {
         return false;
@@ -175,7 +175,7 @@ fn visit_stretch(
 
 // The mark of the stretch of code c.
 fn mark_at(marks: &[u32], c: u32) -> u32
-    ensures { λ f. ⌜ f ≡ getD (now (marks .entry)) (c / 432) 0 ⌝ }
+    ensures { λ f. ⌜ f ≡ getD (now (marks .entry)) (stretchOf c) 0 ⌝ }
 {
     let i = (c / STRETCH) as usize;
     if i < marks.len() { marks[i] } else { 0 }
@@ -183,7 +183,7 @@ fn mark_at(marks: &[u32], c: u32) -> u32
 
 // The mark of the stretch of code c is n at least.
 fn mark(marks: &mut [u32], c: u32, n: u32)
-    ensures { λ u. ⌜ ((i : ℕ) → getD (now (marks .entry)) i 0 ≤ getD (now (marks .exit)) i 0) × (c / 432 < length (now (marks .entry)) → n ≤ getD (now (marks .exit)) (c / 432) 0) ⌝ }
+    ensures { λ u. ⌜ ((i : ℕ) → getD (now (marks .entry)) i 0 ≤ getD (now (marks .exit)) i 0) × (stretchOf c < length (now (marks .entry)) → n ≤ getD (now (marks .exit)) (stretchOf c) 0) ⌝ }
 {
     let i = (c / STRETCH) as usize;
     if i < marks.len() {
@@ -193,7 +193,7 @@ fn mark(marks: &mut [u32], c: u32, n: u32)
     }
 }
 
-// Round n for the codes in a range: what is one move before those whose figure the last round gave.
+// Round n for what is one move before the frontier's placements with codes in a range.
 fn visit_codes(
     table: &Table,
     behind: &SectionsBehind,
@@ -206,15 +206,13 @@ fn visit_codes(
     upto: u32,
 ) -> bool
     requires { ⌜ (m ≤ length (now figures)) × (m ≤ length (now settings)) × (upto ≤ m) × (0 < n) ⌝ }
-    ensures { λ b. ⌜ ((r : Railway) → Behind r (now (behind .entry)) → Round r (now (table .entry)) m n (now (figures .entry)) (now (marks .entry)) → Swept r n (Before r n (now (figures .entry)) from upto) (now (figures .entry)) (now (settings .entry)) (now (figures .exit)) (now (settings .exit)) (now (marks .exit)) b) ⌝ }
+    ensures { λ b. ⌜ ((r : Railway) → Behind r (now (behind .entry)) → Round r (now (table .entry)) m n (now (figures .entry)) (now (marks .entry)) → Visited r n (Before r n (now (figures .entry)) from upto) (now (figures .entry)) (now (settings .entry)) (now (figures .exit)) (now (settings .exit)) (now (marks .exit)) b) ⌝ }
 {
     let last = n - 1;
     let mut added = false;
     let mut c = next_with(figures, last, from, upto);
     while c < upto {
-        if visit_before(table, behind, figures, settings, marks, m, n, c) {
-            added = true;
-        }
+        added = added | visit_before(table, behind, figures, settings, marks, m, n, c);
         c = next_with(figures, last, c + 1, upto);
     }
     added
@@ -236,7 +234,7 @@ fn next_with(figures: &[u32], figure: u32, c: u32, upto: u32) -> u32
     e
 }
 
-// .. block by block, up to one that has it or is not whole.
+// Where passing by whole blocks from c on ends: at a block that has this figure, or at one that is not whole.
 fn pass_blocks(figures: &[u32], figure: u32, c: u32, upto: u32) -> u32
     requires { ⌜ upto ≤ length (now figures) ⌝ }
     ensures { λ e. ⌜ Passed (now (figures .entry)) figure c upto e ⌝ }
@@ -271,7 +269,7 @@ fn has_figure(figures: &[u32], figure: u32, from: u32, upto: u32) -> bool
     has
 }
 
-// Round n for what is one move before a code, train by train.
+// Round n for what is one move before the placement of code c, train by train.
 fn visit_before(
     table: &Table,
     behind: &SectionsBehind,
@@ -283,22 +281,21 @@ fn visit_before(
     c: u32,
 ) -> bool
     requires { ⌜ (m ≤ length (now figures)) × (m ≤ length (now settings)) × (c < m) ⌝ }
-    ensures { λ b. ⌜ ((r : Railway) → Behind r (now (behind .entry)) → Round r (now (table .entry)) m n (now (figures .entry)) (now (marks .entry)) → Swept r n (Comes r c (r .trains)) (now (figures .entry)) (now (settings .entry)) (now (figures .exit)) (now (settings .exit)) (now (marks .exit)) b) ⌝ }
+    ensures { λ b. ⌜ ((r : Railway) → Behind r (now (behind .entry)) → Round r (now (table .entry)) m n (now (figures .entry)) (now (marks .entry)) → Visited r n (Comes r c (r .trains)) (now (figures .entry)) (now (settings .entry)) (now (figures .exit)) (now (settings .exit)) (now (marks .exit)) b) ⌝ }
 {
     let q = moves::placement_of(table, c);
-    let k = compiled::count_in(table, 2);
+    let k = compiled::trains_in(table);
     let mut added = false;
     let mut t: u8 = 0;
     while t < k {
-        if visit_train(table, behind, figures, settings, marks, m, n, q, c, t) {
-            added = true;
-        }
+        added = added | visit_train(table, behind, figures, settings, marks, m, n, q, c, t);
         t += 1;
     }
     added
 }
 
-// .. by a move of one train, with the point that it meets at minus and at plus.
+// Round n for what is one move of train t before the placement of code c: the train stands on the section behind, the point between lying at
+// minus or at plus. A loop over the two has one call of `visit_from`, which is then compiled in its place; two calls are slower.
 fn visit_train(
     table: &Table,
     behind: &SectionsBehind,
@@ -312,35 +309,32 @@ fn visit_train(
     t: u8,
 ) -> bool
     requires { ⌜ (m ≤ length (now figures)) × (m ≤ length (now settings)) ⌝ }
-    ensures { λ b. ⌜ ((r : Railway) → Behind r (now (behind .entry)) → Round r (now (table .entry)) m n (now (figures .entry)) (now (marks .entry)) → On r c (now (table .entry)) q → c < placements r → t < r .trains → Swept r n (By r c t) (now (figures .entry)) (now (settings .entry)) (now (figures .exit)) (now (settings .exit)) (now (marks .exit)) b) ⌝ }
+    ensures { λ b. ⌜ ((r : Railway) → Behind r (now (behind .entry)) → Round r (now (table .entry)) m n (now (figures .entry)) (now (marks .entry)) → On r c (now (table .entry)) q → c < placements r → t < r .trains → Visited r n (By r c t) (now (figures .entry)) (now (settings .entry)) (now (figures .exit)) (now (settings .exit)) (now (marks .exit)) b) ⌝ }
 {
     let x = moves::section_at(q, t);
-    let w = moves::power(compiled::count_in(table, 0), t);
-    let y = predecessors::section_behind(behind, t, x, false);
-    let z = predecessors::section_behind(behind, t, x, true);
-    let p = moves::code_put(c, w, x, y);
-    let o = moves::code_put(c, w, x, z);
-    if waits(figures, m, y, p) {
-        let one = visit(
-            table,
-            figures,
-            settings,
-            marks,
-            moves::put_on(q, t, y),
-            p,
-            n,
-        );
-        let other = visit_other(table, figures, settings, marks, m, n, q, t, y, z, o);
-        if one {
-            return true;
-        }
-        return other;
+    let w = moves::power(compiled::sections_in(table), t);
+    let mut y = predecessors::section_behind(behind, t, x, false);
+    let z = other_than(y, predecessors::section_behind(behind, t, x, true));
+    let mut added = false;
+    let mut i: u8 = 0;
+    while i < 2 {
+        let p = moves::code_put(c, w, x, y);
+        added = added | visit_from(table, figures, settings, marks, m, n, q, t, y, p);
+        y = z;
+        i += 1;
     }
-    visit_other(table, figures, settings, marks, m, n, q, t, y, z, o)
+    added
 }
 
-// .. from section z, if that is another than y; p is the code of the placement that has train t there and the others as in q.
-fn visit_other(
+// Section z, where it is another than y; else none, so that no placement is visited twice.
+fn other_than(y: u8, z: u8) -> u8
+    ensures { λ x. ⌜ x ≡ otherThan y z ⌝ }
+{
+    if y == z { NO_BYTE } else { z }
+}
+
+// Round n for train t on section y, if that is one, and the others as in q; p is that placement's code.
+fn visit_from(
     table: &Table,
     figures: &mut [u32],
     settings: &mut [u32],
@@ -350,22 +344,18 @@ fn visit_other(
     q: Placement,
     t: u8,
     y: u8,
-    z: u8,
     p: u32,
 ) -> bool
     requires { ⌜ (m ≤ length (now figures)) × (m ≤ length (now settings)) ⌝ }
-    ensures { λ b. ⌜ ((r : Railway) (c : ℕ) → Round r (now (table .entry)) m n (now (figures .entry)) (now (marks .entry)) → On r c (now (table .entry)) q → t < r .trains → PutBy r c t z p → Swept r n (Other r c t y z) (now (figures .entry)) (now (settings .entry)) (now (figures .exit)) (now (settings .exit)) (now (marks .exit)) b) ⌝ }
+    ensures { λ b. ⌜ ((r : Railway) (c : ℕ) → Round r (now (table .entry)) m n (now (figures .entry)) (now (marks .entry)) → On r c (now (table .entry)) q → t < r .trains → PutBy r c t y p → Visited r n (Put r c t y) (now (figures .entry)) (now (settings .entry)) (now (figures .exit)) (now (settings .exit)) (now (marks .exit)) b) ⌝ }
 {
-    if y == z {
-        return false;
-    }
-    if waits(figures, m, z, p) {
+    if waits(figures, m, y, p) {
         return visit(
             table,
             figures,
             settings,
             marks,
-            moves::put_on(q, t, z),
+            moves::put_on(q, t, y),
             p,
             n,
         );
@@ -373,7 +363,7 @@ fn visit_other(
     false
 }
 
-// Section y is one, p a code, and it has no figure yet.
+// There is a section y, and p is a code that has no figure yet.
 fn waits(figures: &[u32], m: u32, y: u8, p: u32) -> bool
     requires { ⌜ m ≤ length (now figures) ⌝ }
     ensures { λ b. ⌜ Waits (now (figures .entry)) m y p b ⌝ }
@@ -399,7 +389,7 @@ fn visit(
     n: u32,
 ) -> bool
     requires { ⌜ (p < length (now figures)) × (p < length (now settings)) ⌝ }
-    ensures { λ b. ⌜ ((r : Railway) (m : ℕ) → Round r (now (table .entry)) m n (now (figures .entry)) (now (marks .entry)) → On r p (now (table .entry)) q → p < placements r → figureIn (now (figures .entry)) p ≡ none → Swept r n (One p) (now (figures .entry)) (now (settings .entry)) (now (figures .exit)) (now (settings .exit)) (now (marks .exit)) b) ⌝ }
+    ensures { λ b. ⌜ ((r : Railway) (m : ℕ) → Round r (now (table .entry)) m n (now (figures .entry)) (now (marks .entry)) → On r p (now (table .entry)) q → p < placements r → figureIn (now (figures .entry)) p ≡ none → Visited r n (One p) (now (figures .entry)) (now (settings .entry)) (now (figures .exit)) (now (settings .exit)) (now (marks .exit)) b) ⌝ }
 {
     let found = settings::find_in(table, figures, q, p, n);
     let Found::Entry(v) = found else {

@@ -12,8 +12,8 @@ leads-to-requires c κs = search needs
 returns : tie.Need-returns
 returns c = let a = c .before .before .before .args in λ r p on e l. ends-derailed r p _ _ on (a .figures .now) (a .n) _ _ l _ (c .before .leads-to .ensures r p on l) (c .if1 .taken)
 
-count-in-requires : tie.Need-count-in-requires
-count-in-requires c κs = search needs
+sections-in-requires : tie.Need-sections-in-requires
+sections-in-requires c κs = search needs
 
 power-requires : tie.Need-power-requires
 power-requires c κs = search needs
@@ -35,11 +35,11 @@ returns-2 c =
     let k = w .before in
     let y = k .before in
     λ r p on e l.
-    ends-not r p _ _ on (y .before .before .before .args .figures .now) _ _ _ l _ (y .before .leads-to .ensures r p on l) (y .if1 .left) _ _ _ _ _ e (k .count-in .ensures r (on .compiled) (omega arith)) (w .power .ensures) (s .section-at .ensures)
+    ends-not r p _ _ on (y .before .before .before .args .figures .now) _ _ _ l _ (y .before .leads-to .ensures r p on l) (y .if1 .left) _ _ _ _ _ e (k .sections-in .ensures r (on .compiled)) (w .power .ensures) (s .section-at .ensures)
     (a .before .code-put .ensures) _ (a .entry-at .ensures) (c .if2 .taken)
 
-count-in-requires-2 : tie.Need-count-in-requires-2
-count-in-requires-2 c κs = search needs
+trains-in-requires : tie.Need-trains-in-requires
+trains-in-requires c κs = search needs
 
 other-in-requires : tie.Need-other-in-requires
 other-in-requires c κs = search needs
@@ -54,8 +54,8 @@ returns-3 c =
     let k = w .before in
     let y = k .before in
     λ r p on e l.
-    ends-unless r p _ _ on (y .before .before .before .args .figures .now) _ _ _ l _ (y .before .leads-to .ensures r p on l) (y .if1 .left) _ _ _ _ _ e (k .count-in .ensures r (on .compiled) (omega arith)) (w .power .ensures) (s .section-at .ensures)
-    (a .before .code-put .ensures) _ (a .entry-at .ensures) (omega (arith, y .before .before .before .fits .n)) (i .if2 .left) _ _ (o .count-in2 .ensures r (on .compiled) (omega arith)) (c .other-in .ensures)
+    ends-unless r p _ _ on (y .before .before .before .args .figures .now) _ _ _ l _ (y .before .leads-to .ensures r p on l) (y .if1 .left) _ _ _ _ _ e (k .sections-in .ensures r (on .compiled)) (w .power .ensures) (s .section-at .ensures)
+    (a .before .code-put .ensures) _ (a .entry-at .ensures) (omega (arith, y .before .before .before .fits .n)) (i .if2 .left) _ _ (o .trains-in .ensures r (on .compiled)) (c .other-in .ensures)
 
 pub ends-below-spec : {M : Type 1} → statement M
 ends-below-spec =
@@ -63,12 +63,12 @@ ends-below-spec =
     (tie.spec
     leads-to-requires
     returns
-    count-in-requires
+    sections-in-requires
     power-requires
     section-at-requires
     code-put-requires
     entry-at-requires
     returns-2
-    count-in-requires-2
+    trains-in-requires
     other-in-requires
     returns-3)

@@ -1,6 +1,5 @@
--- `settings::find_in` meets its contract: the counts of an accepted railway are within their bounds; a lost placement keeps nothing; else it hangs on whether a train is free.
--- Assumes nothing.
-use native.Mathlib.Omega.{arith}
+-- `settings::find_in` meets its contract: the counts of an accepted railway are within their bounds; a lost placement keeps nothing; else it
+-- hangs on whether a train is free. Assumes nothing.
 use mathlib.Core.Path.{sym, _∙_}
 use Rattle.game.proofs.Accepted.{facts}
 use Rattle.settings.proofs.Trying.{lost-none, found-first, trains-few, points-few, asked}
@@ -8,17 +7,17 @@ use borrow.Author.Needs.{needs}
 use Rattle.settings.proofs.find_in.Statement.{statement}
 use Rattle.settings.proofs.find_in.Tie as tie
 
-count-in-requires : tie.Need-count-in-requires
-count-in-requires c κs = search needs
+trains-in-requires : tie.Need-trains-in-requires
+trains-in-requires c κs = search needs
 
-count-in-requires-2 : tie.Need-count-in-requires-2
-count-in-requires-2 c κs = search needs
+points-in-requires : tie.Need-points-in-requires
+points-in-requires c κs = search needs
 
 returns : tie.Need-returns
-returns c = λ r p on e. let h = on .compiled in trains-few r _ h _ _ (c .before .before .count-in .ensures r h (omega arith)) (c .before .count-in2 .ensures r h (omega arith)) (c .if1 .taken) _
+returns c = λ r p on e. let h = on .compiled in trains-few r _ h _ _ (c .before .before .trains-in .ensures r h) (c .before .points-in .ensures r h) (c .if1 .taken) _
 
 returns-2 : tie.Need-returns-2
-returns-2 c = λ r p on e. let h = on .compiled in points-few r _ h _ _ (c .before .before .before .count-in .ensures r h (omega arith)) (c .before .before .count-in2 .ensures r h (omega arith)) (c .if2 .taken) _
+returns-2 c = λ r p on e. let h = on .compiled in points-few r _ h _ _ (c .before .before .before .trains-in .ensures r h) (c .before .before .points-in .ensures r h) (c .if2 .taken) _
 
 lost-in-requires : tie.Need-lost-in-requires
 lost-in-requires c κs = search needs
@@ -43,7 +42,7 @@ returns-4 c =
     λ r p on e.
     let h = on .compiled in
     let lost = i .before .lost-in .ensures r p on in
-    let all = asked r _ h _ _ (m .before .count-in .ensures r h (omega arith)) (m .count-in2 .ensures r h (omega arith)) p _ _ _ on e lost (i .if3 .left) in
+    let all = asked r _ h _ _ (m .before .trains-in .ensures r h) (m .points-in .ensures r h) p _ _ _ on e lost (i .if3 .left) in
     found-first r _ _ _ _ lost (facts r (h .accepted)) (i .if3 .left) _ (c .guide-free .ensures r p all (sym (f .some-free .ensures r p on (all .trains)) ∙ c .before .if4 .taken))
 
 returns-5 : tie.Need-returns-5
@@ -54,15 +53,15 @@ returns-5 c =
     λ r p on e.
     let h = on .compiled in
     let lost = i .before .lost-in .ensures r p on in
-    let all = asked r _ h _ _ (m .before .count-in .ensures r h (omega arith)) (m .count-in2 .ensures r h (omega arith)) p _ _ _ on e lost (i .if3 .left) in
+    let all = asked r _ h _ _ (m .before .trains-in .ensures r h) (m .points-in .ensures r h) p _ _ _ on e lost (i .if3 .left) in
     found-first r _ _ _ _ lost (facts r (h .accepted)) (i .if3 .left) _ (c .open-one .ensures r p all (sym (f .some-free .ensures r p on (all .trains)) ∙ c .before .if4 .left))
 
 pub find-in-spec : {M : Type 1} → statement M
 find-in-spec =
     tie.close
     (tie.spec
-    count-in-requires
-    count-in-requires-2
+    trains-in-requires
+    points-in-requires
     returns
     returns-2
     lost-in-requires

@@ -1,6 +1,6 @@
 -- `solver::first_entry` meets its contract: who has another code than home is not home.
 -- Assumes nothing.
-use Rattle.solver.proofs.Visiting.{first-other}
+use Rattle.solver.proofs.Entries.{first-other}
 use borrow.Author.Needs.{needs}
 use Rattle.solver.proofs.first_entry.Statement.{statement}
 use Rattle.solver.proofs.first_entry.Tie as tie

@@ -2,7 +2,7 @@
 -- Assumes nothing.
 use mathlib.Core.Bool.{false}
 use borrow.Author.Needs.{needs}
-use Rattle.solver.proofs.Visiting.{first-lost, first-home, first-away}
+use Rattle.solver.proofs.Entries.{first-lost, first-home, first-away}
 use Rattle.solver.proofs.first_figure.Statement.{statement}
 use Rattle.solver.proofs.first_figure.Tie as tie
 

@@ -7,8 +7,8 @@ use mathlib.Core.Bool.{false}
 use mathlib.Core.Logic.{⊎-elim}
 use Prim.Native.Nat.{_-_, _≤_}
 use Rattle.laws.proofs.Bools.{clash}
-use Rattle.solver.specs.Waves.{Passed}
-use Rattle.solver.proofs.Waving.{passed-start, passed-next, passed-end}
+use Rattle.solver.specs.Visits.{Passed}
+use Rattle.solver.proofs.Loops.{passed-start, passed-next, passed-end}
 use Rattle.solver.proofs.has_figure.Statement.{statement}
 use Rattle.solver.proofs.has_figure.Tie as tie
 

@@ -1,6 +1,6 @@
 -- `solver::mark` meets its contract: it is raised, or high enough already.
 -- Assumes nothing.
-use Rattle.solver.proofs.Sweeping.{mark-raised}
+use Rattle.solver.proofs.Visits.{mark-raised}
 use borrow.Author.Needs.{needs}
 use Rattle.solver.proofs.mark.Statement.{statement}
 use Rattle.solver.proofs.mark.Tie as tie

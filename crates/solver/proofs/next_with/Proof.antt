@@ -5,8 +5,8 @@ use borrow.Author.Needs.{needs}
 use mathlib.Core.Path.{_∙_}
 use Prim.Native.Nat.{_-_}
 use Rattle.laws.proofs.Lists.{getD-inside}
-use Rattle.solver.specs.Waves.{Passed}
-use Rattle.solver.proofs.Waving.{passed-next}
+use Rattle.solver.specs.Visits.{Passed}
+use Rattle.solver.proofs.Loops.{passed-next}
 use Rattle.solver.proofs.next_with.Statement.{statement}
 use Rattle.solver.proofs.next_with.Tie as tie
 

@@ -1,16 +1,16 @@
 -- `solver::one_round` meets its contract. The loop's invariant: what is before the codes below c has been visited.
 -- Assumes nothing.
 use native.Mathlib.Omega.{arith}
-use mathlib.Core.Path.{refl}
 use Prim.Native.Nat.{_-_}
-use Rattle.solver.specs.Waves.{Before}
-use Rattle.solver.proofs.Waving.{Sweeping, sweeping-start, sweeping-next, joined-added, joined-same, no-code, codes-next, round-end}
+use Rattle.predecessors.specs.Behind.{Behind}
+use Rattle.solver.specs.Visits.{Before}
+use Rattle.solver.proofs.Loops.{VisitedTo, visited-to-start, visited-to-next, no-code, codes-next, round-end}
 use Rattle.solver.proofs.one_round.Statement.{statement}
 use Rattle.solver.proofs.one_round.Tie as tie
 
 abbrev Inv-loop : tie.InvT-loop
 Inv-loop table behind figures₀ settings₀ marks₀ m n added₀ c₀ figures settings marks added c =
-    Sweeping table behind m n (λ r i. Before r n figures₀ 0 i) figures₀ settings₀ marks₀ figures settings marks added c
+    VisitedTo table m n (λ r. Behind r behind) (λ r i. Before r n figures₀ 0 i) figures₀ settings₀ marks₀ figures settings marks added c
 
 abbrev μ-loop : tie.MeasureT-loop
 μ-loop table behind figures₀ settings₀ marks₀ m n added₀ c₀ figures settings marks added c = m - c
@@ -18,7 +18,7 @@ abbrev μ-loop : tie.MeasureT-loop
 loop-holds : tie.Need-loop-holds Inv-loop μ-loop
 loop-holds c =
     let a = c .before .before .before in
-    sweeping-start (a .args .table .now) (a .args .behind .now) (a .args .m) (a .args .n) (λ r i. Before r (a .args .n) (a .args .figures .now) 0 i) (a .args .figures .now) (a .args .settings .now) (a .args .marks .now) 0 (λ r q k. no-code r (a .args .n) (a .args .figures .now) 0 q k)
+    visited-to-start (a .args .table .now) (a .args .m) (a .args .n) (λ r. Behind r (a .args .behind .now)) (λ r i. Before r (a .args .n) (a .args .figures .now) 0 i) (a .args .figures .now) (a .args .settings .now) (a .args .marks .now) 0 (λ r q k. no-code r (a .args .n) (a .args .figures .now) 0 q k)
 
 stretch-end-requires : tie.Need-stretch-end-requires Inv-loop μ-loop
 stretch-end-requires c κs = c .loop-test .taken
@@ -32,7 +32,7 @@ visit-stretch-requires c κs =
 
 loop-less : tie.Need-loop-less Inv-loop μ-loop
 loop-less c =
-    let v = c .before .before .before .before .before .before .before in
+    let v = c .before .before .before .before .before .before in
     let u = v .before .before .before .before in
     let i = u .before in
     let l = i .before in
@@ -41,38 +41,15 @@ loop-less c =
 
 loop-again : tie.Need-loop-again Inv-loop μ-loop
 loop-again c =
-    let v = c .before .before .before .before .before .before .before in
+    let v = c .before .before .before .before .before .before in
     let u = v .before .before .before .before in
     let i = u .before in
     let l = i .before in
     let a = l .before .before .before .before in
-    sweeping-next (a .args .table .now) (a .args .behind .now) (a .args .m) (a .args .n) (λ r i. Before r (a .args .n) (a .args .figures .now) 0 i) (a .args .figures .now) (a .args .settings .now) (a .args .marks .now) (l .loop .figures) (l .loop .settings) (l .loop .marks) (l .loop .added) (l .loop .c) (l .loop .inv)
-    (λ r. Before r (a .args .n) (l .loop .figures) (l .loop .c) (u .stretch-end .result)) (u .stretch-end .result) _ _ _ (v .visit-stretch .result) _ (v .visit-stretch .kept .1 .1 .0) (v .visit-stretch .kept .1 .1 .1 .0) (v .visit-stretch .kept .1 .1 .1 .1 .0)
+    visited-to-next (a .args .table .now) (a .args .m) (a .args .n) (λ r. Behind r (a .args .behind .now)) (λ r i. Before r (a .args .n) (a .args .figures .now) 0 i) (a .args .figures .now) (a .args .settings .now) (a .args .marks .now) (l .loop .figures) (l .loop .settings) (l .loop .marks) (l .loop .added) (l .loop .c) (l .loop .inv)
+    (λ r. Before r (a .args .n) (l .loop .figures) (l .loop .c) (u .stretch-end .result)) (u .stretch-end .result) _ _ _ (v .visit-stretch .result) (v .visit-stretch .kept .1 .1 .0) (v .visit-stretch .kept .1 .1 .1 .0) (v .visit-stretch .kept .1 .1 .1 .1 .0)
     (λ r h o. v .visit-stretch .ensures r h o (u .stretch-end .ensures .2))
     (λ r s o q lq x. codes-next r (a .args .n) (a .args .figures .now) _ _ _ _ _ _ s 0 (l .loop .c) (u .stretch-end .result) q (omega (arith, u .stretch-end .ensures .1, o .counted)) x)
-    (joined-added (v .visit-stretch .result) (l .loop .added) _ (c .if1 .taken) refl)
-
-loop-less-2 : tie.Need-loop-less-2 Inv-loop μ-loop
-loop-less-2 c =
-    let v = c .before .before .before .before .before .before .before in
-    let u = v .before .before .before .before in
-    let i = u .before in
-    let l = i .before in
-    let a = l .before .before .before .before in
-    omega (arith, i .loop-test .taken, u .stretch-end .ensures .0, u .stretch-end .ensures .1)
-
-loop-again-2 : tie.Need-loop-again-2 Inv-loop μ-loop
-loop-again-2 c =
-    let v = c .before .before .before .before .before .before .before in
-    let u = v .before .before .before .before in
-    let i = u .before in
-    let l = i .before in
-    let a = l .before .before .before .before in
-    sweeping-next (a .args .table .now) (a .args .behind .now) (a .args .m) (a .args .n) (λ r i. Before r (a .args .n) (a .args .figures .now) 0 i) (a .args .figures .now) (a .args .settings .now) (a .args .marks .now) (l .loop .figures) (l .loop .settings) (l .loop .marks) (l .loop .added) (l .loop .c) (l .loop .inv)
-    (λ r. Before r (a .args .n) (l .loop .figures) (l .loop .c) (u .stretch-end .result)) (u .stretch-end .result) _ _ _ (v .visit-stretch .result) _ (v .visit-stretch .kept .1 .1 .0) (v .visit-stretch .kept .1 .1 .1 .0) (v .visit-stretch .kept .1 .1 .1 .1 .0)
-    (λ r h o. v .visit-stretch .ensures r h o (u .stretch-end .ensures .2))
-    (λ r s o q lq x. codes-next r (a .args .n) (a .args .figures .now) _ _ _ _ _ _ s 0 (l .loop .c) (u .stretch-end .result) q (omega (arith, u .stretch-end .ensures .1, o .counted)) x)
-    (joined-same (v .visit-stretch .result) (l .loop .added) _ (c .if1 .left) refl)
 
 same-length : tie.Need-same-length Inv-loop μ-loop
 same-length c = c .before .loop .inv .long-figs
@@ -100,8 +77,6 @@ one-round-spec =
     visit-stretch-requires
     loop-less
     loop-again
-    loop-less-2
-    loop-again-2
     same-length
     same-length-2
     same-length-3

@@ -3,8 +3,8 @@
 use native.Mathlib.Omega.{arith}
 use borrow.Author.Needs.{needs}
 use Prim.Native.Nat.{_+_, _-_}
-use Rattle.solver.specs.Waves.{Passed}
-use Rattle.solver.proofs.Waving.{passed-start, passed-more}
+use Rattle.solver.specs.Visits.{Passed}
+use Rattle.solver.proofs.Loops.{passed-start, passed-more}
 use Rattle.solver.proofs.pass_blocks.Statement.{statement}
 use Rattle.solver.proofs.pass_blocks.Tie as tie
 

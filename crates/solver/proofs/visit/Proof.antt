@@ -3,7 +3,7 @@
 use mathlib.Core.Path.{sym, ap}
 use Rattle.settings.specs.Answers.{entryFound}
 use Rattle.moves.proofs.Round.{code-back}
-use Rattle.solver.proofs.Sweeping.{visit-rests, visit-gains}
+use Rattle.solver.proofs.Visits.{visit-rests, visit-gains}
 use borrow.Author.Needs.{needs}
 use Rattle.solver.proofs.visit.Statement.{statement}
 use Rattle.solver.proofs.visit.Tie as tie

@@ -2,16 +2,16 @@
 -- Assumes nothing.
 use borrow.Author.Needs.{needs}
 use native.Mathlib.Omega.{arith}
-use mathlib.Core.Logic.{⊎-elim}
 use Prim.Native.Nat.{_+_, _-_}
-use Rattle.solver.specs.Waves.{By, Comes}
-use Rattle.solver.proofs.Waving.{Sweeping, sweeping-start, sweeping-next, sweeping-end, joined-added, joined-same, no-train, train-next, all-trains, train-there}
+use Rattle.predecessors.specs.Behind.{Behind}
+use Rattle.solver.specs.Visits.{By, Comes}
+use Rattle.solver.proofs.Loops.{VisitedTo, visited-to-start, visited-to-next, visited-to-end, no-train, train-next, all-trains, train-there}
 use Rattle.solver.proofs.visit_before.Statement.{statement}
 use Rattle.solver.proofs.visit_before.Tie as tie
 
 abbrev Inv-loop : tie.InvT-loop
 Inv-loop table behind figures₀ settings₀ marks₀ m n c q k added₀ t₀ figures settings marks added t =
-    Sweeping table behind m n (λ r i. Comes r c i) figures₀ settings₀ marks₀ figures settings marks added t
+    VisitedTo table m n (λ r. Behind r behind) (λ r i. Comes r c i) figures₀ settings₀ marks₀ figures settings marks added t
 
 abbrev μ-loop : tie.MeasureT-loop
 μ-loop table behind figures₀ settings₀ marks₀ m n c q k added₀ t₀ figures settings marks added t = k - t
@@ -19,13 +19,13 @@ abbrev μ-loop : tie.MeasureT-loop
 placement-of-requires : tie.Need-placement-of-requires Inv-loop μ-loop
 placement-of-requires c κs = search needs
 
-count-in-requires : tie.Need-count-in-requires Inv-loop μ-loop
-count-in-requires c κs = search needs
+trains-in-requires : tie.Need-trains-in-requires Inv-loop μ-loop
+trains-in-requires c κs = search needs
 
 loop-holds : tie.Need-loop-holds Inv-loop μ-loop
 loop-holds c =
     let a = c .before .before .before .before .before in
-    sweeping-start (a .args .table .now) (a .args .behind .now) (a .args .m) (a .args .n) (λ r i. Comes r (a .args .c) i) (a .args .figures .now) (a .args .settings .now) (a .args .marks .now) 0 (λ r q k. no-train r (a .args .c) q k)
+    visited-to-start (a .args .table .now) (a .args .m) (a .args .n) (λ r. Behind r (a .args .behind .now)) (λ r i. Comes r (a .args .c) i) (a .args .figures .now) (a .args .settings .now) (a .args .marks .now) 0 (λ r q k. no-train r (a .args .c) q k)
 
 visit-train-requires : tie.Need-visit-train-requires Inv-loop μ-loop
 visit-train-requires c κs =
@@ -35,7 +35,7 @@ visit-train-requires c κs =
 
 add-t : tie.Need-add-t Inv-loop μ-loop
 add-t c =
-    let v = c .before .before .before .before .before .before .before in
+    let v = c .before .before .before .before .before .before in
     let l = v .before .before .before .before .before in
     let k = l .before in
     let q = k .before in
@@ -44,7 +44,7 @@ add-t c =
 
 loop-less : tie.Need-loop-less Inv-loop μ-loop
 loop-less c =
-    let v = c .before .before .before .before .before .before .before in
+    let v = c .before .before .before .before .before .before in
     let l = v .before .before .before .before .before in
     let k = l .before in
     let q = k .before in
@@ -53,17 +53,16 @@ loop-less c =
 
 loop-again : tie.Need-loop-again Inv-loop μ-loop
 loop-again c =
-    let v = c .before .before .before .before .before .before .before in
+    let v = c .before .before .before .before .before .before in
     let l = v .before .before .before .before .before in
     let k = l .before in
     let q = k .before in
     let a = q .before .before .before .before in
     let on = v .before .before .before .before .loop-test .taken in
-    sweeping-next (a .args .table .now) (a .args .behind .now) (a .args .m) (a .args .n) (λ r i. Comes r (a .args .c) i) (a .args .figures .now) (a .args .settings .now) (a .args .marks .now) (l .loop .figures) (l .loop .settings) (l .loop .marks) (l .loop .added) (l .loop .t) (l .loop .inv)
-    (λ r. By r (a .args .c) (l .loop .t)) (l .loop .t + 1) _ _ _ (v .visit-train .result) (c .if1 .added) (v .visit-train .kept .1 .1 .0) (v .visit-train .kept .1 .1 .1 .0) (v .visit-train .kept .1 .1 .1 .1 .0)
-    (λ r h o. v .visit-train .ensures r h o (q .placement-of .ensures r (o .compiled)) (omega (arith, a .pre .2, o .counted)) (train-there r _ _ (k .count-in .ensures r (o .compiled) (omega arith)) on))
+    visited-to-next (a .args .table .now) (a .args .m) (a .args .n) (λ r. Behind r (a .args .behind .now)) (λ r i. Comes r (a .args .c) i) (a .args .figures .now) (a .args .settings .now) (a .args .marks .now) (l .loop .figures) (l .loop .settings) (l .loop .marks) (l .loop .added) (l .loop .t) (l .loop .inv)
+    (λ r. By r (a .args .c) (l .loop .t)) (l .loop .t + 1) _ _ _ (v .visit-train .result) (v .visit-train .kept .1 .1 .0) (v .visit-train .kept .1 .1 .1 .0) (v .visit-train .kept .1 .1 .1 .1 .0)
+    (λ r h o. v .visit-train .ensures r h o (q .placement-of .ensures r (o .compiled)) (omega (arith, a .pre .2, o .counted)) (train-there r _ _ (k .trains-in .ensures r (o .compiled)) on))
     (λ r s o q lq x. train-next r (a .args .c) (l .loop .t) q x)
-    (⊎-elim (λ w. joined-added (v .visit-train .result) (l .loop .added) _ (w .0 .taken) (w .1)) (λ w. joined-same (v .visit-train .result) (l .loop .added) _ (w .0 .left) (w .1)) (c .if1 .came))
 
 same-length : tie.Need-same-length Inv-loop μ-loop
 same-length c = c .before .loop .inv .long-figs
@@ -79,8 +78,8 @@ returns c =
     let l = c .before in
     let k = l .before in
     let a = k .before .before .before .before .before in
-    sweeping-end (a .args .table .now) (a .args .behind .now) (a .args .m) (a .args .n) (λ r i. Comes r (a .args .c) i) (a .args .figures .now) (a .args .settings .now) (a .args .marks .now) _ _ _ _ _ (l .loop .inv) (λ r. Comes r (a .args .c) (r .trains))
-    (λ r o q x. all-trains r _ _ (k .count-in .ensures r (o .compiled) (omega arith)) (c .loop-test .left) (a .args .c) q x)
+    visited-to-end (a .args .table .now) (a .args .m) (a .args .n) (λ r. Behind r (a .args .behind .now)) (λ r i. Comes r (a .args .c) i) (a .args .figures .now) (a .args .settings .now) (a .args .marks .now) _ _ _ _ _ (l .loop .inv) (λ r. Comes r (a .args .c) (r .trains))
+    (λ r g o q lq x. all-trains r _ _ (k .trains-in .ensures r (o .compiled)) (c .loop-test .left) (a .args .c) q x)
 
 pub visit-before-spec : {M : Type 1} → statement M
 visit-before-spec =
@@ -89,7 +88,7 @@ visit-before-spec =
     Inv-loop
     μ-loop
     placement-of-requires
-    count-in-requires
+    trains-in-requires
     loop-holds
     visit-train-requires
     add-t

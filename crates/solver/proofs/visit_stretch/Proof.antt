@@ -1,8 +1,8 @@
 -- `solver::visit_stretch` meets its contract: all codes of the stretch, or none of them has the last round's figure.
 -- Assumes nothing.
-use Rattle.solver.specs.Waves.{Before}
-use Rattle.solver.proofs.Sweeping.{swept-none}
-use Rattle.solver.proofs.Waving.{none-before, not-marked}
+use Rattle.solver.specs.Visits.{Before}
+use Rattle.solver.proofs.Visits.{visited-none}
+use Rattle.solver.proofs.Loops.{none-before, not-marked}
 use borrow.Author.Needs.{needs}
 use Rattle.solver.proofs.visit_stretch.Statement.{statement}
 use Rattle.solver.proofs.visit_stretch.Tie as tie
@@ -11,7 +11,7 @@ returns : tie.Need-returns
 returns c =
     let a = c .before .before .before .before in
     λ r h o one.
-    swept-none r (a .args .n) (Before r (a .args .n) (a .args .figures .now) (a .args .from) (a .args .upto)) (a .args .figures .now) (a .args .settings .now) (a .args .marks .now) (o .marked)
+    visited-none r (a .args .n) (Before r (a .args .n) (a .args .figures .now) (a .args .from) (a .args .upto)) (a .args .figures .now) (a .args .settings .now) (a .args .marks .now) (o .marked)
     (λ q l k. none-before r (a .args .n) (a .args .figures .now) (c .if1 .taken) (a .args .from) (a .args .upto) q k)
 
 mark-at-requires : tie.Need-mark-at-requires
@@ -28,7 +28,7 @@ returns-2 c =
     let g = c .before in
     let a = g .before .before .before .before .before .before in
     λ r h o one.
-    swept-none r (a .args .n) (Before r (a .args .n) (a .args .figures .now) (a .args .from) (a .args .upto)) (a .args .figures .now) (a .args .settings .now) (a .args .marks .now) (o .marked)
+    visited-none r (a .args .n) (Before r (a .args .n) (a .args .figures .now) (a .args .from) (a .args .upto)) (a .args .figures .now) (a .args .settings .now) (a .args .marks .now) (o .marked)
     (λ q l k. not-marked r (a .args .n) (a .args .figures .now) (a .args .table .now) (a .args .m) (a .args .marks .now) (a .args .from) (a .args .upto) _ o one (a .pre .2) (g .mark-at .ensures) (c .if2 .taken) q k)
 
 visit-codes-requires : tie.Need-visit-codes-requires

@@ -1,7 +1,7 @@
 -- `solver::waits` meets its contract, test by test.
 -- Assumes nothing.
 use native.Mathlib.Omega.{arith}
-use Rattle.solver.specs.Waves.{nowhere, outside}
+use Rattle.solver.specs.Visits.{nowhere, outside}
 use Rattle.solver.proofs.Retracing.{waits-read}
 use borrow.Author.Needs.{needs}
 use Rattle.solver.proofs.waits.Statement.{statement}

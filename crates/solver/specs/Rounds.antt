@@ -27,7 +27,8 @@ unfigured figs p = eqb (getD figs p noFigure) noFigure
 abbrev pub unfiguredIn : Railway → List ℕ → ℕ
 unfiguredIn r figs = countBelow (unfigured figs) (placements r)
 
--- What round n leaves: the tables of round n; if it added nothing, the tables as they were, and these are filled; else fewer placements without a figure.
+-- What round n leaves: the tables of round n; if it added nothing, the tables as they were, and these are filled; else fewer placements
+-- without a figure.
 pub record RoundPost (r : Railway) (n : ℕ) (figs sets figs′ sets′ : List ℕ) (added : Bool) : Type 0 where
   pub after : After r n figs sets figs′ sets′
   pub unchanged : added ≡ false → (figs′ ≡ figs) × (sets′ ≡ sets)

@@ -1,5 +1,5 @@
--- Round n at one placement, and what it begins with. A placement that is home has figure 0 already, so one without a figure at which something is found is neither
--- home nor lost. Assumes nothing.
+-- The entries of one placement: before the first round, and where round n visits it. A placement that is home has figure 0 already, so one
+-- without a figure at which something is found is neither home nor lost. Assumes nothing.
 use mathlib.Core.Path.{_≡_, sym, _∙_}
 use mathlib.Core.Logic.{inl, inr}
 use mathlib.Core.Bool.{Bool, true, false, not}

@@ -1,11 +1,11 @@
--- A round's loops, over the trains of a placement, the codes of a stretch and the stretches of the table: each pass visits some more placements. When all stretches are
--- done, every placement that could gain has been visited. Assumes nothing.
+-- A round's loops, over the trains of a placement, the codes of a stretch and the stretches of the table: each time round visits some more
+-- placements. When all stretches are done, every placement that could gain has been visited. Assumes nothing.
 use mathlib.Core.Path.{_≡_, refl, _∙_, ap}
 use mathlib.Core.Logic.{_⊎_, inl, inr}
-use mathlib.Core.Bool.{Bool, true, false, cond}
+use mathlib.Core.Bool.{Bool, true, false, _||_}
 use mathlib.Core.List.{List}
 use mathlib.Core.Option.{none}
-use Prim.Native.Nat.{ℕ, suc, _+_, _-_, _/_, _≤_, _<_}
+use Prim.Native.Nat.{ℕ, suc, _+_, _-_, _≤_, _<_}
 use native.Mathlib.Omega.{arith}
 use lib.ListN.{length, getD}
 use Rattle.laws.proofs.Bools.{lt?, eq?, option?}
@@ -20,66 +20,57 @@ use Rattle.tables.specs.Tables.{noFigure, figureEntry, figureIn}
 use Rattle.tables.specs.Find.{find}
 use Rattle.tables.specs.Rounds.{Step, stays, gains, RoundTables}
 use Rattle.tables.proofs.Steps.{next-round, last-round}
-use Rattle.compiled.specs.Table.{countByte, Compiled}
-use Rattle.moves.proofs.Placing.{trains-are}
+use Rattle.compiled.specs.Table.{Compiled}
 use Rattle.predecessors.specs.Behind.{Behind}
-use Rattle.solver.specs.Sweeps.{unfigured, RoundPost}
-use Rattle.solver.specs.Waves.{Marked, Round, Changed, same, gained, Swept, Passed, By, Comes, Before}
-use Rattle.solver.proofs.Visiting.{entry-is}
-use Rattle.solver.proofs.Sweeping.{round-homed, swept-onward, swept-keeps, swept-less, round-on, swept-none, swept-then}
+use Rattle.solver.specs.Rounds.{unfigured, RoundPost}
+use Rattle.solver.specs.Visits.{stretchOf, Marked, Round, Changed, same, gained, Visited, Passed, By, Comes, Before}
+use Rattle.solver.proofs.Entries.{entry-is}
+use Rattle.solver.proofs.Visits.{round-homed, visited-onward, visited-keeps, visited-less, round-on, visited-none, visited-then}
 use Rattle.solver.proofs.Gaining.{gains-before}
 
--- ANSWERS of two calls
-pub joined-added : (b a x : Bool) → b ≡ true → x ≡ true → x ≡ cond b true a
-joined-added b a x eb ex = rw eb ex
-
-pub joined-same : (b a x : Bool) → b ≡ false → x ≡ a → x ≡ cond b true a
-joined-same b a x eb ex = rw eb ex
-
--- A LOOP that has come to i, of every railway that has m placements and these tables
-pub record Sweeping (table behind : List ℕ) (m n : ℕ) (Kind : Railway → ℕ → ℕ → Type 0) (figs₀ sets₀ marks₀ figs sets marks : List ℕ) (added : Bool) (i : ℕ) : Type 0 where
+-- A LOOP that has come to i, of every railway that has m placements and this table and of which the loop is given something more
+pub record VisitedTo (table : List ℕ) (m n : ℕ) (Given : Railway → Type 0) (Kind : Railway → ℕ → ℕ → Type 0) (figs₀ sets₀ marks₀ figs sets marks : List ℕ) (added : Bool) (i : ℕ) : Type 0 where
   pub long-figs : length figs ≡ length figs₀
   pub long-sets : length sets ≡ length sets₀
   pub long-marks : length marks ≡ length marks₀
-  pub swept : (r : Railway) → Behind r behind → Round r table m n figs₀ marks₀ → Swept r n (Kind r i) figs₀ sets₀ figs sets marks added
+  pub visited : (r : Railway) → Given r → Round r table m n figs₀ marks₀ → Visited r n (Kind r i) figs₀ sets₀ figs sets marks added
 
-module _ (table behind : List ℕ) (m n : ℕ) (Kind : Railway → ℕ → ℕ → Type 0) (figs₀ sets₀ marks₀ : List ℕ) where
-  pub sweeping-start : (i : ℕ) → ((r : Railway) (q : ℕ) → Kind r i q → ⊥) → Sweeping table behind m n Kind figs₀ sets₀ marks₀ figs₀ sets₀ marks₀ false i
-  sweeping-start i h = record { long-figs = refl; long-sets = refl; long-marks = refl; swept = λ r b o. swept-none r n (Kind r i) figs₀ sets₀ marks₀ (o .marked) (λ q l k. h r q k) }
+module _ (table : List ℕ) (m n : ℕ) (Given : Railway → Type 0) (Kind : Railway → ℕ → ℕ → Type 0) (figs₀ sets₀ marks₀ : List ℕ) where
+  pub visited-to-start : (i : ℕ) → ((r : Railway) (q : ℕ) → Kind r i q → ⊥) → VisitedTo table m n Given Kind figs₀ sets₀ marks₀ figs₀ sets₀ marks₀ false i
+  visited-to-start i h = record { long-figs = refl; long-sets = refl; long-marks = refl; visited = λ r b o. visited-none r n (Kind r i) figs₀ sets₀ marks₀ (o .marked) (λ q l k. h r q k) }
 
-  module _ (figs sets marks : List ℕ) (added : Bool) (i : ℕ) (s : Sweeping table behind m n Kind figs₀ sets₀ marks₀ figs sets marks added i) where
-    pub sweeping-next : (New : Railway → ℕ → Type 0) (j : ℕ) (figs′ sets′ marks′ : List ℕ) (b added′ : Bool) → length figs′ ≡ length figs → length sets′ ≡ length sets → length marks′ ≡ length marks
-        → ((r : Railway) → Behind r behind → Round r table m n figs marks → Swept r n (New r) figs sets figs′ sets′ marks′ b)
-        → ((r : Railway) → Swept r n (Kind r i) figs₀ sets₀ figs sets marks added → Round r table m n figs₀ marks₀ → (q : ℕ) → q < placements r → Kind r j q → Kind r i q ⊎ New r q) → added′ ≡ cond b true added
-        → Sweeping table behind m n Kind figs₀ sets₀ marks₀ figs′ sets′ marks′ added′ j
-    sweeping-next New j figs′ sets′ marks′ b added′ ef es em body covers e =
+  module _ (figs sets marks : List ℕ) (added : Bool) (i : ℕ) (s : VisitedTo table m n Given Kind figs₀ sets₀ marks₀ figs sets marks added i) where
+    pub visited-to-next : (New : Railway → ℕ → Type 0) (j : ℕ) (figs′ sets′ marks′ : List ℕ) (b : Bool) → length figs′ ≡ length figs → length sets′ ≡ length sets → length marks′ ≡ length marks
+        → ((r : Railway) → Given r → Round r table m n figs marks → Visited r n (New r) figs sets figs′ sets′ marks′ b)
+        → ((r : Railway) → Visited r n (Kind r i) figs₀ sets₀ figs sets marks added → Round r table m n figs₀ marks₀ → (q : ℕ) → q < placements r → Kind r j q → Kind r i q ⊎ New r q)
+        → VisitedTo table m n Given Kind figs₀ sets₀ marks₀ figs′ sets′ marks′ (added || b) j
+    visited-to-next New j figs′ sets′ marks′ b ef es em body covers =
         record {
           long-figs = ef ∙ s .long-figs;
           long-sets = es ∙ s .long-sets;
           long-marks = em ∙ s .long-marks;
-          swept = λ r h o.
-              let x : Swept r n (Kind r i) figs₀ sets₀ figs sets marks added = s .swept r h o in
-              rw e
-              (swept-then r (o .compiled .accepted) n (o .small) (Kind r i) (New r) (Kind r j) figs₀ sets₀ figs sets marks figs′ sets′ marks′ added b x
-              (body r h (round-on r n (Kind r i) figs₀ sets₀ figs sets marks added x table m marks₀ o)) (covers r x o));
+          visited = λ r h o.
+              let x : Visited r n (Kind r i) figs₀ sets₀ figs sets marks added = s .visited r h o in
+              visited-then r (o .compiled .accepted) n (o .small) (Kind r i) (New r) (Kind r j) figs₀ sets₀ figs sets marks figs′ sets′ marks′ added b x
+              (body r h (round-on r n (Kind r i) figs₀ sets₀ figs sets marks added x table m marks₀ o)) (covers r x o);
         }
 
     -- on to j, with nothing to visit between
-    pub sweeping-on : (j : ℕ) → ((r : Railway) → Swept r n (Kind r i) figs₀ sets₀ figs sets marks added → Round r table m n figs₀ marks₀ → (q : ℕ) → Kind r j q → Kind r i q)
-        → Sweeping table behind m n Kind figs₀ sets₀ marks₀ figs sets marks added j
-    sweeping-on j covers =
+    pub visited-to-on : (j : ℕ) → ((r : Railway) → Visited r n (Kind r i) figs₀ sets₀ figs sets marks added → Round r table m n figs₀ marks₀ → (q : ℕ) → Kind r j q → Kind r i q)
+        → VisitedTo table m n Given Kind figs₀ sets₀ marks₀ figs sets marks added j
+    visited-to-on j covers =
         record {
           long-figs = s .long-figs;
           long-sets = s .long-sets;
           long-marks = s .long-marks;
-          swept = λ r h o.
-              let x : Swept r n (Kind r i) figs₀ sets₀ figs sets marks added = s .swept r h o in
-              swept-less r n (Kind r i) figs₀ sets₀ figs sets marks added x (Kind r j) (λ q l k. covers r x o q k);
+          visited = λ r h o.
+              let x : Visited r n (Kind r i) figs₀ sets₀ figs sets marks added = s .visited r h o in
+              visited-less r n (Kind r i) figs₀ sets₀ figs sets marks added x (Kind r j) (λ q l k. covers r x o q k);
         }
 
-    pub sweeping-end : (End : Railway → ℕ → Type 0) → ((r : Railway) → Round r table m n figs₀ marks₀ → (q : ℕ) → End r q → Kind r i q)
-        → (r : Railway) → Behind r behind → Round r table m n figs₀ marks₀ → Swept r n (End r) figs₀ sets₀ figs sets marks added
-    sweeping-end End h r b o = swept-less r n (Kind r i) figs₀ sets₀ figs sets marks added (s .swept r b o) (End r) (λ q l k. h r o q k)
+    pub visited-to-end : (End : Railway → ℕ → Type 0) → ((r : Railway) → Given r → Round r table m n figs₀ marks₀ → (q : ℕ) → q < placements r → End r q → Kind r i q)
+        → (r : Railway) → Given r → Round r table m n figs₀ marks₀ → Visited r n (End r) figs₀ sets₀ figs sets marks added
+    visited-to-end End h r g o = visited-less r n (Kind r i) figs₀ sets₀ figs sets marks added (s .visited r g o) (End r) (λ q l k. h r g o q l k)
 
 -- A SCAN for a figure
 module _ (figs : List ℕ) (figure c upto : ℕ) where
@@ -116,11 +107,11 @@ train-next r c t q k = elim (eq? (k .train) t) [
   | inr z ↦ inl (record { train = k .train; below = omega (arith, k .below, z); by = k .by })
 ]
 
-pub all-trains : (r : Railway) (k t : ℕ) → k ≡ countByte r 2 → k ≤ t → (c q : ℕ) → Comes r c (r .trains) q → Comes r c t q
-all-trains r k t e l c q x = record { train = x .train; below = omega (arith, x .below, trains-are r k e); by = x .by }
+pub all-trains : (r : Railway) (k t : ℕ) → k ≡ r .trains → k ≤ t → (c q : ℕ) → Comes r c (r .trains) q → Comes r c t q
+all-trains r k t e l c q x = record { train = x .train; below = omega (arith, x .below); by = x .by }
 
-pub train-there : (r : Railway) (k t : ℕ) → k ≡ countByte r 2 → t < k → t < r .trains
-train-there r k t e l = omega (arith, trains-are r k e)
+pub train-there : (r : Railway) (k t : ℕ) → k ≡ r .trains → t < k → t < r .trains
+train-there r k t e l = omega arith
 
 -- CODES in a range
 module _ (r : Railway) (n : ℕ) (figs : List ℕ) where
@@ -131,7 +122,7 @@ module _ (r : Railway) (n : ℕ) (figs : List ℕ) where
   codes-less from a b q l k =
       record { code = k .code; after = k .after; within = omega (arith, k .within); figure = k .figure; last = k .last; stands = k .stands; comes = k .comes }
 
-  pub codes-next : (S : ℕ → Type 0) (sets figs₁ sets₁ marks₁ : List ℕ) (a : Bool) → Swept r n S figs sets figs₁ sets₁ marks₁ a → (from c upto q : ℕ) → upto ≤ placements r
+  pub codes-next : (S : ℕ → Type 0) (sets figs₁ sets₁ marks₁ : List ℕ) (a : Bool) → Visited r n S figs sets figs₁ sets₁ marks₁ a → (from c upto q : ℕ) → upto ≤ placements r
       → Before r n figs from upto q → Before r n figs from c q ⊎ Before r n figs₁ c upto q
   codes-next S sets figs₁ sets₁ marks₁ a s from c upto q l k = elim (lt? (k .code) c) [
     | inl h ↦ inl (record { code = k .code; after = k .after; within = h; figure = k .figure; last = k .last; stands = k .stands; comes = k .comes })
@@ -143,7 +134,7 @@ module _ (r : Railway) (n : ℕ) (figs : List ℕ) where
           within = k .within;
           figure = k .figure;
           last = k .last;
-          stands = swept-onward r n S figs sets figs₁ sets₁ marks₁ a s (k .code) (k .figure) (omega (arith, k .within)) (k .stands);
+          stands = visited-onward r n S figs sets figs₁ sets₁ marks₁ a s (k .code) (k .figure) (omega (arith, k .within)) (k .stands);
           comes = k .comes;
         })
   ]
@@ -153,14 +144,14 @@ module _ (r : Railway) (n : ℕ) (figs : List ℕ) where
   before-one c q k = let z : k .code ≡ c = omega (arith, k .after, k .within) in rw z at (k .comes)
 
   -- codes without the last round's figure
-  pub codes-passed : (S : ℕ → Type 0) (sets figs₁ sets₁ marks₁ : List ℕ) (a : Bool) → Swept r n S figs sets figs₁ sets₁ marks₁ a → (from c upto e figure q : ℕ) → upto ≤ placements r
+  pub codes-passed : (S : ℕ → Type 0) (sets figs₁ sets₁ marks₁ : List ℕ) (a : Bool) → Visited r n S figs sets figs₁ sets₁ marks₁ a → (from c upto e figure q : ℕ) → upto ≤ placements r
       → n ≡ figure + 1 → Passed figs₁ figure c upto e → Before r n figs from e q → Before r n figs from c q
   codes-passed S sets figs₁ sets₁ marks₁ a s from c upto e figure q l en x k = elim (lt? (k .code) c) [
     | inl h ↦ record { code = k .code; after = k .after; within = h; figure = k .figure; last = k .last; stands = k .stands; comes = k .comes }
     | inr h ↦
         let y : (k .code < upto) × (getD figs₁ (k .code) noFigure ≡ figure → ⊥) = x .others (k .code) h (k .within) in
         let f : getD figs₁ (k .code) noFigure ≡ k .figure =
-        entry-is (getD figs₁ (k .code) noFigure) (k .figure) (swept-onward r n S figs sets figs₁ sets₁ marks₁ a s (k .code) (k .figure) (omega arith) (k .stands)) in
+        entry-is (getD figs₁ (k .code) noFigure) (k .figure) (visited-onward r n S figs sets figs₁ sets₁ marks₁ a s (k .code) (k .figure) (omega arith) (k .stands)) in
         absurd (y .1 (omega (arith, k .last)))
   ]
 
@@ -169,18 +160,18 @@ module _ (r : Railway) (n : ℕ) (figs : List ℕ) where
   none-before e from upto q k = omega (arith, k .last)
 
   -- a stretch whose mark is too small
-  pub not-marked : (table : List ℕ) (m : ℕ) (marks : List ℕ) (from upto f : ℕ) → Round r table m n figs marks → ((q : ℕ) → from ≤ q → q < upto → q / 432 ≡ from / 432) → upto ≤ m
-      → f ≡ getD marks (from / 432) 0 → f < n - 1 → (q : ℕ) → Before r n figs from upto q → ⊥
+  pub not-marked : (table : List ℕ) (m : ℕ) (marks : List ℕ) (from upto f : ℕ) → Round r table m n figs marks → ((q : ℕ) → from ≤ q → q < upto → stretchOf q ≡ stretchOf from) → upto ≤ m
+      → f ≡ getD marks (stretchOf from) 0 → f < n - 1 → (q : ℕ) → Before r n figs from upto q → ⊥
   not-marked table m marks from upto f o one l e small q k =
-      let s : k .code / 432 ≡ from / 432 = one (k .code) (k .after) (k .within) in
-      let b : k .figure ≤ getD marks (k .code / 432) 0 = o .marked .most (k .code) (k .figure) (omega (arith, k .within, o .counted)) (k .stands) in
+      let s : stretchOf (k .code) ≡ stretchOf from = one (k .code) (k .after) (k .within) in
+      let b : k .figure ≤ getD marks (stretchOf (k .code)) 0 = o .marked .most (k .code) (k .figure) (omega (arith, k .within, o .counted)) (k .stands) in
       let d : k .figure ≤ f = rw (e, ← s) b in
       omega (arith, k .last)
 
 -- THE ROUND IS OVER
 module _ (r : Railway) (accepted : recordRefusal r ≡ none) (k : ℕ) (small : suc k < noFigure) (figs₀ sets₀ figs sets marks : List ℕ) (added : Bool)
     (long-figs : length figs ≡ length figs₀) (long-sets : length sets ≡ length sets₀) (before : RoundTables r k figs₀ sets₀)
-    (s : Swept r (suc k) (Before r (suc k) figs₀ 0 (placements r)) figs₀ sets₀ figs sets marks added) where
+    (s : Visited r (suc k) (Before r (suc k) figs₀ 0 (placements r)) figs₀ sets₀ figs sets marks added) where
   -- what has no figure yet had none to find
   nothing-left : (q : ℕ) → q < placements r → figureIn figs₀ q ≡ none → over (gameOf r) q ≡ false → figureIn figs q ≡ none → find r (figureIn figs₀) q (suc k) ≡ none
   nothing-left q l e o e′ = elim (option? (find r (figureIn figs₀) q (suc k))) [
@@ -197,7 +188,7 @@ module _ (r : Railway) (accepted : recordRefusal r ≡ none) (k : ℕ) (small : 
   stepped q l = step-of q _ _ _ _ (s .each q l) (nothing-left q l)
 
   keeps : (q : ℕ) → unfigured figs q ≡ true → unfigured figs₀ q ≡ true
-  keeps = swept-keeps r (suc k) (Before r (suc k) figs₀ 0 (placements r)) figs₀ sets₀ figs sets marks added s
+  keeps = visited-keeps r (suc k) (Before r (suc k) figs₀ 0 (placements r)) figs₀ sets₀ figs sets marks added s
 
   quiet : added ≡ false → (q : ℕ) → q < placements r → figureIn figs q ≡ figureIn figs₀ q
   quiet e q l = ap (λ (t : List ℕ). figureIn t q) (s .unchanged e .0)
@@ -219,12 +210,12 @@ module _ (r : Railway) (accepted : recordRefusal r ≡ none) (k : ℕ) (small : 
       }
 
 module _ (table behind : List ℕ) (m n : ℕ) (figs₀ sets₀ marks₀ figs sets marks : List ℕ) (added : Bool) (c : ℕ)
-    (s : Sweeping table behind m n (λ r i. Before r n figs₀ 0 i) figs₀ sets₀ marks₀ figs sets marks added c) where
+    (s : VisitedTo table m n (λ r. Behind r behind) (λ r i. Before r n figs₀ 0 i) figs₀ sets₀ marks₀ figs sets marks added c) where
   pub round-end : m ≤ c → (r : Railway) (k : ℕ) → Compiled r table → Behind r behind → m ≡ placements r → n ≡ suc k → n < noFigure → RoundTables r k figs₀ sets₀ → Marked r figs₀ marks₀
       → RoundPost r n figs₀ sets₀ figs sets added × Marked r figs marks
   round-end l r k h b em en small t marked =
       let o : Round r table m n figs₀ marks₀ = record { compiled = h; counted = em; small = small; homed = round-homed r k figs₀ sets₀ t; marked = marked } in
-      let x : Swept r n (Before r n figs₀ 0 (placements r)) figs₀ sets₀ figs sets marks added =
-      sweeping-end table behind m n (λ r i. Before r n figs₀ 0 i) figs₀ sets₀ marks₀ figs sets marks added c s (λ r. Before r n figs₀ 0 (placements r))
-      (λ r o q k. codes-less r n figs₀ 0 (placements r) c q (omega (arith, o .counted)) k) r b o in
+      let x : Visited r n (Before r n figs₀ 0 (placements r)) figs₀ sets₀ figs sets marks added =
+      visited-to-end table m n (λ r. Behind r behind) (λ r i. Before r n figs₀ 0 i) figs₀ sets₀ marks₀ figs sets marks added c s (λ r. Before r n figs₀ 0 (placements r))
+      (λ r g o q lq k. codes-less r n figs₀ 0 (placements r) c q (omega (arith, o .counted)) k) r b o in
       (rw en (round-over r (h .accepted) k (omega arith) figs₀ sets₀ figs sets marks added (s .long-figs) (s .long-sets) t (rw en at x)), x .marked)

@@ -1,10 +1,12 @@
--- What visits of some placements in one round make of two tables and the marks. Nothing of document 01 rests on this file: contracts of single steps cite it, and the
--- solver's own is `SolverPost` (tables/Solver). Assumes nothing.
+-- What visits of some placements in one round make of two tables and the marks. A visit looks for a setting and enters what it finds; a round
+-- visits what is one move before its frontier, the placements whose figure the last round gave. Nothing of document 01 rests on this file:
+-- contracts of single steps cite it, and the solver's own is `SolverPost` (tables/Solver). Assumes nothing.
 use mathlib.Core.Path.{_≡_}
-use mathlib.Core.Bool.{Bool, true, false}
+use mathlib.Core.Bool.{Bool, true, false, cond}
 use mathlib.Core.List.{List}
 use mathlib.Core.Option.{Option, none, some}
 use Prim.Native.Nat.{ℕ, suc, _*_, _/_, _≤_, _<_}
+use lib.Dec.{eqb}
 use lib.ListN.{length, getD}
 use Rattle.railway.specs.declared.Railway.{Railway}
 use Rattle.game.specs.Game.{home, over, at}
@@ -12,18 +14,26 @@ use Rattle.game.specs.Placement.{placements}
 use Rattle.game.specs.Moves.{codeWith, moveOf, gameOf}
 use Rattle.tables.specs.Tables.{noFigure, figureEntry, figureIn}
 use Rattle.tables.specs.Find.{find}
-use Rattle.compiled.specs.Table.{Compiled}
+use Rattle.compiled.specs.Table.{noByte, Compiled}
 use Rattle.moves.specs.Steps.{allAt}
-use Rattle.solver.specs.Sweeps.{unfigured}
+use Rattle.solver.specs.Rounds.{unfigured}
 
 -- Home has its figure from the start.
 abbrev pub Homed : Railway → List ℕ → Type 0
 Homed r figs = (p : ℕ) → p < placements r → home (gameOf r) p ≡ true → figureIn figs p ≡ some 0
 
+-- How many codes a stretch has.
+abbrev pub stretchLength : ℕ
+stretchLength = 432
+
+-- The stretch of a code.
+abbrev pub stretchOf : ℕ → ℕ
+stretchOf c = c / stretchLength
+
 -- There is a mark for each stretch, and no figure is larger than the mark of its stretch.
 pub record Marked (r : Railway) (figs marks : List ℕ) : Type 0 where
-  pub room : placements r ≤ 432 * length marks
-  pub most : (q j : ℕ) → q < placements r → figureIn figs q ≡ some j → j ≤ getD marks (q / 432) 0
+  pub room : placements r ≤ stretchLength * length marks
+  pub most : (q j : ℕ) → q < placements r → figureIn figs q ≡ some j → j ≤ getD marks (stretchOf q) 0
 
 -- Round n is going on, on the tables of this railway.
 pub record Round (r : Railway) (table : List ℕ) (m n : ℕ) (figs marks : List ℕ) : Type 0 where
@@ -39,7 +49,7 @@ pub data Changed (r : Railway) (F : ℕ → Option ℕ) (n q f v f′ v′ : ℕ
   gained : figureEntry f ≡ none → over (gameOf r) q ≡ false → f′ ≡ n → find r F q n ≡ some v′ → Changed r F n q f v f′ v′
 
 -- Some placements have been visited in round n, those of a kind among them: where one of these has no figure yet nothing was to be found.
-pub record Swept (r : Railway) (n : ℕ) (Seen : ℕ → Type 0) (figs sets figs′ sets′ marks′ : List ℕ) (added : Bool) : Type 0 where
+pub record Visited (r : Railway) (n : ℕ) (Seen : ℕ → Type 0) (figs sets figs′ sets′ marks′ : List ℕ) (added : Bool) : Type 0 where
   pub each : (q : ℕ) → q < placements r → Changed r (figureIn figs) n q (getD figs q noFigure) (getD sets q 0) (getD figs′ q noFigure) (getD sets′ q 0)
   pub past-figs : (q d : ℕ) → placements r ≤ q → getD figs′ q d ≡ getD figs q d
   pub past-sets : (q d : ℕ) → placements r ≤ q → getD sets′ q d ≡ getD sets q d
@@ -53,43 +63,42 @@ pub record Passed (figs : List ℕ) (figure c upto e : ℕ) : Type 0 where
   pub onward : c ≤ e
   pub others : (q : ℕ) → c ≤ q → q < e → (q < upto) × (getD figs q noFigure ≡ figure → ⊥)
 
--- If section y is one, it is one of the railway, and p the code of placement c with train t put there.
+-- If y is a section and not the byte for none, it is one of the railway, and p the code of placement c with train t put there.
 abbrev pub PutBy : Railway → ℕ → ℕ → ℕ → ℕ → Type 0
-PutBy r c t y p = (y ≡ 255 → ⊥) → (y < r .sections) × (p ≡ codeWith r c t y)
+PutBy r c t y p = (y ≡ noByte → ⊥) → (y < r .sections) × (p ≡ codeWith r c t y)
 
--- Whether section y is one and p a code without a figure.
+-- Section z, where it is another than y; else none.
+abbrev pub otherThan : ℕ → ℕ → ℕ
+otherThan y z = cond (eqb y z) noByte z
+
+-- Whether y is a section and p a code without a figure.
 pub data Waits (figs : List ℕ) (m y p : ℕ) : Bool → Type 0 where
-  empty : (y ≡ 255 → ⊥) → p < m → figureIn figs p ≡ none → Waits figs m y p true
-  nowhere : y ≡ 255 → Waits figs m y p false
+  empty : (y ≡ noByte → ⊥) → p < m → figureIn figs p ≡ none → Waits figs m y p true
+  nowhere : y ≡ noByte → Waits figs m y p false
   outside : m ≤ p → Waits figs m y p false
   figured : (figureIn figs p ≡ none → ⊥) → Waits figs m y p false
 
--- KINDS of placements: one alone;
+-- KINDS of placements, for what has been visited. The one of code p alone.
 abbrev pub One : ℕ → ℕ → Type 0
 One p q = q ≡ p
 
--- the one with train t put on section y in placement c, 255 standing for no section;
+-- The one with train t put on section y in placement c; there is none if y is no section.
 pub record Put (r : Railway) (c t y p : ℕ) : Type 0 where
-  pub there : y ≡ 255 → ⊥
+  pub there : y ≡ noByte → ⊥
   pub code : p ≡ codeWith r c t y
 
--- .. on section z, where that is another than y;
-pub record Other (r : Railway) (c t y z p : ℕ) : Type 0 where
-  pub other : y ≡ z → ⊥
-  pub put : Put r c t z p
-
--- those from which a move of train t comes to placement c;
+-- Those from which a move of train t comes to placement c, all points lying at plus or all at minus.
 pub record By (r : Railway) (c t p : ℕ) : Type 0 where
   pub plus : Bool
   pub moves : moveOf r p (allAt plus) t ≡ at c
 
--- .. of one of the first k trains;
+-- Those from which a move of one of the first k trains comes to placement c.
 pub record Comes (r : Railway) (c k p : ℕ) : Type 0 where
   pub train : ℕ
   pub below : train < k
   pub by : By r c train p
 
--- .. to a placement whose figure the last round gave, with its code in a range.
+-- Those from which a move comes to the frontier of round n, to a placement there whose code lies in a range.
 pub record Before (r : Railway) (n : ℕ) (figs : List ℕ) (from upto p : ℕ) : Type 0 where
   pub code : ℕ
   pub after : from ≤ code

@@ -1,17 +1,18 @@
--- A round in place. The search for figure n looks at figures below n alone, and what the round enters is n: so a visit finds what it would have found in the tables as
--- they were when the round began, and visits may be made one after another, in any order and more than once. Assumes nothing.
+-- Visits in place. The search for figure n looks at figures below n alone, and what round n enters is n: so a visit finds what it would have
+-- found in the tables as they were when the round began, and visits may be made one after another, in any order and more than once.
+-- Assumes nothing.
 use mathlib.Core.Path.{_≡_, refl, sym, _∙_, ap}
 use mathlib.Core.Logic.{_⊎_, inl, inr}
-use mathlib.Core.Bool.{Bool, true, false, cond}
+use mathlib.Core.Bool.{Bool, true, false, _||_}
 use mathlib.Core.List.{List}
 use mathlib.Core.Option.{Option, none, some}
-use Prim.Native.Nat.{ℕ, _/_, _≤_, _<_}
+use Prim.Native.Nat.{ℕ, _≤_, _<_}
 use native.Mathlib.Omega.{arith}
 use lib.ListN.{length, getD, set}
 use lib.Dec.{eqb}
 use lib.Seq.{getD-set-same, getD-set-other}
 use borrow.Author.Tests.{le-leb}
-use Rattle.laws.proofs.Bools.{lt?, eq?, clash, some-none, not-true}
+use Rattle.laws.proofs.Bools.{lt?, eq?, clash, some-none, not-true, or-false}
 use Rattle.railway.specs.declared.Railway.{Railway}
 use Rattle.railway.specs.Rows.{recordRefusal}
 use Rattle.game.specs.Game.{over, IsFigure}
@@ -25,9 +26,9 @@ use Rattle.tables.specs.Rounds.{RoundTables}
 use Rattle.tables.specs.Find.{find}
 use Rattle.tables.proofs.Carry.{Carries, find-carry}
 use Rattle.settings.specs.Answers.{firstKeeping}
-use Rattle.solver.specs.Sweeps.{unfigured}
-use Rattle.solver.specs.Waves.{Homed, Marked, Round, Changed, same, gained, Swept, One}
-use Rattle.solver.proofs.Visiting.{entry-some, entry-is, entry-empty, finds-nothing, finds-entry}
+use Rattle.solver.specs.Rounds.{unfigured}
+use Rattle.solver.specs.Visits.{Homed, stretchOf, Marked, Round, Changed, same, gained, Visited, One}
+use Rattle.solver.proofs.Entries.{entry-some, entry-is, entry-empty, finds-nothing, finds-entry}
 
 pub round-homed : (r : Railway) (n : ℕ) (figs sets : List ℕ) → RoundTables r n figs sets → Homed r figs
 round-homed r n figs sets t p l h =
@@ -61,28 +62,28 @@ empty-entry : (x : ℕ) → eqb x noFigure ≡ true → figureEntry x ≡ none
 empty-entry x e = rw e
 
 -- ANY VISITS
-module _ (r : Railway) (n : ℕ) (S : ℕ → Type 0) (figs sets figs′ sets′ marks′ : List ℕ) (a : Bool) (s : Swept r n S figs sets figs′ sets′ marks′ a) where
-  pub swept-onward : (q j : ℕ) → q < placements r → figureIn figs q ≡ some j → figureIn figs′ q ≡ some j
-  swept-onward q j l = changed-onward r (figureIn figs) n q _ _ _ _ refl (s .each q l) j
+module _ (r : Railway) (n : ℕ) (S : ℕ → Type 0) (figs sets figs′ sets′ marks′ : List ℕ) (a : Bool) (s : Visited r n S figs sets figs′ sets′ marks′ a) where
+  pub visited-onward : (q j : ℕ) → q < placements r → figureIn figs q ≡ some j → figureIn figs′ q ≡ some j
+  visited-onward q j l = changed-onward r (figureIn figs) n q _ _ _ _ refl (s .each q l) j
 
-  swept-back : Carries r (figureIn figs′) (figureIn figs) n
-  swept-back q j l = changed-back r (figureIn figs) n q _ _ _ _ refl (s .each q l) j
+  visited-back : Carries r (figureIn figs′) (figureIn figs) n
+  visited-back q j l = changed-back r (figureIn figs) n q _ _ _ _ refl (s .each q l) j
 
-  swept-finds : recordRefusal r ≡ none → (q : ℕ) → q < placements r → find r (figureIn figs′) q n ≡ find r (figureIn figs) q n
-  swept-finds accepted q l = find-carry r (facts r accepted) (figureIn figs′) (figureIn figs) q n l swept-back (λ p j lp b e. swept-onward p j lp e)
+  visited-finds : recordRefusal r ≡ none → (q : ℕ) → q < placements r → find r (figureIn figs′) q n ≡ find r (figureIn figs) q n
+  visited-finds accepted q l = find-carry r (facts r accepted) (figureIn figs′) (figureIn figs) q n l visited-back (λ p j lp b e. visited-onward p j lp e)
 
-  swept-none-yet : (q : ℕ) → q < placements r → figureIn figs′ q ≡ none → figureIn figs q ≡ none
-  swept-none-yet q l = changed-none r (figureIn figs) n q _ _ _ _ (s .each q l)
+  visited-none-yet : (q : ℕ) → q < placements r → figureIn figs′ q ≡ none → figureIn figs q ≡ none
+  visited-none-yet q l = changed-none r (figureIn figs) n q _ _ _ _ (s .each q l)
 
-  pub swept-keeps : (q : ℕ) → unfigured figs′ q ≡ true → unfigured figs q ≡ true
-  swept-keeps q x = elim (lt? q (placements r)) [
-    | inl l ↦ entry-empty (getD figs q noFigure) (swept-none-yet q l (empty-entry (getD figs′ q noFigure) x))
+  pub visited-keeps : (q : ℕ) → unfigured figs′ q ≡ true → unfigured figs q ≡ true
+  visited-keeps q x = elim (lt? q (placements r)) [
+    | inl l ↦ entry-empty (getD figs q noFigure) (visited-none-yet q l (empty-entry (getD figs′ q noFigure) x))
     | inr l ↦ rw (s .past-figs q noFigure l) at x
   ]
 
   -- for fewer kinds
-  pub swept-less : (U : ℕ → Type 0) → ((q : ℕ) → q < placements r → U q → S q) → Swept r n U figs sets figs′ sets′ marks′ a
-  swept-less U h =
+  pub visited-less : (U : ℕ → Type 0) → ((q : ℕ) → q < placements r → U q → S q) → Visited r n U figs sets figs′ sets′ marks′ a
+  visited-less U h =
       record {
         each = s .each;
         past-figs = s .past-figs;
@@ -100,14 +101,14 @@ module _ (r : Railway) (n : ℕ) (S : ℕ → Type 0) (figs sets figs′ sets′
         compiled = o .compiled;
         counted = o .counted;
         small = o .small;
-        homed = λ p l h. swept-onward p 0 l (o .homed p l h);
+        homed = λ p l h. visited-onward p 0 l (o .homed p l h);
         marked = s .marked;
       }
 
 -- NOTHING ENTERED
 module _ (r : Railway) (n : ℕ) (S : ℕ → Type 0) (figs sets marks : List ℕ) (k : Marked r figs marks) where
-  pub swept-rests : ((q : ℕ) → q < placements r → S q → figureIn figs q ≡ none → over (gameOf r) q ≡ false → find r (figureIn figs) q n ≡ none) → Swept r n S figs sets figs sets marks false
-  swept-rests h =
+  pub visited-rests : ((q : ℕ) → q < placements r → S q → figureIn figs q ≡ none → over (gameOf r) q ≡ false → find r (figureIn figs) q n ≡ none) → Visited r n S figs sets figs sets marks false
+  visited-rests h =
       record {
         each = λ q l. same refl refl;
         past-figs = λ q d l. refl;
@@ -118,42 +119,41 @@ module _ (r : Railway) (n : ℕ) (S : ℕ → Type 0) (figs sets marks : List �
         marked = k;
       }
 
-  pub swept-none : ((q : ℕ) → q < placements r → S q → ⊥) → Swept r n S figs sets figs sets marks false
-  swept-none h = swept-rests (λ q l u. absurd (h q l u))
+  pub visited-none : ((q : ℕ) → q < placements r → S q → ⊥) → Visited r n S figs sets figs sets marks false
+  visited-none h = visited-rests (λ q l u. absurd (h q l u))
 
 -- SOME VISITS, AND SOME MORE
 module _ (r : Railway) (accepted : recordRefusal r ≡ none) (n : ℕ) (small : n < noFigure) (S T U : ℕ → Type 0) (figs sets figs₁ sets₁ marks₁ figs₂ sets₂ marks₂ : List ℕ) (a b : Bool)
-    (x : Swept r n S figs sets figs₁ sets₁ marks₁ a) (y : Swept r n T figs₁ sets₁ figs₂ sets₂ marks₂ b) (covers : (q : ℕ) → q < placements r → U q → S q ⊎ T q) where
+    (x : Visited r n S figs sets figs₁ sets₁ marks₁ a) (y : Visited r n T figs₁ sets₁ figs₂ sets₂ marks₂ b) (covers : (q : ℕ) → q < placements r → U q → S q ⊎ T q) where
   finds : (q : ℕ) → q < placements r → find r (figureIn figs₁) q n ≡ find r (figureIn figs) q n
-  finds = swept-finds r n S figs sets figs₁ sets₁ marks₁ a x accepted
+  finds = visited-finds r n S figs sets figs₁ sets₁ marks₁ a x accepted
 
-  both-unchanged : (c d : Bool) → (d ≡ false → (figs₁ ≡ figs) × (sets₁ ≡ sets)) → (c ≡ false → (figs₂ ≡ figs₁) × (sets₂ ≡ sets₁)) → cond c true d ≡ false → (figs₂ ≡ figs) × (sets₂ ≡ sets)
-  both-unchanged true d h k e = clash refl e
-  both-unchanged false d h k e = (k refl .0 ∙ h e .0, k refl .1 ∙ h e .1)
+  both-unchanged : (a ≡ false → (figs₁ ≡ figs) × (sets₁ ≡ sets)) → (b ≡ false → (figs₂ ≡ figs₁) × (sets₂ ≡ sets₁)) → (a || b) ≡ false → (figs₂ ≡ figs) × (sets₂ ≡ sets)
+  both-unchanged h k e = let z = or-false a b e in (k (z .1) .0 ∙ h (z .0) .0, k (z .1) .1 ∙ h (z .0) .1)
 
   Gain : List ℕ → List ℕ → Type 0
   Gain old new = (q : ℕ) × (q < placements r) × (unfigured new q ≡ false) × (unfigured old q ≡ true)
 
-  either-more : (c d : Bool) → (d ≡ true → Gain figs figs₁) → (c ≡ true → Gain figs₁ figs₂) → cond c true d ≡ true → Gain figs figs₂
+  either-more : (c : Bool) → (c ≡ true → Gain figs figs₁) → (b ≡ true → Gain figs₁ figs₂) → (c || b) ≡ true → Gain figs figs₂
   unfolding Gain
-  either-more true d h k e =
-      let g : (q : ℕ) × (q < placements r) × (unfigured figs₂ q ≡ false) × (unfigured figs₁ q ≡ true) = k refl in
-      (g .0, g .1, g .2, swept-keeps r n S figs sets figs₁ sets₁ marks₁ a x (g .0) (g .3))
-  either-more false d h k e =
-      let g : (q : ℕ) × (q < placements r) × (unfigured figs₁ q ≡ false) × (unfigured figs q ≡ true) = h e in
-      (g .0, g .1, not-true (unfigured figs₂ (g .0)) (λ z. clash (swept-keeps r n T figs₁ sets₁ figs₂ sets₂ marks₂ b y (g .0) z) (g .2)), g .3)
+  either-more true h k e =
+      let g : (q : ℕ) × (q < placements r) × (unfigured figs₁ q ≡ false) × (unfigured figs q ≡ true) = h refl in
+      (g .0, g .1, not-true (unfigured figs₂ (g .0)) (λ z. clash (visited-keeps r n T figs₁ sets₁ figs₂ sets₂ marks₂ b y (g .0) z) (g .2)), g .3)
+  either-more false h k e =
+      let g : (q : ℕ) × (q < placements r) × (unfigured figs₂ q ≡ false) × (unfigured figs₁ q ≡ true) = k e in
+      (g .0, g .1, g .2, visited-keeps r n S figs sets figs₁ sets₁ marks₁ a x (g .0) (g .3))
 
-  pub swept-then : Swept r n U figs sets figs₂ sets₂ marks₂ (cond b true a)
+  pub visited-then : Visited r n U figs sets figs₂ sets₂ marks₂ (a || b)
   unfolding Gain
-  swept-then =
+  visited-then =
       record {
         each = λ q l. changed-then r (figureIn figs) (figureIn figs₁) n q _ _ _ _ _ _ small (finds q l) (x .each q l) (y .each q l);
         past-figs = λ q d l. y .past-figs q d l ∙ x .past-figs q d l;
         past-sets = λ q d l. y .past-sets q d l ∙ x .past-sets q d l;
-        unchanged = both-unchanged b a (x .unchanged) (y .unchanged);
-        more = either-more b a (x .more) (y .more);
+        unchanged = both-unchanged (x .unchanged) (y .unchanged);
+        more = either-more a (x .more) (y .more);
         settled = λ q l u e o. elim (covers q l u) [
-          | inl s ↦ x .settled q l s (swept-none-yet r n T figs₁ sets₁ figs₂ sets₂ marks₂ b y q l e) o
+          | inl s ↦ x .settled q l s (visited-none-yet r n T figs₁ sets₁ figs₂ sets₂ marks₂ b y q l e) o
           | inr t ↦ sym (finds q l) ∙ y .settled q l t e o
         ];
         marked = y .marked;
@@ -162,12 +162,12 @@ module _ (r : Railway) (accepted : recordRefusal r ≡ none) (n : ℕ) (small : 
 -- ONE VISIT, of a placement without a figure
 module _ (r : Railway) (table : List ℕ) (m n p : ℕ) (figs sets marks : List ℕ) (o : Round r table m n figs marks) (l : p < placements r) (empty : figureIn figs p ≡ none)
     (found : Option ℕ) (searched : found ≡ firstKeeping r (figureIn figs) p n) where
-  pub visit-rests : found ≡ none → Swept r n (One p) figs sets figs sets marks false
-  visit-rests e = swept-rests r n (One p) figs sets marks (o .marked) (λ q lq u y g. rw u (finds-nothing r n p figs found searched e (rw u at g)))
+  pub visit-rests : found ≡ none → Visited r n (One p) figs sets figs sets marks false
+  visit-rests e = visited-rests r n (One p) figs sets marks (o .marked) (λ q lq u y g. rw u (finds-nothing r n p figs found searched e (rw u at g)))
 
   module _ (inside-figs : p < length figs) (inside-sets : p < length sets) (marks′ : List ℕ) (as-long : length marks′ ≡ length marks)
-      (grow : (i : ℕ) → getD marks i 0 ≤ getD marks′ i 0) (marks-it : p / 432 < length marks → n ≤ getD marks′ (p / 432) 0) where
-    pub visit-gains : (v : ℕ) → found ≡ some v → Swept r n (One p) figs sets (set figs p n) (set sets p v) marks′ true
+      (grow : (i : ℕ) → getD marks i 0 ≤ getD marks′ i 0) (marks-it : stretchOf p < length marks → n ≤ getD marks′ (stretchOf p) 0) where
+    pub visit-gains : (v : ℕ) → found ≡ some v → Visited r n (One p) figs sets (set figs p n) (set sets p v) marks′ true
     visit-gains v e =
         record {
           each = λ q lq. elim (eq? q p) [
@@ -185,7 +185,7 @@ module _ (r : Railway) (table : List ℕ) (m n p : ℕ) (figs sets marks : List 
         x : (over (gameOf r) p ≡ false) × (find r (figureIn figs) p n ≡ some v)
         x = finds-entry r n p figs found searched (o .homed p l) empty v e
 
-        most : (q j : ℕ) → q < placements r → figureIn (set figs p n) q ≡ some j → j ≤ getD marks′ (q / 432) 0
+        most : (q j : ℕ) → q < placements r → figureIn (set figs p n) q ≡ some j → j ≤ getD marks′ (stretchOf q) 0
         most q j lq e = elim (eq? q p) [
           | inl z ↦
               let a : figureIn (set figs p n) p ≡ some j = rw z at e in
@@ -193,19 +193,19 @@ module _ (r : Railway) (table : List ℕ) (m n p : ℕ) (figs sets marks : List 
               rw (z, ← b) (marks-it (omega (arith, o .marked .room)))
           | inr z ↦
               let a : figureIn figs q ≡ some j = sym (ap figureEntry (getD-set-other figs p q n noFigure z)) ∙ e in
-              omega (arith, o .marked .most q j lq a, grow (q / 432))
+              omega (arith, o .marked .most q j lq a, grow (stretchOf q))
         ]
 
         figure-now : figureIn (set figs p n) p ≡ some n
         figure-now = ap figureEntry (getD-set-same figs p n noFigure inside-figs) ∙ entry-some n (λ z. omega (arith, o .small))
 
 -- MARKS: one is raised, the others stay
-module _ (marks : List ℕ) (c n : ℕ) (inside : c / 432 < length marks) (lower : getD marks (c / 432) 0 < n) where
-  pub mark-raised : ((i : ℕ) → getD marks i 0 ≤ getD (set marks (c / 432) n) i 0) × (c / 432 < length marks → n ≤ getD (set marks (c / 432) n) (c / 432) 0)
+module _ (marks : List ℕ) (c n : ℕ) (inside : stretchOf c < length marks) (lower : getD marks (stretchOf c) 0 < n) where
+  pub mark-raised : ((i : ℕ) → getD marks i 0 ≤ getD (set marks (stretchOf c) n) i 0) × (stretchOf c < length marks → n ≤ getD (set marks (stretchOf c) n) (stretchOf c) 0)
   mark-raised = (
-    λ i. elim (eq? i (c / 432)) [
-      | inl z ↦ rw (z, getD-set-same marks (c / 432) n 0 inside) (omega arith)
-      | inr z ↦ rw (getD-set-other marks (c / 432) i n 0 z) (omega arith)
+    λ i. elim (eq? i (stretchOf c)) [
+      | inl z ↦ rw (z, getD-set-same marks (stretchOf c) n 0 inside) (omega arith)
+      | inr z ↦ rw (getD-set-other marks (stretchOf c) i n 0 z) (omega arith)
     ],
-    λ l. rw (getD-set-same marks (c / 432) n 0 inside) (omega arith),
+    λ l. rw (getD-set-same marks (stretchOf c) n 0 inside) (omega arith),
   )

@@ -1,0 +1,14 @@
+-- `solver::other_than` meets its contract: the two are compared.
+-- Assumes nothing.
+use borrow.Author.Tests.{eq-eqb, ne-eqb}
+use Rattle.solver.proofs.other_than.Statement.{statement}
+use Rattle.solver.proofs.other_than.Tie as tie
+
+returns : tie.Need-returns
+returns c = rw (eq-eqb _ _ (c .if1 .taken))
+
+returns-2 : tie.Need-returns-2
+returns-2 c = rw (ne-eqb _ _ (c .if1 .left))
+
+pub other-than-spec : {M : Type 1} → statement M
+other-than-spec = tie.close (tie.spec returns returns-2)
