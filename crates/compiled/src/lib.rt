@@ -20,16 +20,23 @@ use railway::Railway;
 use railway::SectionNo;
 use railway::Side;
 
-// Bytes of a table: four for each train and section, three counts, three for each train.
-pub const TABLE: usize = 783;
+const SECTIONS: usize = Railway::SECTIONS as usize;
+
+const TRAINS: usize = Railway::TRAINS as usize;
+
+// Bytes of a train's ways: four for each section.
+const WAYS: usize = 4 * SECTIONS;
+
+// Where the three counts stand, behind all trains' ways, and where the trains' own bytes do, behind those.
+const COUNTS: usize = WAYS * TRAINS;
+
+const RUNS: usize = COUNTS + 3;
+
+// Bytes of a table: three more for each train.
+pub const TABLE: usize = RUNS + 3 * TRAINS;
 
 // A railway's table. Of every function that takes one, the promise is about the railways whose table it is.
 pub type Table = [u8; TABLE];
-
-// Where the counts stand, behind four bytes for each train and section; and the trains' three, behind them.
-const COUNTS: usize = 768;
-
-const RUNS: usize = 771;
 
 // What stands for no point and for no section.
 pub const NO_BYTE: u8 = 255;
@@ -70,8 +77,8 @@ fn byte_for(r: Railway, i: usize) -> u8
     ensures { λ b. ⌜ b ≡ compiledByte r i ⌝ }
 {
     if i < COUNTS {
-        let t = (i / 192) as u8;
-        let x = (i / 4 % 48) as u8;
+        let t = (i / WAYS) as u8;
+        let x = (i / 4 % SECTIONS) as u8;
         let run = r.run_of(t);
         let h = run.heading;
         way_byte(r, End::Section(SectionNo(x), h), (i % 4) as u8)
@@ -79,11 +86,11 @@ fn byte_for(r: Railway, i: usize) -> u8
         count_byte(r, (i - COUNTS) as u8)
     } else {
         let j = i - RUNS;
-        run_byte(r, (j / 4) as u8, (j % 4) as u8)
+        run_byte(r, (j / TRAINS) as u8, (j % TRAINS) as u8)
     }
 }
 
-// The section that a train enters which leaves by an end of the record, with all points at plus or all at minus; 255: it derails.
+// The section that a train enters which leaves by an end of the record, with all points at plus or all at minus; `NO_BYTE`: it derails.
 pub fn section_from(r: Railway, e: End, plus: bool) -> u8
     ensures { λ b. ⌜ b ≡ sectionByte (passes r (λ n. plus) e .reached) ⌝ }
 {
@@ -91,7 +98,7 @@ pub fn section_from(r: Railway, e: End, plus: bool) -> u8
 }
 
 // One of the four bytes on a train that leaves by an end.
-pub fn way_byte(r: Railway, e: End, j: u8) -> u8
+fn way_byte(r: Railway, e: End, j: u8) -> u8
     ensures { λ b. ⌜ b ≡ wayByte r e j ⌝ }
 {
     if j == 0 {
@@ -212,13 +219,6 @@ pub fn byte_at(table: &Table, i: usize) -> u8
     if i < TABLE { table[i] } else { NO_BYTE }
 }
 
-// The number of sections, points or trains.
-pub fn count_in(table: &Table, i: u8) -> u8
-    ensures { λ b. ⌜ ((r : Railway) → Compiled r (now (table .entry)) → i < 3 → b ≡ countByte r i) ⌝ }
-{
-    byte_at(table, COUNTS + (i as usize))
-}
-
 // How many sections there are.
 pub fn sections_in(table: &Table) -> u8
     ensures { λ b. ⌜ ((r : Railway) → Compiled r (now (table .entry)) → b ≡ r .sections) ⌝ }
@@ -266,11 +266,12 @@ pub fn destination_in(table: &Table, t: u8) -> u8
 }
 
 // One of a train's three bytes; past the table those of no train.
-pub fn run_in(table: &Table, i: u8, t: u8) -> u8
-    ensures { λ b. ⌜ ((r : Railway) → Compiled r (now (table .entry)) → i < 3 → b ≡ runByte r i t) ⌝ }
+fn run_in(table: &Table, i: u8, t: u8) -> u8
+    requires { ⌜ i < 3 ⌝ }
+    ensures { λ b. ⌜ ((r : Railway) → Compiled r (now (table .entry)) → b ≡ runByte r i t) ⌝ }
 {
     if t < Railway::TRAINS {
-        byte_at(table, RUNS + 4 * (i as usize) + (t as usize))
+        byte_at(table, RUNS + TRAINS * (i as usize) + (t as usize))
     } else if i == 0 {
         1
     } else {
@@ -285,14 +286,14 @@ pub fn signal_in(table: &Table, t: u8, x: u8) -> bool
     way_in(table, t, x, 0) == 1
 }
 
-// The point that a train meets when it leaves a section; 255: none.
+// The point that a train meets when it leaves a section; `NO_BYTE`: none.
 pub fn point_past(table: &Table, t: u8, x: u8) -> u8
     ensures { λ b. ⌜ ((r : Railway) → Compiled r (now (table .entry)) → t < mostTrains → x < mostSections → b ≡ pointByte (passes r (λ n. false) (endOn r t x) .met)) ⌝ }
 {
     way_in(table, t, x, 1)
 }
 
-// The section that it enters, with that point at plus or at minus; 255: it derails.
+// The section that it enters, with that point at plus or at minus; `NO_BYTE`: it derails.
 pub fn section_past(table: &Table, t: u8, x: u8, plus: bool) -> u8
     ensures { λ b. ⌜ ((r : Railway) → Compiled r (now (table .entry)) → t < mostTrains → x < mostSections → b ≡ sectionByte (passes r (λ n. plus) (endOn r t x) .reached)) ⌝ }
 {
@@ -304,8 +305,12 @@ pub fn section_past(table: &Table, t: u8, x: u8, plus: bool) -> u8
 }
 
 // One of the four bytes on a train's way from a section.
-pub fn way_in(table: &Table, t: u8, x: u8, j: u8) -> u8
-    ensures { λ b. ⌜ ((r : Railway) → Compiled r (now (table .entry)) → t < mostTrains → x < mostSections → j < 4 → b ≡ wayByte r (endOn r t x) j) ⌝ }
+fn way_in(table: &Table, t: u8, x: u8, j: u8) -> u8
+    requires { ⌜ j < 4 ⌝ }
+    ensures { λ b. ⌜ ((r : Railway) → Compiled r (now (table .entry)) → t < mostTrains → x < mostSections → b ≡ wayByte r (endOn r t x) j) ⌝ }
 {
-    byte_at(table, 4 * (48 * (t as usize) + (x as usize)) + (j as usize))
+    byte_at(
+        table,
+        4 * (SECTIONS * (t as usize) + (x as usize)) + (j as usize),
+    )
 }

@@ -1,6 +1,5 @@
 -- `compiled::point_past` meets its contract: that is the byte on the way which is asked for.
 -- Assumes nothing.
-use native.Mathlib.Omega.{arith}
 use borrow.Author.Needs.{needs}
 use Rattle.compiled.proofs.Table.{point-is}
 use Rattle.compiled.proofs.point_past.Statement.{statement}
@@ -10,7 +9,7 @@ way-in-requires : tie.Need-way-in-requires
 way-in-requires c κs = search needs
 
 returns : tie.Need-returns
-returns c = λ r h lt lx. point-is r _ _ (c .way-in .ensures r h lt lx (omega arith))
+returns c = λ r h lt lx. point-is r _ _ (c .way-in .ensures r h lt lx)
 
 pub point-past-spec : {M : Type 1} → statement M
 point-past-spec = tie.close (tie.spec way-in-requires returns)

@@ -18,13 +18,13 @@ byte-at-requires : tie.Need-byte-at-requires
 byte-at-requires c κs = search needs
 
 returns : tie.Need-returns
-returns c = λ r h l. run-there r _ _ _ _ h l (c .before .if1 .taken) (c .byte-at .ensures)
+returns c = λ r h. run-there r _ _ _ _ h (c .before .before .pre) (c .before .if1 .taken) (c .byte-at .ensures)
 
 returns-2 : tie.Need-returns-2
-returns-2 c = λ r h l. no-heading r _ _ _ h (c .before .if1 .left) (c .if2 .taken)
+returns-2 c = λ r h. no-heading r _ _ _ h (c .before .if1 .left) (c .if2 .taken)
 
 returns-3 : tie.Need-returns-3
-returns-3 c = λ r h l. no-section r _ _ _ h (c .before .if1 .left) (c .if2 .left)
+returns-3 c = λ r h. no-section r _ _ _ h (c .before .if1 .left) (c .if2 .left)
 
 pub run-in-spec : {M : Type 1} → statement M
 run-in-spec =

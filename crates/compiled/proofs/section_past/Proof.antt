@@ -1,6 +1,5 @@
 -- `compiled::section_past` meets its contract: there is one byte for each side of the point.
 -- Assumes nothing.
-use native.Mathlib.Omega.{arith}
 use borrow.Author.Needs.{needs}
 use Rattle.compiled.proofs.Table.{plus-is, minus-is}
 use Rattle.compiled.proofs.section_past.Statement.{statement}
@@ -13,10 +12,10 @@ way-in-requires-2 : tie.Need-way-in-requires-2
 way-in-requires-2 c κs = search needs
 
 returns : tie.Need-returns
-returns c = λ r h lt lx. plus-is r _ _ _ (c .before .if1 .taken) (c .way-in .ensures r h lt lx (omega arith))
+returns c = λ r h lt lx. plus-is r _ _ _ (c .before .if1 .taken) (c .way-in .ensures r h lt lx)
 
 returns-2 : tie.Need-returns-2
-returns-2 c = λ r h lt lx. minus-is r _ _ _ (c .before .if1 .left) (c .way-in2 .ensures r h lt lx (omega arith))
+returns-2 c = λ r h lt lx. minus-is r _ _ _ (c .before .if1 .left) (c .way-in2 .ensures r h lt lx)
 
 pub section-past-spec : {M : Type 1} → statement M
 section-past-spec = tie.close (tie.spec way-in-requires way-in-requires-2 returns returns-2)

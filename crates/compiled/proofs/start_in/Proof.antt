@@ -1,6 +1,5 @@
 -- `compiled::start_in` meets its contract: that is the byte of the train which is asked for.
 -- Assumes nothing.
-use native.Mathlib.Omega.{arith}
 use borrow.Author.Needs.{needs}
 use Rattle.compiled.proofs.Table.{start-is}
 use Rattle.compiled.proofs.start_in.Statement.{statement}
@@ -10,7 +9,7 @@ run-in-requires : tie.Need-run-in-requires
 run-in-requires c κs = search needs
 
 returns : tie.Need-returns
-returns c = λ r h. start-is r _ _ (c .run-in .ensures r h (omega arith))
+returns c = λ r h. start-is r _ _ (c .run-in .ensures r h)
 
 pub start-in-spec : {M : Type 1} → statement M
 start-in-spec = tie.close (tie.spec run-in-requires returns)

@@ -21,7 +21,7 @@ byte-at-requires : tie.Need-byte-at-requires
 byte-at-requires c κs = search needs
 
 returns : tie.Need-returns
-returns c = λ r h lt lx lj. way-there r _ _ _ _ _ h lt lx lj (c .byte-at .ensures)
+returns c = λ r h lt lx. way-there r _ _ _ _ _ h lt lx (c .before .pre) (c .byte-at .ensures)
 
 pub way-in-spec : {M : Type 1} → statement M
 way-in-spec =
