@@ -38,7 +38,7 @@ use Rattle.moves.specs.Steps.{sectionIn, On}
 use Rattle.moves.proofs.Coding.{bit-high}
 use Rattle.moves.proofs.Placing.{few-trains}
 use Rattle.settings.specs.Answers.{firstKeeping}
-use Rattle.settings.specs.Ways.{Asked, pointMet, endsBelow, harmedAtMinus, beyondHelp, neededPoints, goodAtPlus}
+use Rattle.settings.specs.Ways.{Asked, pointMet, endsBelow, failsAtMinus, failsAnyway, neededPoints, goodAtPlus}
 use Rattle.settings.proofs.Points.{meets-is, met-small, move-by}
 use Rattle.settings.proofs.Ways.{bits-small, one-bit}
 
@@ -146,10 +146,10 @@ module _ (r : Railway) (ok : Facts r) (p : ℕ) (apart : shared r p ≡ false) (
         off true = refl
         off false = refl
 
-    -- a train beyond help
-    helpless : (t : ℕ) → t < r .trains → beyondHelp r F p n t ≡ true → entryKeeps r F p n (metEntry r F p n (λ t. false)) ≡ false
-    helpless t l e =
-        let a = and-true (harmedAtMinus r F p n t) (eqb (pointMet r p t) noByte) e in
+    -- a train that fails however its points lie
+    fails-closed : (t : ℕ) → t < r .trains → failsAnyway r F p n t ≡ true → entryKeeps r F p n (metEntry r F p n (λ t. false)) ≡ false
+    fails-closed t l e =
+        let a = and-true (failsAtMinus r F p n t) (eqb (pointMet r p t) noByte) e in
         let b = and-true (free r p t) (not (endsBelow r F p n false t)) (a .0) in
         let far : pointMet r p t ≡ noByte = eqb-true (pointMet r p t) noByte (a .1) in
         let out : bit (plusBits (λ t. false)) (pointMet r p t) ≡ false = rw far (bit-past (plusBits (λ t. false)) (plus-small (λ t. false))) in
@@ -163,9 +163,9 @@ module _ (r : Railway) (ok : Facts r) (p : ℕ) (apart : shared r p ≡ false) (
         off true = refl
         off false = refl
 
-    -- no train beyond help: what is left to see is who has a point at plus
-    helped-good : anyBelow (beyondHelp r F p n) (r .trains) ≡ false → (t : ℕ) → t < r .trains → goodIf (λ t. false) t ≡ goodAtPlus r F p n (plusBits (λ t. false)) t
-    helped-good none-lost t l = elim (bool? (free r p t)) [
+    -- no such train: what is left to see is who has a point at plus
+    none-fails-good : anyBelow (failsAnyway r F p n) (r .trains) ≡ false → (t : ℕ) → t < r .trains → goodIf (λ t. false) t ≡ goodAtPlus r F p n (plusBits (λ t. false)) t
+    none-fails-good none-lost t l = elim (bool? (free r p t)) [
       | inr f ↦ rw f
       | inl f ↦ elim (bool? (bit (plusBits (λ t. false)) (pointMet r p t))) [
         | inl e ↦ rw (f, e)
@@ -178,7 +178,7 @@ module _ (r : Railway) (ok : Facts r) (p : ℕ) (apart : shared r p ≡ false) (
           | inl y ↦ y
           | inr y ↦ elim (met-small r ok p t) [
             | inl m ↦ clash (needed-lies (λ t. false) t l (rw f) y m) e
-            | inr m ↦ clash (and-both (harmedAtMinus r F p n t) (eqb (pointMet r p t) noByte) (and-both (free r p t) (not (endsBelow r F p n false t)) f (rw y)) (eq-eqb (pointMet r p t) noByte m)) (any-false (beyondHelp r F p n) (r .trains) none-lost t l)
+            | inr m ↦ clash (and-both (failsAtMinus r F p n t) (eqb (pointMet r p t) noByte) (and-both (free r p t) (not (endsBelow r F p n false t)) f (rw y)) (eq-eqb (pointMet r p t) noByte m)) (any-false (failsAnyway r F p n) (r .trains) none-lost t l)
           ]
         ]
 
@@ -186,14 +186,14 @@ module _ (r : Railway) (ok : Facts r) (p : ℕ) (apart : shared r p ≡ false) (
     guided-none e = sym (closed-decides ∙ try-none (λ t. false) lost)
       where
         lost : entryKeeps r F p n (metEntry r F p n (λ t. false)) ≡ false
-        lost = elim (bool? (anyBelow (beyondHelp r F p n) (r .trains))) [
-          | inl y ↦ let w = any-at (beyondHelp r F p n) (r .trains) y in helpless (w .0) (w .1) (w .2)
+        lost = elim (bool? (anyBelow (failsAnyway r F p n) (r .trains))) [
+          | inl y ↦ let w = any-at (failsAnyway r F p n) (r .trains) y in fails-closed (w .0) (w .1) (w .2)
           | inr y ↦ let g : neededPoints r F p n ≡ some (fromBits (somePlus r F p n (λ t. false)) (r .points)) = rw y in some-none g (sym e)
         ]
 
     module _ (bits : ℕ) (needed : some bits ≡ neededPoints r F p n) where
-      helped : (anyBelow (beyondHelp r F p n) (r .trains) ≡ false) × (bits ≡ fromBits (somePlus r F p n (λ t. false)) (r .points))
-      helped = elim (bool? (anyBelow (beyondHelp r F p n) (r .trains))) [
+      none-fails : (anyBelow (failsAnyway r F p n) (r .trains) ≡ false) × (bits ≡ fromBits (somePlus r F p n (λ t. false)) (r .points))
+      none-fails = elim (bool? (anyBelow (failsAnyway r F p n) (r .trains))) [
         | inl y ↦ let g : neededPoints r F p n ≡ none = rw y in some-none (sym needed) g
         | inr y ↦ let g : neededPoints r F p n ≡ some (fromBits (somePlus r F p n (λ t. false)) (r .points)) = rw y in (y, some-one (needed ∙ g))
       ]
@@ -202,11 +202,11 @@ module _ (r : Railway) (ok : Facts r) (p : ℕ) (apart : shared r p ≡ false) (
         keeps : b ≡ entryKeeps r F p n (metEntry r F p n (λ t. false))
         keeps =
             let e : allBelow (goodIf (λ t. false)) (r .trains) ≡ allBelow (goodAtPlus r F p n bits) (r .trains) =
-            rw (helped .1) (all-same (goodIf (λ t. false)) (goodAtPlus r F p n (plusBits (λ t. false))) (r .trains) (helped-good (helped .0))) in
+            rw (none-fails .1) (all-same (goodIf (λ t. false)) (goodAtPlus r F p n (plusBits (λ t. false))) (r .trains) (none-fails-good (none-fails .0))) in
             is ∙ sym e ∙ sym (keeps-is (λ t. false) ∙ rw free-runs)
 
         pub guided-found : b ≡ true → some bits ≡ findMet r F p n
-        guided-found e = sym (closed-decides ∙ try-found (λ t. false) (sym keeps ∙ e) ∙ ap (λ (v : ℕ). some v) (closed-entry ∙ sym (helped .1)))
+        guided-found e = sym (closed-decides ∙ try-found (λ t. false) (sym keeps ∙ e) ∙ ap (λ (v : ℕ). some v) (closed-entry ∙ sym (none-fails .1)))
 
         pub guided-not : b ≡ false → none ≡ findMet r F p n
         guided-not e = sym (closed-decides ∙ try-none (λ t. false) (sym keeps ∙ e))
@@ -273,7 +273,7 @@ module _ (r : Railway) (ok : Facts r) (p : ℕ) (apart : shared r p ≡ false) (
           sym (try-found (eqb u) (one-keeps ∙ g) ∙ ap (λ (v : ℕ). some v) (sym (open-entry 0 z) ∙ (omega arith)))
 
       module _ (bad : endsBelow r F p n false u ≡ false) where
-        -- with no point to help
+        -- with no point on its way
         pub open-not : r .points ≤ pointMet r p u → none ≡ tryMet r F p n (eqb u)
         open-not l =
             let z : 0 ≡ fromBits (somePlus r F p n (eqb u)) (r .points) = no-points (inr l) in

@@ -33,7 +33,7 @@ use Rattle.compiled.specs.Table.{noByte, sectionByte}
 use Rattle.moves.specs.declared.Placement.{Placement}
 use Rattle.moves.specs.Steps.{noCode, sectionIn, On, otherIn, allAt}
 use Rattle.moves.proofs.Moving.{other-on, code-by-weight, derails, arrives, collides, stands-at}
-use Rattle.settings.specs.Ways.{Asked, pointMet, endsBelow, harmedAtMinus, beyondHelp, neededPoints, goodAtPlus, withBit}
+use Rattle.settings.specs.Ways.{Asked, pointMet, endsBelow, failsAtMinus, failsAnyway, neededPoints, goodAtPlus, withBit}
 use Rattle.settings.proofs.Points.{meets-is, met-small}
 
 -- A TRAIN'S MOVE, the figure looked at before the other trains
@@ -91,11 +91,11 @@ module _ (r : Railway) (p t : ℕ) (h : Bool) (is : h ≡ held r p t) where
   free-not e = rw (sym is ∙ e)
 
   module _ (F : ℕ → Option ℕ) (n : ℕ) where
-    pub held-harmed : h ≡ true → false ≡ harmedAtMinus r F p n t
-    held-harmed e = rw (free-not e)
+    pub held-fails : h ≡ true → false ≡ failsAtMinus r F p n t
+    held-fails e = rw (free-not e)
 
-    pub free-harmed : (b : Bool) → h ≡ false → b ≡ endsBelow r F p n false t → not b ≡ harmedAtMinus r F p n t
-    free-harmed b e g = rw (free-is e, g)
+    pub free-fails : (b : Bool) → h ≡ false → b ≡ endsBelow r F p n false t → not b ≡ failsAtMinus r F p n t
+    free-fails b e g = rw (free-is e, g)
 
     pub held-good : (bits : ℕ) → h ≡ true → true ≡ goodAtPlus r F p n bits t
     held-good bits e = rw (free-not e)
@@ -148,16 +148,16 @@ one-bit u k l = bits-add (λ n. false) k u l refl ∙ ap (λ (b : ℕ). b + 2 ^ 
 
 -- THE POINTS NEEDED, train after train
 pub record NeedsTo (r : Railway) (m : ℕ) (F : ℕ → Option ℕ) (n p t bits : ℕ) : Type 0 where
-  pub helped : anyBelow (beyondHelp r F p n) t ≡ false
+  pub none-fails : anyBelow (failsAnyway r F p n) t ≡ false
   pub needed : bits ≡ fromBits (λ x. anyBelow (needsPlus r F p n (λ u. false) x) t) m
 
 module _ (r : Railway) (table : List ℕ) (q : Placement) (c k m : ℕ) (F : ℕ → Option ℕ) (n : ℕ) (few : m ≤ mostPoints) where
   module _ (p : ℕ) (h : Asked r p table q c k m) where
     pub needs-start : NeedsTo r m F n p 0 0
     unfolding anyBelow
-    needs-start = record { helped = refl; needed = bits-none m }
+    needs-start = record { none-fails = refl; needed = bits-none m }
 
-    module _ (t bits : ℕ) (inv : NeedsTo r m F n p t bits) (b : Bool) (is : b ≡ harmedAtMinus r F p n t) where
+    module _ (t bits : ℕ) (inv : NeedsTo r m F n p t bits) (b : Bool) (is : b ≡ failsAtMinus r F p n t) where
       -- train t as it is asked: whether it needs a point
       asks : (x : ℕ) → x < mostPoints → needsPlus r F p n (λ u. false) x t ≡ (b && eqb (pointMet r p t) x)
       asks x l = rw (meets-is r p t x l, is) (turn (free r p t) (eqb (pointMet r p t) x) (endsBelow r F p n false t))
@@ -178,7 +178,7 @@ module _ (r : Railway) (table : List ℕ) (q : Placement) (c k m : ℕ) (F : ℕ
       pub needs-not : b ≡ false → NeedsTo r m F n p (t + 1) bits
       needs-not z =
           record {
-            helped = any-next (beyondHelp r F p n) t (inv .helped) (rw (sym is ∙ z));
+            none-fails = any-next (failsAnyway r F p n) t (inv .none-fails) (rw (sym is ∙ z));
             needed = (let w : withBit bits noByte m ≡ bits = rw (le-ltb noByte m (omega arith)) in sym w) ∙ next noByte (λ y l. rw z (sym (ne-eqb noByte y (λ g. omega arith))));
           }
 
@@ -186,20 +186,20 @@ module _ (r : Railway) (table : List ℕ) (q : Placement) (c k m : ℕ) (F : ℕ
         pub needs-one : x < m → NeedsTo r m F n p (t + 1) (withBit bits x m)
         needs-one l =
             record {
-              helped = any-next (beyondHelp r F p n) t (inv .helped) (rw (← met, ne-eqb x noByte (λ g. omega arith)) (and-off (harmedAtMinus r F p n t)));
+              none-fails = any-next (failsAnyway r F p n) t (inv .none-fails) (rw (← met, ne-eqb x noByte (λ g. omega arith)) (and-off (failsAtMinus r F p n t)));
               needed = next x (λ y l. rw (z, met));
             }
 
         pub needs-none : t < k → m ≤ x → none ≡ neededPoints r F p n
         needs-none lt l =
             let far : x ≡ noByte = elim (met-small r (facts r (h .on .compiled .accepted)) p t) [ inl a ↦ absurd (omega (arith, h .points, rw (← met) at a)) | inr a ↦ met ∙ a ] in
-            let bad : anyBelow (beyondHelp r F p n) (r .trains) ≡ true =
-            sym (any-one (beyondHelp r F p n) (r .trains) t (rw (← (h .trains)) lt) (and-both (harmedAtMinus r F p n t) (eqb (pointMet r p t) noByte) (sym is ∙ z) (rw (← met) (eq-eqb x noByte far)))) in
+            let bad : anyBelow (failsAnyway r F p n) (r .trains) ≡ true =
+            sym (any-one (failsAnyway r F p n) (r .trains) t (rw (← (h .trains)) lt) (and-both (failsAtMinus r F p n t) (eqb (pointMet r p t) noByte) (sym is ∙ z) (rw (← met) (eq-eqb x noByte far)))) in
             rw bad
 
     pub needs-end : (t bits : ℕ) → t ≤ k → k ≤ t → NeedsTo r m F n p t bits → some bits ≡ neededPoints r F p n
     needs-end t bits l g inv =
         let z : t ≡ r .trains = omega (arith, h .trains) in
-        let good : anyBelow (beyondHelp r F p n) (r .trains) ≡ false = rw z at (inv .helped) in
+        let good : anyBelow (failsAnyway r F p n) (r .trains) ≡ false = rw z at (inv .none-fails) in
         let is : bits ≡ fromBits (λ x. anyBelow (needsPlus r F p n (λ u. false) x) (r .trains)) (r .points) = rw (z, h .points) at (inv .needed) in
         rw (good, is)

@@ -36,16 +36,16 @@ abbrev pub endsBelow : Railway → (ℕ → Option ℕ) → ℕ → ℕ → Bool
 endsBelow r F p n plus t = isBelow n (figureOf F (moveOf r p (allAt plus) t))
 
 -- Train t is free, and its move does not end in a figure below n with the points at minus.
-abbrev pub harmedAtMinus : Railway → (ℕ → Option ℕ) → ℕ → ℕ → ℕ → Bool
-harmedAtMinus r F p n t = free r p t && not (endsBelow r F p n false t)
+abbrev pub failsAtMinus : Railway → (ℕ → Option ℕ) → ℕ → ℕ → ℕ → Bool
+failsAtMinus r F p n t = free r p t && not (endsBelow r F p n false t)
 
--- Train t is free, its move does not end below n, and it meets no point, so that no setting helps.
-abbrev pub beyondHelp : Railway → (ℕ → Option ℕ) → ℕ → ℕ → ℕ → Bool
-beyondHelp r F p n t = harmedAtMinus r F p n t && eqb (pointMet r p t) noByte
+-- Train t is free, its move does not end in a figure below n, and it meets no point, so that it fails however the points lie.
+abbrev pub failsAnyway : Railway → (ℕ → Option ℕ) → ℕ → ℕ → ℕ → Bool
+failsAnyway r F p n t = failsAtMinus r F p n t && eqb (pointMet r p t) noByte
 
--- The points that free trains need at plus, unless one is beyond help.
+-- The points that free trains need at plus; none where a train fails however they lie.
 abbrev pub neededPoints : Railway → (ℕ → Option ℕ) → ℕ → ℕ → Option ℕ
-neededPoints r F p n = cond (anyBelow (beyondHelp r F p n) (r .trains)) none (some (fromBits (somePlus r F p n (λ t. false)) (r .points)))
+neededPoints r F p n = cond (anyBelow (failsAnyway r F p n) (r .trains)) none (some (fromBits (somePlus r F p n (λ t. false)) (r .points)))
 
 -- Train t is not free, or its point is not among these, or its move ends below n at plus.
 abbrev pub goodAtPlus : Railway → (ℕ → Option ℕ) → ℕ → ℕ → ℕ → ℕ → Bool

@@ -14,7 +14,7 @@ ghost use Rattle.compiled.specs.Table.{Compiled};
 ghost use Rattle.game.specs.Placement.{codeOn};
 ghost use Rattle.moves.specs.Steps.{sectionIn, On};
 ghost use Rattle.settings.specs.Answers.{entryFound, firstKeeping};
-ghost use Rattle.settings.specs.Ways.{Asked, endsBelow, harmedAtMinus, neededPoints, goodAtPlus, withBit};
+ghost use Rattle.settings.specs.Ways.{Asked, endsBelow, failsAtMinus, neededPoints, goodAtPlus, withBit};
 use compiled::NO_BYTE;
 use compiled::Table;
 use moves::Placement;
@@ -138,7 +138,7 @@ fn plus_bits(table: &Table, figures: &[u32], q: Placement, c: u32, n: u32, k: u8
 
 // Train t is free, and its move does not end below the figure with its point at minus.
 fn needs_plus(table: &Table, figures: &[u32], q: Placement, c: u32, n: u32, t: u8) -> bool
-    ensures { λ b. ⌜ ((r : Railway) (p : ℕ) → On r p (now (table .entry)) q → c ≡ codeOn r (sectionIn q) → t < r .trains → b ≡ harmedAtMinus r (figureIn (now (figures .entry))) p n t) ⌝ }
+    ensures { λ b. ⌜ ((r : Railway) (p : ℕ) → On r p (now (table .entry)) q → c ≡ codeOn r (sectionIn q) → t < r .trains → b ≡ failsAtMinus r (figureIn (now (figures .entry))) p n t) ⌝ }
 {
     if moves::held_in(table, q, t) {
         return false;

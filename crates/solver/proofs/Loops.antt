@@ -28,22 +28,22 @@ use Rattle.solver.proofs.Entries.{entry-is}
 use Rattle.solver.proofs.Visits.{round-homed, visited-onward, visited-keeps, visited-less, round-on, visited-none, visited-then}
 use Rattle.solver.proofs.Gaining.{gains-before}
 
--- A LOOP that has come to i, of every railway that has m placements and this table and of which the loop is given something more
-pub record VisitedTo (table : List ℕ) (m n : ℕ) (Given : Railway → Type 0) (Kind : Railway → ℕ → ℕ → Type 0) (figs₀ sets₀ marks₀ figs sets marks : List ℕ) (added : Bool) (i : ℕ) : Type 0 where
+-- A LOOP that has come to i, of every railway that has m placements and these tables
+pub record VisitedTo (table behind : List ℕ) (m n : ℕ) (Kind : Railway → ℕ → ℕ → Type 0) (figs₀ sets₀ marks₀ figs sets marks : List ℕ) (added : Bool) (i : ℕ) : Type 0 where
   pub long-figs : length figs ≡ length figs₀
   pub long-sets : length sets ≡ length sets₀
   pub long-marks : length marks ≡ length marks₀
-  pub visited : (r : Railway) → Given r → Round r table m n figs₀ marks₀ → Visited r n (Kind r i) figs₀ sets₀ figs sets marks added
+  pub visited : (r : Railway) → Behind r behind → Round r table m n figs₀ marks₀ → Visited r n (Kind r i) figs₀ sets₀ figs sets marks added
 
-module _ (table : List ℕ) (m n : ℕ) (Given : Railway → Type 0) (Kind : Railway → ℕ → ℕ → Type 0) (figs₀ sets₀ marks₀ : List ℕ) where
-  pub visited-to-start : (i : ℕ) → ((r : Railway) (q : ℕ) → Kind r i q → ⊥) → VisitedTo table m n Given Kind figs₀ sets₀ marks₀ figs₀ sets₀ marks₀ false i
+module _ (table behind : List ℕ) (m n : ℕ) (Kind : Railway → ℕ → ℕ → Type 0) (figs₀ sets₀ marks₀ : List ℕ) where
+  pub visited-to-start : (i : ℕ) → ((r : Railway) (q : ℕ) → Kind r i q → ⊥) → VisitedTo table behind m n Kind figs₀ sets₀ marks₀ figs₀ sets₀ marks₀ false i
   visited-to-start i h = record { long-figs = refl; long-sets = refl; long-marks = refl; visited = λ r b o. visited-none r n (Kind r i) figs₀ sets₀ marks₀ (o .marked) (λ q l k. h r q k) }
 
-  module _ (figs sets marks : List ℕ) (added : Bool) (i : ℕ) (s : VisitedTo table m n Given Kind figs₀ sets₀ marks₀ figs sets marks added i) where
+  module _ (figs sets marks : List ℕ) (added : Bool) (i : ℕ) (s : VisitedTo table behind m n Kind figs₀ sets₀ marks₀ figs sets marks added i) where
     pub visited-to-next : (New : Railway → ℕ → Type 0) (j : ℕ) (figs′ sets′ marks′ : List ℕ) (b : Bool) → length figs′ ≡ length figs → length sets′ ≡ length sets → length marks′ ≡ length marks
-        → ((r : Railway) → Given r → Round r table m n figs marks → Visited r n (New r) figs sets figs′ sets′ marks′ b)
+        → ((r : Railway) → Behind r behind → Round r table m n figs marks → Visited r n (New r) figs sets figs′ sets′ marks′ b)
         → ((r : Railway) → Visited r n (Kind r i) figs₀ sets₀ figs sets marks added → Round r table m n figs₀ marks₀ → (q : ℕ) → q < placements r → Kind r j q → Kind r i q ⊎ New r q)
-        → VisitedTo table m n Given Kind figs₀ sets₀ marks₀ figs′ sets′ marks′ (added || b) j
+        → VisitedTo table behind m n Kind figs₀ sets₀ marks₀ figs′ sets′ marks′ (added || b) j
     visited-to-next New j figs′ sets′ marks′ b ef es em body covers =
         record {
           long-figs = ef ∙ s .long-figs;
@@ -57,7 +57,7 @@ module _ (table : List ℕ) (m n : ℕ) (Given : Railway → Type 0) (Kind : Rai
 
     -- on to j, with nothing to visit between
     pub visited-to-on : (j : ℕ) → ((r : Railway) → Visited r n (Kind r i) figs₀ sets₀ figs sets marks added → Round r table m n figs₀ marks₀ → (q : ℕ) → Kind r j q → Kind r i q)
-        → VisitedTo table m n Given Kind figs₀ sets₀ marks₀ figs sets marks added j
+        → VisitedTo table behind m n Kind figs₀ sets₀ marks₀ figs sets marks added j
     visited-to-on j covers =
         record {
           long-figs = s .long-figs;
@@ -68,9 +68,9 @@ module _ (table : List ℕ) (m n : ℕ) (Given : Railway → Type 0) (Kind : Rai
               visited-less r n (Kind r i) figs₀ sets₀ figs sets marks added x (Kind r j) (λ q l k. covers r x o q k);
         }
 
-    pub visited-to-end : (End : Railway → ℕ → Type 0) → ((r : Railway) → Given r → Round r table m n figs₀ marks₀ → (q : ℕ) → q < placements r → End r q → Kind r i q)
-        → (r : Railway) → Given r → Round r table m n figs₀ marks₀ → Visited r n (End r) figs₀ sets₀ figs sets marks added
-    visited-to-end End h r g o = visited-less r n (Kind r i) figs₀ sets₀ figs sets marks added (s .visited r g o) (End r) (λ q l k. h r g o q l k)
+    pub visited-to-end : (End : Railway → ℕ → Type 0) → ((r : Railway) → Round r table m n figs₀ marks₀ → (q : ℕ) → End r q → Kind r i q)
+        → (r : Railway) → Behind r behind → Round r table m n figs₀ marks₀ → Visited r n (End r) figs₀ sets₀ figs sets marks added
+    visited-to-end End h r b o = visited-less r n (Kind r i) figs₀ sets₀ figs sets marks added (s .visited r b o) (End r) (λ q l k. h r o q k)
 
 -- A SCAN for a figure
 module _ (figs : List ℕ) (figure c upto : ℕ) where
@@ -210,12 +210,12 @@ module _ (r : Railway) (accepted : recordRefusal r ≡ none) (k : ℕ) (small : 
       }
 
 module _ (table behind : List ℕ) (m n : ℕ) (figs₀ sets₀ marks₀ figs sets marks : List ℕ) (added : Bool) (c : ℕ)
-    (s : VisitedTo table m n (λ r. Behind r behind) (λ r i. Before r n figs₀ 0 i) figs₀ sets₀ marks₀ figs sets marks added c) where
+    (s : VisitedTo table behind m n (λ r i. Before r n figs₀ 0 i) figs₀ sets₀ marks₀ figs sets marks added c) where
   pub round-end : m ≤ c → (r : Railway) (k : ℕ) → Compiled r table → Behind r behind → m ≡ placements r → n ≡ suc k → n < noFigure → RoundTables r k figs₀ sets₀ → Marked r figs₀ marks₀
       → RoundPost r n figs₀ sets₀ figs sets added × Marked r figs marks
   round-end l r k h b em en small t marked =
       let o : Round r table m n figs₀ marks₀ = record { compiled = h; counted = em; small = small; homed = round-homed r k figs₀ sets₀ t; marked = marked } in
       let x : Visited r n (Before r n figs₀ 0 (placements r)) figs₀ sets₀ figs sets marks added =
-      visited-to-end table m n (λ r. Behind r behind) (λ r i. Before r n figs₀ 0 i) figs₀ sets₀ marks₀ figs sets marks added c s (λ r. Before r n figs₀ 0 (placements r))
-      (λ r g o q lq k. codes-less r n figs₀ 0 (placements r) c q (omega (arith, o .counted)) k) r b o in
+      visited-to-end table behind m n (λ r i. Before r n figs₀ 0 i) figs₀ sets₀ marks₀ figs sets marks added c s (λ r. Before r n figs₀ 0 (placements r))
+      (λ r o q k. codes-less r n figs₀ 0 (placements r) c q (omega (arith, o .counted)) k) r b o in
       (rw en (round-over r (h .accepted) k (omega arith) figs₀ sets₀ figs sets marks added (s .long-figs) (s .long-sets) t (rw en at x)), x .marked)

@@ -10,12 +10,12 @@ use Prim.Native.Nat.{ℕ, _+_, _*_, _^_, _≤_, _<_}
 use native.Mathlib.Omega.{arith}
 use lib.ListN.{length, getD}
 use lib.Dec.{eqb}
-use borrow.Author.Tests.{eqb-true, eq-eqb, ne-eqb}
+use borrow.Author.Tests.{eqb-true, eq-eqb}
 use Rattle.laws.proofs.Bools.{bool?, eq?, clash}
 use Rattle.railway.specs.declared.Railway.{Railway}
-use Rattle.railway.specs.Bounds.{mostTrains}
+use Rattle.railway.specs.Bounds.{mostSections, mostTrains}
 use Rattle.game.specs.Game.{at}
-use Rattle.game.specs.Placement.{placements, standsOn}
+use Rattle.game.specs.Placement.{placements}
 use Rattle.game.specs.Moves.{codeWith, moveOf}
 use Rattle.game.proofs.Accepted.{facts}
 use Rattle.game.proofs.Moves.{code-with-below}
@@ -24,14 +24,13 @@ use Rattle.tables.proofs.Exists.{few-placements}
 use Rattle.compiled.specs.Table.{noByte}
 use Rattle.moves.specs.declared.Placement.{Placement}
 use Rattle.moves.specs.Steps.{noCode, sectionIn, On, movedTo, allAt}
-use Rattle.moves.proofs.Moving.{train-small, code-by-weight, put-on-is}
+use Rattle.moves.proofs.Moving.{train-small, section-small, code-by-weight, put-on-is}
 use Rattle.moves.proofs.Round.{code-back}
-use Rattle.predecessors.specs.Behind.{sectionBehind, Behind}
+use Rattle.predecessors.specs.Behind.{sectionBehind}
 use Rattle.predecessors.proofs.Before.{some-behind, before-is, behind-below}
-use Rattle.solver.specs.Visits.{Round, Visited, PutBy, otherThan, Waits, empty, nowhere, outside, figured, One, Put, By}
+use Rattle.solver.specs.Visits.{Marked, Round, Visited, PutBy, Waits, empty, nowhere, outside, figured, One, Put, Other, By}
 use Rattle.solver.proofs.Entries.{read-figure, read-none}
-use Rattle.solver.proofs.Visits.{visited-less, visited-rests}
-use Rattle.solver.proofs.Loops.{VisitedTo, visited-to-start, visited-to-next, visited-to-end}
+use Rattle.solver.proofs.Visits.{visited-less, visited-rests, visited-none, visited-then, round-on}
 
 -- WHO WAITS for a visit
 module _ (figs : List ℕ) (m y p : ℕ) where
@@ -76,113 +75,61 @@ module _ (r : Railway) (table : List ℕ) (m n c t y p : ℕ) (figs sets marks :
             let there-on : On r p table v = rw (put there .1) (put-on-is r c table q on t y lt (put there .0) v (moved (train-small r c table q on t (sectionIn q t) lt refl))) in
             visited-less r n (One p) figs sets figs′ sets′ marks′ a (visit r m o there-on (below there) none-yet) (Put r c t y) (λ u l k. k .code ∙ sym (put there .1))
 
--- BOTH SECTIONS BEHIND train t, that stands on section x and counts w in a code: y at minus, and z at plus where that is another
-pub record BothBehind (r : Railway) (q : Placement) (t x w y z : ℕ) : Type 0 where
+-- BOTH SECTIONS BEHIND train t, that stands on section x of placement c: y with the point at minus and z with it at plus; p and o are the
+-- codes with the train there
+pub record BothBehind (r : Railway) (q : Placement) (c t x y z p o : ℕ) : Type 0 where
   pub here : x ≡ sectionIn q t
-  pub weight : w ≡ r .sections ^ t
   pub minus : y ≡ sectionBehind r t x false
-  pub other : z ≡ otherThan y (sectionBehind r t x true)
+  pub plus : z ≡ sectionBehind r t x true
+  pub put-minus : PutBy r c t y p
+  pub put-plus : PutBy r c t z o
 
--- what is known of the railway
-pub record Known (table behind : List ℕ) (q : Placement) (c t : ℕ) (r : Railway) : Type 0 where
-  pub sections : Behind r behind
-  pub on : On r c table q
-  pub inside : c < placements r
-  pub train : t < r .trains
+module _ (r : Railway) (table : List ℕ) (q : Placement) (c : ℕ) (on : On r c table q) (lc : c < placements r) (t x : ℕ) (lt : t < r .trains) (here : x ≡ sectionIn q t) where
+  put-code : (s w y p : ℕ) (b : Bool) → s ≡ r .sections → (t ≤ mostTrains → w ≡ s ^ t) → y ≡ sectionBehind r t x b → ((k : ℕ) → k < noCode → c + y * w ≡ k + x * w → p ≡ k) → PutBy r c t y p
+  put-code s w y p b es ew is put there =
+      let accepted = on .compiled .accepted in
+      let below : y < r .sections = behind-below r accepted t x b y is there in
+      let small : codeWith r c t y < placements r = code-with-below r (facts r accepted) c t y below in
+      (below, put (codeWith r c t y) (omega (arith, few-placements r accepted)) (code-by-weight r c table q on t y lt c x w s (sym (code-back r table (on .compiled) c q on lc)) here es ew))
 
--- placements with the train put on one of the first i of the two
-pub data Among (r : Railway) (c t y z i p : ℕ) : Type 0 where
-  first : 0 < i → Put r c t y p → Among r c t y z i p
-  second : 1 < i → Put r c t z p → Among r c t y z i p
+  -- as they are computed
+  pub both-behind : (s w y z p o : ℕ) → s ≡ r .sections → (t ≤ mostTrains → w ≡ s ^ t) → (t < mostTrains → x < mostSections → y ≡ sectionBehind r t x false)
+      → (t < mostTrains → x < mostSections → z ≡ sectionBehind r t x true) → ((k : ℕ) → k < noCode → c + y * w ≡ k + x * w → p ≡ k) → ((k : ℕ) → k < noCode → c + z * w ≡ k + x * w → o ≡ k)
+      → BothBehind r q c t x y z p o
+  both-behind s w y z p o es ew at-minus at-plus put-p put-o =
+      let few = train-small r c table q on t x lt here in
+      let small = section-small r c table q on t x lt here in
+      let minus = at-minus few small in
+      let plus = at-plus few small in
+      record { here = here; minus = minus; plus = plus; put-minus = put-code s w y p false es ew minus put-p; put-plus = put-code s w z o true es ew plus put-o }
 
-other-is : (y z o : ℕ) → o ≡ otherThan y z → (o ≡ noByte → ⊥) → o ≡ z
-other-is y z o e there = elim (eq? y z) [
-  | inl a ↦ absurd (there (e ∙ rw (eq-eqb y z a)))
-  | inr d ↦ e ∙ rw (ne-eqb y z d)
-]
+module _ (r : Railway) (table : List ℕ) (q : Placement) (c : ℕ) (on : On r c table q) (t : ℕ) (lt : t < r .trains) (x y z p o : ℕ) (both : BothBehind r q c t x y z p o) where
+  put-behind : (u : ℕ) → u < placements r → (b : Bool) → moveOf r u (allAt b) t ≡ at c → (v : ℕ) → v ≡ sectionBehind r t x b → Put r c t v u
+  put-behind u l b e v is =
+      let stands = both .here ∙ on .stands t in
+      record { there = some-behind r (on .compiled .accepted) c u t b l lt e x stands v is; code = before-is r (on .compiled .accepted) c u t b l lt e x stands v is }
 
-no-way : (r : Railway) (c t y z p : ℕ) → Among r c t y z 0 p → ⊥
-no-way r c t y z p (first l k) = omega arith
-no-way r c t y z p (second l k) = omega arith
+  by-either : (u : ℕ) → u < placements r → By r c t u → Put r c t y u ⊎ Other r c t y z u
+  by-either u l k = go (k .plus) (k .moves) (eq? y z)
+    where
+      go : (b : Bool) → moveOf r u (allAt b) t ≡ at c → (y ≡ z) ⊎ (y ≡ z → ⊥) → Put r c t y u ⊎ Other r c t y z u
+      go false e d = inl (put-behind u l false e y (both .minus))
+      go true e (inl s) = inl (rw s (put-behind u l true e z (both .plus)))
+      go true e (inr d) = inr (record { other = d; put = put-behind u l true e z (both .plus) })
 
-next-way : (r : Railway) (c t y z i v p : ℕ) → (i ≡ 0 → v ≡ y) → (0 < i → v ≡ z) → i < 2 → Among r c t y z (i + 1) p → Among r c t y z i p ⊎ Put r c t v p
-next-way r c t y z i v p at-first at-second l (first h k) = elim (eq? i 0) [ inl e ↦ inr (rw (at-first e) k) | inr d ↦ inl (first (omega arith) k) ]
-next-way r c t y z i v p at-first at-second l (second h k) = inr (rw (at-second (omega arith)) k)
+  -- visited one after the other
+  pub train-visited : (m n : ℕ) (figs sets marks figs₁ sets₁ marks₁ figs₂ sets₂ marks₂ : List ℕ) (a b : Bool) → Round r table m n figs marks
+      → (PutBy r c t y p → Visited r n (Put r c t y) figs sets figs₁ sets₁ marks₁ a)
+      → ((r : Railway) (c : ℕ) → Round r table m n figs₁ marks₁ → On r c table q → t < r .trains → PutBy r c t z o → Visited r n (Other r c t y z) figs₁ sets₁ figs₂ sets₂ marks₂ b)
+      → Visited r n (By r c t) figs sets figs₂ sets₂ marks₂ (a || b)
+  train-visited m n figs sets marks figs₁ sets₁ marks₁ figs₂ sets₂ marks₂ a b round at-minus at-plus =
+      let first = at-minus (both .put-minus) in
+      visited-then r (round .compiled .accepted) n (round .small) (Put r c t y) (Other r c t y z) (By r c t) figs sets figs₁ sets₁ marks₁ figs₂ sets₂ marks₂ a b first
+      (at-plus r c (round-on r n (Put r c t y) figs sets figs₁ sets₁ marks₁ a first table m marks round) on lt (both .put-plus)) by-either
 
--- every placement from which the train comes is among them
-all-ways : (table behind : List ℕ) (q : Placement) (c t x w y z : ℕ) (r : Railway) → Known table behind q c t r → BothBehind r q t x w y z → (i : ℕ) → 2 ≤ i
-    → (p : ℕ) → p < placements r → By r c t p → Among r c t y z i p
-all-ways table behind q c t x w y z r g e i l p lp k = go (k .plus) (k .moves)
-  where
-    stands : x ≡ standsOn r c t
-    stands = e .here ∙ g .on .stands t
+-- THE OTHER SECTION behind
+pub same-section : (r : Railway) (n c t y z : ℕ) (figs sets marks : List ℕ) → Marked r figs marks → y ≡ z → Visited r n (Other r c t y z) figs sets figs sets marks false
+same-section r n c t y z figs sets marks k e = visited-none r n (Other r c t y z) figs sets marks k (λ q l u. u .other e)
 
-    put : (b : Bool) → moveOf r p (allAt b) t ≡ at c → Put r c t (sectionBehind r t x b) p
-    put b h = record { there = some-behind r (g .on .compiled .accepted) c p t b lp (g .train) h x stands _ refl; code = before-is r (g .on .compiled .accepted) c p t b lp (g .train) h x stands _ refl }
-
-    go : (b : Bool) → moveOf r p (allAt b) t ≡ at c → Among r c t y z i p
-    go false h = first (omega arith) (rw (e .minus) (put false h))
-    go true h = elim (eq? y (sectionBehind r t x true)) [
-      | inl a ↦ first (omega arith) (rw a (put true h))
-      | inr d ↦ let a : z ≡ sectionBehind r t x true = e .other ∙ rw (ne-eqb y (sectionBehind r t x true) d) in second (omega arith) (rw a (put true h))
-    ]
-
--- THE LOOP over the two, that has come to i: y is the section in its turn
-pub record VisitedFrom (table behind : List ℕ) (m n : ℕ) (q : Placement) (c t x w y₀ z : ℕ) (figs₀ sets₀ marks₀ figs sets marks : List ℕ) (y : ℕ) (added : Bool) (i : ℕ) : Type 0 where
-  pub at-first : i ≡ 0 → y ≡ y₀
-  pub at-second : 0 < i → y ≡ z
-  pub ways : (r : Railway) → Known table behind q c t r → BothBehind r q t x w y₀ z
-  pub visited : VisitedTo table m n (Known table behind q c t) (λ r j. Among r c t y₀ z j) figs₀ sets₀ marks₀ figs sets marks added i
-
-module _ (table behind : List ℕ) (m n : ℕ) (q : Placement) (c t x w y₀ z : ℕ) (figs₀ sets₀ marks₀ : List ℕ) where
-  pub visited-from-start : ((r : Railway) → Known table behind q c t r → BothBehind r q t x w y₀ z) → VisitedFrom table behind m n q c t x w y₀ z figs₀ sets₀ marks₀ figs₀ sets₀ marks₀ y₀ false 0
-  visited-from-start ways =
-      record {
-        at-first = λ e. refl;
-        at-second = λ l. absurd (omega arith);
-        ways = ways;
-        visited = visited-to-start table m n (Known table behind q c t) (λ r j. Among r c t y₀ z j) figs₀ sets₀ marks₀ 0 (λ r p k. no-way r c t y₀ z p k);
-      }
-
-  module _ (figs sets marks : List ℕ) (y : ℕ) (added : Bool) (i : ℕ) (s : VisitedFrom table behind m n q c t x w y₀ z figs₀ sets₀ marks₀ figs sets marks y added i) where
-    -- the section in its turn, if it is one
-    its-section : (r : Railway) → Known table behind q c t r → (y ≡ noByte → ⊥) → (plus : Bool) × (y ≡ sectionBehind r t x plus)
-    its-section r g there = elim (eq? i 0) [
-      | inl e ↦ (false, s .at-first e ∙ s .ways r g .minus)
-      | inr d ↦
-          let e : y ≡ z = s .at-second (omega arith) in
-          (true, e ∙ other-is y₀ (sectionBehind r t x true) z (s .ways r g .other) (λ h. there (e ∙ h)))
-    ]
-
-    -- and the code with the train there
-    put-code : (p : ℕ) → ((b : ℕ) → b < noCode → c + y * w ≡ b + x * w → p ≡ b) → (r : Railway) → Known table behind q c t r → PutBy r c t y p
-    put-code p put r g there =
-        let on = g .on in
-        let accepted = on .compiled .accepted in
-        let e = its-section r g there in
-        let below : y < r .sections = behind-below r accepted t x (e .0) y (e .1) there in
-        let small : codeWith r c t y < placements r = code-with-below r (facts r accepted) c t y below in
-        let ways = s .ways r g in (
-          below,
-          put (codeWith r c t y) (omega (arith, few-placements r accepted))
-              (code-by-weight r c table q on t y (g .train) c x w (r .sections) (sym (code-back r table (on .compiled) c q on (g .inside))) (ways .here) refl (λ l. ways .weight)),
-        )
-
-    pub visited-from-next : i < 2 → (p : ℕ) → ((b : ℕ) → b < noCode → c + y * w ≡ b + x * w → p ≡ b) → (figs′ sets′ marks′ : List ℕ) (b : Bool)
-        → length figs′ ≡ length figs → length sets′ ≡ length sets → length marks′ ≡ length marks
-        → ((r : Railway) (c : ℕ) → Round r table m n figs marks → On r c table q → t < r .trains → PutBy r c t y p → Visited r n (Put r c t y) figs sets figs′ sets′ marks′ b)
-        → VisitedFrom table behind m n q c t x w y₀ z figs₀ sets₀ marks₀ figs′ sets′ marks′ z (added || b) (i + 1)
-    visited-from-next l p put figs′ sets′ marks′ b ef es em from =
-        record {
-          at-first = λ e. absurd (omega arith);
-          at-second = λ h. refl;
-          ways = s .ways;
-          visited =
-              visited-to-next table m n (Known table behind q c t) (λ r j. Among r c t y₀ z j) figs₀ sets₀ marks₀ figs sets marks added i (s .visited) (λ r. Put r c t y) (i + 1) figs′ sets′ marks′ b ef es em
-              (λ r g o. from r c o (g .on) (g .train) (put-code p put r g)) (λ r v o u lu k. next-way r c t y₀ z i y u (s .at-first) (s .at-second) l k);
-        }
-
-    pub visited-from-end : 2 ≤ i → (r : Railway) → Behind r behind → Round r table m n figs₀ marks₀ → On r c table q → c < placements r → t < r .trains → Visited r n (By r c t) figs₀ sets₀ figs sets marks added
-    visited-from-end l r h o on lc lt =
-        visited-to-end table m n (Known table behind q c t) (λ r j. Among r c t y₀ z j) figs₀ sets₀ marks₀ figs sets marks added i (s .visited) (λ r. By r c t)
-        (λ r g o p lp k. all-ways table behind q c t x w y₀ z r g (s .ways r g) i l p lp k) r (record { sections = h; on = on; inside = lc; train = lt }) o
+pub other-section : (r : Railway) (n c t y z : ℕ) (figs sets figs′ sets′ marks′ : List ℕ) (b : Bool) → Visited r n (Put r c t z) figs sets figs′ sets′ marks′ b → Visited r n (Other r c t y z) figs sets figs′ sets′ marks′ b
+other-section r n c t y z figs sets figs′ sets′ marks′ b s = visited-less r n (Put r c t z) figs sets figs′ sets′ marks′ b s (Other r c t y z) (λ q l k. k .put)

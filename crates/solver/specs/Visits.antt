@@ -2,11 +2,10 @@
 -- visits what is one move before its frontier, the placements whose figure the last round gave. Nothing of document 01 rests on this file:
 -- contracts of single steps cite it, and the solver's own is `SolverPost` (tables/Solver). Assumes nothing.
 use mathlib.Core.Path.{_≡_}
-use mathlib.Core.Bool.{Bool, true, false, cond}
+use mathlib.Core.Bool.{Bool, true, false}
 use mathlib.Core.List.{List}
 use mathlib.Core.Option.{Option, none, some}
 use Prim.Native.Nat.{ℕ, suc, _*_, _/_, _≤_, _<_}
-use lib.Dec.{eqb}
 use lib.ListN.{length, getD}
 use Rattle.railway.specs.declared.Railway.{Railway}
 use Rattle.game.specs.Game.{home, over, at}
@@ -67,10 +66,6 @@ pub record Passed (figs : List ℕ) (figure c upto e : ℕ) : Type 0 where
 abbrev pub PutBy : Railway → ℕ → ℕ → ℕ → ℕ → Type 0
 PutBy r c t y p = (y ≡ noByte → ⊥) → (y < r .sections) × (p ≡ codeWith r c t y)
 
--- Section z, where it is another than y; else none.
-abbrev pub otherThan : ℕ → ℕ → ℕ
-otherThan y z = cond (eqb y z) noByte z
-
 -- Whether y is a section and p a code without a figure.
 pub data Waits (figs : List ℕ) (m y p : ℕ) : Bool → Type 0 where
   empty : (y ≡ noByte → ⊥) → p < m → figureIn figs p ≡ none → Waits figs m y p true
@@ -86,6 +81,11 @@ One p q = q ≡ p
 pub record Put (r : Railway) (c t y p : ℕ) : Type 0 where
   pub there : y ≡ noByte → ⊥
   pub code : p ≡ codeWith r c t y
+
+-- The one with train t put on section z in placement c, where z is another section than y.
+pub record Other (r : Railway) (c t y z p : ℕ) : Type 0 where
+  pub other : y ≡ z → ⊥
+  pub put : Put r c t z p
 
 -- Those from which a move of train t comes to placement c, all points lying at plus or all at minus.
 pub record By (r : Railway) (c t p : ℕ) : Type 0 where

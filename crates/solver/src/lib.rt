@@ -19,7 +19,7 @@ ghost use Rattle.moves.specs.Answers.{homeCode};
 ghost use Rattle.moves.specs.Steps.{On};
 ghost use Rattle.predecessors.specs.Behind.{Behind};
 ghost use Rattle.solver.specs.Rounds.{After, RoundPost};
-ghost use Rattle.solver.specs.Visits.{stretchOf, Marked, Round, Visited, Passed, PutBy, otherThan, Waits, One, Put, By, Comes, Before};
+ghost use Rattle.solver.specs.Visits.{stretchOf, Marked, Round, Visited, Passed, PutBy, Waits, One, Other, By, Comes, Before};
 use acceptance::Tested;
 use compiled::NO_BYTE;
 use compiled::Table;
@@ -295,7 +295,7 @@ fn visit_before(
 }
 
 // Round n for what is one move of train t before the placement of code c: the train stands on the section behind, the point between lying at
-// minus or at plus. A loop over the two has one call of `visit_from`, which is then compiled in its place; two calls are slower.
+// minus or at plus.
 fn visit_train(
     table: &Table,
     behind: &SectionsBehind,
@@ -313,28 +313,27 @@ fn visit_train(
 {
     let x = moves::section_at(q, t);
     let w = moves::power(compiled::sections_in(table), t);
-    let mut y = predecessors::section_behind(behind, t, x, false);
-    let z = other_than(y, predecessors::section_behind(behind, t, x, true));
-    let mut added = false;
-    let mut i: u8 = 0;
-    while i < 2 {
-        let p = moves::code_put(c, w, x, y);
-        added = added | visit_from(table, figures, settings, marks, m, n, q, t, y, p);
-        y = z;
-        i += 1;
+    let y = predecessors::section_behind(behind, t, x, false);
+    let z = predecessors::section_behind(behind, t, x, true);
+    let p = moves::code_put(c, w, x, y);
+    let o = moves::code_put(c, w, x, z);
+    if waits(figures, m, y, p) {
+        let one = visit(
+            table,
+            figures,
+            settings,
+            marks,
+            moves::put_on(q, t, y),
+            p,
+            n,
+        );
+        return one | visit_other(table, figures, settings, marks, m, n, q, t, y, z, o);
     }
-    added
+    visit_other(table, figures, settings, marks, m, n, q, t, y, z, o)
 }
 
-// Section z, where it is another than y; else none, so that no placement is visited twice.
-fn other_than(y: u8, z: u8) -> u8
-    ensures { λ x. ⌜ x ≡ otherThan y z ⌝ }
-{
-    if y == z { NO_BYTE } else { z }
-}
-
-// Round n for train t on section y, if that is one, and the others as in q; p is that placement's code.
-fn visit_from(
+// Round n for train t on section z, if that is another than y, and the others as in q; p is that placement's code.
+fn visit_other(
     table: &Table,
     figures: &mut [u32],
     settings: &mut [u32],
@@ -344,18 +343,22 @@ fn visit_from(
     q: Placement,
     t: u8,
     y: u8,
+    z: u8,
     p: u32,
 ) -> bool
     requires { ⌜ (m ≤ length (now figures)) × (m ≤ length (now settings)) ⌝ }
-    ensures { λ b. ⌜ ((r : Railway) (c : ℕ) → Round r (now (table .entry)) m n (now (figures .entry)) (now (marks .entry)) → On r c (now (table .entry)) q → t < r .trains → PutBy r c t y p → Visited r n (Put r c t y) (now (figures .entry)) (now (settings .entry)) (now (figures .exit)) (now (settings .exit)) (now (marks .exit)) b) ⌝ }
+    ensures { λ b. ⌜ ((r : Railway) (c : ℕ) → Round r (now (table .entry)) m n (now (figures .entry)) (now (marks .entry)) → On r c (now (table .entry)) q → t < r .trains → PutBy r c t z p → Visited r n (Other r c t y z) (now (figures .entry)) (now (settings .entry)) (now (figures .exit)) (now (settings .exit)) (now (marks .exit)) b) ⌝ }
 {
-    if waits(figures, m, y, p) {
+    if y == z {
+        return false;
+    }
+    if waits(figures, m, z, p) {
         return visit(
             table,
             figures,
             settings,
             marks,
-            moves::put_on(q, t, y),
+            moves::put_on(q, t, z),
             p,
             n,
         );

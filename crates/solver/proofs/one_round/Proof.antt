@@ -2,7 +2,6 @@
 -- Assumes nothing.
 use native.Mathlib.Omega.{arith}
 use Prim.Native.Nat.{_-_}
-use Rattle.predecessors.specs.Behind.{Behind}
 use Rattle.solver.specs.Visits.{Before}
 use Rattle.solver.proofs.Loops.{VisitedTo, visited-to-start, visited-to-next, no-code, codes-next, round-end}
 use Rattle.solver.proofs.one_round.Statement.{statement}
@@ -10,7 +9,7 @@ use Rattle.solver.proofs.one_round.Tie as tie
 
 abbrev Inv-loop : tie.InvT-loop
 Inv-loop table behind figures₀ settings₀ marks₀ m n added₀ c₀ figures settings marks added c =
-    VisitedTo table m n (λ r. Behind r behind) (λ r i. Before r n figures₀ 0 i) figures₀ settings₀ marks₀ figures settings marks added c
+    VisitedTo table behind m n (λ r i. Before r n figures₀ 0 i) figures₀ settings₀ marks₀ figures settings marks added c
 
 abbrev μ-loop : tie.MeasureT-loop
 μ-loop table behind figures₀ settings₀ marks₀ m n added₀ c₀ figures settings marks added c = m - c
@@ -18,7 +17,7 @@ abbrev μ-loop : tie.MeasureT-loop
 loop-holds : tie.Need-loop-holds Inv-loop μ-loop
 loop-holds c =
     let a = c .before .before .before in
-    visited-to-start (a .args .table .now) (a .args .m) (a .args .n) (λ r. Behind r (a .args .behind .now)) (λ r i. Before r (a .args .n) (a .args .figures .now) 0 i) (a .args .figures .now) (a .args .settings .now) (a .args .marks .now) 0 (λ r q k. no-code r (a .args .n) (a .args .figures .now) 0 q k)
+    visited-to-start (a .args .table .now) (a .args .behind .now) (a .args .m) (a .args .n) (λ r i. Before r (a .args .n) (a .args .figures .now) 0 i) (a .args .figures .now) (a .args .settings .now) (a .args .marks .now) 0 (λ r q k. no-code r (a .args .n) (a .args .figures .now) 0 q k)
 
 stretch-end-requires : tie.Need-stretch-end-requires Inv-loop μ-loop
 stretch-end-requires c κs = c .loop-test .taken
@@ -46,7 +45,7 @@ loop-again c =
     let i = u .before in
     let l = i .before in
     let a = l .before .before .before .before in
-    visited-to-next (a .args .table .now) (a .args .m) (a .args .n) (λ r. Behind r (a .args .behind .now)) (λ r i. Before r (a .args .n) (a .args .figures .now) 0 i) (a .args .figures .now) (a .args .settings .now) (a .args .marks .now) (l .loop .figures) (l .loop .settings) (l .loop .marks) (l .loop .added) (l .loop .c) (l .loop .inv)
+    visited-to-next (a .args .table .now) (a .args .behind .now) (a .args .m) (a .args .n) (λ r i. Before r (a .args .n) (a .args .figures .now) 0 i) (a .args .figures .now) (a .args .settings .now) (a .args .marks .now) (l .loop .figures) (l .loop .settings) (l .loop .marks) (l .loop .added) (l .loop .c) (l .loop .inv)
     (λ r. Before r (a .args .n) (l .loop .figures) (l .loop .c) (u .stretch-end .result)) (u .stretch-end .result) _ _ _ (v .visit-stretch .result) (v .visit-stretch .kept .1 .1 .0) (v .visit-stretch .kept .1 .1 .1 .0) (v .visit-stretch .kept .1 .1 .1 .1 .0)
     (λ r h o. v .visit-stretch .ensures r h o (u .stretch-end .ensures .2))
     (λ r s o q lq x. codes-next r (a .args .n) (a .args .figures .now) _ _ _ _ _ _ s 0 (l .loop .c) (u .stretch-end .result) q (omega (arith, u .stretch-end .ensures .1, o .counted)) x)

@@ -3,7 +3,6 @@
 use borrow.Author.Needs.{needs}
 use native.Mathlib.Omega.{arith}
 use Prim.Native.Nat.{_+_, _-_}
-use Rattle.predecessors.specs.Behind.{Behind}
 use Rattle.solver.specs.Visits.{By, Comes}
 use Rattle.solver.proofs.Loops.{VisitedTo, visited-to-start, visited-to-next, visited-to-end, no-train, train-next, all-trains, train-there}
 use Rattle.solver.proofs.visit_before.Statement.{statement}
@@ -11,7 +10,7 @@ use Rattle.solver.proofs.visit_before.Tie as tie
 
 abbrev Inv-loop : tie.InvT-loop
 Inv-loop table behind figures₀ settings₀ marks₀ m n c q k added₀ t₀ figures settings marks added t =
-    VisitedTo table m n (λ r. Behind r behind) (λ r i. Comes r c i) figures₀ settings₀ marks₀ figures settings marks added t
+    VisitedTo table behind m n (λ r i. Comes r c i) figures₀ settings₀ marks₀ figures settings marks added t
 
 abbrev μ-loop : tie.MeasureT-loop
 μ-loop table behind figures₀ settings₀ marks₀ m n c q k added₀ t₀ figures settings marks added t = k - t
@@ -25,7 +24,7 @@ trains-in-requires c κs = search needs
 loop-holds : tie.Need-loop-holds Inv-loop μ-loop
 loop-holds c =
     let a = c .before .before .before .before .before in
-    visited-to-start (a .args .table .now) (a .args .m) (a .args .n) (λ r. Behind r (a .args .behind .now)) (λ r i. Comes r (a .args .c) i) (a .args .figures .now) (a .args .settings .now) (a .args .marks .now) 0 (λ r q k. no-train r (a .args .c) q k)
+    visited-to-start (a .args .table .now) (a .args .behind .now) (a .args .m) (a .args .n) (λ r i. Comes r (a .args .c) i) (a .args .figures .now) (a .args .settings .now) (a .args .marks .now) 0 (λ r q k. no-train r (a .args .c) q k)
 
 visit-train-requires : tie.Need-visit-train-requires Inv-loop μ-loop
 visit-train-requires c κs =
@@ -59,7 +58,7 @@ loop-again c =
     let q = k .before in
     let a = q .before .before .before .before in
     let on = v .before .before .before .before .loop-test .taken in
-    visited-to-next (a .args .table .now) (a .args .m) (a .args .n) (λ r. Behind r (a .args .behind .now)) (λ r i. Comes r (a .args .c) i) (a .args .figures .now) (a .args .settings .now) (a .args .marks .now) (l .loop .figures) (l .loop .settings) (l .loop .marks) (l .loop .added) (l .loop .t) (l .loop .inv)
+    visited-to-next (a .args .table .now) (a .args .behind .now) (a .args .m) (a .args .n) (λ r i. Comes r (a .args .c) i) (a .args .figures .now) (a .args .settings .now) (a .args .marks .now) (l .loop .figures) (l .loop .settings) (l .loop .marks) (l .loop .added) (l .loop .t) (l .loop .inv)
     (λ r. By r (a .args .c) (l .loop .t)) (l .loop .t + 1) _ _ _ (v .visit-train .result) (v .visit-train .kept .1 .1 .0) (v .visit-train .kept .1 .1 .1 .0) (v .visit-train .kept .1 .1 .1 .1 .0)
     (λ r h o. v .visit-train .ensures r h o (q .placement-of .ensures r (o .compiled)) (omega (arith, a .pre .2, o .counted)) (train-there r _ _ (k .trains-in .ensures r (o .compiled)) on))
     (λ r s o q lq x. train-next r (a .args .c) (l .loop .t) q x)
@@ -78,8 +77,8 @@ returns c =
     let l = c .before in
     let k = l .before in
     let a = k .before .before .before .before .before in
-    visited-to-end (a .args .table .now) (a .args .m) (a .args .n) (λ r. Behind r (a .args .behind .now)) (λ r i. Comes r (a .args .c) i) (a .args .figures .now) (a .args .settings .now) (a .args .marks .now) _ _ _ _ _ (l .loop .inv) (λ r. Comes r (a .args .c) (r .trains))
-    (λ r g o q lq x. all-trains r _ _ (k .trains-in .ensures r (o .compiled)) (c .loop-test .left) (a .args .c) q x)
+    visited-to-end (a .args .table .now) (a .args .behind .now) (a .args .m) (a .args .n) (λ r i. Comes r (a .args .c) i) (a .args .figures .now) (a .args .settings .now) (a .args .marks .now) _ _ _ _ _ (l .loop .inv) (λ r. Comes r (a .args .c) (r .trains))
+    (λ r o q x. all-trains r _ _ (k .trains-in .ensures r (o .compiled)) (c .loop-test .left) (a .args .c) q x)
 
 pub visit-before-spec : {M : Type 1} → statement M
 visit-before-spec =

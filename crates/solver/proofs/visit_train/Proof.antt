@@ -1,121 +1,137 @@
--- `solver::visit_train` meets its contract. The loop's invariant: the train has been put on the first i of the sections behind, and what has
--- it there has been visited. Assumes nothing.
+-- `solver::visit_train` meets its contract: the train has come from the section behind at minus or from the one at plus. The first is visited
+-- if it waits for a visit, and then the other. Assumes nothing.
 use borrow.Author.Needs.{needs}
 use native.Mathlib.Omega.{arith}
-use mathlib.Core.Path.{_∙_, ap}
-use Prim.Native.Nat.{ℕ, _-_, _^_}
-use Rattle.moves.proofs.Moving.{train-small, section-small}
-use Rattle.solver.specs.Visits.{otherThan}
-use Rattle.solver.proofs.Retracing.{VisitedFrom, visited-from-start, visited-from-next, visited-from-end}
+use mathlib.Core.Bool.{false}
+use Prim.Native.Nat.{_<_}
+use Rattle.railway.specs.declared.Railway.{Railway}
+use Rattle.game.specs.Placement.{placements}
+use Rattle.moves.specs.Steps.{On}
+use Rattle.predecessors.specs.Behind.{Behind}
+use Rattle.solver.proofs.Retracing.{BothBehind, waits-inside, no-visit, one-visit, both-behind, train-visited}
 use Rattle.solver.proofs.visit_train.Statement.{statement}
 use Rattle.solver.proofs.visit_train.Tie as tie
 
-abbrev Inv-loop : tie.InvT-loop
-Inv-loop table behind figures₀ settings₀ marks₀ m n q c t x w y₀ z added₀ i₀ figures settings marks y added i =
-    VisitedFrom table behind m n q c t x w y₀ z figures₀ settings₀ marks₀ figures settings marks y added i
-
-abbrev μ-loop : tie.MeasureT-loop
-μ-loop table behind figures₀ settings₀ marks₀ m n q c t x w y₀ z added₀ i₀ figures settings marks y added i = 2 - i
-
-section-at-requires : tie.Need-section-at-requires Inv-loop μ-loop
+section-at-requires : tie.Need-section-at-requires
 section-at-requires c κs = search needs
 
-sections-in-requires : tie.Need-sections-in-requires Inv-loop μ-loop
+sections-in-requires : tie.Need-sections-in-requires
 sections-in-requires c κs = search needs
 
-power-requires : tie.Need-power-requires Inv-loop μ-loop
+power-requires : tie.Need-power-requires
 power-requires c κs = search needs
 
-section-behind-requires : tie.Need-section-behind-requires Inv-loop μ-loop
+section-behind-requires : tie.Need-section-behind-requires
 section-behind-requires c κs = search needs
 
-section-behind-requires-2 : tie.Need-section-behind-requires-2 Inv-loop μ-loop
+section-behind-requires-2 : tie.Need-section-behind-requires-2
 section-behind-requires-2 c κs = search needs
 
-other-than-requires : tie.Need-other-than-requires Inv-loop μ-loop
-other-than-requires c κs = search needs
+code-put-requires : tie.Need-code-put-requires
+code-put-requires c κs = search needs
 
-loop-holds : tie.Need-loop-holds Inv-loop μ-loop
-loop-holds c =
-    let g = c .before in
+code-put-requires-2 : tie.Need-code-put-requires-2
+code-put-requires-2 c κs = search needs
+
+-- with both codes made, and before any test
+abbrev start : tie.After-code-put2 → tie.Start
+start e = e .before .before .before .before .before .before .before .before .before .before
+
+both : (e : tie.After-code-put2) (r : Railway) → Behind r (start e .args .behind .now) → On r (start e .args .c) (start e .args .table .now) (start e .args .q) → start e .args .c < placements r → start e .args .t < r .trains
+    → BothBehind r (start e .args .q) (start e .args .c) (start e .args .t) (e .before .before .before .before .before .before .section-at .result) (e .before .before .before .section-behind .result) (e .before .before .section-behind2 .result) (e .before .code-put .result) (e .code-put2 .result)
+both e r h on lc lt =
+    let d = e .before in
+    let g = d .before in
     let b = g .before in
     let w = b .before in
     let k = w .before in
-    let x = k .before in
-    let a = x .before .before .before .before in
-    let here = x .section-at .ensures in
-    visited-from-start (a .args .table .now) (a .args .behind .now) (a .args .m) (a .args .n) (a .args .q) (a .args .c) (a .args .t) _ _ _ _ (a .args .figures .now) (a .args .settings .now) (a .args .marks .now)
-    (λ r known.
-    let on = known .on in
-    let few = train-small r _ _ _ on _ _ (known .train) here in
-    let small = section-small r _ _ _ on _ _ (known .train) here in
-    record {
-      here = here;
-      weight = w .power .ensures (omega (arith, few)) ∙ ap (λ (s : ℕ). s ^ (a .args .t)) (k .sections-in .ensures r (on .compiled));
-      minus = b .section-behind .ensures r (known .sections) few small;
-      other = c .other-than .ensures ∙ ap (λ (s : ℕ). otherThan (b .section-behind .result) s) (g .section-behind2 .ensures r (known .sections) few small);
-    })
+    both-behind r _ _ _ on lc _ _ lt (k .before .section-at .ensures) _ _ _ _ _ _ (k .sections-in .ensures r (on .compiled)) (w .power .ensures) (b .section-behind .ensures r h) (g .section-behind2 .ensures r h) (d .code-put .ensures) (e .code-put2 .ensures)
 
-code-put-requires : tie.Need-code-put-requires Inv-loop μ-loop
-code-put-requires c κs = search needs
+waits-requires : tie.Need-waits-requires
+waits-requires c κs = search needs
 
-visit-from-requires : tie.Need-visit-from-requires Inv-loop μ-loop
-visit-from-requires c κs =
-    let l = c .before .before .before .before .before in
-    let a = l .before .before .before .before .before .before .before .before .before .before in
-    let s = l .loop .inv .visited in
-    (omega (arith, a .pre .0, s .long-figs), omega (arith, a .pre .1, s .long-sets))
+put-on-requires : tie.Need-put-on-requires
+put-on-requires c κs = search needs
 
-add-i : tie.Need-add-i Inv-loop μ-loop
-add-i c = omega (arith, c .before .before .before .before .before .before .before .before .before .before .before .loop-test .taken)
+visit-requires : tie.Need-visit-requires
+visit-requires c κs =
+    let i = c .before .before .before .before in
+    let f = i .before in
+    let a = start (f .before .before) in
+    let l = waits-inside (a .args .figures .now) (a .args .m) _ _ _ (f .waits .ensures) (i .if1 .taken) in
+    (omega (arith, l, a .pre .0), omega (arith, l, a .pre .1))
 
-loop-less : tie.Need-loop-less Inv-loop μ-loop
-loop-less c = omega (arith, c .before .before .before .before .before .before .before .before .before .before .before .loop-test .taken)
+visit-other-requires : tie.Need-visit-other-requires
+visit-other-requires c κs =
+    let v = c .before .before .before .before .before .before .before .before .before in
+    let a = start (v .before .before .before .before .before .before .before .before) in
+    (omega (arith, a .pre .0, v .visit .kept .1 .0), omega (arith, a .pre .1, v .visit .kept .1 .1 .0))
 
-loop-again : tie.Need-loop-again Inv-loop μ-loop
-loop-again c =
-    let v = c .before .before .before .before .before .before in
-    let p = v .before .before .before .before in
-    let i = p .before in
-    let l = i .before in
-    let a = l .before .before .before .before .before .before .before .before .before .before in
-    visited-from-next (a .args .table .now) (a .args .behind .now) (a .args .m) (a .args .n) (a .args .q) (a .args .c) (a .args .t) _ _ _ _ (a .args .figures .now) (a .args .settings .now) (a .args .marks .now) (l .loop .figures) (l .loop .settings) (l .loop .marks) (l .loop .y) (l .loop .added) (l .loop .i) (l .loop .inv)
-    (i .loop-test .taken) (p .code-put .result) (p .code-put .ensures) _ _ _ (v .visit-from .result) (v .visit-from .kept .1 .0) (v .visit-from .kept .1 .1 .0) (v .visit-from .kept .1 .1 .1 .0) (v .visit-from .ensures)
+same-length : tie.Need-same-length
+same-length c = search needs
 
-same-length : tie.Need-same-length Inv-loop μ-loop
-same-length c = c .before .loop .inv .visited .long-figs
+same-length-2 : tie.Need-same-length-2
+same-length-2 c = search needs
 
-same-length-2 : tie.Need-same-length-2 Inv-loop μ-loop
-same-length-2 c = c .before .loop .inv .visited .long-sets
+same-length-3 : tie.Need-same-length-3
+same-length-3 c = search needs
 
-same-length-3 : tie.Need-same-length-3 Inv-loop μ-loop
-same-length-3 c = c .before .loop .inv .visited .long-marks
-
-returns : tie.Need-returns Inv-loop μ-loop
+returns : tie.Need-returns
 returns c =
-    let l = c .before in
-    let a = l .before .before .before .before .before .before .before .before .before .before in
-    visited-from-end (a .args .table .now) (a .args .behind .now) (a .args .m) (a .args .n) (a .args .q) (a .args .c) (a .args .t) _ _ _ _ (a .args .figures .now) (a .args .settings .now) (a .args .marks .now) _ _ _ _ _ _ (l .loop .inv) (c .loop-test .left)
+    let u = c .before .before .before .before .before .before in
+    let v = u .before .before .before .before .before .before .before .before .before .before in
+    let i = v .before .before .before .before .before in
+    let f = i .before in
+    let a = start (f .before .before) in
+    λ r h o on lc lt.
+    train-visited r _ _ _ on _ lt _ _ _ _ _ (both (f .before .before) r h on lc lt) (a .args .m) (a .args .n) (a .args .figures .now) (a .args .settings .now) (a .args .marks .now) _ _ _ _ _ _ _ _ o
+    (λ put. one-visit r (a .args .table .now) (a .args .m) (a .args .n) (a .args .c) (a .args .t) _ _ (a .args .figures .now) (a .args .settings .now) (a .args .marks .now) o put (a .args .q) _ on lt _ (f .waits .ensures) (i .if1 .taken) (v .before .put-on .ensures) _ _ _ _ (v .visit .ensures))
+    (u .visit-other .ensures)
+
+visit-other-requires-2 : tie.Need-visit-other-requires-2
+visit-other-requires-2 c κs = search needs
+
+same-length-4 : tie.Need-same-length-4
+same-length-4 c = search needs
+
+same-length-5 : tie.Need-same-length-5
+same-length-5 c = search needs
+
+same-length-6 : tie.Need-same-length-6
+same-length-6 c = search needs
+
+returns-2 : tie.Need-returns-2
+returns-2 c =
+    let u = c .before .before .before .before .before .before in
+    let i = u .before .before .before .before in
+    let f = i .before in
+    let a = start (f .before .before) in
+    λ r h o on lc lt.
+    train-visited r _ _ _ on _ lt _ _ _ _ _ (both (f .before .before) r h on lc lt) (a .args .m) (a .args .n) (a .args .figures .now) (a .args .settings .now) (a .args .marks .now) _ _ _ _ _ _ false _ o
+    (λ put. no-visit r (a .args .table .now) (a .args .m) (a .args .n) (a .args .c) (a .args .t) _ _ (a .args .figures .now) (a .args .settings .now) (a .args .marks .now) o put _ (f .waits .ensures) (i .if1 .left))
+    (u .visit-other2 .ensures)
 
 pub visit-train-spec : {M : Type 1} → statement M
 visit-train-spec =
     tie.close
     (tie.spec
-    Inv-loop
-    μ-loop
     section-at-requires
     sections-in-requires
     power-requires
     section-behind-requires
     section-behind-requires-2
-    other-than-requires
-    loop-holds
     code-put-requires
-    visit-from-requires
-    add-i
-    loop-less
-    loop-again
+    code-put-requires-2
+    waits-requires
+    put-on-requires
+    visit-requires
+    visit-other-requires
     same-length
     same-length-2
     same-length-3
-    returns)
+    returns
+    visit-other-requires-2
+    same-length-4
+    same-length-5
+    same-length-6
+    returns-2)
