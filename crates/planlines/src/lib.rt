@@ -99,7 +99,7 @@ fn put_train(out: &mut [u8], at: usize, t: u8, v: u32) -> usize
     ensures { λ x. ⌜ Appended (now (out .entry)) at (openPiece (opensIn v) t) (now (out .exit)) x ⌝ }
 {
     if moves::bit_at(v, 16 + (t as u32)) {
-        append::byte(out, at, 49 + t)
+        append::byte(out, at, b'1' + t)
     } else {
         at
     }
