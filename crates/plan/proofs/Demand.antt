@@ -36,6 +36,10 @@ use Rattle.plan.proofs.Checks.{Holds, Call, took, refused, call, ran, a
 use Rattle.plan.proofs.Plan.{plan-fits, plan-passes}
 
 module _ (r : Railway) (accepted : recordRefusal r ≡ none) where
+  -- a line that fits the case has room in the most bytes
+  line-room : (k : ℕ) (l : PlanLine) → fits r l ≡ true → mostLineBytes ≤ k → leb (length (spell l)) k ≡ true
+  line-room k l e long = le-leb (length (spell l)) k (omega (arith, lines-short r accepted l e))
+
   -- buffers with room for every line are long enough
   room : (ls : List PlanLine) (bs : List (List ℕ)) → all (fits r) ls ≡ true → all (λ b. leb mostLineBytes (length b)) bs ≡ true → length (map spell ls) < length bs → longEnough (map spell ls) bs ≡ true
   unfolding all longEnough
@@ -45,20 +49,19 @@ module _ (r : Railway) (accepted : recordRefusal r ≡ none) where
   room (l ∷ ls) (b ∷ bs) e h m =
       let f = and-true (fits r l) (all (fits r) ls) e in
       let g = and-true (leb mostLineBytes (length b)) (all (λ b. leb mostLineBytes (length b)) bs) h in
-      let k : mostLineBytes ≤ length b = leb-true mostLineBytes (length b) (g .0) in
-      and-both (leb (length (spell l)) (length b)) (longEnough (map spell ls) bs) (le-leb (length (spell l)) (length b) (omega (arith, lines-short r accepted l (f .0)))) (room ls bs (f .1) (g .1) (omega arith))
+      and-both (leb (length (spell l)) (length b)) (longEnough (map spell ls) bs) (line-room (length b) l (f .0) (leb-true mostLineBytes (length b) (g .0))) (room ls bs (f .1) (g .1) (omega arith))
 
   plan-room : (figs sets : List ℕ) (bs : List (List ℕ)) → all (fits r) (planLines r figs sets) ≡ true → all (λ b. leb mostLineBytes (length b)) bs ≡ true → length (planTexts r figs sets) < length bs → longEnough (planTexts r figs sets) bs ≡ true
   unfolding planTexts
   plan-room figs sets bs e h m = room (planLines r figs sets) bs e h m
 
-  -- every line of the plan fits into a buffer with room for every line
+  -- each of the plan's lines fits into one buffer with room for every line
   room-each : (k : ℕ) → mostLineBytes ≤ k → (ls : List PlanLine) → all (fits r) ls ≡ true → all (λ l. leb (length l) k) (map spell ls) ≡ true
   unfolding all
   room-each k long [] e = refl
   room-each k long (l ∷ ls) e =
       let f = and-true (fits r l) (all (fits r) ls) e in
-      and-both (leb (length (spell l)) k) (all (λ l. leb (length l) k) (map spell ls)) (le-leb (length (spell l)) k (omega (arith, lines-short r accepted l (f .0)))) (room-each k long ls (f .1))
+      and-both (leb (length (spell l)) k) (all (λ l. leb (length l) k) (map spell ls)) (line-room k l (f .0) long) (room-each k long ls (f .1))
 
   plan-fits-in : (figs sets b : List ℕ) → all (fits r) (planLines r figs sets) ≡ true → mostLineBytes ≤ length b → all (λ l. leb (length l) (length b)) (planTexts r figs sets) ≡ true
   unfolding planTexts

@@ -1,5 +1,6 @@
 -- The emitter's calls write the plan's lines, and end. From code c on the plan's lines are those of the placements from c on that have a figure;
--- the lowest of them is written by the next call, and those behind it are the lines from there on. Assumes nothing.
+-- the lowest of them is written by the next call, and those behind it are the lines from there on. A buffer that is handed on stays as long as it
+-- is, so that a line that fitted into the first fits into it later. Assumes nothing.
 use mathlib.Core.Path.{_≡_, refl, sym, _∙_, ap, subst}
 use mathlib.Core.Logic.{inl, inr}
 use mathlib.Core.Bool.{true}
