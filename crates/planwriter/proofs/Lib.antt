@@ -1,4 +1,4 @@
+pub mod Answers
 pub mod Sizes
 pub mod Lines
-pub mod Answers
 pub mod Whole

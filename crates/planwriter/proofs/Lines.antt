@@ -19,7 +19,7 @@ use Rattle.plan.specs.declared.Emitted.{Emitted}
 use Rattle.plan.specs.declared.Emitted.the-variants.{Line}
 use Rattle.plan.specs.Lines.{mostLineBytes}
 use Rattle.plan.specs.Text.{planTexts, planText}
-use Rattle.plan.specs.Emitter.{isLine, Wrote, emitLine}
+use Rattle.plan.specs.Emitter.{isLine, Wrote}
 use Rattle.plan.specs.Promises.{EmitterPost}
 use Rattle.plan.proofs.Emits.{textsFrom, Call, ends, writes, call, from-top}
 use Rattle.answerlines.specs.Lines.{Spelled}

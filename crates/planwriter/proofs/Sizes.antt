@@ -1,6 +1,6 @@
 -- How long the lines of a plan are, and all of them together: each is the spelling of a line that fits the case, so it has 45 bytes at most, and
 -- it has its line end; and there is a first line and at most one for each placement. Assumes nothing.
-use mathlib.Core.Path.{_≡_, refl, sym, subst}
+use mathlib.Core.Path.{_≡_, refl}
 use mathlib.Core.Bool.{Bool, true, _&&_}
 use mathlib.Core.List.{List, [], _∷_, map, flatten}
 use mathlib.Core.Option.{none}
@@ -18,28 +18,13 @@ use Rattle.railway.specs.declared.Railway.{Railway}
 use Rattle.railway.specs.Bounds.{mostSections, mostTrains}
 use Rattle.railway.specs.Rows.{recordRefusal}
 use Rattle.game.specs.Placement.{placements}
-use Rattle.tables.specs.declared.SolverAnswer.the-variants.{Figure}
-use Rattle.tables.specs.Solver.{SolverLeaves, SolverPost}
 use Rattle.tables.proofs.Refusals.{case-none}
 use Rattle.tables.proofs.Exists.{few-placements}
 use Rattle.plan.specs.Lines.{PlacementLine, PlanLine, placementLine, spell, fits, mostLineBytes, lineFields}
 use Rattle.plan.specs.Text.{hasFigure, lineFor, planLines, planTexts, planText}
 use Rattle.plan.proofs.Lengths.{lines-short}
-use Rattle.plan.proofs.Emits.{none-refused}
 use Rattle.plan.proofs.Plan.{plan-fits}
 use Rattle.planwriter.specs.Solved.{Solved}
-
--- WHAT A SOLVER LEAVES that answered a figure
-pub solved-by : (r : Railway) (n : ℕ) (figs sets figs′ sets′ : List ℕ) → SolverPost r (Figure n) figs sets figs′ sets′ → Solved r figs′ sets′
-solved-by r n figs sets figs′ sets′ post =
-    let k = case-none r figs sets .0 (sym (post .refusal)) in
-    let leaves : SolverLeaves r (Figure n) figs sets figs′ sets′ none = subst (SolverLeaves r (Figure n) figs sets figs′ sets′) (sym (post .refusal)) (post .leaves) in
-    record {
-      unrefused = none-refused r figs′ sets′ (k .0) (rw (leaves .0 .kept-figs .as-long) (k .1 .figures)) (rw (leaves .0 .kept-sets .as-long) (k .1 .settings));
-      filled = leaves .0 .filled;
-      figure = n;
-      start = sym (leaves .1);
-    }
 
 -- A LINE has a byte, and 45 at most
 abbrev pub sized : List ℕ → Bool

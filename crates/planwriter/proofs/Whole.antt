@@ -20,7 +20,8 @@ use Rattle.answerlines.proofs.Made.{refusal-short}
 use Rattle.planwriter.specs.declared.PlanText.{PlanText}
 use Rattle.planwriter.specs.Written.{outputText, PlanTextPost}
 use Rattle.planwriter.specs.Claims.{TextShort, Whole, TextWhole}
-use Rattle.planwriter.proofs.Sizes.{solved-by, plan-short}
+use Rattle.planwriter.proofs.Sizes.{plan-short}
+use Rattle.planwriter.proofs.Answers.{solved-by}
 
 none-short : length noneLine ≤ mostLineBytes
 unfolding line bytes

@@ -16,7 +16,8 @@ outputText r (Refused f) figs sets = refusalLine f
 outputText r Unsolvable figs sets = noneLine
 outputText r (Figure n) figs sets = planText r figs sets
 
--- A solver has solved the railway, and its text stands at the front of the buffer, as far as there is room; the answer says how long the text is.
+-- THE PROMISE: answer and tables are a solver's, and the text for them stands at the front of the buffer, as far as there is room for it; how many
+-- bytes it has stands beside the answer.
 pub record PlanTextPost (r : Railway) (figs sets buffer : List ℕ) (t : PlanText) (figs′ sets′ buffer′ : List ℕ) : Type 0 where
   pub solved : SolverPost r (t .answer) figs sets figs′ sets′
   pub spelled : Spelled (outputText r (t .answer) figs′ sets′) buffer buffer′ (t .bytes)

@@ -1,5 +1,5 @@
--- `planwriter::plan_lines` meets its contract. The loop's invariant: the lines put so far, and those from the place reached on, are the plan's, and the
--- buffer is as long as it was. It ends, for each line leaves fewer bytes of the plan. Assumes nothing.
+-- `planwriter::plan_lines` meets its contract. The loop's invariant: the lines put so far, and those from the place reached on, are the plan's, and
+-- the buffer is as long as it was. It ends, for each line leaves fewer bytes of the plan. Assumes nothing.
 use borrow.Author.Needs.{needs}
 use native.Mathlib.Omega.{arith}
 use mathlib.Core.Path.{_≡_, refl, _∙_}
