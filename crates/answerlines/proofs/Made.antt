@@ -4,11 +4,10 @@ use mathlib.Core.List.{List, [], _∷_, _++_}
 use Prim.Native.Nat.{ℕ, _≤_}
 use Prim.Native.Char.{code}
 use native.Mathlib.Omega.{arith}
-use lib.ListN.{length, take, drop, length-take}
-use lib.Seq.{take-append-seam}
+use lib.ListN.{length, take}
 use Rattle.text.specs.Text.{digits, decimal, tab, lineEnd, line, bytes}
 use Rattle.text.specs.Appending.{Appended}
-use Rattle.text.proofs.Appending.{append-then, line-more, line-last, front-bytes, front-cursor}
+use Rattle.text.proofs.Appending.{append-then, line-more, line-last, front-text}
 use Rattle.railway.specs.declared.Refusal.{Refusal}
 use Rattle.railway.specs.declared.Refusal.the-variants.{Length, Form, Count, Unknown, Join, Loose, Double, Place, Space, PlanForm, PlanFault}
 use Rattle.railway.specs.Refusals.{number}
@@ -46,18 +45,8 @@ pub word-short : (x y z w : ℕ) → length (line ((x ∷ y ∷ z ∷ w ∷ []) 
 unfolding line
 word-short x y z w = omega arith
 
-module _ {blank text buffer : List ℕ} {n : ℕ} (p : Appended blank 0 text buffer n) (room : length text ≤ length blank) where
-  pub made-within : length buffer ≡ length blank → n ≤ length buffer
-  made-within k = omega (arith, front-cursor p room, room, k)
-
-  pub made-cut : length buffer ≡ length blank → n ≡ length (take n buffer)
-  made-cut k = let h = made-within k in simp length-take (omega arith)
-
-  pub made-front : take n buffer ≡ text
-  made-front = rw (front-cursor p room, front-bytes p room) (take-append-seam text (drop (length text) blank))
-
-  pub made-copied : {old new : List ℕ} {m : ℕ} → Spelled (take n buffer) old new m → Spelled text old new m
-  made-copied s = rw made-front at s
+pub made-copied : {blank text buffer old new : List ℕ} {n m : ℕ} → Appended blank 0 text buffer n → length text ≤ length blank → Spelled (take n buffer) old new m → Spelled text old new m
+made-copied p room s = rw (front-text p room) at s
 
 -- the word of four letters where there is no plan
 pub none-line : (old new : List ℕ) (n : ℕ) → Spelled (line ((code "n" ∷ code "o" ∷ code "n" ∷ code "e" ∷ []) ∷ [])) old new n → Spelled noneLine old new n

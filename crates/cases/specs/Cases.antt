@@ -1,4 +1,5 @@
--- What is promised of a case handed in with two tables. Nothing of document 01 rests on this file: it is `caseRefusal` (tables/Tables), and the compiled railway.
+-- What is promised of a case handed in with two tables. Nothing of document 01 rests on this file: it is `caseRefusal` (tables/Tables), and
+-- the compiled railway.
 -- Assumes nothing.
 use mathlib.Core.Path.{_≡_}
 use mathlib.Core.List.{List}
@@ -14,7 +15,8 @@ use Rattle.tables.specs.Tables.{caseRefusal}
 use Rattle.compiled.specs.declared.Compilation.{Compilation}
 use Rattle.compiled.specs.Table.{Compiled, tableBytes}
 
--- The first of rows 3 to 9 is given, by its number, with a table that is all zero; where none applies, the railway's table, and room for every placement.
+-- The first of rows 3 to 9 is given, by its number, with a table that is all zero; where none applies, the railway's table, and room for
+-- every placement.
 pub record CasePost (r : Railway) (figs sets : List ℕ) (c : Compilation) : Type 0 where
   pub refusal : refusalGiven (c .tested) ≡ caseRefusal r figs sets
   pub numbered : numberGiven (c .tested) ≡ numberOf (caseRefusal r figs sets)

@@ -12,7 +12,6 @@ use Rattle.railway.specs.declared.Refusal.{Refusal}
 use Rattle.railway.specs.declared.Refusal.the-variants.{PlanForm, PlanFault}
 use Rattle.railway.specs.Rows.{recordRefusal}
 use Rattle.acceptance.specs.declared.Tested.the-variants.{Accepted, Refused}
-use Rattle.acceptance.specs.Answers.{refusalGiven}
 use Rattle.game.proofs.Accepted.{Facts, facts}
 use Rattle.tables.specs.Tables.{caseRefusal}
 use Rattle.tables.proofs.Exists.{few-placements}
@@ -31,8 +30,8 @@ use Rattle.plan.proofs.Reading.{reads-line}
 use Rattle.plan.proofs.Checks.{code-in}
 use Rattle.plan.proofs.Promises.{takes-so, tests-so}
 use Rattle.compiled.specs.declared.Compilation.{Compilation}
-use Rattle.compiled.specs.Table.{Compiled}
 use Rattle.cases.specs.Cases.{CasePost}
+use Rattle.cases.proofs.Opened.{opened-refused, opened-none, opened-table}
 use Rattle.planreader.specs.declared.LineRead.{LineRead}
 use Rattle.planreader.specs.Answers.{answerFor}
 use Rattle.checker.specs.declared.Checker.{Checker}
@@ -59,27 +58,18 @@ module _ (r : Railway) (accepted : recordRefusal r ≡ none) where
 
 -- THE CALL FOR A LINE, by the case
 module _ (r : Railway) (c : Checking) (k : Compilation) (case : CasePost r (c .figs) (c .sets) k) where
-  refused-as : (f : Refusal) → k .tested ≡ Refused f → caseRefusal r (c .figs) (c .sets) ≡ some f
-  refused-as f e = sym (case .refusal) ∙ ap refusalGiven e
-
-  nothing-refused : k .tested ≡ Accepted → caseRefusal r (c .figs) (c .sets) ≡ none
-  nothing-refused e = sym (case .refusal) ∙ ap refusalGiven e
-
-  pub compiled-if : k .tested ≡ Accepted → Compiled r (k .table)
-  compiled-if e = case .compiled (nothing-refused e)
-
   module _ (text : List ℕ) where
     pub line-refused : (f : Refusal) → k .tested ≡ Refused f → (w : Left LineAnswer) → w ≡ refuse c f → LinePost r c text (w .answer) (w .checking)
     unfolding takeLine
-    line-refused f e w h = takes-so r c text w (h ∙ sym (ap (takesIf r c text) (refused-as f e)))
+    line-refused f e w h = takes-so r c text w (h ∙ sym (ap (takesIf r c text) (opened-refused case e)))
 
     module _ (e : k .tested ≡ Accepted) (line : LineRead) (is : line ≡ answerFor r (readLine r text)) where
       pub line-small : CodeSmall line
-      line-small = rw is (code-small r (compiled-if e .accepted) text (readLine r text) refl)
+      line-small = rw is (code-small r (opened-table case e .accepted) text (readLine r text) refl)
 
       pub line-entered : (w : Left LineAnswer) → w ≡ takesRead c (c .state) line → LinePost r c text (w .answer) (w .checking)
       unfolding takeLine
-      line-entered w h = takes-so r c text w (h ∙ ap (takesRead c (c .state)) is ∙ answer-takes r c (c .state) (readLine r text) ∙ sym (ap (takesIf r c text) (nothing-refused e)))
+      line-entered w h = takes-so r c text w (h ∙ ap (takesRead c (c .state)) is ∙ answer-takes r c (c .state) (readLine r text) ∙ sym (ap (takesIf r c text) (opened-none case e)))
 
   -- THE CALL FOR THE TEST
   tested-as : (a : TestAnswer) → a ≡ tests r c (caseRefusal r (c .figs) (c .sets)) (c .state) → TestPost r c a c
@@ -87,10 +77,10 @@ module _ (r : Railway) (c : Checking) (k : Compilation) (case : CasePost r (c .f
   tested-as a h = tests-so r c a h
 
   pub test-refused : (f : Refusal) → k .tested ≡ Refused f → TestPost r c (TestRefused f) c
-  test-refused f e = tested-as (TestRefused f) (ap (λ (o : Option Refusal). tests r c o (c .state)) (sym (refused-as f e)))
+  test-refused f e = tested-as (TestRefused f) (ap (λ (o : Option Refusal). tests r c o (c .state)) (sym (opened-refused case e)))
 
   pub test-judged : k .tested ≡ Accepted → (a : TestAnswer) → a ≡ tests r c none (c .state) → TestPost r c a c
-  test-judged e a h = tested-as a (h ∙ ap (λ (o : Option Refusal). tests r c o (c .state)) (sym (nothing-refused e)))
+  test-judged e a h = tested-as a (h ∙ ap (λ (o : Option Refusal). tests r c o (c .state)) (sym (opened-none case e)))
 
 -- what is handed back is an equal answer and checker
 pub test-handed : (r : Railway) (k : Checker) (figs sets : List ℕ) (a b : TestAnswer) (j : Checker) → b ≡ a → j .state ≡ k .state

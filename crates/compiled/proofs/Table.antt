@@ -1,5 +1,5 @@
--- The table of a railway: each byte is what the record gives, as code writes it and as code reads it again. Writing goes test by test; reading finds the byte
--- of a train, a section and a kind by its index, which determines them. Assumes nothing.
+-- The table of a railway: each byte is what the record gives, as code writes it and as code reads it again. Writing goes test by test;
+-- reading finds the byte of a train, a section and a kind by its index, which determines them. Assumes nothing.
 use mathlib.Core.Path.{_≡_, refl, sym, _∙_, ap}
 use mathlib.Core.Bool.{Bool, true, false, cond}
 use mathlib.Core.List.{List}

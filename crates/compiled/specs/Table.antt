@@ -54,7 +54,8 @@ sectionByte (some x) = x
 abbrev pub endOn : Railway → ℕ → ℕ → End
 endOn r t x = Section (record { 0 = x }) (runOf r t .heading)
 
--- Of a train that leaves by end e: whether a signal stands there, the point that it meets, and the section that it enters with the point at minus and at plus.
+-- Of a train that leaves by end e: whether a signal stands there, the point that it meets, and the section that it enters with the point at
+-- minus and at plus.
 unfoldable pub wayByte : Railway → End → ℕ → ℕ
 wayByte r e j =
     cond (eqb j 0) (flagByte (hasSignal r e))

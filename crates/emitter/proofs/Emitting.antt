@@ -1,25 +1,22 @@
 -- What a call of the emitter answers and leaves, by what it has found: a refusal, no plan, the end, or the line that is due.
 -- Assumes nothing.
 use Prim.Native.Nat.{ℕ, suc, _+_, _<_, _≤_}
-use mathlib.Core.Path.{_≡_, sym, _∙_, ap}
+use mathlib.Core.Path.{_≡_, sym, _∙_}
 use mathlib.Core.Bool.{true}
 use mathlib.Core.List.{List}
 use mathlib.Core.Option.{none, some, Option·getD}
 use native.Mathlib.Omega.{arith}
 use native.Mathlib.Numerals.{add-one}
-use lib.ListN.{length, getD, take, replicate}
-use lib.Seq.{ext-getD}
+use lib.ListN.{getD, take, replicate}
 use borrow.Author.Tests.{eq-eqb, ne-eqb}
 use Rattle.laws.specs.Below.{lowest, listBelow}
-use Rattle.laws.proofs.Below.{list-length, list-get}
 use Rattle.text.specs.Appending.{Appended}
 use Rattle.railway.specs.declared.Railway.{Railway}
 use Rattle.railway.specs.declared.Refusal.{Refusal}
 use Rattle.acceptance.specs.declared.Tested.the-variants as tested
-use Rattle.acceptance.specs.Answers as answers
 use Rattle.game.specs.Placement.{sectionsOf, standsOn, placements, startCode}
 use Rattle.game.proofs.Codes.{sections-length}
-use Rattle.tables.specs.Tables.{noFigure, figureIn, caseRefusal}
+use Rattle.tables.specs.Tables.{noFigure, figureIn}
 use Rattle.plan.specs.declared.PlanPlace.{PlanPlace}
 use Rattle.plan.specs.declared.PlanPlace.the-variants.{Top, From}
 use Rattle.plan.specs.declared.Emitted.{Emitted}
@@ -28,14 +25,16 @@ use Rattle.plan.specs.Lines.{startLine, placementLine, spell, mostLineBytes}
 use Rattle.plan.specs.Text.{hasFigure, lineFor}
 use Rattle.plan.specs.Emitter.{Wrote, written, figureFrom, nextCode, dueFor, writtenDue, emitted, emitLine}
 use Rattle.plan.specs.Promises.{EmitterPost}
+use Rattle.plan.proofs.Reading.{list-is}
 use Rattle.plan.proofs.Lengths.{lines-short}
 use Rattle.plan.proofs.Plan.{line-fits}
 use Rattle.plan.proofs.Promises.{emits-so}
 use Rattle.compiled.specs.declared.Compilation.{Compilation}
-use Rattle.compiled.specs.Table.{countByte, Compiled}
+use Rattle.compiled.specs.Table.{Compiled}
 use Rattle.moves.specs.declared.Placement.{Placement}
 use Rattle.moves.specs.Steps.{sectionIn, On}
 use Rattle.cases.specs.Cases.{CasePost}
+use Rattle.cases.proofs.Opened.{opened-refused, opened-none, opened-table}
 use Rattle.planlines.specs.Spelling.{lineOf}
 use Rattle.emitter.specs.Emitting.{leaves}
 use Rattle.emitter.proofs.Next.{found-at, found-none, from-figure}
@@ -45,18 +44,15 @@ use Rattle.emitter.proofs.Copying.{own-written}
 module _ (r : Railway) (figs sets : List ℕ) (p : ℕ) where
   same-sections : (q : Placement) → ((t : ℕ) → sectionIn q t ≡ standsOn r p t) → listBelow (sectionIn q) (r .trains) ≡ sectionsOf r p
   unfolding standsOn
-  same-sections q on =
-      let k : length (listBelow (sectionIn q) (r .trains)) ≡ r .trains = list-length (sectionIn q) (r .trains) in
-      ext-getD 0 (listBelow (sectionIn q) (r .trains)) (sectionsOf r p) (k ∙ sym (sections-length (r .sections) (r .trains) p))
-      (λ i l. list-get (sectionIn q) (r .trains) i 0 (rw k at l) ∙ on i)
+  same-sections q on = list-is (sectionIn q) (sectionsOf r p) (r .trains) 0 (sections-length (r .sections) (r .trains) p) (λ i l. on i)
 
-  line-is : (k m : ℕ) (q : Placement) (n v : ℕ) → k ≡ countByte r 2 → m ≡ countByte r 1 → ((t : ℕ) → sectionIn q t ≡ standsOn r p t) → n ≡ getD figs p noFigure → v ≡ getD sets p 0
+  line-is : (k m : ℕ) (q : Placement) (n v : ℕ) → k ≡ r .trains → m ≡ r .points → ((t : ℕ) → sectionIn q t ≡ standsOn r p t) → n ≡ getD figs p noFigure → v ≡ getD sets p 0
       → lineOf k m q n v ≡ lineFor r figs sets p
-  unfolding lineFor countByte
+  unfolding lineFor
   line-is k m q n v ek em on en ev = rw (ek, em, en, ev, same-sections q on)
 
   pub placement-written : {k m len : ℕ} {n v : ℕ} {q : Placement} {own text table : List ℕ} {w : Wrote} (old : List ℕ) → Compiled r table → hasFigure figs p ≡ true
-      → n ≡ getD figs p noFigure → n < 4294967296 → v ≡ getD sets p 0 → On r p table q → k ≡ countByte r 2 → m ≡ countByte r 1
+      → n ≡ getD figs p noFigure → n < 4294967296 → v ≡ getD sets p 0 → On r p table q → k ≡ r .trains → m ≡ r .points
       → own ≡ replicate mostLineBytes 0 → Appended own 0 (spell (placementLine (lineOf k m q n v))) text len
       → w ≡ written (take len text) (From (p + 1)) old → w ≡ written (spell (placementLine (lineFor r figs sets p))) (From (suc p)) old
   placement-written {k} {m} {len} {n} {v} {q} {own} {text} {table} {w} old compiled has en small ev on ek em blank made e =
@@ -77,7 +73,7 @@ module _ (r : Railway) (figs sets : List ℕ) (c p total : ℕ) (old : List ℕ)
   pub due-end : total ≤ p → leaves End old ≡ writtenDue old (dueFor r figs sets (nextCode r figs c))
   due-end l = let e : nextCode r figs c ≡ none = rw all at (found-none (figureFrom figs c) total p is l) in rw e
 
--- .. and at a place
+-- WHAT IS EMITTED at a place, by the start's figure
 module _ (r : Railway) (figs sets : List ℕ) (place : PlanPlace) (old : List ℕ) (p n : ℕ) (at : p ≡ startCode r) (is : n ≡ getD figs p noFigure) where
   abbrev figure : ℕ
   figure = getD figs (startCode r) noFigure
@@ -106,10 +102,10 @@ module _ (r : Railway) (figs sets : List ℕ) (place : PlanPlace) (old : List �
   module _ {o : Compilation} (opened : CasePost r figs sets o) where
     pub case-refused : (f : Refusal) → o .tested ≡ tested.Refused f → EmitterPost r figs sets place old (Refused f) old
     unfolding emitLine
-    case-refused f e = let h : caseRefusal r figs sets ≡ some f = sym (opened .refusal) ∙ ap answers.refusalGiven e in post (Refused f) old (rw h)
+    case-refused f e = post (Refused f) old (rw (opened-refused opened e))
 
     pub case-emitted : {a : Emitted} {new : List ℕ} → o .tested ≡ tested.Accepted
         → ((r : Railway) → Compiled r (o .table) → leaves a new ≡ emitted r figs sets place old none (figureIn figs (startCode r)))
         → EmitterPost r figs sets place old a new
     unfolding emitLine
-    case-emitted {a} {new} e line = let h : caseRefusal r figs sets ≡ none = sym (opened .refusal) ∙ ap answers.refusalGiven e in post a new (rw h (line r (opened .compiled h)))
+    case-emitted {a} {new} e line = post a new (rw (opened-none opened e) (line r (opened-table opened e)))

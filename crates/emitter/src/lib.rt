@@ -102,8 +102,8 @@ fn emit_placement(
     let n = tables::entry_at(figures, p, NO_FIGURE);
     let v = tables::entry_at(settings, p, 0);
     let q = moves::placement_of(table, p);
-    let k = compiled::count_in(table, 2);
-    let m = compiled::count_in(table, 1);
+    let k = compiled::trains_in(table);
+    let m = compiled::points_in(table);
     let mut text: [u8; MOST_LINE_BYTES] = [0; MOST_LINE_BYTES];
     let len = planlines::placement_line(&mut text, 0, k, m, q, n, v);
     put_line(out, &text[..len], PlanPlace::From(p + 1))

@@ -2,7 +2,7 @@
 // comes whole or not at all: one that is longer than the lent space, one that ends early and a line of another form are told as broken.
 ghost use mathlib.Core.Path.{_≡_};
 ghost use Rattle.io.specs.Counts.{Counts};
-ghost use Rattle.framed.specs.Framed.{isWhole, Kept};
+ghost use Rattle.framed.specs.Framed.{isWhole, recordOf, Kept};
 use libc::STDIN_FILENO;
 use libc::STDOUT_FILENO;
 
@@ -32,10 +32,11 @@ enum Length {
     Bytes(usize),
 }
 
-// The most digits of that number, and what it must stay below for one more to come.
-const DIGITS: u8 = 8;
+// The most bytes of that number, its line end included.
+const MOST_BYTES: u8 = 8;
 
-const LONGEST: usize = 10000000;
+// No number of so few digits reaches it: the prover sees by it that one more digit fits into the type.
+const BEYOND: usize = 10000000;
 
 // Whether there is a record to go on with. That one is broken is told on standard output.
 pub fn is_whole(reading: Reading) -> bool
@@ -80,6 +81,13 @@ fn fill(space: &mut [u8], n: usize) -> Record
         };
     }
     let got = io::read_full(STDIN_FILENO, &mut space[..n]);
+    record_of(n, got)
+}
+
+// A record of n bytes of which so many came: whole if all did.
+fn record_of(n: usize, got: usize) -> Record
+    ensures { λ r. ⌜ r ≡ recordOf n got ⌝ }
+{
     if got == n {
         Record {
             reading: Reading::Whole,
@@ -110,14 +118,14 @@ fn head_line() -> Length {
 fn number() -> Length {
     let mut n: usize = 0;
     let mut digits: u8 = 0;
-    while digits < DIGITS {
+    while digits < MOST_BYTES {
         let Byte::Is(b) = next_byte() else {
             return Length::Broken;
         };
-        if b == b'\n' {
+        if b == b'\n' && 0 < digits {
             return Length::Bytes(n);
         }
-        if LONGEST <= n {
+        if BEYOND <= n {
             return Length::Broken;
         }
         if b < b'0' || b'9' < b {

@@ -1,5 +1,6 @@
--- Settings that agree on the railway are alike: they let the same trains move, to the same ends, and the one choice names the same train under both.
--- A train looks at its own signal, if it has one, and its way at points of the railway; a setting is asked nowhere else. And open signals only add moves.
+-- Settings that agree on the railway are alike: they let the same trains move, to the same ends, and the one choice names the same train
+-- under both. A train looks at its own signal, if it has one, and its way at points of the railway; a setting is asked nowhere else. And
+-- open signals only add moves.
 -- Assumes nothing.
 use mathlib.Core.Path.{_≡_, refl, sym, _∙_, ap}
 use mathlib.Core.Logic.{inl, inr}
@@ -17,8 +18,8 @@ use Rattle.railway.specs.Record.{joined}
 use Rattle.railway.proofs.Lookups.{Flagged, signal-flag}
 use Rattle.game.specs.Claim.{Alike, OneChoice}
 use Rattle.game.specs.Setting.{Setting, SameSetting, headsFor, held, free, opensFor, mayMove}
-use Rattle.game.specs.Moves.{Passage, pastJoin, passes, enters, moveOf, gameOf}
-use Rattle.game.proofs.Accepted.{Known, Facts}
+use Rattle.game.specs.Moves.{Passage, pastJoin, passes, enters, moveOf, gameOf, AgreeingAlike}
+use Rattle.game.proofs.Accepted.{Known, Facts, facts}
 
 module _ (r : Railway) where
   pub held-flag : (p t : ℕ) → held r p t ≡ true → Flagged r (headsFor r p t)
@@ -79,3 +80,6 @@ module _ (r : Railway) (ok : Facts r) where
 
   pub choice-agrees : (Without : ℕ → Type 0) (c : OneChoice (gameOf r) Without) (p : ℕ) (a b : Setting) → SameSetting r a b → c .named p a ≡ c .named p b
   choice-agrees Without c p a b same = c .alike p a b (alike a b same p)
+
+pub agreeing-alike : AgreeingAlike
+agreeing-alike r accepted a b same p = alike r (facts r accepted) a b same p

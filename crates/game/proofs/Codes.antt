@@ -1,5 +1,6 @@
--- Coding loses nothing: every k sections below s have one code below s to the power k and come back from it, and each such code is one placement's.
--- The code is the first section and s times the code of the others (`code-cons`); all else goes by that. Assumes nothing.
+-- Codes and placements are one to one: a placement comes back from its code, which is below the number of placements, and a code below it
+-- from its placement. The code is the first section and s times the code of the others (`code-cons`); all else goes by that. Assumes
+-- nothing.
 use mathlib.Core.Path.{_≡_, refl, sym, _∙_, ap}
 use mathlib.Core.List.{List, [], _∷_}
 use Prim.Native.Nat.{ℕ, zero, suc, _+_, _*_, _/_, _%_, _^_, _≤_, _<_}

@@ -1,5 +1,5 @@
--- Laws of an accepted railway's moves: trains stand on its sections and come to its sections, so that moves stay among the placements; the start is one of them.
--- A train comes to a section that a join names, and every join names what is there. Assumes nothing.
+-- Laws of an accepted railway's moves: trains stand on its sections and come to its sections, so that moves stay among the placements; the
+-- start is one of them. A train comes to a section that a join names, and every join names what is there. Assumes nothing.
 use mathlib.Core.Path.{_≡_, refl, _∙_}
 use mathlib.Core.Bool.{Bool, true, false, cond}
 use mathlib.Core.List.{List}
@@ -21,7 +21,7 @@ use Rattle.railway.specs.declared.Railway.{Railway}
 use Rattle.railway.specs.Record.{joined, runOf}
 use Rattle.game.specs.Game.{lost, at, collision}
 use Rattle.game.specs.Local.{Inside}
-use Rattle.game.specs.Placement.{codeOf, sectionsIn, sectionsOf, standsOn, placements, startCode}
+use Rattle.game.specs.Placement.{sectionsIn, sectionsOf, standsOn, placements, startCode}
 use Rattle.game.specs.Setting.{Setting, headsFor}
 use Rattle.game.specs.Moves.{through, behindPort, pastPoint, pastJoin, passes, occupied, codeWith, enters, moveOf, gameOf}
 use Rattle.game.proofs.Codes.{AllBelow, code-below, sections-code, sections-length, sections-below, set-below}
@@ -60,7 +60,7 @@ module _ (r : Railway) (ok : Facts r) where
       code-below (r .sections) (set (sectionsOf r p) t x) (set-below (r .sections) (sectionsOf r p) t x (sections-below (r .sections) (r .trains) p (ok .one-section)) l) in
       rw n at c
 
-  -- .. and in it that train stands there, and the others as before
+  -- in that placement the train stands there, and the others as before
   pub sections-with : (p t x : ℕ) → x < r .sections → sectionsOf r (codeWith r p t x) ≡ set (sectionsOf r p) t x
   sections-with p t x l =
       let n : length (set (sectionsOf r p) t x) ≡ r .trains = length-set (sectionsOf r p) t x ∙ sections-length (r .sections) (r .trains) p in
@@ -93,16 +93,6 @@ module _ (r : Railway) (ok : Facts r) where
 
   starts-below : AllBelow (r .sections) starts
   starts-below i l = let h : i < r .trains = rw starts-length at l in rw (list-get (λ t. runOf r t .start .0) (r .trains) i 0 h) (ok .starts i h)
-
-  starts-stand : (t : ℕ) → t < r .trains → standsOn r (codeOf (r .sections) starts) t ≡ runOf r t .start .0
-  unfolding standsOn
-  starts-stand t l =
-      let c : sectionsOf r (codeOf (r .sections) starts) ≡ starts = rw starts-length at (sections-code (r .sections) starts (ok .one-section) starts-below) in
-      rw c (list-get (λ t. runOf r t .start .0) (r .trains) t 0 l)
-
-  pub start-stands : (t : ℕ) → t < r .trains → standsOn r (startCode r) t ≡ runOf r t .start .0
-  unfolding startCode
-  start-stands = starts-stand
 
   pub start-below : startCode r < placements r
   unfolding startCode

@@ -1,6 +1,7 @@
--- Moves and plays by computation: one line for each clause of document 01, "A turn", and what a way and a choice are handed. No theorem rests on these;
--- they show what the definitions say, where the theorem on whole plays would not notice a slip. Assumes nothing.
--- In Yard A (three sections) placement (a, b) has code (a - 1) + 3 (b - 1): (2, 1) is 1, (3, 1) is 2, (1, 2) is 3, (3, 2) is 5, (1, 3) is 6, (2, 3) is 7.
+-- Moves and plays by computation: one line for each clause of document 01, "A turn", and what a way and a choice are handed. No theorem
+-- rests on these; they show what the definitions say, where the theorem on whole plays would not notice a slip. Assumes nothing. In Yard A
+-- (three sections) placement (a, b) has code (a - 1) + 3 (b - 1): (2, 1) is 1, (3, 1) is 2, (1, 2) is 3, (3, 2) is 5, (1, 3) is 6, (2, 3)
+-- is 7.
 use mathlib.Core.Path.{_≡_, refl}
 use mathlib.Core.Bool.{Bool, true, false, cond, _&&_}
 use mathlib.Core.List.{List, [], _∷_}

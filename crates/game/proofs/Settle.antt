@@ -1,5 +1,5 @@
--- Tables made round by round agree with every single turn, and no more rounds are needed than there are placements.
--- Round n gives figure n where some setting moves only below n. A figure was given in its own round and stays, so a setting that keeps figure j by the whole table
+-- Tables made round by round agree with every single turn, and no more rounds are needed than there are placements. Round n gives figure n
+-- where some setting moves only below n. A figure was given in its own round and stays, so a setting that keeps figure j by the whole table
 -- keeps it by the table of round j - 1; each round adds a placement or is the last. Assumes nothing.
 use mathlib.Core.Path.{_≡_, refl, sym, _∙_, subst}
 use mathlib.Core.Logic.{_⊎_, inl, inr}
@@ -35,7 +35,7 @@ pub record Searches {S : Type 0} (g : Game S) (meant : ℕ → ℕ → S) (find 
   pub complete : (F : ℕ → Option ℕ) (p n : ℕ) (s : S) → p < g .placements → Keeps g F p s n → (v : ℕ) × (find F p n ≡ some v)
 
 module _ {S : Type 0} (g : Game S) (find : (ℕ → Option ℕ) → ℕ → ℕ → Option ℕ) where
-  -- Round n gives figure n to each placement without one where some setting keeps all below n.
+  -- One round: who has a figure keeps it, and n goes to whoever has none yet and a setting that keeps n.
   abbrev pub round : ℕ → (ℕ → Option ℕ) → ℕ → Option ℕ
   round n F p = orElse (F p) (cond (over g p) none (given n (find F p n)))
 

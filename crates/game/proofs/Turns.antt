@@ -3,7 +3,6 @@
 use mathlib.Core.Path.{_≡_, refl, subst}
 use mathlib.Core.Logic.{_⊎_, inl, inr}
 use mathlib.Core.Bool.{Bool, true, false, not, _&&_, _||_}
-use mathlib.Core.List.{List}
 use mathlib.Core.Option.{Option, none, some}
 use Prim.Native.Nat.{ℕ, _<_}
 use native.Mathlib.Omega.{arith}
@@ -12,7 +11,7 @@ use borrow.Author.Tests.{ltb-true, lt-ltb}
 use Rattle.laws.specs.Below.{allBelow, anyBelow}
 use Rattle.laws.proofs.Bools.{bool?, option?, clash, or-left, or-right, and-true, and-both}
 use Rattle.laws.proofs.Below.{all-at, all-of, any-at, any-of, lowest-cases}
-use Rattle.game.specs.Game.{Outcome, lost, at, Game, Turn, standing, may, mover, home, over, grown, turn}
+use Rattle.game.specs.Game.{Outcome, lost, at, Game, may, mover, home, over}
 use Rattle.game.specs.Claim.{Below, figureOf, Keeps}
 use Rattle.game.specs.Local.{isBelow, goesBelow, keepsTest}
 
@@ -59,10 +58,6 @@ module _ {S : Type 0} (g : Game S) where
       | inr r ↦ inr (rw e (r .0), λ u. elim (bool? (may g p s u)) [ inl m ↦ r .1 u (may-train p s u m) | inr m ↦ m ])
     ]
   ]
-
-  -- a turn without a mover moves nothing and makes the history longer by one
-  pub idle-stays : (h : List (Turn S)) (p : ℕ) (s : S) → turn g h p s none ≡ standing (grown g h p s none) p
-  idle-stays h p s = refl
 
   -- lost trains are not home, and their play has ended
   pub lost-not-home : (p : ℕ) → g .isLost p ≡ true → (home g p ≡ false) × (over g p ≡ true)

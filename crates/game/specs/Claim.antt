@@ -1,5 +1,5 @@
--- What a table of figures and a table of settings claim of whole plays (document 01, "Agreement": demand 3, in the words of "A turn"), and when a setting keeps a
--- placement's figure ("The two tables and the plan"). Assumes nothing.
+-- What a table of figures and a table of settings claim of whole plays (document 01, "Agreement": demand 3, in the words of "A turn"), and
+-- when a setting keeps a placement's figure ("The two tables and the plan"). Assumes nothing.
 use mathlib.Core.Path.{_≡_}
 use mathlib.Core.Bool.{true}
 use mathlib.Core.Logic.{_↔_}
@@ -17,8 +17,8 @@ abbrev pub figureOf : (ℕ → Option ℕ) → Outcome → Option ℕ
 figureOf F (lost l) = none
 figureOf F (at q) = F q
 
--- Setting s keeps figure n at placement p, the listed placements being those to which F gives a figure:
--- somebody can move, and nobody who can comes to a loss, to a placement not listed, or to a figure that is not less than n (document 01, "Test of a plan", last sentence).
+-- Setting s keeps figure n at placement p, the listed placements being those to which F gives a figure: somebody can move, and nobody who
+-- can comes to a loss, to a placement not listed, or to a figure that is not less than n (document 01, "Test of a plan", last sentence).
 pub record Keeps {S : Type 0} (g : Game S) (F : ℕ → Option ℕ) (p : ℕ) (s : S) (n : ℕ) : Type 0 where
   pub one-may : (t : ℕ) × (may g p s t ≡ true)
   pub all-below : (t : ℕ) → may g p s t ≡ true → Below n (figureOf F (g .next p s t))

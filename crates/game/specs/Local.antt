@@ -1,4 +1,5 @@
--- What proofs and contracts use of single turns. Nothing of document 01 rests on this file: the theorem on whole plays and the laws in proofs/ tie it to Claim.
+-- What proofs and contracts use of single turns. Nothing of document 01 rests on this file: the theorem on whole plays and the laws in
+-- proofs/ tie it to Claim.
 -- Assumes nothing.
 use mathlib.Core.Path.{_≡_}
 use mathlib.Core.Bool.{Bool, true, false, not, _&&_, _||_}

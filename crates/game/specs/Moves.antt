@@ -1,5 +1,6 @@
 -- Where a train that leaves by an end comes to, what a move ends in, and the railway's game (document 01, "A turn", second paragraph).
 -- Assumes nothing.
+use mathlib.Core.Path.{_≡_}
 use mathlib.Core.Bool.{Bool, true, false, cond, not, _&&_}
 use mathlib.Core.List.{List, [], _∷_}
 use mathlib.Core.Option.{Option, none, some}
@@ -16,10 +17,11 @@ use Rattle.railway.specs.declared.Joined.{Joined}
 use Rattle.railway.specs.declared.Joined.the-variants.{Nothing, With}
 use Rattle.railway.specs.declared.Railway.{Railway}
 use Rattle.railway.specs.Record.{joined}
-use Rattle.railway.specs.Rows.{sectionOf}
+use Rattle.railway.specs.Rows.{sectionOf, recordRefusal}
 use Rattle.game.specs.Game.{derailment, collision, Outcome, lost, at, Game}
 use Rattle.game.specs.Placement.{codeOf, placements, sectionsOf, standsOn, atHome, shared}
-use Rattle.game.specs.Setting.{Setting, headsFor, mayMove}
+use Rattle.game.specs.Setting.{Setting, SameSetting, headsFor, mayMove}
+use Rattle.game.specs.Claim.{Alike}
 
 -- A train on its way: the points that it has met, in order, and the section that it comes to; none: it derails.
 pub record Passage : Type 0 where
@@ -49,7 +51,7 @@ abbrev pub pastPoint : Railway → PointNo → Option Leg → Passage
 pastPoint r n none = record { met = n .0 ∷ []; reached = none }
 pastPoint r n (some l) = record { met = n .0 ∷ []; reached = behindPort (joined r (Port n l)) }
 
--- Past a join: into a section, or over a point; at the end of the track the train derails.
+-- Past a join: into a section, or over a point. An end without a join leads nowhere.
 abbrev pub pastJoin : Railway → (ℕ → Bool) → Joined → Passage
 pastJoin r plus Nothing = record { met = []; reached = none }
 pastJoin r plus (With (Section n side)) = record { met = []; reached = some (n .0) }
@@ -91,3 +93,7 @@ gameOf r =
       allowed = mayMove r;
       next = moveOf r;
     }
+
+-- What a setting says besides of the railway's points and signals tells nothing: settings that agree on those let the same trains move, to the same ends.
+abbrev pub AgreeingAlike : Type 0
+AgreeingAlike = (r : Railway) → recordRefusal r ≡ none → (a b : Setting) → SameSetting r a b → (p : ℕ) → Alike (gameOf r) p a b

@@ -30,9 +30,13 @@ sectionsOf r p = sectionsIn (r .sections) (r .trains) p
 unfoldable pub standsOn : Railway → ℕ → ℕ → ℕ
 standsOn r p t = getD (sectionsOf r p) t 0
 
+-- The code of the placement that has each train on the section given for it.
+abbrev pub codeOn : Railway → (ℕ → ℕ) → ℕ
+codeOn r section = codeOf (r .sections) (listBelow section (r .trains))
+
 -- The code of the start: each train stands on its start.
 unfoldable pub startCode : Railway → ℕ
-startCode r = codeOf (r .sections) (listBelow (λ t. runOf r t .start .0) (r .trains))
+startCode r = codeOn r (λ t. runOf r t .start .0)
 
 -- Train t stands on its destination.
 abbrev pub arrived : Railway → ℕ → ℕ → Bool

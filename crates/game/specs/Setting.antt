@@ -16,7 +16,7 @@ pub record Setting : Type 0 where
   pub plus : ℕ → Bool
   pub isOpen : ℕ → Bool
 
--- Two settings agree on a railway: at its points and at its signals. What they say elsewhere says nothing (Agreeing, in proofs/).
+-- Two settings agree on a railway: at its points and at its signals. What they say elsewhere tells nothing (Moves, `AgreeingAlike`).
 pub record SameSetting (r : Railway) (a b : Setting) : Type 0 where
   pub points : (n : ℕ) → n < r .points → a .plus n ≡ b .plus n
   pub signals : (i : ℕ) → i < sectionEnds → flagAt r i ≡ true → a .isOpen i ≡ b .isOpen i

@@ -99,7 +99,7 @@ lowest-cases f (suc k) =
       ]
     ]
 
--- .. and is lower than any other that passes
+-- The lowest that passes is lower than any other that does
 pub lowest-least : (f : ℕ → Bool) (k u : ℕ) → lowest f k ≡ some u → (i : ℕ) → f i ≡ true → i < k → u ≤ i
 unfolding lowest
 lowest-least f zero u e i p l = absurd (omega arith)

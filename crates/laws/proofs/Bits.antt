@@ -1,5 +1,5 @@
--- Laws of bits: a number below a power of two is made of its bits, what is made of bits has them, and two numbers can stand in one, the second above the first.
--- Each goes by bit 0 and the bits above it. Assumes nothing.
+-- Laws of bits: a number below a power of two is made of its bits, what is made of bits has them, and two numbers can stand in one, the
+-- second above the first. Each goes by bit 0 and the bits above it. Assumes nothing.
 use mathlib.Core.Path.{_≡_, refl, sym, _∙_, fun-ext}
 use mathlib.Core.Logic.{inl, inr}
 use mathlib.Core.Bool.{Bool, true, false, cond, _||_}

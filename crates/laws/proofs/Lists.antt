@@ -1,14 +1,12 @@
 -- Laws of the tests over a list: members, repeats.
 -- Assumes nothing.
 use Prim.Native.Nat.{ℕ, zero, suc, _<_}
-use mathlib.Core.Path.{_≡_, refl, _∙_, ap}
+use mathlib.Core.Path.{_≡_, refl, ap}
 use mathlib.Core.Logic.{_⊎_, inl, inr}
 use mathlib.Core.Bool.{Bool, true, false, _||_}
 use mathlib.Core.List.{List, [], _∷_, _++_, map, List·Memᴰ, List·Memᴰ·head, List·Memᴰ·tail, List·Memᴰ·append-cases}
 use native.Mathlib.Omega.{arith}
-use lib.Dec.{eqb}
 use lib.ListN.{length, getD}
-use borrow.Author.Tests.{eqb-false, ne-eqb}
 use Rattle.laws.specs.Below.{listBelow, gatherBelow}
 use Rattle.laws.specs.Lists.{any, all, repeats, Every}
 use Rattle.laws.proofs.Bools.{clash, not-false, or-false, or-none, or-assoc, and-true, and-both}
@@ -146,22 +144,6 @@ module _ {A : Type 0} where
   map-in f [] y m = elim m [ ]
   map-in f (x ∷ l) y (List·Memᴰ·head p) = record { element = x; member = List·Memᴰ·head refl; is = p }
   map-in f (x ∷ l) y (List·Memᴰ·tail m) = let t = map-in f l y m in record { element = t .element; member = List·Memᴰ·tail (t .member); is = t .is }
-
-  pub in-map : {B : Type 0} (f : A → B) (l : List A) (x : A) → List·Memᴰ x l → List·Memᴰ (f x) (map f l)
-  in-map f (y ∷ l) x (List·Memᴰ·head p) = List·Memᴰ·head (ap f p)
-  in-map f (y ∷ l) x (List·Memᴰ·tail m) = List·Memᴰ·tail (in-map f l x m)
-
-  -- numbers that do not repeat do not repeat when they are changed and stay apart
-  pub repeats-map : (f g : A → ℕ) (l : List A) → ((x y : A) → List·Memᴰ x l → List·Memᴰ y l → g x ≡ g y → f x ≡ f y) → repeats eqb (map f l) ≡ false → repeats eqb (map g l) ≡ false
-  unfolding repeats
-  repeats-map f g [] h e = refl
-  repeats-map f g (x ∷ l) h e =
-      let t = repeats-head eqb (f x) (map f l) e in
-      repeats-none eqb (g x) (map g l)
-      (λ y m.
-      let k = map-in g l y m in
-      ne-eqb (g x) y (λ p. eqb-false (f x) (f (k .element)) (t .0 (f (k .element)) (in-map f l (k .element) (k .member))) (h x (k .element) (List·Memᴰ·head refl) (List·Memᴰ·tail (k .member)) (p ∙ k .is))))
-      (repeats-map f g l (λ a b p q. h a b (List·Memᴰ·tail p) (List·Memᴰ·tail q)) (t .1))
 
 -- BY PLACE. Inside a list the default does not matter, and four things have four places
 module _ {A : Type 0} where

@@ -1,5 +1,5 @@
--- Laws of the numbers below k that pass a test, as a rising list: which of them pass another test, what comes first from a number on, when two such lists are the same.
--- Each goes by the last number, as the list is made. Assumes nothing.
+-- Laws of the numbers below k that pass a test, as a rising list: which of them pass another test, what comes first from a number on, when
+-- two such lists are the same. Each goes by the last number, as the list is made. Assumes nothing.
 use mathlib.Core.Path.{_≡_, refl, sym, _∙_, ap, fun-ext}
 use mathlib.Core.Logic.{inl, inr}
 use mathlib.Core.Bool.{Bool, true, false, cond, _&&_, _||_}

@@ -1,5 +1,5 @@
--- The arithmetic of codes, as code works it out for four trains at most: powers by multiplying, a train's section by dividing, and a code from the last train's section to
--- the first's. Nothing runs over: sections and counts are bytes. Assumes nothing.
+-- The arithmetic of codes, as code works it out for four trains at most: powers by multiplying, a train's section by dividing, and a code
+-- from the last train's section to the first's. Nothing runs over: sections and counts are bytes. Assumes nothing.
 use mathlib.Core.Path.{_≡_, refl, sym, _∙_, ap}
 use mathlib.Core.Logic.{inl, inr}
 use mathlib.Core.Bool.{Bool, true, false, cond}
@@ -14,14 +14,15 @@ use Rattle.laws.specs.Below.{listBelow}
 use Rattle.laws.specs.Bits.{bit}
 use Rattle.laws.proofs.Bools.{lt?}
 use Rattle.laws.proofs.Below.{list-length, list-get}
+use Rattle.railway.specs.Bounds.{mostTrains}
 use Rattle.game.specs.Placement.{codeOf, sectionsIn}
 use Rattle.game.proofs.Codes.{code-nil, code-cons}
 
--- POWERS of a byte, up to the fourth
+-- POWERS of a byte, up to the fourth.
 pub times-fits : (m n : ℕ) {a b : ℕ} → a ≤ m → b ≤ n → a * b ≤ m * n
 times-fits m n {a} {b} p q = mul-le-mul {n₁ = a} {n₂ = m} p q
 
--- one factor after the other: n of them, or k if that is less
+-- A power by multiplying, one factor after the other: w has n of them, or k if that is less.
 record Power (s k n w : ℕ) : Type 0 where
   up : n ≤ k → w ≡ s ^ n
   whole : k ≤ n → w ≡ s ^ k
@@ -41,10 +42,10 @@ module _ (s k : ℕ) where
         record { up = λ m. absurd (omega arith); whole = λ m. a ∙ h .whole l }
   ]
 
-  pub power-four : (a b c d : ℕ) → a ≡ cond (ltb 0 k) (1 * s) 1 → b ≡ cond (ltb 1 k) (a * s) a → c ≡ cond (ltb 2 k) (b * s) b → d ≡ cond (ltb 3 k) (c * s) c → k ≤ 4 → d ≡ s ^ k
-  power-four a b c d ea eb ec ed l = power-next 3 c d (power-next 2 b c (power-next 1 a b (power-next 0 1 a power-start ea) eb) ec) ed .whole l
+  pub power-is : (a b c d : ℕ) → a ≡ cond (ltb 0 k) (1 * s) 1 → b ≡ cond (ltb 1 k) (a * s) a → c ≡ cond (ltb 2 k) (b * s) b → d ≡ cond (ltb 3 k) (c * s) c → k ≤ mostTrains → d ≡ s ^ k
+  power-is a b c d ea eb ec ed l = power-next 3 c d (power-next 2 b c (power-next 1 a b (power-next 0 1 a power-start ea) eb) ec) ed .whole l
 
--- nothing runs over
+-- A weight times a byte, or as it is, is at most 255 times what the weight is.
 pub times-small : (m s w v : ℕ) (more : Bool) → s < 256 → w ≤ m → v ≡ cond more (w * s) w → v ≤ m * 255
 times-small m s w v more l h e = rw e (go more)
   where
@@ -52,7 +53,7 @@ times-small m s w v more l h e = rw e (go more)
     go true = times-fits m 255 h (omega arith)
     go false = omega arith
 
--- a code of four bytes
+-- The code of four bytes stays within 32 bits at each step.
 module _ (s : ℕ) (l : s < 256) (b c d : ℕ) (lb : b < 256) (lc : c < 256) (ld : d < 256) where
   pub last-fits : s * d ≤ 65025
   last-fits = times-fits 255 255 (omega arith) (omega arith)
@@ -99,25 +100,25 @@ code-digits s n [] l = code-nil s ∙ sym (no-digits s n)
 code-digits s zero (x ∷ xs) l = absurd (omega arith)
 code-digits s (suc n) (x ∷ xs) l = code-cons s x xs ∙ (rw (code-digits s n xs (omega arith)))
 
--- what is listed for k trains, with nothing past them
+-- What is listed for k trains, with 0 past them.
 listed : (f : ℕ → ℕ) (k t : ℕ) → getD (listBelow f k) t 0 ≡ cond (ltb t k) (f t) 0
 listed f k t = elim (lt? t k) [
   | inl l ↦ rw (lt-ltb t k l) (list-get f k t 0 l)
   | inr l ↦ rw (le-ltb t k l) (List·getD-eq-default (listBelow f k) 0 (rw (list-length f k) l))
 ]
 
-pub code-four : (s k : ℕ) (f : ℕ → ℕ) (a b c d : ℕ) → k ≤ 4 → a ≡ cond (ltb 0 k) (f 0) 0 → b ≡ cond (ltb 1 k) (f 1) 0 → c ≡ cond (ltb 2 k) (f 2) 0 → d ≡ cond (ltb 3 k) (f 3) 0
+pub code-of-sections : (s k : ℕ) (f : ℕ → ℕ) (a b c d : ℕ) → k ≤ mostTrains → a ≡ cond (ltb 0 k) (f 0) 0 → b ≡ cond (ltb 1 k) (f 1) 0 → c ≡ cond (ltb 2 k) (f 2) 0 → d ≡ cond (ltb 3 k) (f 3) 0
     → a + s * (b + s * (c + s * d)) ≡ codeOf s (listBelow f k)
 unfolding inDigits
-code-four s k f a b c d l ea eb ec ed =
+code-of-sections s k f a b c d l ea eb ec ed =
     let z : getD (listBelow f k) 3 0 + s * 0 ≡ d = omega (arith, ed ∙ sym (listed f k 3)) in
-    sym (code-digits s 4 (listBelow f k) (rw (list-length f k) l) ∙ (rw (z, ec ∙ sym (listed f k 2), eb ∙ sym (listed f k 1), ea ∙ sym (listed f k 0))))
+    sym (code-digits s mostTrains (listBelow f k) (rw (list-length f k) l) ∙ (rw (z, ec ∙ sym (listed f k 2), eb ∙ sym (listed f k 1), ea ∙ sym (listed f k 0))))
 
--- a bit past the width
+-- A number of 32 bits has no bit past them.
 pub bit-high : (v n : ℕ) → v < 4294967296 → 32 ≤ n → false ≡ bit v n
 bit-high v n l h = let e : v / (2 ^ n) ≡ 0 = div-eq-of-lt (omega (arith, pow-le-pow-right {n = 2} (omega arith) {i = 32} {j = n} h)) in rw e
 
--- CODES: one train put elsewhere
+-- A CODE with one train put elsewhere.
 pub code-move : (s : ℕ) (xs : List ℕ) (t x : ℕ) → t < length xs → codeOf s (set xs t x) + getD xs t 0 * s ^ t ≡ codeOf s xs + x * s ^ t
 code-move s [] t x l = absurd (omega arith)
 code-move s (z ∷ zs) zero x l =

@@ -1,19 +1,18 @@
 -- Moves, read from a table: who may move, and what a move ends in. A train looks at the point that it meets and at no other, so a setting
 -- may be replaced by one with all points as that one lies. Assumes nothing.
 use mathlib.Core.Path.{_≡_, refl, sym, _∙_, ap}
-use mathlib.Core.Bool.{Bool, true, false}
-use mathlib.Core.Logic.{inl, inr}
+use mathlib.Core.Bool.{Bool, true, false, cond}
 use mathlib.Core.List.{List}
 use mathlib.Core.Option.{Option, none, some}
 use Prim.Native.Nat.{ℕ, _+_, _*_, _^_, _≤_, _<_}
 use native.Mathlib.Omega.{arith}
 use lib.Dec.{ltb, eqb}
 use lib.ListN.{length, getD, set, length-set}
-use lib.Seq.{ext-getD, getD-set-same, getD-set-other}
-use borrow.Author.Tests.{lt-ltb, le-ltb, ltb-true, eq-eqb, ne-eqb}
+use lib.Seq.{ext-getD}
+use borrow.Author.Tests.{lt-ltb, le-ltb, ltb-true}
 use Rattle.laws.specs.Below.{anyBelow, listBelow}
 use Rattle.laws.specs.Bits.{bit}
-use Rattle.laws.proofs.Bools.{eq?, and-true}
+use Rattle.laws.proofs.Bools.{and-true}
 use Rattle.laws.proofs.Below.{any-same, any-one, any-none, list-length, list-get}
 use Rattle.railway.specs.declared.Side.{Side}
 use Rattle.railway.specs.declared.Leg.{Leg}
@@ -23,25 +22,26 @@ use Rattle.railway.specs.declared.End.the-variants.{Section, Port}
 use Rattle.railway.specs.declared.Joined.{Joined}
 use Rattle.railway.specs.declared.Joined.the-variants.{Nothing, With}
 use Rattle.railway.specs.declared.Railway.{Railway}
+use Rattle.railway.specs.Bounds.{mostSections, mostTrains}
 use Rattle.railway.specs.Ends.{endIndex}
 use Rattle.railway.specs.Record.{joined, hasSignal, runOf}
 use Rattle.game.specs.Game.{derailment, collision, lost, at, may}
-use Rattle.game.specs.Placement.{codeOf, sectionsOf, standsOn}
+use Rattle.game.specs.Placement.{codeOf, sectionsOf, standsOn, codeOn}
 use Rattle.game.specs.Setting.{headsFor, held, mayMove}
 use Rattle.game.specs.Moves.{Passage, through, pastPoint, pastJoin, passes, otherOn, occupied, codeWith, enters, moveOf, gameOf}
 use Rattle.game.proofs.Codes.{sections-length}
 use Rattle.game.proofs.Accepted.{Facts}
 use Rattle.game.proofs.Moves.{section-below, passes-below, sections-with}
 use Rattle.tables.specs.Entries.{opensIn, opensEnd, settingAt}
-use Rattle.compiled.specs.Table.{flagByte, pointByte, sectionByte, endOn, wayByte, countByte}
+use Rattle.compiled.specs.Table.{noByte, pointByte, sectionByte, endOn}
 use Rattle.moves.specs.declared.Placement.{Placement}
 use Rattle.moves.specs.declared.Move.{Move}
-use Rattle.moves.specs.Answers.{codeOn, ended, moveUnder}
+use Rattle.moves.specs.Answers.{ended, moveUnder}
 use Rattle.moves.specs.Steps.{sectionIn, On, movedTo, otherIn, allAt}
 use Rattle.moves.proofs.Coding.{code-move}
-use Rattle.moves.proofs.Placing.{ok, sections-are, trains-are, listed}
+use Rattle.moves.proofs.Placing.{table-facts, put-section, sections-listed}
 
--- ONE POINT AT MOST: past a join all depends on how the point met lies
+-- ONE POINT AT MOST: past a join all depends on how the point met lies.
 module _ (r : Railway) (plus : ℕ → Bool) where
   met-is : (n : PointNo) (o : Option Leg) → pointByte (pastPoint r n o .met) ≡ n .0
   met-is n none = refl
@@ -58,45 +58,35 @@ module _ (r : Railway) (plus : ℕ → Bool) where
 
 module _ (r : Railway) (p : ℕ) (table : List ℕ) (q : Placement) (on : On r p table q) where
   facts-of : Facts r
-  facts-of = ok r table (on .compiled)
+  facts-of = table-facts r table (on .compiled)
 
-  -- THE END that a train heads for
+  -- THE END that a train heads for.
   pub end-is : (t x : ℕ) (h : Side) → x ≡ sectionIn q t → h ≡ runOf r t .heading → Section (record { 0 = x }) h ≡ headsFor r p t
   unfolding headsFor
   end-is t x h e f = let a : x ≡ standsOn r p t = e ∙ on .stands t in rw (a, f)
 
-  -- THE BYTES of its way
+  -- WHAT THE TABLE HAS on a train's way.
   module _ (t x : ℕ) (l : t < r .trains) (e : x ≡ sectionIn q t) where
-    pub train-small : t < 4
+    pub train-small : t < mostTrains
     train-small = omega (arith, facts-of .few-trains)
 
-    pub section-small : x < 48
+    pub section-small : x < mostSections
     section-small = rw (e ∙ on .stands t) (omega (arith, section-below r facts-of p t l, facts-of .few-sections))
 
-    there : endOn r t x ≡ headsFor r p t
-    there = end-is t x (runOf r t .heading) e refl
+    pub end-on : endOn r t x ≡ headsFor r p t
+    end-on = end-is t x (runOf r t .heading) e refl
 
-    pub held-is : (b : ℕ) → b ≡ wayByte r (endOn r t x) 0 → eqb b 1 ≡ held r p t
-    unfolding wayByte held
-    held-is b h = rw (h, there) (go (hasSignal r (headsFor r p t)))
-      where
-        go : (v : Bool) → eqb (flagByte v) 1 ≡ v
-        go true = refl
-        go false = refl
+    pub held-is : (b : Bool) → b ≡ hasSignal r (endOn r t x) → b ≡ held r p t
+    unfolding held
+    held-is b h = h ∙ ap (hasSignal r) end-on
 
-    pub point-is : (b : ℕ) → b ≡ wayByte r (endOn r t x) 1 → b ≡ pointByte (passes r (λ i. false) (headsFor r p t) .met)
-    unfolding wayByte
-    point-is b h = rw there at h
+    pub point-is : (b : ℕ) → b ≡ pointByte (passes r (λ i. false) (endOn r t x) .met) → b ≡ pointByte (passes r (λ i. false) (headsFor r p t) .met)
+    point-is b h = rw end-on at h
 
-    pub plus-leads : (b : ℕ) (plus : Bool) → plus ≡ true → b ≡ wayByte r (endOn r t x) 3 → b ≡ sectionByte (passes r (λ i. plus) (headsFor r p t) .reached)
-    unfolding wayByte
-    plus-leads b plus z h = rw z (rw there at h)
+    pub section-is : (b : ℕ) (plus : Bool) → b ≡ sectionByte (passes r (λ i. plus) (endOn r t x) .reached) → b ≡ sectionByte (passes r (λ i. plus) (headsFor r p t) .reached)
+    section-is b plus h = rw end-on at h
 
-    pub minus-leads : (b : ℕ) (plus : Bool) → plus ≡ false → b ≡ wayByte r (endOn r t x) 2 → b ≡ sectionByte (passes r (λ i. plus) (headsFor r p t) .reached)
-    unfolding wayByte
-    minus-leads b plus z h = rw z (rw there at h)
-
-  -- WHO MAY MOVE under entry v
+  -- WHO MAY MOVE under entry v.
   module _ (v : ℕ) where
     pub opens-not : (i u : ℕ) (b : Bool) → b ≡ bit v (16 + u) → b ≡ false → false ≡ opensEnd r p (opensIn v) i u
     opens-not i u b h e = rw (sym h ∙ e)
@@ -104,20 +94,20 @@ module _ (r : Railway) (p : ℕ) (table : List ℕ) (q : Placement) (on : On r p
     pub opens-if : (i u j : ℕ) (b : Bool) (e : End) → b ≡ bit v (16 + u) → b ≡ true → e ≡ headsFor r p u → j ≡ endIndex e → eqb i j ≡ opensEnd r p (opensIn v) i u
     opens-if i u j b e h y g k = rw (sym h ∙ y, ← g, ← k)
 
-    pub some-opens : (i k u : ℕ) → k ≡ countByte r 2 → u < k → opensEnd r p (opensIn v) i u ≡ true → true ≡ settingAt r p v .isOpen i
+    pub some-opens : (i k u : ℕ) → k ≡ r .trains → u < k → opensEnd r p (opensIn v) i u ≡ true → true ≡ settingAt r p v .isOpen i
     unfolding settingAt
-    some-opens i k u e l h = any-one (opensEnd r p (opensIn v) i) (r .trains) u (rw (sym (trains-are r k e)) l) h
+    some-opens i k u e l h = any-one (opensEnd r p (opensIn v) i) (r .trains) u (rw (sym e) l) h
 
-    pub none-opens : (i k u : ℕ) → k ≡ countByte r 2 → u ≤ k → k ≤ u → anyBelow (opensEnd r p (opensIn v) i) u ≡ false → false ≡ settingAt r p v .isOpen i
+    pub none-opens : (i k u : ℕ) → k ≡ r .trains → u ≤ k → k ≤ u → anyBelow (opensEnd r p (opensIn v) i) u ≡ false → false ≡ settingAt r p v .isOpen i
     unfolding settingAt
-    none-opens i k u e l m h = any-none (opensEnd r p (opensIn v) i) (r .trains) u h (rw (sym (trains-are r k e)) l) (rw (sym (trains-are r k e)) m)
+    none-opens i k u e l m h = any-none (opensEnd r p (opensIn v) i) (r .trains) u h (rw (sym e) l) (rw (sym e) m)
 
-    pub not-there : (k t : ℕ) → k ≡ countByte r 2 → k ≤ t → false ≡ may (gameOf r) p (settingAt r p v) t
-    not-there k t e l = rw (le-ltb t (r .trains) (rw (sym (trains-are r k e)) l))
+    pub not-there : (k t : ℕ) → k ≡ r .trains → k ≤ t → false ≡ may (gameOf r) p (settingAt r p v) t
+    not-there k t e l = rw (le-ltb t (r .trains) (rw (sym e) l))
 
-    module _ (k t : ℕ) (e : k ≡ countByte r 2) (l : t < k) (h : Bool) (is : t < r .trains → h ≡ held r p t) where
+    module _ (k t : ℕ) (e : k ≡ r .trains) (l : t < k) (h : Bool) (is : t < r .trains → h ≡ held r p t) where
       pub is-there : t < r .trains
-      is-there = rw (sym (trains-are r k e)) l
+      is-there = rw (sym e) l
 
       pub free-may : h ≡ false → true ≡ may (gameOf r) p (settingAt r p v) t
       unfolding mayMove
@@ -127,21 +117,17 @@ module _ (r : Railway) (p : ℕ) (table : List ℕ) (q : Placement) (on : On r p
       unfolding mayMove
       held-may b end i z a d g = let f : held r p t ≡ true = sym (is is-there) ∙ z in rw (lt-ltb t (r .trains) is-there, f) (g ∙ ap (λ (j : ℕ). settingAt r p v .isOpen j) (d ∙ ap endIndex a))
 
-  -- WHAT A MOVE ENDS IN
+  -- WHAT A MOVE ENDS IN.
   module _ (t x : ℕ) where
-    pub other-on : (k : ℕ) (b : Bool) → k ≡ countByte r 2 → b ≡ anyBelow (otherIn q t x) k → b ≡ occupied r p t x
+    pub other-on : (k : ℕ) (b : Bool) → k ≡ r .trains → b ≡ anyBelow (otherIn q t x) k → b ≡ occupied r p t x
     unfolding occupied
     other-on k b e h =
-        let z : k ≡ r .trains = trains-are r k e in
-        (rw z at h) ∙ any-same (otherIn q t x) (otherOn r p t x) (r .trains) (λ u l. let a : sectionIn q u ≡ standsOn r p u = on .stands u in rw a)
+        (rw e at h) ∙ any-same (otherIn q t x) (otherOn r p t x) (r .trains) (λ u l. let a : sectionIn q u ≡ standsOn r p u = on .stands u in rw a)
 
-    -- the sections with this train put on this one
+    -- The sections with train t put on section x.
     put-each : t < r .trains → (u : ℕ) → movedTo q t x u ≡ getD (set (sectionsOf r p) t x) u 0
     unfolding standsOn
-    put-each l u = elim (eq? u t) [
-      | inl z ↦ rw (z, eq-eqb t t refl) (sym (getD-set-same (sectionsOf r p) t x 0 (rw (sections-length (r .sections) (r .trains) p) l)))
-      | inr z ↦ rw (ne-eqb u t z) (on .stands u ∙ sym (getD-set-other (sectionsOf r p) t u x 0 z))
-    ]
+    put-each l u = ap (λ (y : ℕ). cond (eqb u t) x y) (on .stands u) ∙ sym (put-section (sectionsOf r p) t x (rw (sections-length (r .sections) (r .trains) p) l) u)
 
     pub code-moved : (w : ℕ) → t < r .trains → w ≡ codeOn r (movedTo q t x) → w ≡ codeWith r p t x
     code-moved w l e = e ∙ ap (codeOf (r .sections)) lists
@@ -154,12 +140,12 @@ module _ (r : Railway) (p : ℕ) (table : List ℕ) (q : Placement) (on : On r p
             ext-getD 0 (listBelow (movedTo q t x) (r .trains)) (set (sectionsOf r p) t x) (list-length (movedTo q t x) (r .trains) ∙ sym sized)
             (λ u m. list-get (movedTo q t x) (r .trains) u 0 (rw (list-length (movedTo q t x) (r .trains)) at m) ∙ put-each l u)
 
-    -- THE SAME BY THE WEIGHT of the train: from where it stands, and the placement itself
-    pub code-by-weight : t < r .trains → (c y w s : ℕ) → c ≡ codeOn r (sectionIn q) → y ≡ sectionIn q t → s ≡ countByte r 0 → (t ≤ 4 → w ≡ s ^ t) → c + x * w ≡ codeWith r p t x + y * w
+    -- THE CODE BY THE WEIGHT of the train: from the code of the placement as it is and the section where the train stands.
+    pub code-by-weight : t < r .trains → (c y w s : ℕ) → c ≡ codeOn r (sectionIn q) → y ≡ sectionIn q t → s ≡ r .sections → (t ≤ mostTrains → w ≡ s ^ t) → c + x * w ≡ codeWith r p t x + y * w
     unfolding standsOn
     code-by-weight l c y w s ec ey es ew =
-        let weight : w ≡ r .sections ^ t = ew (omega (arith, facts-of .few-trains)) ∙ ap (λ (a : ℕ). a ^ t) (sections-are r s es) in
-        let here : c ≡ codeOf (r .sections) (sectionsOf r p) = ec ∙ ap (codeOf (r .sections)) (listed r (sectionIn q) p (λ u m. on .stands u)) in
+        let weight : w ≡ r .sections ^ t = ew (omega (arith, facts-of .few-trains)) ∙ ap (λ (a : ℕ). a ^ t) es in
+        let here : c ≡ codeOf (r .sections) (sectionsOf r p) = ec ∙ ap (codeOf (r .sections)) (sections-listed r (sectionIn q) p (λ u m. on .stands u)) in
         let stood : y ≡ getD (sectionsOf r p) t 0 = ey ∙ on .stands t in
         rw (weight, here, stood) (sym (code-move (r .sections) (sectionsOf r p) t x (rw (sections-length (r .sections) (r .trains) p) l)))
 
@@ -171,22 +157,22 @@ module _ (r : Railway) (p : ℕ) (table : List ℕ) (q : Placement) (on : On r p
     abbrev way : Option ℕ
     way = passes r (λ i. plus) (headsFor r p t) .reached
 
-    pub derails : x ≡ 255 → some (lost derailment) ≡ some (moveOf r p (allAt plus) t)
+    pub derails : x ≡ noByte → some (lost derailment) ≡ some (moveOf r p (allAt plus) t)
     unfolding moveOf
     derails z = go way (λ y. passes-below r facts-of (λ i. plus) (headsFor r p t) y) (sym leads ∙ z)
       where
-        go : (o : Option ℕ) → ((y : ℕ) → o ≡ some y → y < r .sections) → sectionByte o ≡ 255 → some (lost derailment) ≡ some (enters r p t o)
+        go : (o : Option ℕ) → ((y : ℕ) → o ≡ some y → y < r .sections) → sectionByte o ≡ noByte → some (lost derailment) ≡ some (enters r p t o)
         go none b e = refl
         go (some y) b e = absurd (omega (arith, b y refl, facts-of .few-sections))
 
-    pub arrives : (x ≡ 255 → ⊥) → way ≡ some x
+    pub arrives : (x ≡ noByte → ⊥) → way ≡ some x
     arrives z = go way leads
       where
         go : (o : Option ℕ) → x ≡ sectionByte o → o ≡ some x
         go none e = absurd (z e)
         go (some y) e = rw e
 
-    module _ (z : x ≡ 255 → ⊥) (b : Bool) (is : b ≡ occupied r p t x) where
+    module _ (z : x ≡ noByte → ⊥) (b : Bool) (is : b ≡ occupied r p t x) where
       pub collides : b ≡ true → some (lost collision) ≡ some (moveOf r p (allAt plus) t)
       unfolding moveOf
       collides y = rw (arrives z, sym is ∙ y)

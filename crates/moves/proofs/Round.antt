@@ -1,30 +1,29 @@
--- Codes and placements by value, and back: nothing is lost either way. Home's code is the code of home, and of no other placement. And the hypothesis that a
--- placement by value is that of a code can be met. All goes by the lists of sections: a placement's is the code's. Assumes nothing.
+-- Codes and placements by value, and back: nothing is lost either way. Home's code is the code of home, and of no other placement. And the
+-- hypothesis that a placement by value is that of a code can be met. All goes by the lists of sections: a placement's is the code's.
+-- Assumes nothing.
 use mathlib.Core.Path.{_≡_, sym, _∙_, ap}
 use mathlib.Core.Bool.{true}
 use mathlib.Core.List.{List}
-use mathlib.Core.Logic.{inl, inr}
-use Prim.Native.Nat.{ℕ, _≤_, _<_}
-use native.Mathlib.Omega.{arith}
-use lib.ListN.{length, List·getD-eq-default}
+use Prim.Native.Nat.{ℕ, _<_}
+use lib.ListN.{length}
 use borrow.Author.Tests.{eqb-true, eq-eqb}
 use Rattle.laws.specs.Below.{listBelow}
-use Rattle.laws.proofs.Bools.{lt?}
 use Rattle.laws.proofs.Below.{all-at, all-of, list-length, list-get}
 use Rattle.railway.specs.declared.Railway.{Railway}
+use Rattle.railway.specs.Bounds.{mostTrains}
 use Rattle.railway.specs.Record.{runOf}
-use Rattle.game.specs.Placement.{codeOf, sectionsIn, sectionsOf, placements, standsOn, arrived, atHome}
+use Rattle.game.specs.Placement.{codeOf, sectionsIn, sectionsOf, placements, standsOn, arrived, atHome, codeOn}
 use Rattle.game.proofs.Codes.{AllBelow, code-sections, sections-code}
 use Rattle.game.proofs.Accepted.{Facts}
 use Rattle.compiled.specs.Table.{Compiled}
 use Rattle.moves.specs.declared.Placement.{Placement}
-use Rattle.moves.specs.Answers.{codeOn, homeCode}
+use Rattle.moves.specs.Answers.{homeCode}
 use Rattle.moves.specs.Steps.{sectionIn, On}
-use Rattle.moves.proofs.Placing.{ok, past-trains, listed}
+use Rattle.moves.proofs.Placing.{table-facts, placed, sections-listed}
 
 module _ (r : Railway) (facts : Facts r) where
   pub code-again : (f : ℕ → ℕ) (p : ℕ) → p < placements r → ((t : ℕ) → t < r .trains → f t ≡ standsOn r p t) → codeOn r f ≡ p
-  code-again f p l same = ap (codeOf (r .sections)) (listed r f p same) ∙ code-sections (r .sections) (r .trains) p (facts .one-section) l
+  code-again f p l same = ap (codeOf (r .sections)) (sections-listed r f p same) ∙ code-sections (r .sections) (r .trains) p (facts .one-section) l
 
   pub sections-again : (f : ℕ → ℕ) → ((t : ℕ) → t < r .trains → f t < r .sections) → (t : ℕ) → t < r .trains → standsOn r (codeOn r f) t ≡ f t
   unfolding standsOn
@@ -34,7 +33,7 @@ module _ (r : Railway) (facts : Facts r) where
       let same : sectionsOf r (codeOn r f) ≡ listBelow f (r .trains) = rw (list-length f (r .trains)) at again in
       rw same (list-get f (r .trains) t 0 l)
 
-  -- HOME has home's code, and only home has
+  -- HOME has home's code, and only home has.
   pub home-code-home : atHome r (homeCode r) ≡ true
   unfolding atHome homeCode
   home-code-home = all-of (arrived r (homeCode r)) (r .trains) (λ t l. eq-eqb _ _ (sections-again (λ t. runOf r t .destination .0) (facts .destinations) t l))
@@ -43,17 +42,10 @@ module _ (r : Railway) (facts : Facts r) where
   unfolding atHome homeCode
   home-has-code p l h = sym (code-again (λ t. runOf r t .destination .0) p l (λ t m. sym (eqb-true _ _ (all-at (arrived r p) (r .trains) h t m))))
 
--- the placement of a code, and its code
+-- The placement of a code, and its code.
 module _ (r : Railway) (table : List ℕ) (h : Compiled r table) (p : ℕ) where
-  pub on-one : On r p table (record { sections = listBelow (standsOn r p) 4 })
-  on-one =
-      record {
-        compiled = h;
-        stands = λ t. elim (lt? t 4) [
-          | inl l ↦ list-get (standsOn r p) 4 t 0 l
-          | inr l ↦ (let m : length (listBelow (standsOn r p) 4) ≤ t = rw (list-length (standsOn r p) 4) l in List·getD-eq-default (listBelow (standsOn r p) 4) 0 m) ∙ past-trains r table h p t (omega (arith, ok r table h .few-trains))
-        ];
-      }
+  pub on-one : On r p table (record { sections = listBelow (standsOn r p) mostTrains })
+  on-one = placed r table h p (record { sections = listBelow (standsOn r p) mostTrains }) (list-length (standsOn r p) mostTrains) (λ t l. list-get (standsOn r p) mostTrains t 0 l)
 
   pub code-back : (q : Placement) → On r p table q → p < placements r → codeOn r (sectionIn q) ≡ p
-  code-back q on l = code-again r (ok r table h) (sectionIn q) p l (λ t m. on .stands t)
+  code-back q on l = code-again r (table-facts r table h) (sectionIn q) p l (λ t m. on .stands t)

@@ -3,19 +3,14 @@
 use mathlib.Core.Bool.{cond}
 use mathlib.Core.Option.{Option, none, some}
 use Prim.Native.Nat.{ℕ}
-use Rattle.laws.specs.Below.{listBelow}
 use Rattle.railway.specs.declared.Railway.{Railway}
 use Rattle.railway.specs.Record.{runOf}
 use Rattle.game.specs.Game.{derailment, collision, Outcome, lost, at, may}
-use Rattle.game.specs.Placement.{codeOf}
+use Rattle.game.specs.Placement.{codeOn}
 use Rattle.game.specs.Moves.{moveOf, gameOf}
 use Rattle.tables.specs.Entries.{settingAt}
 use Rattle.moves.specs.declared.Move.{Move}
 use Rattle.moves.specs.declared.Move.the-variants.{NotAllowed, Derails, Collides, At}
-
--- The code of the placement that puts each train on the section given for it.
-abbrev pub codeOn : Railway → (ℕ → ℕ) → ℕ
-codeOn r section = codeOf (r .sections) (listBelow section (r .trains))
 
 -- Home's code: all trains on their destinations.
 unfoldable pub homeCode : Railway → ℕ

@@ -12,6 +12,10 @@ use Rattle.game.specs.Setting.{Setting}
 use Rattle.compiled.specs.Table.{Compiled}
 use Rattle.moves.specs.declared.Placement.{Placement}
 
+-- What stands for no code: no table is long enough to have an entry there.
+abbrev pub noCode : ℕ
+noCode = 4294967295
+
 -- The section of a train in a placement by value.
 abbrev pub sectionIn : Placement → ℕ → ℕ
 sectionIn q t = getD (q .sections) t 0

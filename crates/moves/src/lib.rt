@@ -9,14 +9,15 @@ ghost use lib.Dec.{ltb};
 ghost use Rattle.laws.specs.Below.{anyBelow};
 ghost use Rattle.laws.specs.Bits.{bit};
 ghost use Rattle.railway.specs.declared.Railway.{Railway};
+ghost use Rattle.railway.specs.Bounds.{mostTrains};
 ghost use Rattle.game.specs.Game.{may};
-ghost use Rattle.game.specs.Placement.{placements, startCode, atHome, shared};
+ghost use Rattle.game.specs.Placement.{placements, startCode, atHome, shared, codeOn};
 ghost use Rattle.game.specs.Setting.{headsFor, held};
 ghost use Rattle.game.specs.Moves.{passes, moveOf, gameOf};
 ghost use Rattle.tables.specs.Entries.{opensIn, opensEnd, settingAt};
-ghost use Rattle.compiled.specs.Table.{pointByte, sectionByte, runByte, Compiled};
-ghost use Rattle.moves.specs.Answers.{codeOn, homeCode, ended, moveUnder};
-ghost use Rattle.moves.specs.Steps.{sectionIn, On, movedTo, otherIn, allAt};
+ghost use Rattle.compiled.specs.Table.{pointByte, sectionByte, Compiled};
+ghost use Rattle.moves.specs.Answers.{homeCode, ended, moveUnder};
+ghost use Rattle.moves.specs.Steps.{noCode, sectionIn, On, movedTo, otherIn, allAt};
 use compiled::Table;
 use railway::End;
 use railway::Railway;
@@ -30,6 +31,9 @@ pub struct Placement {
 // What stands for no code. No table is long enough to have an entry there.
 pub const NO_CODE: u32 = 4294967295;
 
+// The bit of the first train in an entry of the setting table: points have the bits below.
+const TRAIN_BITS: u32 = Railway::POINTS as u32;
+
 // What comes of a move: it is not allowed, loses, or leads to the next placement.
 pub enum Move {
     NotAllowed,
@@ -42,12 +46,12 @@ pub enum Move {
 pub fn placements(table: &Table) -> u32
     ensures { λ n. ⌜ ((r : Railway) → Compiled r (now (table .entry)) → n ≡ placements r) ⌝ }
 {
-    power(compiled::count_in(table, 0), compiled::count_in(table, 2))
+    power(compiled::sections_in(table), compiled::trains_in(table))
 }
 
 // How much a section more of train k counts in a code: a power, one factor after the other, with nothing for a processor to guess.
 pub fn power(s: u8, k: u8) -> u32
-    ensures { λ w. ⌜ (k ≤ 4 → w ≡ s ^ k) ⌝ }
+    ensures { λ w. ⌜ (k ≤ mostTrains → w ≡ s ^ k) ⌝ }
 {
     let one = times_if(1, s, 0 < k);
     let two = times_if(one, s, 1 < k);
@@ -57,7 +61,7 @@ pub fn power(s: u8, k: u8) -> u32
 
 // A weight times s, or as it is.
 fn times_if(w: u32, s: u8, more: bool) -> u32
-    requires { ⌜ w ≤ 16581375 ⌝ }
+    requires { ⌜ w ≤ 255 * 255 * 255 ⌝ }
     ensures { λ v. ⌜ v ≡ cond more (w * s) w ⌝ }
 {
     if more { w * (s as u32) } else { w }
@@ -67,8 +71,8 @@ fn times_if(w: u32, s: u8, more: bool) -> u32
 pub fn placement_of(table: &Table, p: u32) -> Placement
     ensures { λ q. ⌜ ((r : Railway) → Compiled r (now (table .entry)) → On r p (now (table .entry)) q) ⌝ }
 {
-    let s = compiled::count_in(table, 0);
-    let k = compiled::count_in(table, 2);
+    let s = compiled::sections_in(table);
+    let k = compiled::trains_in(table);
     let b = without_first(s, p);
     let c = without_first(s, b);
     let d = without_first(s, c);
@@ -127,13 +131,13 @@ pub fn code_of(table: &Table, q: Placement) -> u32
 fn code_with(table: &Table, q: Placement, t: u8, x: u8) -> u32
     ensures { λ p. ⌜ ((r : Railway) → Compiled r (now (table .entry)) → p ≡ codeOn r (movedTo q t x)) ⌝ }
 {
-    let s = compiled::count_in(table, 0);
-    let k = compiled::count_in(table, 2);
+    let s = compiled::sections_in(table);
+    let k = compiled::trains_in(table);
     let a = moved_to(q, k, t, x, 0);
     let b = moved_to(q, k, t, x, 1);
     let c = moved_to(q, k, t, x, 2);
     let d = moved_to(q, k, t, x, 3);
-    four(s, a, b, c, d)
+    code_of_sections(s, a, b, c, d)
 }
 
 // The section of train u with train t put on section x; 0 for a train that is not there.
@@ -149,7 +153,8 @@ fn moved_to(q: Placement, k: u8, t: u8, x: u8, u: u8) -> u8
     section_at(q, u)
 }
 
-fn four(s: u8, a: u8, b: u8, c: u8, d: u8) -> u32
+// The code of the sections of four trains, the first train's first, among s sections.
+fn code_of_sections(s: u8, a: u8, b: u8, c: u8, d: u8) -> u32
     ensures { λ p. ⌜ p ≡ a + s * (b + s * (c + s * d)) ⌝ }
 {
     let m = s as u32;
@@ -158,7 +163,7 @@ fn four(s: u8, a: u8, b: u8, c: u8, d: u8) -> u32
 
 // The placement with train t put on section x.
 pub fn put_on(q: Placement, t: u8, x: u8) -> Placement
-    ensures { λ p. ⌜ (t < 4 → (u : ℕ) → sectionIn p u ≡ movedTo q t x u) ⌝ }
+    ensures { λ p. ⌜ (t < mostTrains → (u : ℕ) → sectionIn p u ≡ movedTo q t x u) ⌝ }
 {
     let at = t as usize;
     let mut sections = q.sections;
@@ -170,7 +175,7 @@ pub fn put_on(q: Placement, t: u8, x: u8) -> Placement
 
 // The code of a placement whose code is c, with a train of weight w put from section x to section y.
 pub fn code_put(c: u32, w: u32, x: u8, y: u8) -> u32
-    ensures { λ b. ⌜ ((p : ℕ) → p < 4294967295 → c + y * w ≡ p + x * w → b ≡ p) ⌝ }
+    ensures { λ b. ⌜ ((p : ℕ) → p < noCode → c + y * w ≡ p + x * w → b ≡ p) ⌝ }
 {
     let m = w as u64;
     let more = (c as u64) + (y as u64) * m;
@@ -186,30 +191,30 @@ pub fn code_put(c: u32, w: u32, x: u8, y: u8) -> u32
     }
 }
 
-// The start's code, and home's.
+// The start's code: each train on its start.
 pub fn start_code(table: &Table) -> u32
     ensures { λ p. ⌜ ((r : Railway) → Compiled r (now (table .entry)) → p ≡ startCode r) ⌝ }
 {
-    code_of(table, runs_in(table, 1))
+    let sections = [
+        compiled::start_in(table, 0),
+        compiled::start_in(table, 1),
+        compiled::start_in(table, 2),
+        compiled::start_in(table, 3),
+    ];
+    code_of(table, Placement { sections: sections })
 }
 
+// Home's code: each train on its destination.
 pub fn home_code(table: &Table) -> u32
     ensures { λ p. ⌜ ((r : Railway) → Compiled r (now (table .entry)) → p ≡ homeCode r) ⌝ }
 {
-    code_of(table, runs_in(table, 2))
-}
-
-// All trains on their starts, or on their destinations.
-fn runs_in(table: &Table, i: u8) -> Placement
-    ensures { λ q. ⌜ ((r : Railway) → Compiled r (now (table .entry)) → i < 3 → (t : ℕ) → t < 4 → sectionIn q t ≡ runByte r i t) ⌝ }
-{
     let sections = [
-        compiled::run_in(table, i, 0),
-        compiled::run_in(table, i, 1),
-        compiled::run_in(table, i, 2),
-        compiled::run_in(table, i, 3),
+        compiled::destination_in(table, 0),
+        compiled::destination_in(table, 1),
+        compiled::destination_in(table, 2),
+        compiled::destination_in(table, 3),
     ];
-    Placement { sections: sections }
+    code_of(table, Placement { sections: sections })
 }
 
 // Another train than t, of the first n, stands on section x.
@@ -226,6 +231,7 @@ pub fn other_in(q: Placement, t: u8, x: u8, n: u8) -> bool
     false
 }
 
+// Train u is another than t and stands on section x.
 fn is_other(q: Placement, t: u8, x: u8, u: u8) -> bool
     ensures { λ b. ⌜ b ≡ otherIn q t x u ⌝ }
 {
@@ -242,10 +248,11 @@ pub fn is_lost(table: &Table, p: u32) -> bool
     lost_in(table, placement_of(table, p))
 }
 
+// Two trains of a placement by value share a section.
 pub fn lost_in(table: &Table, q: Placement) -> bool
     ensures { λ b. ⌜ ((r : Railway) (p : ℕ) → On r p (now (table .entry)) q → b ≡ shared r p) ⌝ }
 {
-    let k = compiled::count_in(table, 2);
+    let k = compiled::trains_in(table);
     let mut t: u8 = 0;
     while t < k {
         if other_in(q, t, section_at(q, t), t) {
@@ -261,10 +268,10 @@ pub fn is_home(table: &Table, p: u32) -> bool
     ensures { λ b. ⌜ ((r : Railway) → Compiled r (now (table .entry)) → b ≡ atHome r p) ⌝ }
 {
     let q = placement_of(table, p);
-    let k = compiled::count_in(table, 2);
+    let k = compiled::trains_in(table);
     let mut t: u8 = 0;
     while t < k {
-        if section_at(q, t) == compiled::run_in(table, 2, t) {
+        if section_at(q, t) == compiled::destination_in(table, t) {
             t += 1;
         } else {
             return false;
@@ -280,6 +287,7 @@ pub fn heads_for(table: &Table, p: u32, t: u8) -> End
     end_in(table, placement_of(table, p), t)
 }
 
+// The end that a train heads for in a placement by value.
 fn end_in(table: &Table, q: Placement, t: u8) -> End
     ensures { λ e. ⌜ ((r : Railway) (p : ℕ) → On r p (now (table .entry)) q → e ≡ headsFor r p t) ⌝ }
 {
@@ -295,10 +303,11 @@ pub fn may_move(table: &Table, p: u32, v: u32, t: u8) -> bool
     may_in(table, placement_of(table, p), v, t)
 }
 
+// Whether a train of a placement by value is there and may move.
 fn may_in(table: &Table, q: Placement, v: u32, t: u8) -> bool
     ensures { λ b. ⌜ ((r : Railway) (p : ℕ) → On r p (now (table .entry)) q → b ≡ may (gameOf r) p (settingAt r p v) t) ⌝ }
 {
-    if compiled::count_in(table, 2) <= t {
+    if compiled::trains_in(table) <= t {
         return false;
     }
     if held_in(table, q, t) {
@@ -312,14 +321,14 @@ fn may_in(table: &Table, q: Placement, v: u32, t: u8) -> bool
 pub fn held_in(table: &Table, q: Placement, t: u8) -> bool
     ensures { λ b. ⌜ ((r : Railway) (p : ℕ) → On r p (now (table .entry)) q → t < r .trains → b ≡ held r p t) ⌝ }
 {
-    compiled::way_in(table, t, section_at(q, t), 0) == 1
+    compiled::signal_in(table, t, section_at(q, t))
 }
 
 // The signal at the section end of this index is open by entry v.
 fn open_in(table: &Table, q: Placement, v: u32, i: u8) -> bool
     ensures { λ b. ⌜ ((r : Railway) (p : ℕ) → On r p (now (table .entry)) q → b ≡ settingAt r p v .isOpen i) ⌝ }
 {
-    let k = compiled::count_in(table, 2);
+    let k = compiled::trains_in(table);
     let mut u: u8 = 0;
     while u < k {
         if opens_end(table, q, v, i, u) {
@@ -330,10 +339,11 @@ fn open_in(table: &Table, q: Placement, v: u32, i: u8) -> bool
     false
 }
 
+// Entry v opens train u, and train u heads for the section end of index i.
 fn opens_end(table: &Table, q: Placement, v: u32, i: u8, u: u8) -> bool
     ensures { λ b. ⌜ ((r : Railway) (p : ℕ) → On r p (now (table .entry)) q → b ≡ opensEnd r p (opensIn v) i u) ⌝ }
 {
-    if bit_at(v, 16 + (u as u32)) {
+    if bit_at(v, TRAIN_BITS + (u as u32)) {
         i == railway::index_of(end_in(table, q, u))
     } else {
         false
@@ -357,40 +367,35 @@ pub fn move_of(table: &Table, p: u32, v: u32, t: u8) -> Move
     let q = placement_of(table, p);
     if may_in(table, q, v, t) {
         let n = point_in(table, q, t);
-        end_of(table, q, t, bit_at(v, n as u32))
+        outcome_of(table, q, t, bit_at(v, n as u32))
     } else {
         Move::NotAllowed
     }
 }
 
-// The point that a train meets; 255: none.
+// The point that a train meets; `NO_BYTE`: none.
 pub fn point_in(table: &Table, q: Placement, t: u8) -> u8
     ensures { λ n. ⌜ ((r : Railway) (p : ℕ) → On r p (now (table .entry)) q → t < r .trains → n ≡ pointByte (passes r (λ i. false) (headsFor r p t) .met)) ⌝ }
 {
-    compiled::way_in(table, t, section_at(q, t), 1)
+    compiled::point_past(table, t, section_at(q, t))
 }
 
-// The section that it enters, that point lying at plus or not; 255: it derails.
+// The section that a train enters, the point that it meets lying at plus or not; `NO_BYTE`: it derails.
 pub fn leads_to(table: &Table, q: Placement, t: u8, plus: bool) -> u8
     ensures { λ x. ⌜ ((r : Railway) (p : ℕ) → On r p (now (table .entry)) q → t < r .trains → x ≡ sectionByte (passes r (λ i. plus) (headsFor r p t) .reached)) ⌝ }
 {
-    let x = section_at(q, t);
-    if plus {
-        compiled::way_in(table, t, x, 3)
-    } else {
-        compiled::way_in(table, t, x, 2)
-    }
+    compiled::section_past(table, t, section_at(q, t), plus)
 }
 
 // What a move ends in, the point that it meets lying at plus or not.
-pub fn end_of(table: &Table, q: Placement, t: u8, plus: bool) -> Move
+pub fn outcome_of(table: &Table, q: Placement, t: u8, plus: bool) -> Move
     ensures { λ m. ⌜ ((r : Railway) (p : ℕ) → On r p (now (table .entry)) q → t < r .trains → ended m ≡ some (moveOf r p (allAt plus) t)) ⌝ }
 {
     let x = leads_to(table, q, t, plus);
     if x == compiled::NO_BYTE {
         return Move::Derails;
     }
-    if other_in(q, t, x, compiled::count_in(table, 2)) {
+    if other_in(q, t, x, compiled::trains_in(table)) {
         return Move::Collides;
     }
     Move::At(code_with(table, q, t, x))

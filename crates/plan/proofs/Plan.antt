@@ -14,7 +14,7 @@ use borrow.Author.Tests.{lt-ltb, eqb-true, eq-eqb, ne-eqb, le-leb, le-ltb}
 use Rattle.laws.specs.Below.{whichBelow, orElse}
 use Rattle.laws.specs.Bits.{bit}
 use Rattle.laws.specs.Lists.{all}
-use Rattle.laws.proofs.Bools.{lt?, eq?, clash, some-none, and-true, and-both}
+use Rattle.laws.proofs.Bools.{lt?, eq?, clash, and-true, and-both}
 use Rattle.laws.proofs.Below.{list-length, list-get}
 use Rattle.laws.proofs.Bits.{bit-none}
 use Rattle.laws.proofs.Which.{which-map, all-which}
@@ -28,7 +28,7 @@ use Rattle.game.proofs.Moves.{start-below}
 use Rattle.tables.specs.Entries.{opensIn, settingAt}
 use Rattle.tables.specs.Tables.{noFigure, figureEntry, figureIn, IsPlanEntry, Filled}
 use Rattle.tables.proofs.Entries.{entry-opens}
-use Rattle.tables.proofs.Certify.{figure-small}
+use Rattle.tables.proofs.Certify.{entry-is, figure-small}
 use Rattle.tables.proofs.Plays.{filled-solved, filled-apart}
 use Rattle.tables.proofs.Unique.{figs-one, sets-one}
 use Rattle.plan.specs.Lines.{PlacementLine, placementLine, fits, lineCode, rises}
@@ -39,13 +39,6 @@ use Rattle.plan.proofs.Tested.{SameListing, test-same}
 use Rattle.plan.proofs.Forms.{codeAfter, rises-snoc, code-after-snoc}
 
 -- FIGURES AS ENTRIES
-entry-is : (x n : ℕ) → figureEntry x ≡ some n → x ≡ n
-entry-is x n e = go (eqb x noFigure) e
-  where
-    go : (b : Bool) → cond b none (some x) ≡ some n → x ≡ n
-    go true q = some-none q refl
-    go false q = cc
-
 entry-below : (x n : ℕ) → x ≤ noFigure → figureEntry x ≡ some n → x < noFigure
 entry-below x n l e = omega (arith, entry-is x n e, figure-small x n l e)
 

@@ -50,7 +50,7 @@ emittedKind End = 1
 emittedKind NoPlan = 2
 emittedKind (EmitRefused f) = 3
 
-differ : {A B : Type 0} (f : A → ℕ) {a b : A} → a ≡ b → ¬ (f a ≡ f b) → B
+pub differ : {A B : Type 0} (f : A → ℕ) {a b : A} → a ≡ b → ¬ (f a ≡ f b) → B
 differ f e n = absurd (n (ap f e))
 
 -- THE EMITTER. Refused by rows 3 to 9.
@@ -206,7 +206,7 @@ module _ (r : Railway) (c : Checking) (text : List ℕ) where
         go false = enter-rule m d e
 
 -- THE TEST behind rows 3 to 9
-abbrev testNumbered : TestAnswer → ℕ
+abbrev pub testNumbered : TestAnswer → ℕ
 testNumbered Pass = 0
 testNumbered (TestRefused f) = suc (number f)
 

@@ -10,7 +10,7 @@ use lib.Dec.{ltb}
 use Rattle.railway.specs.declared.Railway.{Railway}
 use Rattle.railway.specs.declared.Refusal.{Refusal}
 use Rattle.railway.specs.declared.Refusal.the-variants.{PlanForm, PlanFault}
-use Rattle.railway.specs.Refusals.{numberOf}
+use Rattle.railway.specs.Refusals.{number}
 use Rattle.tables.specs.Entries.{entryFrom}
 use Rattle.tables.specs.Tables.{noFigure, caseRefusal}
 use Rattle.plan.specs.declared.CheckerState.{CheckerState}
@@ -24,23 +24,15 @@ use Rattle.plan.specs.Test.{byTables}
 use Rattle.plan.specs.Reading.{readLine}
 use Rattle.plan.specs.Computed.{testHolds}
 
--- THE ANSWERS. The refusal of a line, if it was refused.
-abbrev pub lineRefusal : LineAnswer → Option Refusal
-lineRefusal Taken = none
-lineRefusal (LineRefused f) = some f
-
--- The refusal of the test, if it was refused.
-abbrev pub testRefusal : TestAnswer → Option Refusal
-testRefusal Pass = none
-testRefusal (TestRefused f) = some f
-
--- The number that a line's answer gives.
+-- THE ANSWERS. The number that a line's answer gives: that of its refusal in the table, if it was refused.
 abbrev pub lineNumber : LineAnswer → Option ℕ
-lineNumber a = numberOf (lineRefusal a)
+lineNumber Taken = none
+lineNumber (LineRefused f) = some (number f)
 
 -- The number that the test's answer gives.
 abbrev pub testNumber : TestAnswer → Option ℕ
-testNumber a = numberOf (testRefusal a)
+testNumber Pass = none
+testNumber (TestRefused f) = some (number f)
 
 -- THE STATE with the two lent tables.
 pub record Checking : Type 0 where

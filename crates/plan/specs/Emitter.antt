@@ -10,7 +10,7 @@ use Rattle.laws.specs.Below.{lowest}
 use Rattle.railway.specs.declared.Railway.{Railway}
 use Rattle.railway.specs.declared.Refusal.{Refusal}
 use Rattle.railway.specs.declared.Refusal.the-variants.{Space}
-use Rattle.railway.specs.Refusals.{numberOf}
+use Rattle.railway.specs.Refusals.{number}
 use Rattle.game.specs.Placement.{placements, startCode}
 use Rattle.tables.specs.Tables.{noFigure, figureIn, caseRefusal}
 use Rattle.plan.specs.declared.PlanPlace.{PlanPlace}
@@ -20,16 +20,12 @@ use Rattle.plan.specs.declared.Emitted.the-variants.{Line, End, NoPlan, 
 use Rattle.plan.specs.Lines.{startLine, placementLine, spell}
 use Rattle.plan.specs.Text.{hasFigure, lineFor}
 
--- THE ANSWERS. The refusal that an answer gives, if it does.
-abbrev pub refusalGiven : Emitted → Option Refusal
-refusalGiven (Line n next) = none
-refusalGiven End = none
-refusalGiven NoPlan = none
-refusalGiven (Refused f) = some f
-
--- The number of that refusal in the table.
+-- THE ANSWERS. The number that an answer gives: that of its refusal in the table, if it is one.
 abbrev pub numberGiven : Emitted → Option ℕ
-numberGiven a = numberOf (refusalGiven a)
+numberGiven (Line n next) = none
+numberGiven End = none
+numberGiven NoPlan = none
+numberGiven (Refused f) = some (number f)
 
 -- A line was written.
 abbrev pub isLine : Emitted → Bool

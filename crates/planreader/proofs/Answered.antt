@@ -25,19 +25,17 @@ use Rattle.text.proofs.Walking.{bad-got}
 use Rattle.railway.specs.declared.Railway.{Railway}
 use Rattle.railway.specs.Rows.{recordRefusal}
 use Rattle.railway.proofs.Accepted.{Bounded, accepted-facts}
+use Rattle.game.specs.Placement.{codeOf, codeOn}
 use Rattle.tables.specs.Tables.{noFigure}
 use Rattle.tables.specs.Entries.{opensIn}
 use Rattle.tables.proofs.Entries.{entry-plus, entry-opens}
-use Rattle.plan.specs.Lines.{PlacementLine, PlanLine, startLine, placementLine, sectionField, spell, fits, Spells, mostLineBytes}
+use Rattle.plan.specs.Lines.{PlacementLine, PlanLine, startLine, placementLine, sectionField, spell, fits, Spells, mostLineBytes, lineCode}
 use Rattle.plan.specs.Checker.{lineEntry}
 use Rattle.plan.specs.Reading.{readLine}
 use Rattle.plan.proofs.Reading.{lastFields, list-is, fits-parts, reads-line}
 use Rattle.plan.proofs.Lengths.{lines-short}
-use Rattle.compiled.specs.Table.{countByte, Compiled}
 use Rattle.moves.specs.declared.Placement.{Placement}
-use Rattle.moves.specs.Answers.{codeOn}
 use Rattle.moves.specs.Steps.{sectionIn}
-use Rattle.moves.proofs.Placing.{sections-are, trains-are}
 use Rattle.planlines.specs.Spelling.{lineOf}
 use Rattle.planreader.specs.declared.LineRead.the-variants.{NoLine, Start, Placed}
 use Rattle.planreader.specs.Answers.{answerFor}
@@ -125,101 +123,75 @@ module _ (r : Railway) (ok : recordRefusal r ≡ none) (text : List ℕ) where
       pub start-other : b ≡ false → NoLine ≡ answerFor r (readLine r text)
       start-other y = none-read (start-only (λ x p. said-false (startLine n) start-fits said y (ap (λ (z : ℕ). spell (startLine z)) (same-value e (start-taken x p .1) .0) ∙ p .spelled)))
 
-  -- A LINE FOR A PLACEMENT
-  module _ (first : BeginsLikeStart text → ⊥) where
-    placed-only : {A : Type 0} → ((d : PlacementLine) → Spells r text (placementLine d) → Walked text (r .sections) (r .trains) (r .points) d (lineEntry r d) → A) → (l : PlanLine) → Spells r text l → A
+  -- A LINE FOR A PLACEMENT, by the counts that code has
+  module _ (first : BeginsLikeStart text → ⊥) {s k m : ℕ} (es : s ≡ r .sections) (em : m ≡ r .points) (ek : k ≡ r .trains) where
+    abbrev Takes : PlacementLine → Type 0
+    Takes d = Walked text s k m d (lineEntry r d)
+
+    takes : (d : PlacementLine) → Spells r text (placementLine d) → Takes d
+    takes d p = rw (es, em, ek) (walked r bounds text d p)
+
+    placed-only : {A : Type 0} → ((d : PlacementLine) → Spells r text (placementLine d) → Takes d → A) → (l : PlanLine) → Spells r text l → A
     unfolding bytes spell line
     placed-only h (startLine n) p = absurd (first (ap (λ (t : List ℕ). getD t 0 0) (sym (p .spelled))))
-    placed-only h (placementLine d) p = h d p (walked r bounds text d p)
+    placed-only h (placementLine d) p = h d p (takes d p)
 
-    pub sections-none : sectionsAt text (r .sections) (r .trains) ≡ bad → NoLine ≡ answerFor r (readLine r text)
-    sections-none e = none-read (placed-only (λ d p x. bad-got e (x .sections)))
+    pub no-sections : sectionsAt text s k ≡ bad → NoLine ≡ answerFor r (readLine r text)
+    no-sections e = none-read (placed-only (λ d p x. bad-got e (x .sections)))
 
-    module _ (qs : List ℕ) (c₁ : ℕ) (es : sectionsAt text (r .sections) (r .trains) ≡ got qs c₁) where
-      pub placed-none : figureAt text c₁ ≡ bad → NoLine ≡ answerFor r (readLine r text)
-      placed-none e = none-read (placed-only (λ d p x. let z = same-value es (x .sections) in bad-got e (rw (sym (z .1)) at (x .figure))))
+    module _ {qs : List ℕ} {c₁ : ℕ} (e₁ : sectionsAt text s k ≡ got qs c₁) where
+      pub no-figure : figureAt text c₁ ≡ bad → NoLine ≡ answerFor r (readLine r text)
+      no-figure e = none-read (placed-only (λ d p x. let z = same-value e₁ (x .sections) in bad-got e (rw (sym (z .1)) at (x .figure))))
 
-      module _ (n c₂ : ℕ) (en : figureAt text c₁ ≡ got n c₂) where
+      module _ {n c₂ : ℕ} (e₂ : figureAt text c₁ ≡ got n c₂) where
         -- the figure that a line has is the one that was read, and the next cursor too
-        figure-same : (d : PlacementLine) → (x : Walked text (r .sections) (r .trains) (r .points) d (lineEntry r d)) → (n ≡ d .figure) × (c₂ ≡ x .two)
-        figure-same d x = let z = same-value es (x .sections) in same-value en (rw (sym (z .1)) at (x .figure))
+        figure-same : (d : PlacementLine) (x : Takes d) → (n ≡ d .figure) × (c₂ ≡ x .two)
+        figure-same d x = let z = same-value e₁ (x .sections) in same-value e₂ (rw (sym (z .1)) at (x .figure))
 
-        pub entry-none : entryAt text (r .points) c₂ ≡ bad → NoLine ≡ answerFor r (readLine r text)
-        entry-none e = none-read (placed-only (λ d p x. bad-got e (rw (sym (figure-same d x .1)) at (x .entry))))
+        pub no-entry : entryAt text m c₂ ≡ bad → NoLine ≡ answerFor r (readLine r text)
+        no-entry e = none-read (placed-only (λ d p x. bad-got e (rw (sym (figure-same d x .1)) at (x .entry))))
 
-        module _ (v c₃ : ℕ) (ev : entryAt text (r .points) c₂ ≡ got v c₃) (q : Placement) (is : q .sections ≡ qs) where
+        module _ {v c₃ : ℕ} (e₃ : entryAt text m c₂ ≡ got v c₃) (q : Placement) (is : q .sections ≡ qs) where
           abbrev taken : PlacementLine
-          taken = lineOf (r .trains) (r .points) q n v
+          taken = lineOf k m q n v
 
-          entry-same : (d : PlacementLine) → Walked text (r .sections) (r .trains) (r .points) d (lineEntry r d) → v ≡ lineEntry r d
-          entry-same d x = same-value ev (rw (sym (figure-same d x .1)) at (x .entry)) .0
+          entry-same : (d : PlacementLine) → Takes d → v ≡ lineEntry r d
+          entry-same d x = same-value e₃ (rw (sym (figure-same d x .1)) at (x .entry)) .0
 
           -- a line that spells the text is the line taken
-          taken-is : (d : PlacementLine) → Spells r text (placementLine d) → Walked text (r .sections) (r .trains) (r .points) d (lineEntry r d) → taken ≡ d
+          taken-is : (d : PlacementLine) → Spells r text (placementLine d) → Takes d → taken ≡ d
           taken-is d p x =
               let f = fits-parts r d (p .fit) in
-              let w = is ∙ same-value es (x .sections) .0 in
-              let xs : listBelow (sectionIn q) (r .trains) ≡ d .sections =
-              list-is (sectionIn q) (d .sections) (r .trains) 0 (f .each-train)
+              let w = is ∙ same-value e₁ (x .sections) .0 in
+              let xs : listBelow (sectionIn q) k ≡ d .sections =
+              list-is (sectionIn q) (d .sections) k 0 (f .each-train ∙ sym ek)
               (λ t l. ap (λ (u : List ℕ). getD u t 0) w ∙ of-four (λ t u. u ≡ getD (d .sections) t 0) 0 (getD (d .sections) 0 0) (getD (d .sections) 1 0) (getD (d .sections) 2 0) (getD (d .sections) 3 0) refl refl refl refl t (omega (arith, bounds .few-trains))) in
-              let os : listBelow (opensIn v) (r .trains) ≡ d .opens =
-              list-is (opensIn v) (d .opens) (r .trains) false (f .opened)
-              (λ t l. ap (λ (u : ℕ). opensIn u t) (entry-same d x) ∙ entry-opens r (bounds .few-points) (λ n. getD (d .plus) n false) (λ t. getD (d .opens) t false) t l) in
-              let ps : listBelow (bit v) (r .points) ≡ d .plus =
-              list-is (bit v) (d .plus) (r .points) false (f .pointed)
-              (λ t l. ap (λ (u : ℕ). bit u t) (entry-same d x) ∙ entry-plus r (bounds .few-points) (λ n. getD (d .plus) n false) (λ t. getD (d .opens) t false) t l) in
+              let os : listBelow (opensIn v) k ≡ d .opens =
+              list-is (opensIn v) (d .opens) k false (f .opened ∙ sym ek)
+              (λ t l. ap (λ (u : ℕ). opensIn u t) (entry-same d x) ∙ entry-opens r (bounds .few-points) (λ n. getD (d .plus) n false) (λ t. getD (d .opens) t false) t (rw (← ek) l)) in
+              let ps : listBelow (bit v) m ≡ d .plus =
+              list-is (bit v) (d .plus) m false (f .pointed ∙ sym em)
+              (λ t l. ap (λ (u : ℕ). bit u t) (entry-same d x) ∙ entry-plus r (bounds .few-points) (λ n. getD (d .plus) n false) (λ t. getD (d .opens) t false) t (rw (← em) l)) in
               rw (xs, os, ps, figure-same d x .0)
 
-          each-there : all (λ x. ltb x (r .sections)) (listBelow (sectionIn q) (r .trains)) ≡ true
+          each-there : all (λ x. ltb x (r .sections)) (listBelow (sectionIn q) k) ≡ true
           each-there =
-              all-each (λ x. ltb x (r .sections)) (listBelow (sectionIn q) (r .trains))
-              (λ x m. let g = listed (sectionIn q) (r .trains) x m in
-              let h = sections-below text (r .sections) (r .trains) c₁ qs es (bounds .few-trains) (g .index) (g .below) in
+              all-each (λ x. ltb x (r .sections)) (listBelow (sectionIn q) k)
+              (λ x i. let g = listed (sectionIn q) k x i in
+              let h = sections-below text s k c₁ qs e₁ (omega (arith, bounds .few-trains)) (g .index) (g .below) in
               let e : x ≡ getD qs (g .index) 0 = g .is ∙ ap (λ (u : List ℕ). getD u (g .index) 0) is in
               lt-ltb x (r .sections) (omega arith))
 
           taken-fits : fits r (placementLine taken) ≡ true
           unfolding fits
-          taken-fits = rw (list-length (sectionIn q) (r .trains), list-length (opensIn v) (r .trains), list-length (bit v) (r .points), each-there, lt-ltb n noFigure (figure-below text c₁ n c₂ en), eq-eqb (r .trains) (r .trains) refl, eq-eqb (r .points) (r .points) refl)
+          taken-fits = rw (list-length (sectionIn q) k, list-length (opensIn v) k, list-length (bit v) m, each-there, lt-ltb n noFigure (figure-below text c₁ n c₂ e₂), eq-eqb k (r .trains) ek, eq-eqb m (r .points) em)
 
           module _ {b : Bool} (said : length (spell (placementLine taken)) ≤ mostLineBytes → b ≡ sameText (spell (placementLine taken)) text) where
-            pub placed-other : b ≡ false → NoLine ≡ answerFor r (readLine r text)
-            placed-other y = none-read (placed-only (λ d p x. said-false (placementLine taken) taken-fits said y (ap (λ (z : PlacementLine). spell (placementLine z)) (taken-is d p x) ∙ p .spelled)))
+            pub other-spelling : b ≡ false → NoLine ≡ answerFor r (readLine r text)
+            other-spelling y = none-read (placed-only (λ d p x. said-false (placementLine taken) taken-fits said y (ap (λ (z : PlacementLine). spell (placementLine z)) (taken-is d p x) ∙ p .spelled)))
 
-            pub placed-there : b ≡ true → (p : ℕ) → p ≡ codeOn r (sectionIn q) → Placed p n v ≡ answerFor r (readLine r text)
-            placed-there y p ep =
-                let s = said-true (placementLine taken) taken-fits said y in
-                let z : v ≡ lineEntry r taken = entry-same taken (walked r bounds text taken s) in
-                rw (read-so (placementLine taken) taken-fits said y, ep) (ap (Placed (codeOn r (sectionIn q)) n) z)
-
--- THE SAME by a table's counts
-module _ (r : Railway) (table : List ℕ) (h : Compiled r table) (text : List ℕ) (first : BeginsLikeStart text → ⊥) where
-  module _ {s k m : ℕ} (es : s ≡ countByte r 0) (em : m ≡ countByte r 1) (ek : k ≡ countByte r 2) where
-    s-is : s ≡ r .sections
-    s-is = sections-are r s es
-
-    m-is : m ≡ r .points
-    unfolding countByte
-    m-is = em
-
-    k-is : k ≡ r .trains
-    k-is = trains-are r k ek
-
-    pub no-sections : sectionsAt text s k ≡ bad → NoLine ≡ answerFor r (readLine r text)
-    no-sections e = sections-none r (h .accepted) text first (rw (s-is, k-is) at e)
-
-    module _ {qs : List ℕ} {c₁ : ℕ} (e₁ : sectionsAt text s k ≡ got qs c₁) where
-      pub no-figure : figureAt text c₁ ≡ bad → NoLine ≡ answerFor r (readLine r text)
-      no-figure e = placed-none r (h .accepted) text first qs c₁ (rw (s-is, k-is) at e₁) e
-
-      module _ {n c₂ : ℕ} (e₂ : figureAt text c₁ ≡ got n c₂) where
-        pub no-entry : entryAt text m c₂ ≡ bad → NoLine ≡ answerFor r (readLine r text)
-        no-entry e = entry-none r (h .accepted) text first qs c₁ (rw (s-is, k-is) at e₁) n c₂ e₂ (rw m-is at e)
-
-        module _ {v c₃ : ℕ} (e₃ : entryAt text m c₂ ≡ got v c₃) (q : Placement) (is : q .sections ≡ qs) {b : Bool}
-            (said : length (spell (placementLine (lineOf k m q n v))) ≤ mostLineBytes → b ≡ sameText (spell (placementLine (lineOf k m q n v))) text) where
-          pub other-spelling : b ≡ false → NoLine ≡ answerFor r (readLine r text)
-          other-spelling y = placed-other r (h .accepted) text first qs c₁ (rw (s-is, k-is) at e₁) n c₂ e₂ v c₃ (rw m-is at e₃) q is (rw (m-is, k-is) at said) y
-
-          pub placement-read : b ≡ true → (p : ℕ) → p ≡ codeOn r (sectionIn q) → Placed p n v ≡ answerFor r (readLine r text)
-          placement-read y p ep = placed-there r (h .accepted) text first qs c₁ (rw (s-is, k-is) at e₁) n c₂ e₂ v c₃ (rw m-is at e₃) q is (rw (m-is, k-is) at said) y p ep
+            pub placement-read : b ≡ true → (p : ℕ) → p ≡ codeOn r (sectionIn q) → Placed p n v ≡ answerFor r (readLine r text)
+            placement-read y p ep =
+                let c : lineCode r taken ≡ codeOn r (sectionIn q) = ap (λ (j : ℕ). codeOf (r .sections) (listBelow (sectionIn q) j)) ek in
+                let z : v ≡ lineEntry r taken = entry-same taken (takes taken (said-true (placementLine taken) taken-fits said y)) in
+                rw (read-so (placementLine taken) taken-fits said y, ep, c) (ap (Placed (codeOn r (sectionIn q)) n) z)

@@ -1,6 +1,6 @@
 -- A line that fits is taken from its spelling: every field is read where it is written. Open trains are the
 -- digits of one number, case by case for four trains. Assumes nothing.
-use Prim.Native.Nat.{ℕ, zero, suc, _+_, _-_, _*_, _^_, _≤_, _<_}
+use Prim.Native.Nat.{ℕ, suc, _+_, _-_, _*_, _^_, _≤_, _<_}
 use Prim.Native.Char.{code}
 use mathlib.Core.Path.{_≡_, refl, sym, _∙_, ap}
 use mathlib.Core.Logic.{inl, inr}
@@ -8,8 +8,8 @@ use mathlib.Core.Bool.{Bool, true, false}
 use mathlib.Core.List.{List, [], _∷_, _++_, map}
 use native.Mathlib.Omega.{arith}
 use lib.Dec.{eqb, ltb}
-use lib.ListN.{length, getD, drop, length-map, List·getD-append, List·getD-eq-default}
-use lib.Seq.{drop-cons, drop-nil}
+use lib.ListN.{length, getD, drop, length-map, drop-of-length-le, List·getD-append, List·getD-eq-default}
+use lib.Seq.{drop-cons}
 use borrow.Author.Tests.{lt-ltb, le-ltb, ltb-true, ne-eqb}
 use Rattle.laws.specs.Below.{whichBelow}
 use Rattle.laws.specs.Bits.{fromBits}
@@ -126,11 +126,6 @@ unfolding line
 line-more f [] d = refl
 line-more f (x ∷ xs) d = refl
 
-drop-past : (xs : List ℕ) (t : ℕ) → length xs ≤ t → drop t xs ≡ []
-drop-past [] t l = drop-nil t
-drop-past (x ∷ xs) zero l = absurd (omega arith)
-drop-past (x ∷ xs) (suc t) l = drop-past xs t (omega arith)
-
 module _ (text : List ℕ) (s : ℕ) (few : s ≤ 48) (d : PlacementLine) (there : (t : ℕ) → t < length (d .sections) → getD (d .sections) t 0 < s) where
   -- the line from the section of train t on
   abbrev from : ℕ → List ℕ
@@ -144,7 +139,8 @@ module _ (text : List ℕ) (s : ℕ) (few : s ≤ 48) (d : PlacementLine) (there
         ap (λ (ys : List ℕ). line (map sectionField ys ++ lastFields d)) (drop-cons (d .sections) t 0 l) ∙ line-more (decimal (suc (getD (d .sections) t 0))) (drop (suc t) (d .sections)) d in
         section-complete text (from (suc t)) s (length (d .sections)) t (getD (d .sections) t 0) c few l (there t l) (record { text = i .text ∙ e })
     | inr l ↦
-        let e : from t ≡ from (suc t) = ap (λ (ys : List ℕ). line (map sectionField ys ++ lastFields d)) (drop-past (d .sections) t l ∙ sym (drop-past (d .sections) (suc t) (omega arith))) in
+        let next : length (d .sections) ≤ suc t = omega arith in
+        let e : from t ≡ from (suc t) = ap (λ (ys : List ℕ). line (map sectionField ys ++ lastFields d)) (drop-of-length-le (d .sections) l ∙ sym (drop-of-length-le (d .sections) next)) in
         rw (le-ltb t (length (d .sections)) l, List·getD-eq-default (d .sections) 0 l) (stop-here (record { text = i .text ∙ e }))
   ]
 
@@ -185,6 +181,7 @@ walked r b text d p =
     let there : (t : ℕ) → t < length (d .sections) → getD (d .sections) t 0 < r .sections =
     (λ t h. ltb-true (getD (d .sections) t 0) (r .sections) (all-in (λ x. ltb x (r .sections)) (d .sections) (getD (d .sections) t 0) (f .there) (getD-member (d .sections) t 0 h))) in
     let x = sections-complete text (r .sections) l d there (record { text = sym (p .spelled) }) in
-    let none-left : drop 4 (d .sections) ≡ [] = drop-past (d .sections) 4 (omega (arith, f .each-train)) in
+    let four : length (d .sections) ≤ 4 = omega (arith, f .each-train) in
+    let none-left : drop 4 (d .sections) ≡ [] = drop-of-length-le (d .sections) four in
     walked-on text (r .sections) (r .trains) (r .points) d (lineEntry r d) (omega (arith, f .opened)) (f .pointed) (b .few-points) (f .figured) (rw (f .opened))
     (rw (none-left, f .each-train) at x)

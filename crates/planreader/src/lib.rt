@@ -250,9 +250,9 @@ fn read_start(text: &[u8]) -> LineRead
 fn read_placement(table: &Table, text: &[u8]) -> LineRead
     ensures { λ a. ⌜ ((r : Railway) → Compiled r (now (table .entry)) → (BeginsLikeStart (now (text .entry)) → ⊥) → a ≡ answerFor r (readLine r (now (text .entry)))) ⌝ }
 {
-    let m = compiled::count_in(table, 1);
-    let k = compiled::count_in(table, 2);
-    let Sections::SectionsAre(x, y, z, w, c1) = sections_at(text, compiled::count_in(table, 0), k)
+    let m = compiled::points_in(table);
+    let k = compiled::trains_in(table);
+    let Sections::SectionsAre(x, y, z, w, c1) = sections_at(text, compiled::sections_in(table), k)
     else {
         return LineRead::NoLine;
     };

@@ -20,36 +20,26 @@ use Rattle.tables.specs.Entries.{opensIn, settingAt}
 use Rattle.tables.specs.Tables.{noFigure, figureIn}
 use Rattle.plan.specs.Test.{byTables, listedSetting}
 use Rattle.plan.specs.Computed.{trainSignalled, listedPasses, passesIf, placementPasses, testHolds}
-use Rattle.compiled.specs.Table.{countByte}
 use Rattle.moves.specs.declared.Move.{Move}
 use Rattle.moves.specs.Answers.{ended, moveUnder}
-use Rattle.moves.proofs.Placing.{trains-are}
 use Rattle.plantest.specs.Steps.{signalledIn}
 
--- LOOPS over the trains, k being the table's count of them
-pub train-there : (r : Railway) (k : ℕ) → k ≡ countByte r 2 → (t : ℕ) → t < k → t < r .trains
-train-there r k e t l = rw (sym (trains-are r k e)) l
+-- LOOPS over n trains or placements, k being the count of them that code has
+pub within : {n k : ℕ} → k ≡ n → (i : ℕ) → i < k → i < n
+within e i l = rw (← e) l
 
-module _ (r : Railway) (k : ℕ) (e : k ≡ countByte r 2) (f : ℕ → Bool) (t : ℕ) where
-  pub one-of-trains : t < k → f t ≡ true → true ≡ anyBelow f (r .trains)
-  one-of-trains l h = any-one f (r .trains) t (rw (sym (trains-are r k e)) l) h
+module _ {n k : ℕ} (e : k ≡ n) (f : ℕ → Bool) (i : ℕ) where
+  pub one-of : i < k → f i ≡ true → true ≡ anyBelow f n
+  one-of l h = any-one f n i (rw (← e) l) h
 
-  pub none-of-trains : t ≤ k → k ≤ t → anyBelow f t ≡ false → false ≡ anyBelow f (r .trains)
-  none-of-trains l m h = any-none f (r .trains) t h (rw (sym (trains-are r k e)) l) (rw (sym (trains-are r k e)) m)
+  pub none-of : i ≤ k → k ≤ i → anyBelow f i ≡ false → false ≡ anyBelow f n
+  none-of l m h = any-none f n i h (rw (← e) l) (rw (← e) m)
 
-  pub but-a-train : t < k → f t ≡ false → false ≡ allBelow f (r .trains)
-  but-a-train l h = all-but f (r .trains) t (rw (sym (trains-are r k e)) l) h
+  pub but-one : i < k → f i ≡ false → false ≡ allBelow f n
+  but-one l h = all-but f n i (rw (← e) l) h
 
-  pub every-train : t ≤ k → k ≤ t → allBelow f t ≡ true → true ≡ allBelow f (r .trains)
-  every-train l m h = all-each f (r .trains) t h (rw (sym (trains-are r k e)) l) (rw (sym (trains-are r k e)) m)
-
--- .. and over the placements
-module _ (r : Railway) (m : ℕ) (e : m ≡ placements r) (f : ℕ → Bool) (p : ℕ) where
-  pub but-a-placement : p < m → f p ≡ false → false ≡ allBelow f (placements r)
-  but-a-placement l h = all-but f (placements r) p (rw (← e) l) h
-
-  pub every-placement : p ≤ m → m ≤ p → allBelow f p ≡ true → true ≡ allBelow f (placements r)
-  every-placement l g h = all-each f (placements r) p h (rw (← e) l) (rw (← e) g)
+  pub every-one : i ≤ k → k ≤ i → allBelow f i ≡ true → true ≡ allBelow f n
+  every-one l m h = all-each f n i h (rw (← e) l) (rw (← e) m)
 
 -- ONE TRAIN: open without a signal
 module _ (r : Railway) (p v t : ℕ) (o : Bool) (is : o ≡ opensIn v t) where
@@ -59,7 +49,7 @@ module _ (r : Railway) (p v t : ℕ) (o : Bool) (is : o ≡ opensIn v t) where
   pub closed-signalled : o ≡ false → true ≡ signalledIn r p v t
   closed-signalled y = rw (sym is ∙ y)
 
--- .. and where its move ends
+-- ONE TRAIN: where its move ends
 module _ (r : Railway) (figs : List ℕ) (p v n t : ℕ) (m : Bool) (is : m ≡ may (gameOf r) p (settingAt r p v) t) where
   pub stays-below : m ≡ false → true ≡ goesBelow (gameOf r) (figureIn figs) p (settingAt r p v) n t
   stays-below y = rw (sym is ∙ y)

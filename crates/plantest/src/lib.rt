@@ -88,7 +88,7 @@ fn listed_passes(table: &Table, figures: &[u32], settings: &[u32], p: u32, n: u3
 fn opens_signalled(table: &Table, q: Placement, v: u32) -> bool
     ensures { λ b. ⌜ ((r : Railway) (p : ℕ) → On r p (now (table .entry)) q → b ≡ allBelow (signalledIn r p v) (r .trains)) ⌝ }
 {
-    let k = compiled::count_in(table, 2);
+    let k = compiled::trains_in(table);
     let mut t: u8 = 0;
     while t < k {
         if train_signalled(table, q, v, t) {
@@ -124,7 +124,7 @@ fn keeps(table: &Table, figures: &[u32], p: u32, v: u32, n: u32) -> bool
 fn some_may(table: &Table, p: u32, v: u32) -> bool
     ensures { λ b. ⌜ ((r : Railway) → Compiled r (now (table .entry)) → b ≡ anyBelow (may (gameOf r) p (settingAt r p v)) (r .trains)) ⌝ }
 {
-    let k = compiled::count_in(table, 2);
+    let k = compiled::trains_in(table);
     let mut t: u8 = 0;
     while t < k {
         if moves::may_move(table, p, v, t) {
@@ -138,7 +138,7 @@ fn some_may(table: &Table, p: u32, v: u32) -> bool
 fn all_below(table: &Table, figures: &[u32], p: u32, v: u32, n: u32) -> bool
     ensures { λ b. ⌜ ((r : Railway) → Compiled r (now (table .entry)) → b ≡ allBelow (goesBelow (gameOf r) (figureIn (now (figures .entry))) p (settingAt r p v) n) (r .trains)) ⌝ }
 {
-    let k = compiled::count_in(table, 2);
+    let k = compiled::trains_in(table);
     let mut t: u8 = 0;
     while t < k {
         if goes_below(table, figures, p, v, n, t) {

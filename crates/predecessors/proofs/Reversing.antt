@@ -1,5 +1,6 @@
--- A way is the same back: joins are returned and tie sides that differ, and a point that lets a train through from one port to another lets it through back.
--- So who comes to a section by an end comes, going back by that end with the points as they lie, to where the train was. Assumes nothing.
+-- A way is the same back: joins are returned and tie sides that differ, and a point that lets a train through from one port to another
+-- lets it through back. So a train that comes to a section by an end comes, going back by that end with the points as they lie, to where
+-- it was. Assumes nothing.
 use mathlib.Core.Path.{_≡_, refl, sym, _∙_, ap}
 use mathlib.Core.Bool.{Bool, true, false}
 use mathlib.Core.Option.{Option, none, some}
@@ -20,7 +21,7 @@ use Rattle.railway.specs.Record.{joined, legsOf}
 use Rattle.railway.proofs.Accepted.{Accepted, joined-right, joined-back}
 use Rattle.game.specs.Moves.{through, behindPort, pastPoint, pastJoin, passes}
 
--- sides
+-- Two sides that differ are opposite.
 other-side : (a b : Side) → sameSide a b ≡ false → b ≡ opposite a
 other-side Up Up e = clash refl e
 other-side Up Down e = refl
@@ -31,7 +32,7 @@ twice : (a : Side) → opposite (opposite a) ≡ a
 twice Up = refl
 twice Down = refl
 
--- a point, there and back
+-- A point, there and back.
 through-back : (l m : Leg) (b : Bool) → through l b ≡ some m → through m b ≡ some l
 through-back Stem m true e = let z : m ≡ Plus = sym (some-one e) in rw z
 through-back Stem m false e = let z : m ≡ Minus = sym (some-one e) in rw z
@@ -49,13 +50,13 @@ through-sides legs Minus m true e = some-none e refl
 through-sides legs Minus m false e = let z : m ≡ Stem = sym (some-one e) in rw z
 
 module _ (r : Railway) (w : Accepted r) (b : Bool) (h : Side) where
-  -- by one join
+  -- Back by one join.
   join-side : (y n : SectionNo) (s : Side) → joined r (Section y h) ≡ With (Section n s) → joined r (Section n (opposite h)) ≡ With (Section y h)
   join-side y n s p =
       let z : s ≡ opposite h = other-side h s (joined-right r w (Section y h) (Section n s) p .sides) in
       rw z at (joined-back r w (Section y h) (Section n s) p)
 
-  -- over a point
+  -- Back over a point.
   point-side : (y n : SectionNo) (k : PointNo) (l m : Leg) (s : Side) → joined r (Section y h) ≡ With (Port k l) → through l b ≡ some m → joined r (Port k m) ≡ With (Section n s)
       → joined r (Section n (opposite h)) ≡ With (Port k m)
   point-side y n k l m s p t q =

@@ -1,8 +1,10 @@
--- The sections behind each section, as a table of bytes: where a train that went back would come to. Nothing of document 01 rests on this file: contracts cite it, and the
--- laws in proofs/ say that every move into a section comes from one of these. Assumes nothing.
+-- The sections behind each section, as a table of bytes: where a train that went back would come to. Nothing of document 01 rests on this
+-- file: contracts cite it, and the laws in proofs/ say that every move into a section comes from one of these. Assumes nothing.
 use mathlib.Core.Path.{_≡_}
+use mathlib.Core.Bool.{Bool}
 use mathlib.Core.List.{List}
-use Prim.Native.Nat.{ℕ, _+_, _*_, _/_, _%_, _<_}
+use Prim.Native.Nat.{ℕ, _*_, _/_, _%_, _<_}
+use lib.Dec.{eqb}
 use lib.ListN.{getD}
 use Rattle.railway.specs.declared.End.{End}
 use Rattle.railway.specs.declared.End.the-variants.{Section}
@@ -10,7 +12,8 @@ use Rattle.railway.specs.declared.Railway.{Railway}
 use Rattle.railway.specs.Bounds.{mostSections, mostTrains}
 use Rattle.railway.specs.Ends.{opposite}
 use Rattle.railway.specs.Record.{runOf}
-use Rattle.compiled.specs.Table.{wayByte}
+use Rattle.game.specs.Moves.{passes}
+use Rattle.compiled.specs.Table.{sectionByte}
 
 -- How long the table is: two bytes for each train and section.
 abbrev pub behindBytes : ℕ
@@ -20,9 +23,13 @@ behindBytes = 2 * (mostTrains * mostSections)
 abbrev pub endBehind : Railway → ℕ → ℕ → End
 endBehind r t x = Section (record { 0 = x }) (opposite (runOf r t .heading))
 
--- The byte at index i: the section that a train leaving by that end enters, with the point at minus at even indices and at plus at odd ones.
+-- The section behind section x for train t, the points lying at plus or not: what a train enters that leaves by that end.
+abbrev pub sectionBehind : Railway → ℕ → ℕ → Bool → ℕ
+sectionBehind r t x plus = sectionByte (passes r (λ n. plus) (endBehind r t x) .reached)
+
+-- The byte at index i: for each train, and there for each section, the section behind it with the points at minus and then at plus.
 unfoldable pub behindByte : Railway → ℕ → ℕ
-behindByte r i = wayByte r (endBehind r (i / (2 * mostSections)) (i / 2 % mostSections)) (2 + i % 2)
+behindByte r i = sectionBehind r (i / (2 * mostSections)) (i / 2 % mostSections) (eqb (i % 2) 1)
 
 -- The table of a railway.
 pub record Behind (r : Railway) (behind : List ℕ) : Type 0 where

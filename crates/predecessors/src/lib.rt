@@ -1,20 +1,25 @@
-// Where trains can have come from. Going back from a section a train meets the same join and the same point as coming to it, so it has come from
-// one section if that point lies at minus and from one if it lies at plus. Read off a record once, into a table of bytes, for loops that ask often.
+// Where trains can have come from. Going back from a section a train meets the same join and the same point as coming to it, so it has
+// come from one section if that point lies at minus and from one if it lies at plus. Read off a record once, into a table of bytes, for
+// loops that ask often.
 ghost use mathlib.Core.Path.{_≡_};
-ghost use mathlib.Core.Bool.{cond};
 ghost use Prim.Native.Nat.{_<_};
 ghost use Rattle.railway.specs.declared.Railway.{Railway};
+ghost use Rattle.railway.specs.Bounds.{mostSections, mostTrains};
 ghost use Rattle.railway.specs.Ends.{opposite};
-ghost use Rattle.compiled.specs.Table.{wayByte};
-ghost use Rattle.predecessors.specs.Behind.{endBehind, behindByte, Behind};
+ghost use Rattle.predecessors.specs.Behind.{behindBytes, sectionBehind, behindByte, Behind};
 use compiled::NO_BYTE;
 use railway::End;
 use railway::Railway;
 use railway::SectionNo;
 use railway::Side;
 
-// Bytes of a table: two for each train and section.
-pub const BEHIND: usize = 384;
+const SECTIONS: usize = Railway::SECTIONS as usize;
+
+// Bytes of a train: two for each section.
+const TRAIN: usize = 2 * SECTIONS;
+
+// Bytes of a table.
+pub const BEHIND: usize = TRAIN * (Railway::TRAINS as usize);
 
 // The table of a railway's sections behind each section.
 pub type SectionsBehind = [u8; BEHIND];
@@ -33,17 +38,16 @@ pub fn sections_behind(r: Railway) -> SectionsBehind
     behind
 }
 
-// The byte at an index.
+// The byte at an index: of the section behind with the points at minus at even indices, at plus at odd ones.
 fn byte_behind(r: Railway, i: usize) -> u8
-    requires { ⌜ i < 384 ⌝ }
+    requires { ⌜ i < behindBytes ⌝ }
     ensures { λ b. ⌜ b ≡ behindByte r i ⌝ }
 {
-    let t = (i / 96) as u8;
-    let x = (i / 2 % 48) as u8;
-    let j = 2 + (i % 2) as u8;
+    let t = (i / TRAIN) as u8;
+    let x = (i / 2 % SECTIONS) as u8;
     let run = r.run_of(t);
     let h = run.heading;
-    compiled::way_byte(r, End::Section(SectionNo(x), other_side(h)), j)
+    compiled::section_from(r, End::Section(SectionNo(x), other_side(h)), i % 2 == 1)
 }
 
 fn other_side(s: Side) -> Side
@@ -55,11 +59,11 @@ fn other_side(s: Side) -> Side
     }
 }
 
-// THE SECTION BEHIND section x for train t, the point between them lying at plus or not; 255: none.
+// THE SECTION BEHIND section x for train t, the point between them lying at plus or not; `NO_BYTE`: none.
 pub fn section_behind(behind: &SectionsBehind, t: u8, x: u8, plus: bool) -> u8
-    ensures { λ y. ⌜ ((r : Railway) → Behind r (now (behind .entry)) → t < 4 → x < 48 → y ≡ wayByte r (endBehind r t x) (cond plus 3 2)) ⌝ }
+    ensures { λ y. ⌜ ((r : Railway) → Behind r (now (behind .entry)) → t < mostTrains → x < mostSections → y ≡ sectionBehind r t x plus) ⌝ }
 {
-    let at = 2 * (48 * (t as usize) + (x as usize));
+    let at = 2 * (SECTIONS * (t as usize) + (x as usize));
     if plus {
         byte_at(behind, at + 1)
     } else {
@@ -68,7 +72,7 @@ pub fn section_behind(behind: &SectionsBehind, t: u8, x: u8, plus: bool) -> u8
 }
 
 fn byte_at(behind: &SectionsBehind, i: usize) -> u8
-    ensures { λ b. ⌜ ((r : Railway) → Behind r (now (behind .entry)) → i < 384 → b ≡ behindByte r i) ⌝ }
+    ensures { λ b. ⌜ ((r : Railway) → Behind r (now (behind .entry)) → i < behindBytes → b ≡ behindByte r i) ⌝ }
 {
     if i < BEHIND { behind[i] } else { NO_BYTE }
 }

@@ -5,10 +5,9 @@ use mathlib.Core.List.{List}
 use Prim.Native.Nat.{ℕ}
 use Rattle.laws.specs.Below.{listBelow}
 use Rattle.railway.specs.declared.Railway.{Railway}
-use Rattle.game.specs.Placement.{standsOn, shared}
+use Rattle.game.specs.Placement.{standsOn, shared, codeOn}
 use Rattle.compiled.specs.Table.{Compiled}
 use Rattle.moves.specs.declared.Placement.{Placement}
-use Rattle.moves.specs.Answers.{codeOn}
 use Rattle.moves.specs.Steps.{sectionIn}
 use Rattle.moves.proofs.Round.{on-one}
 use Rattle.settings.specs.Ways.{Asked}

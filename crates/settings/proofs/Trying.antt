@@ -20,7 +20,7 @@ use Rattle.railway.specs.declared.Railway.{Railway}
 use Rattle.game.specs.Game.{Outcome, may}
 use Rattle.game.specs.Claim.{figureOf, Keeps}
 use Rattle.game.specs.Local.{isBelow, goesBelow, keepsTest}
-use Rattle.game.specs.Placement.{shared}
+use Rattle.game.specs.Placement.{shared, codeOn}
 use Rattle.game.specs.Setting.{Setting, held, free}
 use Rattle.game.specs.Moves.{moveOf, gameOf}
 use Rattle.game.proofs.Accepted.{Facts, facts}
@@ -33,7 +33,6 @@ use Rattle.tables.proofs.Find.{try-finds, find-sound}
 use Rattle.tables.proofs.Points.{met-try, find-met}
 use Rattle.compiled.specs.Table.{countByte, Compiled}
 use Rattle.moves.specs.declared.Placement.{Placement}
-use Rattle.moves.specs.Answers.{codeOn}
 use Rattle.moves.specs.Steps.{sectionIn, On}
 use Rattle.moves.proofs.Coding.{bit-high}
 use Rattle.moves.proofs.Placing.{trains-are, few-trains}

@@ -28,8 +28,8 @@ use Rattle.tables.specs.Tables.{noFigure, figureIn}
 use Rattle.tables.specs.Find.{needsPlus}
 use Rattle.tables.proofs.Exists.{few-placements}
 use Rattle.compiled.specs.Table.{sectionByte, countByte}
+use Rattle.game.specs.Placement.{codeOn}
 use Rattle.moves.specs.declared.Placement.{Placement}
-use Rattle.moves.specs.Answers.{codeOn}
 use Rattle.moves.specs.Steps.{sectionIn, On, otherIn, allAt}
 use Rattle.moves.proofs.Moving.{other-on, code-by-weight, derails, arrives, collides, stands-at}
 use Rattle.settings.specs.Ways.{Asked, pointMet, endsBelow, harmedAtMinus, beyondHelp, neededPoints, goodAtPlus, withBit}

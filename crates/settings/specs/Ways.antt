@@ -11,13 +11,12 @@ use Rattle.laws.specs.Bits.{bit, fromBits}
 use Rattle.railway.specs.declared.Railway.{Railway}
 use Rattle.game.specs.Claim.{figureOf}
 use Rattle.game.specs.Local.{isBelow}
-use Rattle.game.specs.Placement.{shared}
+use Rattle.game.specs.Placement.{shared, codeOn}
 use Rattle.game.specs.Setting.{headsFor, free}
 use Rattle.game.specs.Moves.{passes, moveOf}
 use Rattle.tables.specs.Find.{somePlus}
 use Rattle.compiled.specs.Table.{pointByte}
 use Rattle.moves.specs.declared.Placement.{Placement}
-use Rattle.moves.specs.Answers.{codeOn}
 use Rattle.moves.specs.Steps.{sectionIn, On, allAt}
 
 -- What is asked about: placement p of an accepted railway with k trains and m points, by value and by the code of that; not lost.

@@ -10,7 +10,7 @@ ghost use Rattle.game.specs.Setting.{free};
 ghost use Rattle.tables.specs.Tables.{figureIn};
 ghost use Rattle.tables.specs.Find.{tryMet, findMet};
 ghost use Rattle.compiled.specs.Table.{Compiled};
-ghost use Rattle.moves.specs.Answers.{codeOn};
+ghost use Rattle.game.specs.Placement.{codeOn};
 ghost use Rattle.moves.specs.Steps.{sectionIn, On};
 ghost use Rattle.settings.specs.Answers.{entryFound, firstKeeping};
 ghost use Rattle.settings.specs.Ways.{Asked, endsBelow, harmedAtMinus, neededPoints, goodAtPlus, withBit};

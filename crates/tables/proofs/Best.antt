@@ -1,7 +1,7 @@
--- What the search finds is the plan's setting: of all whole settings that keep the figure none comes before it, and its entry has no bit besides.
--- With no signal open nothing opens fewer, and the point bits are the smallest. Else every train is held, for a free train would have let the first try find
--- something; so every setting that keeps the figure opens the signal of some train, and with that signal alone its points keep the figure too: the search
--- would have found a lower train or smaller bits. Assumes nothing.
+-- What the search finds is the plan's setting: of all whole settings that keep the figure none comes before it, and its entry has no bit
+-- besides. With no signal open nothing opens fewer, and the point bits are the smallest. Else every train is held, for a free train would
+-- have let the first try find something; so every setting that keeps the figure opens the signal of some train, and with that signal alone
+-- its points keep the figure too: the search would have found a lower train or smaller bits. Assumes nothing.
 use mathlib.Core.Path.{_≡_, refl, sym, _∙_}
 use mathlib.Core.Logic.{inl, inr}
 use mathlib.Core.Bool.{Bool, true, false}

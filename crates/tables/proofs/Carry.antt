@@ -1,5 +1,5 @@
--- The plan's entry at a figure looks at the smaller figures alone: what keeps a figure by one table keeps it by another that has the same figures below it, so
--- the earliest of all settings is the same. Assumes nothing.
+-- The plan's entry at a figure looks at the smaller figures alone: what keeps a figure by one table keeps it by another that has the same
+-- figures below it, so the earliest of all settings is the same. Assumes nothing.
 use mathlib.Core.Path.{_≡_, refl, sym, _∙_, ap, fun-ext}
 use mathlib.Core.Logic.{inl, inr}
 use mathlib.Core.Bool.{Bool}

@@ -1,6 +1,7 @@
--- How the tables of a small yard are proved by computation: tables that pass a test made at every placement are filled tables.
--- The test searches: where a figure stands, its number finds the table's entry and the number before it finds nothing; where none stands, no number that a table can
--- hold finds anything. As the search misses no whole setting, such tables agree with every single turn, and what it finds is the plan's entry. Assumes nothing.
+-- How the tables of a small yard are proved by computation: tables that pass a test made at every placement are filled tables. The test
+-- searches: where a figure stands, its number finds the table's entry and the number before it finds nothing; where none stands, no number
+-- that a table can hold finds anything. As the search misses no whole setting, such tables agree with every single turn, and what it finds
+-- is the plan's entry. Assumes nothing.
 use mathlib.Core.Path.{_≡_, refl}
 use mathlib.Core.Logic.{inl, inr}
 use mathlib.Core.Bool.{Bool, true, false, cond, not, _&&_}
@@ -10,7 +11,7 @@ use Prim.Native.Nat.{ℕ, zero, suc, _≤_, _<_}
 use native.Mathlib.Omega.{arith}
 use lib.ListN.{getD}
 use lib.Dec.{eqb, leb}
-use borrow.Author.Tests.{eqb-true, eqb-false, leb-true}
+use borrow.Author.Tests.{eqb-true, eq-eqb, leb-true}
 use Rattle.laws.specs.Below.{allBelow}
 use Rattle.laws.proofs.Bools.{bool?, lt?, clash, some-none, and-true}
 use Rattle.laws.proofs.Below.{all-at}
@@ -87,12 +88,18 @@ module _ (r : Railway) (F : ℕ → Option ℕ) (p : ℕ) where
       go false true es eh x = let b = and-true (isSome 0 f) (eqb v 0) x in rw (some-of 0 f (b .0), eqb-true v 0 (b .1)) (is-home es eh)
       go false false es eh x = played f v es eh x
 
+-- an entry with a figure is that figure
+pub entry-is : (x j : ℕ) → figureEntry x ≡ some j → x ≡ j
+entry-is x j e = elim (bool? (eqb x noFigure)) [
+  | inl y ↦ some-none e (rw y refl)
+  | inr y ↦ let s : figureEntry x ≡ some x = rw y in cc
+]
+
 -- a figure that a table can hold is smaller than the number for none
 pub figure-small : (x j : ℕ) → x ≤ noFigure → figureEntry x ≡ some j → j < noFigure
-figure-small x j l e = elim (bool? (eqb x noFigure)) [
-  | inl y ↦ some-none e (rw y refl)
-  | inr y ↦ let s : figureEntry x ≡ some x = rw y in let z : x ≡ j = cc in let w : x ≡ noFigure → ⊥ = eqb-false x noFigure y in elim (lt? x noFigure) [ inl b ↦ omega arith | inr b ↦ absurd (w (omega arith)) ]
-]
+figure-small x j l e =
+    let z : x ≡ j = entry-is x j e in
+    elim (lt? x noFigure) [ inl b ↦ omega arith | inr b ↦ let y : x ≡ noFigure = omega arith in some-none e (rw (eq-eqb x noFigure y) refl) ]
 
 module _ (r : Railway) (accepted : recordRefusal r ≡ none) (figs sets : List ℕ) (c : certified r figs sets ≡ true) where
   abbrev F : ℕ → Option ℕ

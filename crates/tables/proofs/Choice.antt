@@ -1,5 +1,5 @@
--- One choice for a case: filled tables exist, and the choice that goes with them serves, for a placement's figure is one: where the rules give none, the table has
--- none. Assumes nothing.
+-- One choice for a case: filled tables exist, and the choice that goes with them serves, for a placement's figure is one: where the rules
+-- give none, the table has none. Assumes nothing.
 use mathlib.Core.List.{List}
 use mathlib.Core.Option.{none}
 use Prim.Native.Nat.{ℕ}

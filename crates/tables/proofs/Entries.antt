@@ -1,6 +1,7 @@
--- An entry of the setting table and the setting that it stands for. Bits below 16 are the points', those from 16 on the trains', and neither reach into the
--- other; so the setting of an entry has its points and opens the signals of its open trains. Trains that do not share a section head for ends of their own:
--- where all open trains are held, the entry of that setting is the entry again. Assumes nothing.
+-- An entry of the setting table and the setting that it stands for. Bits below 16 are the points', those from 16 on the trains', and
+-- neither reach into the other; so the setting of an entry has its points and opens the signals of its open trains. Trains that do not
+-- share a section head for ends of their own: where all open trains are held, the entry of that setting is the entry again. Assumes
+-- nothing.
 use mathlib.Core.Path.{_≡_, refl, sym, _∙_, ap}
 use mathlib.Core.Logic.{inl, inr}
 use mathlib.Core.Bool.{Bool, true, false, _&&_, _||_}

@@ -1,5 +1,6 @@
--- Both searches give exactly the plan's entry, in an accepted case where no two trains share a section: they find v exactly if v is the entry of the plan's
--- setting, and nothing exactly if no whole setting keeps the figure. What is found is the plan's entry, and there is one. Assumes nothing.
+-- Both searches give exactly the plan's entry, in an accepted case where no two trains share a section: they find v exactly if v is the
+-- entry of the plan's setting, and nothing exactly if no whole setting keeps the figure. What is found is the plan's entry, and there is
+-- one. Assumes nothing.
 use mathlib.Core.Path.{_≡_, sym, _∙_}
 use mathlib.Core.Logic.{inl, inr}
 use mathlib.Core.Bool.{false}
@@ -15,11 +16,10 @@ use Rattle.game.specs.Moves.{gameOf}
 use Rattle.game.proofs.Accepted.{facts}
 use Rattle.tables.specs.Entries.{settingAt}
 use Rattle.tables.specs.Tables.{Planned, Exact}
-use Rattle.tables.specs.Find.{find, findMet}
+use Rattle.tables.specs.Find.{find}
 use Rattle.tables.proofs.Find.{find-sound, find-complete, find-none}
 use Rattle.tables.proofs.Best.{Best, find-best}
 use Rattle.tables.proofs.Unique.{plan-one}
-use Rattle.tables.proofs.Points.{find-met}
 
 module _ (r : Railway) (accepted : recordRefusal r ≡ none) (p : ℕ) (apart : shared r p ≡ false) (F : ℕ → Option ℕ) (n : ℕ) where
   planned : (v : ℕ) → find r F p n ≡ some v → Planned r F p n v
@@ -37,6 +37,3 @@ module _ (r : Railway) (accepted : recordRefusal r ≡ none) (p : ℕ) (apart : 
 
   pub find-exact : Exact r F p n (find r F p n)
   find-exact = record { finds = λ v. (planned v, found v); finds-nothing = (find-none r F p n (facts r accepted), nothing) }
-
-  pub met-exact : Exact r F p n (findMet r F p n)
-  met-exact = let e : findMet r F p n ≡ find r F p n = find-met r (facts r accepted) p apart F n in rw e find-exact

@@ -1,5 +1,5 @@
--- Small values of the definitions, by computation: which refusal comes first, the bits of an entry, also of several points, figures past the end of a table, the plan's
--- order key by key.
+-- Small values of the definitions, by computation: which refusal comes first, the bits of an entry, also of several points, figures past
+-- the end of a table, the plan's order key by key.
 -- Assumes nothing.
 use mathlib.Core.Path.{_≡_, refl}
 use mathlib.Core.Bool.{Bool, true, false}
@@ -100,8 +100,9 @@ order :
 unfolding noLater settingAt entryFrom openSignals lowestOpen signalOpen held hasSignal headsFor standsOn sectionsIn runOf withJoin withSignal withLegs withTrain anyBelow countBelow lowest fromBits
 order = (refl, refl, refl, refl, refl, refl, refl, refl, refl)
 
--- SEVERAL POINTS. A ladder of three, all with their legs up: section 1 leads to point 1, whose legs are followed by 2 and 3; section 2 leads to point 2 with 4 and 5
--- behind it, section 3 to point 3 with 6 and 7. Train 1 heads up from 1 to 4 and train 2 down from 7 to 3, with signals at 1u, 4u and 7d; the start has code 42.
+-- SEVERAL POINTS. A ladder of three, all with their legs up: section 1 leads to point 1, whose legs are followed by 2 and 3; section 2
+-- leads to point 2 with 4 and 5 behind it, section 3 to point 3 with 6 and 7. Train 1 heads up from 1 to 4 and train 2 down from 7 to 3,
+-- with signals at 1u, 4u and 7d; the start has code 42.
 abbrev pub ladder : Railway
 ladder =
     lineT 2 Down 7 3

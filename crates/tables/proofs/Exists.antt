@@ -1,6 +1,6 @@
--- The promise can be kept: in every accepted case there are the figures and the plan's entries, and tables long enough can be filled with them.
--- Tables made round by round, by the search, agree with every single turn and so have the figures; these are below the number for none, for there are no
--- more rounds than placements. What the search finds is the plan's entry. Assumes nothing.
+-- The promise can be kept: in every accepted case there are the figures and the plan's entries, and tables long enough can be filled with
+-- them. Tables made round by round, by the search, agree with every single turn and so have the figures; these are below the number for
+-- none, for there are no more rounds than placements. What the search finds is the plan's entry. Assumes nothing.
 use mathlib.Core.Path.{_≡_, refl, sym, _∙_, ap}
 use mathlib.Core.Logic.{inl, inr}
 use mathlib.Core.Bool.{false}

@@ -1,6 +1,6 @@
--- More open signals only add moves: with the points lying alike, a train that may move under fewer open signals may move under more, and moves the same way.
--- So of a setting that keeps a figure any part of the open signals keeps it too, as long as some train may still move: where a train is free no signal
--- need be open, and else that of one train is enough. Assumes nothing.
+-- To open a signal never takes a move away: with the points as they are, whoever may move before may move after it, and comes to the same
+-- end. So of a setting that keeps a figure any part of the open signals keeps it too, as long as some train may still move: where a train
+-- is free no signal need be open, and else that of one train is enough. Assumes nothing.
 use mathlib.Core.Path.{_≡_, refl, sym, _∙_}
 use mathlib.Core.Logic.{_⊎_, inl, inr}
 use mathlib.Core.Bool.{Bool, true, false}

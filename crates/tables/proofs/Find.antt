@@ -1,6 +1,6 @@
--- The search misses no whole setting. What a try finds keeps the figure, with the smallest point bits of all that do with these trains open. Of a whole setting that
--- keeps the figure, the same points keep it with no signal open if some train is free, and else with the signal of any train that may move; one of
--- these two tries finds something. Assumes nothing.
+-- The search misses no whole setting. What a try finds keeps the figure, with the smallest point bits of all that do with these trains
+-- open. Of a whole setting that keeps the figure, the same points keep it with no signal open if some train is free, and else with the
+-- signal of any train that may move; one of these two tries finds something. Assumes nothing.
 use mathlib.Core.Path.{_≡_, refl, sym, _∙_}
 use mathlib.Core.Logic.{_⊎_, inl, inr}
 use mathlib.Core.Bool.{Bool, true, false}

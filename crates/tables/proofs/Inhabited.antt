@@ -1,6 +1,6 @@
--- The hypotheses of the theorems can be met: Yard A has filled tables (KnownYards), every accepted case has (Exists), tables after every round exist (Rounds).
--- Here are the rounds: tables can be cleared, and every round can be played from any tables, of which the last gives no figure in the yard of one section.
--- Whatever stands at a placement, one of the two steps applies. Assumes nothing.
+-- The hypotheses of the theorems can be met: Yard A has filled tables (KnownYards), every accepted case has (Exists), tables after every
+-- round exist (Rounds). Here are the rounds: tables can be cleared, and every round can be played from any tables, of which the last gives
+-- no figure in the yard of one section. Whatever stands at a placement, one of the two steps applies. Assumes nothing.
 use mathlib.Core.Path.{refl}
 use mathlib.Core.Logic.{inl, inr}
 use mathlib.Core.Bool.{Bool, true, false}

@@ -1,5 +1,5 @@
--- The known figures, proved from the rules for whole plays: the tables of each yard are written out, pass the test of Certify by computation, and so have
--- the figures. Assumes nothing.
+-- The known figures, proved from the rules for whole plays: the tables of each yard are written out, pass the test of Certify by
+-- computation, and so have the figures. Assumes nothing.
 use mathlib.Core.Path.{_≡_, refl}
 use mathlib.Core.Bool.{Bool, true, _&&_}
 use mathlib.Core.List.{List, [], _∷_}

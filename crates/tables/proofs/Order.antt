@@ -1,5 +1,6 @@
--- The plan's order of settings, key by key: how many signals a setting opens, which train is the lowest open one, the point bits; for the settings of entries with
--- no train open and with one. An open train's signal stands at a section end of its own and is counted there. Assumes nothing.
+-- The plan's order of settings, key by key: how many signals a setting opens, which train is the lowest open one, the point bits; for the
+-- settings of entries with no train open and with one. An open train's signal stands at a section end of its own and is counted there.
+-- Assumes nothing.
 use mathlib.Core.Path.{_≡_, sym, _∙_}
 use mathlib.Core.Logic.{inl, inr}
 use mathlib.Core.Bool.{Bool, true, false, _&&_}

@@ -1,5 +1,5 @@
--- Filled tables are right for whole plays: they have every figure, and their settings keep them, so they agree with every single turn; the theorem on whole
--- plays does the rest. Assumes nothing.
+-- Filled tables are right for whole plays: they have every figure, and their settings keep them, so they agree with every single turn; the
+-- theorem on whole plays does the rest. Assumes nothing.
 use mathlib.Core.Path.{_≡_}
 use mathlib.Core.Bool.{false}
 use mathlib.Core.List.{List}

@@ -1,6 +1,7 @@
--- The search that looks at the points met finds what the search over all point bits finds. A move meets one point at most, and which one does not depend on how it
--- lies. So a point that lies at minus to a train's harm must lie at plus in every setting that keeps the figure with these trains open, and any other
--- point may as well lie at minus: these bits keep the figure if any do, and none are smaller. Assumes nothing.
+-- The search that looks at the points met finds what the search over all point bits finds. A move meets one point at most, and which one
+-- does not depend on how it lies. So a point that lies at minus to a train's harm must lie at plus in every setting that keeps the figure
+-- with these trains open, and any other point may as well lie at minus: these bits keep the figure if any do, and none are smaller. Assumes
+-- nothing.
 use mathlib.Core.Path.{_≡_, refl, sym, _∙_, ap, fun-ext}
 use mathlib.Core.Logic.{_⊎_, inl, inr}
 use mathlib.Core.Bool.{Bool, true, false, not, _&&_, _||_}

@@ -1,5 +1,5 @@
--- When a record with two lent tables is refused: the rows of the record come first and row 9 last, so nothing is refused exactly if the record is accepted and both
--- tables are long enough. Assumes nothing.
+-- When a record with two lent tables is refused: the rows of the record come first and row 9 last, so nothing is refused exactly if the
+-- record is accepted and both tables are long enough. Assumes nothing.
 use mathlib.Core.Path.{_≡_, _∙_}
 use mathlib.Core.Logic.{_↔_, inl, inr}
 use mathlib.Core.Bool.{false}

@@ -1,6 +1,7 @@
 -- Round by round: for every n there are tables as they stand after round n, and where no figure is larger than n these are filled tables.
--- They are the case's figures and entries up to n. A plan's entry looks at smaller figures alone, and those are there from their own round on. Assumes nothing.
-use mathlib.Core.Path.{_≡_, refl, sym, _∙_, ap}
+-- They are the case's figures and entries up to n. A plan's entry looks at smaller figures alone, and those are there from their own round
+-- on. Assumes nothing.
+use mathlib.Core.Path.{_≡_, refl, _∙_, ap}
 use mathlib.Core.Logic.{inl, inr}
 use mathlib.Core.Bool.{Bool, true, false, cond}
 use mathlib.Core.List.{List}
@@ -89,13 +90,5 @@ module _ (r : Railway) (accepted : recordRefusal r ≡ none) (n : ℕ) where
               let i : IsFigure (gameOf r) p (solution r accepted .figure p) = solution r accepted .figures p l in
               let e : figureIn figs p ≡ solution r accepted .figure p = t .figures p l (solution r accepted .figure p) i ∙ all p l (solution r accepted .figure p) i in
               rw e i;
-          settings = t .settings;
-        }
-
-    pub filled-round : (figs sets : List ℕ) → Filled r figs sets → RoundTables r n figs sets
-    filled-round figs sets t =
-        record {
-          entries = t .entries;
-          figures = λ p l f i. figure-one (gameOf r) p (figureIn figs p) f (t .figures p l) i ∙ sym (all p l f i);
           settings = t .settings;
         }

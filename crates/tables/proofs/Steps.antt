@@ -1,6 +1,7 @@
--- A solver's rounds: cleared tables are those of round 0, round n + 1 makes those of n + 1 from those of n, and where it gives no figure the tables are filled.
--- The figures that a round sees are the case's up to n. Where a setting moves only below n + 1 by these the figure is n + 1 at most, so what is found is new and
--- right; and a placement of figure n + 1 has such a setting. With no figure n + 1 there is none above it: its setting would move below n + 1 too. Assumes nothing.
+-- A solver's rounds: cleared tables are those of round 0, round n + 1 makes those of n + 1 from those of n, and where it gives no figure
+-- the tables are filled. The figures that a round sees are the case's up to n. Where a setting moves only below n + 1 by these the figure
+-- is n + 1 at most, so what is found is new and right; and a placement of figure n + 1 has such a setting. With no figure n + 1 there is
+-- none above it: its setting would move below n + 1 too. Assumes nothing.
 use mathlib.Core.Path.{_≡_, refl, sym, _∙_, ap}
 use mathlib.Core.Logic.{inl, inr}
 use mathlib.Core.Bool.{Bool, true, false, cond}
@@ -113,7 +114,7 @@ module _ (r : Railway) (accepted : recordRefusal r ≡ none) where
           | inr b ↦ some-none (back n F upto p (x .0) l b (x .1)) e
         ]
 
-    -- .. and not all moves under it end below n: the figure would be there already
+    -- not all moves under what is found end below n: the figure would be there already
     not-sooner : (v : ℕ) → F p ≡ none → over (gameOf r) p ≡ false → find r F p (suc n) ≡ some v → keepsTest (gameOf r) F p (settingAt r p v) n ≡ false
     not-sooner v e o f =
         not-true (keepsTest (gameOf r) F p (settingAt r p v) n) (λ y.

@@ -1,5 +1,6 @@
--- The tables are one: whatever two solvers leave is the same at every code. A placement has one figure. Two plan settings come no later than each other, so their
--- keys are the same; the plan's setting opens one signal at most, so the lowest open train is the only one, and the entries have the same bits. Assumes nothing.
+-- The tables are one: whatever two solvers leave is the same at every code. A placement has one figure. Two plan settings come no later
+-- than each other, so their keys are the same; the plan's setting opens one signal at most, so the lowest open train is the only one, and
+-- the entries have the same bits. Assumes nothing.
 use mathlib.Core.Path.{_≡_, refl, sym, _∙_}
 use mathlib.Core.Logic.{inl, inr}
 use mathlib.Core.Bool.{true, false}

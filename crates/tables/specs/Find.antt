@@ -55,7 +55,7 @@ somePlus r F p n opens q = anyBelow (needsPlus r F p n opens q) (r .trains)
 unfoldable pub metEntry : Railway → (ℕ → Option ℕ) → ℕ → ℕ → (ℕ → Bool) → ℕ
 metEntry r F p n opens = entryFrom r (somePlus r F p n opens) opens
 
--- .. if it keeps figure n.
+-- That entry, if it keeps figure n.
 unfoldable pub tryMet : Railway → (ℕ → Option ℕ) → ℕ → ℕ → (ℕ → Bool) → Option ℕ
 tryMet r F p n opens = cond (entryKeeps r F p n (metEntry r F p n opens)) (some (metEntry r F p n opens)) none
 

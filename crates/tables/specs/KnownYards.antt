@@ -1,4 +1,5 @@
--- The figures that document 01, "Yards to try", gives as known, as one table with one statement. The one plan's text among them is in Outputs, of crate plan.
+-- The figures that document 01, "Yards to try", gives as known, as one table with one statement. The one plan's text among them is in
+-- Outputs, of crate plan.
 -- Assumes nothing.
 use mathlib.Core.Path.{_≡_}
 use mathlib.Core.Bool.{Bool, true, false, _&&_}
@@ -51,8 +52,8 @@ knownFigures =
 abbrev pub knownCode : KnownFigure → ℕ
 knownCode x = codeOf (x .yard .sections) (map (λ n. n - 1) (x .sections))
 
--- A known figure holds: the yard is accepted; the placement is one of its own, with a section that is there for each train, so that its code is one of the yard's;
--- it is the start where that is meant; and it has the figure by the rules for whole plays.
+-- A known figure holds: the yard is accepted; the placement is one of its own, with a section that is there for each train, so that its
+-- code is one of the yard's; it is the start where that is meant; and it has the figure by the rules for whole plays.
 pub record Holds (x : KnownFigure) : Type 0 where
   pub accepted : recordRefusal (x .yard) ≡ none
   pub each-train : length (x .sections) ≡ x .yard .trains

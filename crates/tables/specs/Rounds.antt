@@ -1,5 +1,5 @@
--- What a solver does round by round, for contracts. Nothing of document 01 rests on this file: the laws in proofs/ say that each round leaves `RoundTables`,
--- and that these are the tables wanted once no figure is larger. Assumes nothing.
+-- What a solver does round by round, for contracts. Nothing of document 01 rests on this file: the laws in proofs/ say that each round
+-- leaves `RoundTables`, and that these are the tables wanted once no figure is larger. Assumes nothing.
 use mathlib.Core.Path.{_≡_}
 use mathlib.Core.Bool.{Bool, true, false, cond}
 use mathlib.Core.List.{List}

@@ -1,5 +1,5 @@
--- What a solver promises: the meaning of its answer, and what it leaves in the two lent tables, for every record and all tables (document 01, rows 3 to 9 and what
--- stands under the table of numbers; "The two tables and the plan"). Assumes nothing.
+-- What a solver promises: the meaning of its answer, and what it leaves in the two lent tables, for every record and all tables (document
+-- 01, rows 3 to 9 and what stands under the table of numbers; "The two tables and the plan"). Assumes nothing.
 use mathlib.Core.Path.{_≡_}
 use mathlib.Core.List.{List}
 use mathlib.Core.Option.{Option, none, some}

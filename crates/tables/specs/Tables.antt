@@ -68,7 +68,8 @@ pointBits r s = fromBits (s .plus) (r .points)
 abbrev pub thenBy : ℕ → ℕ → Bool → Bool
 thenBy a b rest = ltb a b || eqb a b && rest
 
--- The plan's order of settings at placement p, by three keys, less being better: how many signals are open, the lowest open train, the point bits as a number.
+-- The plan's order of settings at placement p, by three keys, less being better: how many signals are open, the lowest open train, the
+-- point bits as a number.
 unfoldable pub noLater : Railway → ℕ → Setting → Setting → Bool
 noLater r p a b = thenBy (openSignals r a) (openSignals r b) (thenBy (lowestOpen r p a) (lowestOpen r p b) (leb (pointBits r a) (pointBits r b)))
 
@@ -86,7 +87,7 @@ pub record Exact (r : Railway) (F : ℕ → Option ℕ) (p n : ℕ) (found : Opt
   pub finds : (v : ℕ) → (found ≡ some v) ↔ Planned r F p n v
   pub finds-nothing : (found ≡ none) ↔ ((o : Setting) → ¬ (Keeps (gameOf r) F p o n))
 
--- The setting table's entry v where the figure is f: the plan's setting, or zero where there is no figure or figure 0.
+-- Entry v of the setting table at a placement of figure f: zero at home and without a figure, else that of the plan's setting.
 abbrev pub IsPlanEntry : Railway → (ℕ → Option ℕ) → ℕ → Option ℕ → ℕ → Type 0
 IsPlanEntry r F p none v = v ≡ 0
 IsPlanEntry r F p (some zero) v = v ≡ 0

@@ -3,13 +3,15 @@
 -- Assumes nothing.
 use Prim.Native.Nat.{ℕ, zero, suc, _+_, _-_, _/_, _%_, _<_, _≤_}
 use mathlib.Core.Path.{_≡_, refl, sym, _∙_}
+use mathlib.Core.Logic.{inl, inr}
 use mathlib.Core.List.{List, [], _∷_, _++_, append-assoc}
 use native.Mathlib.Omega.{arith}
 use native.Mathlib.Numerals.{add-one}
-use lib.ListN.{length, take, drop, getD, set, length-set}
-use lib.Seq.{sets, sets-eq, set-out, take-suc, take-all}
+use lib.ListN.{length, take, drop, getD, set, length-set, length-take}
+use lib.Seq.{sets, sets-eq, set-out, take-suc, take-all, take-append-seam}
 use borrow.Author.Tests.{lt-ltb, le-ltb}
 use Rattle.laws.specs.Below.{gatherBelow}
+use Rattle.laws.proofs.Bools.{lt?}
 use Rattle.text.specs.Text.{digits, line}
 use Rattle.text.specs.Appending.{next, bytesAfter, cursorAfter, Appended, StandsWhole}
 
@@ -108,16 +110,41 @@ module _ {out text out′ : List ℕ} {at at′ : ℕ} (p : Appended out at text
   pub appended-cursor : at′ ≡ at + length text
   appended-cursor = p .cursor ∙ bytes-sets text out at room .1
 
--- FROM THE FRONT of a buffer that has room
-module _ {out text out′ : List ℕ} {n : ℕ} (p : Appended out 0 text out′ n) (room : length text ≤ length out) where
-  front-room : 0 + length text ≤ length out
-  front-room = omega arith
+-- THE CURSOR does not pass the end
+next-inside : (out : List ℕ) (at : ℕ) → at ≤ length out → next out at ≤ length out
+next-inside out at h = elim (lt? at (length out)) [
+  | inl l ↦ rw (lt-ltb at (length out) l) (omega arith)
+  | inr l ↦ rw (le-ltb at (length out) l) h
+]
 
-  pub front-bytes : out′ ≡ text ++ drop (length text) out
-  front-bytes = let e : 0 + length text ≡ length text = omega arith in rw e at (appended-bytes p front-room)
+cursor-inside : (text out : List ℕ) (at : ℕ) → at ≤ length out → cursorAfter out at text ≤ length out
+unfolding cursorAfter
+cursor-inside [] out at h = h
+cursor-inside (b ∷ text) out at h =
+    let e : length (set out at b) ≡ length out = length-set out at b in
+    let k : cursorAfter (set out at b) (next out at) text ≤ length (set out at b) = cursor-inside text (set out at b) (next out at) (rw e (next-inside out at h)) in
+    rw e at k
 
-  pub front-cursor : n ≡ length text
-  front-cursor = appended-cursor p front-room ∙ omega arith
+-- FROM THE FRONT of a buffer. What is written lies within it, and is the text if that has room.
+module _ {out text out′ : List ℕ} {n : ℕ} (p : Appended out 0 text out′ n) where
+  pub front-fits : length out′ ≡ length out → n ≤ length out′
+  front-fits k = omega (arith, k, p .cursor, cursor-inside text out 0 (omega arith))
+
+  pub front-cut : length out′ ≡ length out → n ≡ length (take n out′)
+  front-cut k = let h = front-fits k in simp length-take (omega arith)
+
+  module _ (room : length text ≤ length out) where
+    front-room : 0 + length text ≤ length out
+    front-room = omega arith
+
+    pub front-bytes : out′ ≡ text ++ drop (length text) out
+    front-bytes = let e : 0 + length text ≡ length text = omega arith in rw e at (appended-bytes p front-room)
+
+    pub front-cursor : n ≡ length text
+    front-cursor = appended-cursor p front-room ∙ omega arith
+
+    pub front-text : take n out′ ≡ text
+    front-text = rw (front-cursor, front-bytes) (take-append-seam text _)
 
 -- PIECES, one for each number below a bound
 module _ (f : ℕ → List ℕ) {o : List ℕ} {a : ℕ} where

@@ -10,7 +10,6 @@ use lib.ListN.{length, length-replicate}
 use Rattle.railway.specs.declared.Railway.{Railway}
 use Rattle.railway.specs.declared.Refusal.{Refusal}
 use Rattle.railway.specs.declared.Refusal.the-variants.{PlanForm, PlanFault}
-use Rattle.railway.specs.Refusals.{number}
 use Rattle.railway.specs.Rows.{recordRefusal}
 use Rattle.game.specs.Placement.{placements}
 use Rattle.tables.specs.Tables.{noFigure, caseRefusal}
@@ -25,7 +24,7 @@ use Rattle.plan.specs.Checked.{Form, PlanWith, Checked, InForm}
 use Rattle.plan.proofs.Checks.{checked-holds}
 use Rattle.plan.proofs.Emits.{none-refused}
 use Rattle.plan.proofs.Forms.{no-form}
-use Rattle.plan.proofs.Rules.{check-rule}
+use Rattle.plan.proofs.Rules.{differ, testNumbered, check-rule}
 use Rattle.verdict.specs.Verdict.{linesOf, checkLines, entries}
 use Rattle.verdict.specs.Claims.{ByPlan, VerdictHolds, CaseHolds}
 use Rattle.verdict.proofs.Calls.{refused-case}
@@ -78,13 +77,6 @@ data ByTest (a : TestAnswer) : Type 0 where
   unformed : a ≡ TestRefused PlanForm → ByTest a
   faulty : a ≡ TestRefused PlanFault → ByTest a
 
-abbrev kind : TestAnswer → ℕ
-kind Pass = 0
-kind (TestRefused f) = number f
-
-differ : {A : Type 0} {a b c : TestAnswer} → a ≡ b → a ≡ c → ¬ (kind b ≡ kind c) → A
-differ p q n = absurd (n (sym (ap kind p) ∙ ap kind q))
-
 tested-by : (r : Railway) (c : Checking) → caseRefusal r (c .figs) (c .sets) ≡ none → (a : TestAnswer) → testPlan r c .answer ≡ a → ByTest a
 tested-by r c e Pass q = passed refl
 tested-by r c e (TestRefused f) q = elim (check-rule r c .test-others f e q) [ inl h ↦ unformed (ap TestRefused h) | inr h ↦ faulty (ap TestRefused h) ]
@@ -109,9 +101,9 @@ module _ (r : Railway) (ls : List (List ℕ)) (xs : List LineAnswer) (c : Checki
 by-line : (r : Railway) (ls : List (List ℕ)) (a : TestAnswer) → a ≡ TestRefused PlanForm → ¬ (InForm r ls) → ByPlan r ls a
 by-line r ls a e n =
     record {
-      passes = (λ q. differ q e (λ z. omega arith), λ w. absurd (n (formed r _ ls w)));
+      passes = (λ q. differ testNumbered (sym q ∙ e) (λ z. omega arith), λ w. absurd (n (formed r _ ls w)));
       unformed = (λ q. n, λ q. e);
-      faulty = (λ q. differ q e (λ z. omega arith), λ w. absurd (n (formed r _ ls w)));
+      faulty = (λ q. differ testNumbered (sym q ∙ e) (λ z. omega arith), λ w. absurd (n (formed r _ ls w)));
     }
 
 module _ (r : Railway) (ls : List (List ℕ)) (c : Checking) (k : Checked r ls (run r ls c .answers) (takenTexts (run r ls c .answers) ls) (run r ls c .end)) where

@@ -1,17 +1,16 @@
 -- What the writer answers and leaves, by what it has found: a refused record or a short buffer changes nothing; else the text, which an accepted
 -- record's own buffer always holds, is copied to the front of the lent one.
 -- Assumes nothing.
-use Prim.Native.Nat.{ℕ, _+_, _<_, _≤_}
+use Prim.Native.Nat.{ℕ, _<_, _≤_}
 use mathlib.Core.Path.{_≡_, sym, _∙_, ap}
 use mathlib.Core.List.{List, [], _∷_}
 use mathlib.Core.Option.{none, some}
 use native.Mathlib.Omega.{arith}
-use lib.ListN.{length, take, replicate, length-replicate, length-take}
-use lib.Seq.{take-append-seam}
+use lib.ListN.{length, take, replicate, length-replicate}
 use borrow.Author.Tests.{lt-ltb, le-ltb}
 use Rattle.laws.specs.Below.{orElse}
 use Rattle.text.specs.Appending.{Appended}
-use Rattle.text.proofs.Appending.{appended-bytes, appended-cursor}
+use Rattle.text.proofs.Appending.{front-bytes, front-cursor, front-text}
 use Rattle.railway.specs.declared.Refusal.{Refusal}
 use Rattle.railway.specs.declared.Refusal.the-variants.{Space}
 use Rattle.railway.specs.declared.Railway.{Railway}
@@ -60,22 +59,11 @@ module _ {r : Railway} {t : Tested} (judged : Judged r t) (passed : t ≡ tested
     own-long : length own ≡ mostBytes
     own-long = ap length blank ∙ length-replicate {A = ℕ} mostBytes 0
 
-    fits-own : 0 + length (writtenText r) ≤ length own
+    fits-own : length (writtenText r) ≤ length own
     fits-own = let h = written-fits r accepted-record in omega (arith, own-long)
 
     own-length : n ≡ length (writtenText r)
-    own-length = appended-cursor made fits-own ∙ omega arith
-
-    pub own-fits : length text ≡ length own → n ≤ length text
-    own-fits k = omega (arith, own-length, fits-own)
-
-    pub own-cut : length text ≡ length own → n ≡ length (take n text)
-    own-cut k = let h = own-fits k in simp length-take (omega arith)
-
-    own-text : take n text ≡ writtenText r
-    own-text =
-        let e = appended-bytes made fits-own in
-        rw (own-length, e) (take-append-seam (writtenText r) _)
+    own-length = front-cursor made fits-own
 
     pub space-refused : (buffer : List ℕ) → length buffer < n → (Refused Space ≡ written r buffer) × (buffer ≡ bufferAfter r buffer)
     space-refused buffer h = refused-so r buffer Space (by-space r buffer accepted-record (rw (← own-length) h))
@@ -85,7 +73,6 @@ module _ {r : Railway} {t : Tested} (judged : Judged r t) (passed : t ≡ tested
     unfolding written bufferAfter
     case-written buffer buffer′ m h p =
         let l : length (writtenText r) ≤ length buffer = rw own-length at h in
-        let q : Appended buffer 0 (writtenText r) buffer′ m = rw own-text at p in
+        let q : Appended buffer 0 (writtenText r) buffer′ m = rw (front-text made fits-own) at p in
         let z = by-none r buffer accepted-record l in
-        let e : 0 + length (writtenText r) ≡ length (writtenText r) = omega arith in
-        (rw (z, own-length), rw z (rw e at (appended-bytes q (rw e l))))
+        (rw (z, own-length), rw z (front-bytes q l))

@@ -1,7 +1,8 @@
 -- `answerlines::refusal_line` meets its contract: the line stands whole in a buffer of its own, and the copy is the line.
 -- Assumes nothing.
 use borrow.Author.Needs.{needs}
-use Rattle.answerlines.proofs.Made.{refusal-short, made-within, made-cut, made-copied}
+use Rattle.text.proofs.Appending.{front-fits, front-cut}
+use Rattle.answerlines.proofs.Made.{refusal-short, made-copied}
 use Rattle.answerlines.proofs.refusal_line.Statement.{statement}
 use Rattle.answerlines.proofs.refusal_line.Tie as tie
 
@@ -12,10 +13,10 @@ put-refusal-requires : tie.Need-put-refusal-requires
 put-refusal-requires c κs = search needs
 
 array-share-prefix-line : tie.Need-array-share-prefix-line
-array-share-prefix-line c = let p = c .before in made-within (p .put-refusal .ensures) (refusal-short (p .before .before .before .args .f)) (p .put-refusal .kept .0)
+array-share-prefix-line c = let p = c .before .put-refusal in front-fits (p .ensures) (p .kept .0)
 
 slice-aggregate-copy : tie.Need-slice-aggregate-copy
-slice-aggregate-copy c = let p = c .before .before in made-cut (p .put-refusal .ensures) (refusal-short (p .before .before .before .args .f)) (p .put-refusal .kept .0)
+slice-aggregate-copy c = let p = c .before .before .put-refusal in front-cut (p .ensures) (p .kept .0)
 
 copy-requires : tie.Need-copy-requires
 copy-requires c κs = search needs

@@ -1,7 +1,8 @@
 -- `answerlines::word_line` meets its contract: the line stands whole in a buffer of its own, and the copy is the line.
 -- Assumes nothing.
 use borrow.Author.Needs.{needs}
-use Rattle.answerlines.proofs.Made.{word-short, made-within, made-cut, made-copied}
+use Rattle.text.proofs.Appending.{front-fits, front-cut}
+use Rattle.answerlines.proofs.Made.{word-short, made-copied}
 use Rattle.answerlines.proofs.word_line.Statement.{statement}
 use Rattle.answerlines.proofs.word_line.Tie as tie
 
@@ -12,10 +13,10 @@ put-word-requires : tie.Need-put-word-requires
 put-word-requires c κs = search needs
 
 array-share-prefix-line : tie.Need-array-share-prefix-line
-array-share-prefix-line c = let p = c .before .put-word in made-within (p .ensures) (word-short _ _ _ _) (p .kept .0)
+array-share-prefix-line c = let p = c .before .put-word in front-fits (p .ensures) (p .kept .0)
 
 slice-aggregate-copy : tie.Need-slice-aggregate-copy
-slice-aggregate-copy c = let p = c .before .before .put-word in made-cut (p .ensures) (word-short _ _ _ _) (p .kept .0)
+slice-aggregate-copy c = let p = c .before .before .put-word in front-cut (p .ensures) (p .kept .0)
 
 copy-requires : tie.Need-copy-requires
 copy-requires c κs = search needs

@@ -4,7 +4,8 @@ use borrow.Author.Needs.{needs}
 use mathlib.Core.Path.{refl}
 use denote.Ref.{now}
 use Rattle.plan.specs.declared.PlanPlace.the-variants.{From}
-use Rattle.emitter.proofs.Copying.{own-fits, own-cut, own-written, start-short}
+use Rattle.text.proofs.Appending.{front-fits, front-cut}
+use Rattle.emitter.proofs.Copying.{own-written, start-short}
 use Rattle.emitter.proofs.emit_start.Statement.{statement}
 use Rattle.emitter.proofs.emit_start.Tie as tie
 
@@ -15,10 +16,10 @@ start-line-requires : tie.Need-start-line-requires
 start-line-requires c κs = search needs
 
 array-share-prefix-text : tie.Need-array-share-prefix-text
-array-share-prefix-text c = own-fits refl (c .before .before .start-line .ensures) (c .before .before .start-line .kept .0)
+array-share-prefix-text c = front-fits (c .before .before .start-line .ensures) (c .before .before .start-line .kept .0)
 
 slice-aggregate-put-line : tie.Need-slice-aggregate-put-line
-slice-aggregate-put-line c = own-cut refl (c .before .before .before .start-line .ensures) (c .before .before .before .start-line .kept .0)
+slice-aggregate-put-line c = front-cut (c .before .before .before .start-line .ensures) (c .before .before .before .start-line .kept .0)
 
 put-line-requires : tie.Need-put-line-requires
 put-line-requires c κs = search needs

@@ -2,24 +2,42 @@
 -- Assumes nothing.
 use borrow.Author.Needs.{needs}
 use native.Mathlib.Omega.{arith}
-use mathlib.Core.Path.{_≡_, sym, ap, _∙_}
+use mathlib.Core.Path.{_≡_, refl, sym, ap, _∙_}
+use mathlib.Core.Bool.{Bool, true, false, cond}
 use mathlib.Core.List.{List, _++_}
 use Prim.Native.Nat.{ℕ, _≤_, _+_}
 use denote.Ref.{now}
-use lib.ListN.{length, take, drop, length-take, length-append}
+use lib.ListN.{length, take, drop, length-take, length-append, length-drop}
+use lib.Dec.{eqb}
 use lib.Seq.{length-take-le, take-at, drop-at}
 use Rattle.io.specs.Counts.{Counts}
+use Rattle.framed.specs.declared.Record.{Record}
+use Rattle.framed.specs.declared.Reading.the-variants.{Whole, Broken}
+use Rattle.framed.specs.Framed.{recordOf, Kept}
 use Rattle.framed.proofs.fill.Statement.{statement}
 use Rattle.framed.proofs.fill.Tie as tie
 
 -- n bytes come back new, and the rest of the space is as it was
-filled : (old new : List ℕ) (n : ℕ) → n ≤ length old → length new ≡ length (take n old)
-    → Counts n (new ++ drop n old) × (drop n (new ++ drop n old) ≡ drop n old)
-filled old new n in-old kept =
-    let e : length new ≡ n = kept ∙ length-take-le n old in-old in
-    let l : length (new ++ drop n old) ≡ length new + length (drop n old) = length-append new (drop n old) in
-    let t : length (take n (new ++ drop n old)) ≡ length new = ap length (take-at new (drop n old) n e) in
-    ((omega arith, sym (t ∙ e)), drop-at new (drop n old) n e)
+module _ (old new : List ℕ) (n : ℕ) (in-old : n ≤ length old) (kept : length new ≡ length (take n old)) where
+  as-many : length new ≡ n
+  as-many = kept ∙ length-take-le n old in-old
+
+  whole : Counts n (new ++ drop n old) × (drop n (new ++ drop n old) ≡ drop n old)
+  whole =
+      let l : length (new ++ drop n old) ≡ length new + length (drop n old) = length-append new (drop n old) in
+      let t : length (take n (new ++ drop n old)) ≡ length new = ap length (take-at new (drop n old) n as-many) in
+      ((omega (arith, as-many), sym (t ∙ as-many)), drop-at new (drop n old) n as-many)
+
+  as-long : length (new ++ drop n old) ≡ length old
+  as-long = omega (arith, as-many, length-append new (drop n old), length-drop n old)
+
+  filled : (got : ℕ) (r : Record) → r ≡ recordOf n got → Counts (r .bytes) (new ++ drop n old) × Kept r old (new ++ drop n old)
+  filled got r e = rw e (go (eqb got n))
+    where
+      go : (b : Bool) → let o = cond {A = Record} b (record { reading = Whole; bytes = n }) (record { reading = Broken; bytes = 0 }) in
+          Counts (o .bytes) (new ++ drop n old) × Kept o old (new ++ drop n old)
+      go true = whole
+      go false = ((omega arith, refl), (refl, as-long))
 
 returns : tie.Need-returns
 returns c = search needs
@@ -33,6 +51,9 @@ slice-aggregate-read-full c = simp length-take (omega arith)
 read-full-requires : tie.Need-read-full-requires
 read-full-requires c κs = search needs
 
+record-of-requires : tie.Need-record-of-requires
+record-of-requires c κs = search needs
+
 same-length : tie.Need-same-length
 same-length c = search needs
 
@@ -40,13 +61,7 @@ returns-2 : tie.Need-returns-2
 returns-2 c =
     let read = c .before .before .before in
     let start = read .before .before .before .before in
-    filled (now (start .args .space)) (read .read-full .last .1 .0) (start .args .n) (read .before .before .if1 .left) (read .read-full .kept .1 .0)
-
-same-length-2 : tie.Need-same-length-2
-same-length-2 c = search needs
-
-returns-3 : tie.Need-returns-3
-returns-3 c = search needs
+    filled (now (start .args .space)) (read .read-full .last .1 .0) (start .args .n) (read .before .before .if1 .left) (read .read-full .kept .1 .0) _ _ (c .record-of .ensures)
 
 pub fill-spec : {M : Type 1} → statement M
 fill-spec =
@@ -56,7 +71,6 @@ fill-spec =
     slice-relend-prefix-read-full
     slice-aggregate-read-full
     read-full-requires
+    record-of-requires
     same-length
-    returns-2
-    same-length-2
-    returns-3)
+    returns-2)

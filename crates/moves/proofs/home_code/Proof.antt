@@ -1,19 +1,36 @@
--- `moves::home_code` meets its contract: each train on its destination.
+-- `moves::home_code` meets its contract: each train stands on its destination.
 -- Assumes nothing.
-use native.Mathlib.Omega.{arith}
 use borrow.Author.Needs.{needs}
-use Rattle.moves.proofs.Placing.{home-is}
+use Rattle.railway.specs.Record.{runOf}
+use Rattle.moves.specs.Answers.{homeCode}
+use Rattle.moves.proofs.Placing.{code-each}
 use Rattle.moves.proofs.home_code.Statement.{statement}
 use Rattle.moves.proofs.home_code.Tie as tie
 
-runs-in-requires : tie.Need-runs-in-requires
-runs-in-requires c κs = search needs
+destination-in-requires : tie.Need-destination-in-requires
+destination-in-requires c κs = search needs
+
+destination-in-requires-2 : tie.Need-destination-in-requires-2
+destination-in-requires-2 c κs = search needs
+
+destination-in-requires-3 : tie.Need-destination-in-requires-3
+destination-in-requires-3 c κs = search needs
+
+destination-in-requires-4 : tie.Need-destination-in-requires-4
+destination-in-requires-4 c κs = search needs
 
 code-of-requires : tie.Need-code-of-requires
 code-of-requires c κs = search needs
 
 returns : tie.Need-returns
-returns c = λ r h. home-is r _ h (c .before .runs-in .result) _ (c .before .runs-in .ensures r h (omega arith)) (c .code-of .ensures r h)
+unfolding homeCode
+returns c =
+    let d = c .before in
+    let b = d .before in
+    let a = b .before in
+    λ r h. code-each r _ h (λ t. runOf r t .destination .0) _ _ _ _ _ (a .before .destination-in .ensures r h) (a .destination-in2 .ensures r h) (b .destination-in3 .ensures r h) (d .destination-in4 .ensures r h) (c .code-of .ensures r h)
 
 pub home-code-spec : {M : Type 1} → statement M
-home-code-spec = tie.close (tie.spec runs-in-requires code-of-requires returns)
+home-code-spec =
+    tie.close
+    (tie.spec destination-in-requires destination-in-requires-2 destination-in-requires-3 destination-in-requires-4 code-of-requires returns)

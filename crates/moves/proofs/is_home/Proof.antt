@@ -24,8 +24,8 @@ abbrev μ-loop : tie.MeasureT-loop
 placement-of-requires : tie.Need-placement-of-requires Inv-loop μ-loop
 placement-of-requires c κs = search needs
 
-count-in-requires : tie.Need-count-in-requires Inv-loop μ-loop
-count-in-requires c κs = search needs
+trains-in-requires : tie.Need-trains-in-requires Inv-loop μ-loop
+trains-in-requires c κs = search needs
 
 loop-holds : tie.Need-loop-holds Inv-loop μ-loop
 unfolding allBelow
@@ -34,8 +34,8 @@ loop-holds c = (omega arith, λ r h. refl)
 section-at-requires : tie.Need-section-at-requires Inv-loop μ-loop
 section-at-requires c κs = search needs
 
-run-in-requires : tie.Need-run-in-requires Inv-loop μ-loop
-run-in-requires c κs = search needs
+destination-in-requires : tie.Need-destination-in-requires Inv-loop μ-loop
+destination-in-requires c κs = search needs
 
 add-t : tie.Need-add-t Inv-loop μ-loop
 add-t c = omega arith
@@ -44,13 +44,13 @@ loop-less : tie.Need-loop-less Inv-loop μ-loop
 loop-less c = omega arith
 
 loop-again : tie.Need-loop-again Inv-loop μ-loop
-loop-again c = let l = c .before .before .before .before in let m = l .before in (omega arith, λ r h. all-next (arrived r (m .before .before .args .p)) _ (l .loop .inv .1 r h) (sym (arrived-is r _ _ _ (m .before .placement-of .ensures r h) _ _ _ (c .before .before .section-at .ensures) (c .before .run-in .ensures r h (omega arith))) ∙ eq-eqb _ _ (c .if1 .taken)))
+loop-again c = let l = c .before .before .before .before in let m = l .before in (omega arith, λ r h. all-next (arrived r (m .before .before .args .p)) _ (l .loop .inv .1 r h) (sym (arrived-is r _ _ _ (m .before .placement-of .ensures r h) _ _ _ (c .before .before .section-at .ensures) (c .before .destination-in .ensures r h)) ∙ eq-eqb _ _ (c .if1 .taken)))
 
 returns : tie.Need-returns Inv-loop μ-loop
-returns c = λ r h. let l = c .before .before .before .before in let m = l .before in not-home r _ _ (l .loop .t) (m .count-in .ensures r h (omega arith)) (c .before .before .before .loop-test .taken) (sym (arrived-is r _ _ _ (m .before .placement-of .ensures r h) _ _ _ (c .before .before .section-at .ensures) (c .before .run-in .ensures r h (omega arith))) ∙ ne-eqb _ _ (c .if1 .left))
+returns c = λ r h. let l = c .before .before .before .before in let m = l .before in not-home r _ _ (l .loop .t) (m .trains-in .ensures r h) (c .before .before .before .loop-test .taken) (sym (arrived-is r _ _ _ (m .before .placement-of .ensures r h) _ _ _ (c .before .before .section-at .ensures) (c .before .destination-in .ensures r h)) ∙ ne-eqb _ _ (c .if1 .left))
 
 returns-2 : tie.Need-returns-2 Inv-loop μ-loop
-returns-2 c = λ r h. let l = c .before in is-home r _ _ (l .loop .t) (l .before .count-in .ensures r h (omega arith)) (l .loop .inv .0) (c .loop-test .left) (l .loop .inv .1 r h)
+returns-2 c = λ r h. let l = c .before in is-home r _ _ (l .loop .t) (l .before .trains-in .ensures r h) (l .loop .inv .0) (c .loop-test .left) (l .loop .inv .1 r h)
 
 pub is-home-spec : {M : Type 1} → statement M
 is-home-spec =
@@ -59,10 +59,10 @@ is-home-spec =
     Inv-loop
     μ-loop
     placement-of-requires
-    count-in-requires
+    trains-in-requires
     loop-holds
     section-at-requires
-    run-in-requires
+    destination-in-requires
     add-t
     loop-less
     loop-again

@@ -20,8 +20,8 @@ Inv-loop table q k t₀ t = (t ≤ k) × ((r : Railway) (p : ℕ) → On r p tab
 abbrev μ-loop : tie.MeasureT-loop
 μ-loop table q k t₀ t = k - t
 
-count-in-requires : tie.Need-count-in-requires Inv-loop μ-loop
-count-in-requires c κs = search needs
+trains-in-requires : tie.Need-trains-in-requires Inv-loop μ-loop
+trains-in-requires c κs = search needs
 
 loop-holds : tie.Need-loop-holds Inv-loop μ-loop
 unfolding anyBelow
@@ -34,7 +34,7 @@ other-in-requires : tie.Need-other-in-requires Inv-loop μ-loop
 other-in-requires c κs = search needs
 
 returns : tie.Need-returns Inv-loop μ-loop
-returns c = λ r p h. let l = c .before .before .before .before in is-lost r p _ (l .loop .t) (l .before .count-in .ensures r (h .compiled) (omega arith)) (c .before .before .before .loop-test .taken) (sym (shares-is r p _ _ h _ _ _ (c .before .before .section-at .ensures) (c .before .other-in .ensures)) ∙ c .if1 .taken)
+returns c = λ r p h. let l = c .before .before .before .before in is-lost r p _ (l .loop .t) (l .before .trains-in .ensures r (h .compiled)) (c .before .before .before .loop-test .taken) (sym (shares-is r p _ _ h _ _ _ (c .before .before .section-at .ensures) (c .before .other-in .ensures)) ∙ c .if1 .taken)
 
 add-t : tie.Need-add-t Inv-loop μ-loop
 add-t c = omega arith
@@ -46,7 +46,7 @@ loop-again : tie.Need-loop-again Inv-loop μ-loop
 loop-again c = let l = c .before .before .before .before in (omega arith, λ r p h. any-next (sharesLower r p) _ (l .loop .inv .1 r p h) (sym (shares-is r p _ _ h _ _ _ (c .before .before .section-at .ensures) (c .before .other-in .ensures)) ∙ c .if1 .left))
 
 returns-2 : tie.Need-returns-2 Inv-loop μ-loop
-returns-2 c = λ r p h. let l = c .before in not-lost r p _ (l .loop .t) (l .before .count-in .ensures r (h .compiled) (omega arith)) (l .loop .inv .0) (c .loop-test .left) (l .loop .inv .1 r p h)
+returns-2 c = λ r p h. let l = c .before in not-lost r p _ (l .loop .t) (l .before .trains-in .ensures r (h .compiled)) (l .loop .inv .0) (c .loop-test .left) (l .loop .inv .1 r p h)
 
 pub lost-in-spec : {M : Type 1} → statement M
 lost-in-spec =
@@ -54,7 +54,7 @@ lost-in-spec =
     (tie.spec
     Inv-loop
     μ-loop
-    count-in-requires
+    trains-in-requires
     loop-holds
     section-at-requires
     other-in-requires

@@ -1,16 +1,15 @@
 -- `moves::may_in` meets its contract: a train that is there and free, or whose signal is open.
 -- Assumes nothing.
-use native.Mathlib.Omega.{arith}
 use borrow.Author.Needs.{needs}
 use Rattle.moves.proofs.Moving.{not-there, free-may, held-may}
 use Rattle.moves.proofs.may_in.Statement.{statement}
 use Rattle.moves.proofs.may_in.Tie as tie
 
-count-in-requires : tie.Need-count-in-requires
-count-in-requires c κs = search needs
+trains-in-requires : tie.Need-trains-in-requires
+trains-in-requires c κs = search needs
 
 returns : tie.Need-returns
-returns c = λ r p h. not-there r p _ _ h _ _ _ (c .before .count-in .ensures r (h .compiled) (omega arith)) (c .if1 .taken)
+returns c = λ r p h. not-there r p _ _ h _ _ _ (c .before .trains-in .ensures r (h .compiled)) (c .if1 .taken)
 
 held-in-requires : tie.Need-held-in-requires
 held-in-requires c κs = search needs
@@ -25,16 +24,16 @@ open-in-requires : tie.Need-open-in-requires
 open-in-requires c κs = search needs
 
 returns-2 : tie.Need-returns-2
-returns-2 c = λ r p h. held-may r p _ _ h _ _ _ (c .before .before .before .before .before .before .count-in .ensures r (h .compiled) (omega arith)) (c .before .before .before .before .before .if1 .left) _ (c .before .before .before .before .held-in .ensures r p h) _ _ _ (c .before .before .before .if2 .taken) (c .before .before .end-in .ensures r p h) (c .before .index-of .ensures) (c .open-in .ensures r p h)
+returns-2 c = λ r p h. held-may r p _ _ h _ _ _ (c .before .before .before .before .before .before .trains-in .ensures r (h .compiled)) (c .before .before .before .before .before .if1 .left) _ (c .before .before .before .before .held-in .ensures r p h) _ _ _ (c .before .before .before .if2 .taken) (c .before .before .end-in .ensures r p h) (c .before .index-of .ensures) (c .open-in .ensures r p h)
 
 returns-3 : tie.Need-returns-3
-returns-3 c = λ r p h. free-may r p _ _ h _ _ _ (c .before .before .before .count-in .ensures r (h .compiled) (omega arith)) (c .before .before .if1 .left) _ (c .before .held-in .ensures r p h) (c .if2 .left)
+returns-3 c = λ r p h. free-may r p _ _ h _ _ _ (c .before .before .before .trains-in .ensures r (h .compiled)) (c .before .before .if1 .left) _ (c .before .held-in .ensures r p h) (c .if2 .left)
 
 pub may-in-spec : {M : Type 1} → statement M
 may-in-spec =
     tie.close
     (tie.spec
-    count-in-requires
+    trains-in-requires
     returns
     held-in-requires
     end-in-requires

@@ -20,11 +20,11 @@ cast-bit-at c = search needs
 bit-at-requires : tie.Need-bit-at-requires
 bit-at-requires c κs = search needs
 
-end-of-requires : tie.Need-end-of-requires
-end-of-requires c κs = search needs
+outcome-of-requires : tie.Need-outcome-of-requires
+outcome-of-requires c κs = search needs
 
 returns : tie.Need-returns
-returns c = λ r h. let m = c .before .before .before .before in let on = (m .before .placement-of .ensures r h) in let l = there-if r _ _ _ on _ _ _ (m .may-in .ensures r _ on) (c .before .before .before .if1 .taken) in allowed r _ _ _ on _ _ _ (m .may-in .ensures r _ on) _ _ (c .end-of .result) (c .before .before .before .if1 .taken) (c .before .before .point-in .ensures r _ on l) (c .before .bit-at .ensures) (c .end-of .ensures r _ on l)
+returns c = λ r h. let m = c .before .before .before .before in let on = (m .before .placement-of .ensures r h) in let l = there-if r _ _ _ on _ _ _ (m .may-in .ensures r _ on) (c .before .before .before .if1 .taken) in allowed r _ _ _ on _ _ _ (m .may-in .ensures r _ on) _ _ (c .outcome-of .result) (c .before .before .before .if1 .taken) (c .before .before .point-in .ensures r _ on l) (c .before .bit-at .ensures) (c .outcome-of .ensures r _ on l)
 
 returns-2 : tie.Need-returns-2
 returns-2 c = λ r h. let m = c .before in let on = (m .before .placement-of .ensures r h) in not-allowed r _ _ _ on _ _ _ (m .may-in .ensures r _ on) (c .if1 .left)
@@ -38,6 +38,6 @@ move-of-spec =
     point-in-requires
     cast-bit-at
     bit-at-requires
-    end-of-requires
+    outcome-of-requires
     returns
     returns-2)

@@ -20,8 +20,8 @@ Inv-loop table q v i k u₀ u = (u ≤ k) × ((r : Railway) (p : ℕ) → On r p
 abbrev μ-loop : tie.MeasureT-loop
 μ-loop table q v i k u₀ u = k - u
 
-count-in-requires : tie.Need-count-in-requires Inv-loop μ-loop
-count-in-requires c κs = search needs
+trains-in-requires : tie.Need-trains-in-requires Inv-loop μ-loop
+trains-in-requires c κs = search needs
 
 loop-holds : tie.Need-loop-holds Inv-loop μ-loop
 unfolding anyBelow
@@ -31,7 +31,7 @@ opens-end-requires : tie.Need-opens-end-requires Inv-loop μ-loop
 opens-end-requires c κs = search needs
 
 returns : tie.Need-returns Inv-loop μ-loop
-returns c = λ r p h. let l = c .before .before .before in some-opens r p _ _ h (l .before .before .args .v) _ _ (l .loop .u) (l .before .count-in .ensures r (h .compiled) (omega arith)) (c .before .before .loop-test .taken) (sym (c .before .opens-end .ensures r p h) ∙ c .if1 .taken)
+returns c = λ r p h. let l = c .before .before .before in some-opens r p _ _ h (l .before .before .args .v) _ _ (l .loop .u) (l .before .trains-in .ensures r (h .compiled)) (c .before .before .loop-test .taken) (sym (c .before .opens-end .ensures r p h) ∙ c .if1 .taken)
 
 add-u : tie.Need-add-u Inv-loop μ-loop
 add-u c = omega arith
@@ -43,7 +43,7 @@ loop-again : tie.Need-loop-again Inv-loop μ-loop
 loop-again c = let l = c .before .before .before in let a = l .before .before .args in (omega arith, λ r p h. any-next (opensEnd r p (opensIn (a .v)) (a .i)) _ (l .loop .inv .1 r p h) (sym (c .before .opens-end .ensures r p h) ∙ c .if1 .left))
 
 returns-2 : tie.Need-returns-2 Inv-loop μ-loop
-returns-2 c = λ r p h. let l = c .before in none-opens r p _ _ h (l .before .before .args .v) _ _ (l .loop .u) (l .before .count-in .ensures r (h .compiled) (omega arith)) (l .loop .inv .0) (c .loop-test .left) (l .loop .inv .1 r p h)
+returns-2 c = λ r p h. let l = c .before in none-opens r p _ _ h (l .before .before .args .v) _ _ (l .loop .u) (l .before .trains-in .ensures r (h .compiled)) (l .loop .inv .0) (c .loop-test .left) (l .loop .inv .1 r p h)
 
 pub open-in-spec : {M : Type 1} → statement M
 open-in-spec =
@@ -51,7 +51,7 @@ open-in-spec =
     (tie.spec
     Inv-loop
     μ-loop
-    count-in-requires
+    trains-in-requires
     loop-holds
     opens-end-requires
     returns

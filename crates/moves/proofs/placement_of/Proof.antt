@@ -1,16 +1,15 @@
 -- `moves::placement_of` meets its contract, train by train.
 -- Assumes nothing.
-use native.Mathlib.Omega.{arith}
-use Rattle.moves.proofs.Placing.{stands-four, placed}
+use Rattle.moves.proofs.Placing.{sections-left}
 use borrow.Author.Needs.{needs}
 use Rattle.moves.proofs.placement_of.Statement.{statement}
 use Rattle.moves.proofs.placement_of.Tie as tie
 
-count-in-requires : tie.Need-count-in-requires
-count-in-requires c κs = search needs
+sections-in-requires : tie.Need-sections-in-requires
+sections-in-requires c κs = search needs
 
-count-in-requires-2 : tie.Need-count-in-requires-2
-count-in-requires-2 c κs = search needs
+trains-in-requires : tie.Need-trains-in-requires
+trains-in-requires c κs = search needs
 
 without-first-requires : tie.Need-without-first-requires
 without-first-requires c κs = search needs
@@ -44,17 +43,15 @@ returns c =
     let k = a .before in
     let s = k .before in
     λ r h.
-    let four =
-    stands-four r _ h _ _ _ (s .count-in .ensures r h (omega arith)) (k .count-in2 .ensures r h (omega arith)) _ _ _ (a .without-first .ensures) (b .without-first2 .ensures) (d .without-first3 .ensures) _ _ _ _
-    (w .first-section .ensures) (x .first-section2 .ensures) (y .first-section3 .ensures) (c .first-section4 .ensures) in
-    placed r _ h _ _ _ _ _ (four .0) (four .1) (four .2) (four .3)
+    sections-left r _ h _ _ _ (s .sections-in .ensures r h) (k .trains-in .ensures r h) _ _ _ (a .without-first .ensures) (b .without-first2 .ensures) (d .without-first3 .ensures) _ _ _ _
+    (w .first-section .ensures) (x .first-section2 .ensures) (y .first-section3 .ensures) (c .first-section4 .ensures)
 
 pub placement-of-spec : {M : Type 1} → statement M
 placement-of-spec =
     tie.close
     (tie.spec
-    count-in-requires
-    count-in-requires-2
+    sections-in-requires
+    trains-in-requires
     without-first-requires
     without-first-requires-2
     without-first-requires-3

@@ -2,7 +2,7 @@
 -- Assumes nothing.
 use native.Mathlib.Omega.{arith}
 use lib.Dec.{ltb}
-use Rattle.moves.proofs.Coding.{power-four, times-small}
+use Rattle.moves.proofs.Coding.{power-is, times-small}
 use borrow.Author.Needs.{needs}
 use Rattle.moves.proofs.power.Statement.{statement}
 use Rattle.moves.proofs.power.Tie as tie
@@ -32,7 +32,7 @@ times-if-requires-4 c κs =
     )
 
 returns : tie.Need-returns
-returns c = let d = c .before in let b = d .before in power-four _ _ _ _ _ _ (b .before .times-if .ensures) (b .times-if2 .ensures) (d .times-if3 .ensures) (c .times-if4 .ensures)
+returns c = let d = c .before in let b = d .before in power-is _ _ _ _ _ _ (b .before .times-if .ensures) (b .times-if2 .ensures) (d .times-if3 .ensures) (c .times-if4 .ensures)
 
 pub power-spec : {M : Type 1} → statement M
 power-spec =

@@ -10,7 +10,7 @@ array-write-sections : tie.Need-array-write-sections
 array-write-sections c = search needs
 
 returns : tie.Need-returns
-returns c = let a = c .before .before .args in λ l. put-section (a .q) (a .t) (a .x) (omega (arith, placement-length (a .q) _ (c .before .before .good .0)))
+returns c = let a = c .before .before .args in λ l. put-section (a .q .sections) (a .t) (a .x) (omega (arith, placement-length (a .q) _ (c .before .before .good .0)))
 
 returns-2 : tie.Need-returns-2
 returns-2 c = search needs

@@ -1,19 +1,36 @@
--- `moves::start_code` meets its contract: each train on its start.
+-- `moves::start_code` meets its contract: each train stands on its start.
 -- Assumes nothing.
-use native.Mathlib.Omega.{arith}
 use borrow.Author.Needs.{needs}
-use Rattle.moves.proofs.Placing.{start-is}
+use Rattle.railway.specs.Record.{runOf}
+use Rattle.game.specs.Placement.{startCode}
+use Rattle.moves.proofs.Placing.{code-each}
 use Rattle.moves.proofs.start_code.Statement.{statement}
 use Rattle.moves.proofs.start_code.Tie as tie
 
-runs-in-requires : tie.Need-runs-in-requires
-runs-in-requires c κs = search needs
+start-in-requires : tie.Need-start-in-requires
+start-in-requires c κs = search needs
+
+start-in-requires-2 : tie.Need-start-in-requires-2
+start-in-requires-2 c κs = search needs
+
+start-in-requires-3 : tie.Need-start-in-requires-3
+start-in-requires-3 c κs = search needs
+
+start-in-requires-4 : tie.Need-start-in-requires-4
+start-in-requires-4 c κs = search needs
 
 code-of-requires : tie.Need-code-of-requires
 code-of-requires c κs = search needs
 
 returns : tie.Need-returns
-returns c = λ r h. start-is r _ h (c .before .runs-in .result) _ (c .before .runs-in .ensures r h (omega arith)) (c .code-of .ensures r h)
+unfolding startCode
+returns c =
+    let d = c .before in
+    let b = d .before in
+    let a = b .before in
+    λ r h. code-each r _ h (λ t. runOf r t .start .0) _ _ _ _ _ (a .before .start-in .ensures r h) (a .start-in2 .ensures r h) (b .start-in3 .ensures r h) (d .start-in4 .ensures r h) (c .code-of .ensures r h)
 
 pub start-code-spec : {M : Type 1} → statement M
-start-code-spec = tie.close (tie.spec runs-in-requires code-of-requires returns)
+start-code-spec =
+    tie.close
+    (tie.spec start-in-requires start-in-requires-2 start-in-requires-3 start-in-requires-4 code-of-requires returns)

@@ -10,14 +10,14 @@ use Rattle.planreader.proofs.Answered.{no-sections, no-figure, no-entry
 use Rattle.planreader.proofs.read_placement.Statement.{statement}
 use Rattle.planreader.proofs.read_placement.Tie as tie
 
-count-in-requires : tie.Need-count-in-requires
-count-in-requires c κs = search needs
+points-in-requires : tie.Need-points-in-requires
+points-in-requires c κs = search needs
 
-count-in-requires-2 : tie.Need-count-in-requires-2
-count-in-requires-2 c κs = search needs
+trains-in-requires : tie.Need-trains-in-requires
+trains-in-requires c κs = search needs
 
-count-in-requires-3 : tie.Need-count-in-requires-3
-count-in-requires-3 c κs = search needs
+sections-in-requires : tie.Need-sections-in-requires
+sections-in-requires c κs = search needs
 
 sections-at-requires : tie.Need-sections-at-requires
 sections-at-requires c κs = search needs
@@ -29,7 +29,7 @@ enum-told : tie.Need-enum-told
 enum-told c = search needs
 
 returns : tie.Need-returns
-returns c = λ r h first. let s = c .before .before in no-sections r _ h _ first (s .before .count-in3 .ensures r h (omega arith)) (s .before .before .before .count-in .ensures r h (omega arith)) (s .before .before .count-in2 .ensures r h (omega arith)) (sym (s .sections-at .ensures) ∙ ap sectionsGot (c .enum-told .given .1))
+returns c = λ r h first. let s = c .before .before in no-sections r (h .accepted) _ first (s .before .sections-in .ensures r h) (s .before .before .before .points-in .ensures r h) (s .before .before .trains-in .ensures r h) (sym (s .sections-at .ensures) ∙ ap sectionsGot (c .enum-told .given .1))
 
 figure-at-requires : tie.Need-figure-at-requires
 figure-at-requires c κs = search needs
@@ -41,7 +41,7 @@ enum-told-2 : tie.Need-enum-told-2
 enum-told-2 c = search needs
 
 returns-2 : tie.Need-returns-2
-returns-2 c = λ r h first. let k1 = c .before .before .before in let s = k1 .before .before .before in no-figure r _ h _ first (s .before .count-in3 .ensures r h (omega arith)) (s .before .before .before .count-in .ensures r h (omega arith)) (s .before .before .count-in2 .ensures r h (omega arith)) (sym (s .sections-at .ensures) ∙ ap sectionsGot (k1 .before .x .given .1)) (sym (c .before .before .figure-at .ensures) ∙ ap numberGot (c .enum-told2 .given .1))
+returns-2 c = λ r h first. let k1 = c .before .before .before in let s = k1 .before .before .before in no-figure r (h .accepted) _ first (s .before .sections-in .ensures r h) (s .before .before .before .points-in .ensures r h) (s .before .before .trains-in .ensures r h) (sym (s .sections-at .ensures) ∙ ap sectionsGot (k1 .before .x .given .1)) (sym (c .before .before .figure-at .ensures) ∙ ap numberGot (c .enum-told2 .given .1))
 
 entry-at-requires : tie.Need-entry-at-requires
 entry-at-requires c κs = search needs
@@ -53,7 +53,7 @@ enum-told-3 : tie.Need-enum-told-3
 enum-told-3 c = search needs
 
 returns-3 : tie.Need-returns-3
-returns-3 c = λ r h first. let k2 = c .before .before .before in let k1 = k2 .before .before .before .before in let s = k1 .before .before .before in no-entry r _ h _ first (s .before .count-in3 .ensures r h (omega arith)) (s .before .before .before .count-in .ensures r h (omega arith)) (s .before .before .count-in2 .ensures r h (omega arith)) (sym (s .sections-at .ensures) ∙ ap sectionsGot (k1 .before .x .given .1)) (sym (k2 .before .before .before .figure-at .ensures) ∙ ap numberGot (k2 .before .n .given .1)) (sym (c .before .before .entry-at .ensures) ∙ ap numberGot (c .enum-told3 .given .1))
+returns-3 c = λ r h first. let k2 = c .before .before .before in let k1 = k2 .before .before .before .before in let s = k1 .before .before .before in no-entry r (h .accepted) _ first (s .before .sections-in .ensures r h) (s .before .before .before .points-in .ensures r h) (s .before .before .trains-in .ensures r h) (sym (s .sections-at .ensures) ∙ ap sectionsGot (k1 .before .x .given .1)) (sym (k2 .before .before .before .figure-at .ensures) ∙ ap numberGot (k2 .before .n .given .1)) (sym (c .before .before .entry-at .ensures) ∙ ap numberGot (c .enum-told3 .given .1))
 
 cast-figure : tie.Need-cast-figure
 cast-figure c = let k2 = c .before .before .before .before in omega (arith, figure-below _ _ _ _ (sym (k2 .before .before .before .figure-at .ensures) ∙ ap numberGot (k2 .before .n .given .1)))
@@ -68,18 +68,18 @@ code-of-requires : tie.Need-code-of-requires
 code-of-requires c κs = search needs
 
 returns-4 : tie.Need-returns-4
-returns-4 c = λ r h first. let i = c .before .before in let k3 = i .before in let k2 = k3 .before .before .before .before in let k1 = k2 .before .before .before .before in let s = k1 .before .before .before in placement-read r _ h _ first (s .before .count-in3 .ensures r h (omega arith)) (s .before .before .before .count-in .ensures r h (omega arith)) (s .before .before .count-in2 .ensures r h (omega arith)) (sym (s .sections-at .ensures) ∙ ap sectionsGot (k1 .before .x .given .1)) (sym (k2 .before .before .before .figure-at .ensures) ∙ ap numberGot (k2 .before .n .given .1)) (sym (k3 .before .before .before .entry-at .ensures) ∙ ap numberGot (k3 .before .v .given .1)) _ refl (i .is-placement .ensures) (c .before .if1 .taken) _ (c .code-of .ensures r h)
+returns-4 c = λ r h first. let i = c .before .before in let k3 = i .before in let k2 = k3 .before .before .before .before in let k1 = k2 .before .before .before .before in let s = k1 .before .before .before in placement-read r (h .accepted) _ first (s .before .sections-in .ensures r h) (s .before .before .before .points-in .ensures r h) (s .before .before .trains-in .ensures r h) (sym (s .sections-at .ensures) ∙ ap sectionsGot (k1 .before .x .given .1)) (sym (k2 .before .before .before .figure-at .ensures) ∙ ap numberGot (k2 .before .n .given .1)) (sym (k3 .before .before .before .entry-at .ensures) ∙ ap numberGot (k3 .before .v .given .1)) _ refl (i .is-placement .ensures) (c .before .if1 .taken) _ (c .code-of .ensures r h)
 
 returns-5 : tie.Need-returns-5
-returns-5 c = λ r h first. let i = c .before in let k3 = i .before in let k2 = k3 .before .before .before .before in let k1 = k2 .before .before .before .before in let s = k1 .before .before .before in other-spelling r _ h _ first (s .before .count-in3 .ensures r h (omega arith)) (s .before .before .before .count-in .ensures r h (omega arith)) (s .before .before .count-in2 .ensures r h (omega arith)) (sym (s .sections-at .ensures) ∙ ap sectionsGot (k1 .before .x .given .1)) (sym (k2 .before .before .before .figure-at .ensures) ∙ ap numberGot (k2 .before .n .given .1)) (sym (k3 .before .before .before .entry-at .ensures) ∙ ap numberGot (k3 .before .v .given .1)) _ refl (i .is-placement .ensures) (c .if1 .left)
+returns-5 c = λ r h first. let i = c .before in let k3 = i .before in let k2 = k3 .before .before .before .before in let k1 = k2 .before .before .before .before in let s = k1 .before .before .before in other-spelling r (h .accepted) _ first (s .before .sections-in .ensures r h) (s .before .before .before .points-in .ensures r h) (s .before .before .trains-in .ensures r h) (sym (s .sections-at .ensures) ∙ ap sectionsGot (k1 .before .x .given .1)) (sym (k2 .before .before .before .figure-at .ensures) ∙ ap numberGot (k2 .before .n .given .1)) (sym (k3 .before .before .before .entry-at .ensures) ∙ ap numberGot (k3 .before .v .given .1)) _ refl (i .is-placement .ensures) (c .if1 .left)
 
 pub read-placement-spec : {M : Type 1} → statement M
 read-placement-spec =
     tie.close
     (tie.spec
-    count-in-requires
-    count-in-requires-2
-    count-in-requires-3
+    points-in-requires
+    trains-in-requires
+    sections-in-requires
     sections-at-requires
     enum-known-x
     enum-told

@@ -13,7 +13,7 @@ use Rattle.game.specs.Moves.{gameOf}
 use Rattle.tables.specs.Entries.{settingAt}
 use Rattle.tables.specs.Tables.{figureIn}
 use Rattle.compiled.specs.Table.{Compiled}
-use Rattle.plantest.proofs.Testing.{but-a-train, every-train}
+use Rattle.plantest.proofs.Testing.{but-one, every-one}
 use Rattle.plantest.proofs.all_below.Statement.{statement}
 use Rattle.plantest.proofs.all_below.Tie as tie
 
@@ -23,8 +23,8 @@ Inv-loop table figures p v n k t₀ t = (t ≤ k) × ((r : Railway) → Compiled
 abbrev μ-loop : tie.MeasureT-loop
 μ-loop table figures p v n k t₀ t = k - t
 
-count-in-requires : tie.Need-count-in-requires Inv-loop μ-loop
-count-in-requires c κs = search needs
+trains-in-requires : tie.Need-trains-in-requires Inv-loop μ-loop
+trains-in-requires c κs = search needs
 
 loop-holds : tie.Need-loop-holds Inv-loop μ-loop
 unfolding allBelow
@@ -46,13 +46,13 @@ returns : tie.Need-returns Inv-loop μ-loop
 returns c =
     λ r h.
     let l = c .before .before .before in
-    but-a-train r _ (l .before .count-in .ensures r h (omega arith)) _ (l .loop .t) (c .before .before .loop-test .taken) (sym (c .before .goes-below .ensures r h) ∙ c .if1 .left)
+    but-one (l .before .trains-in .ensures r h) _ (l .loop .t) (c .before .before .loop-test .taken) (sym (c .before .goes-below .ensures r h) ∙ c .if1 .left)
 
 returns-2 : tie.Need-returns-2 Inv-loop μ-loop
 returns-2 c =
     λ r h.
     let l = c .before in
-    every-train r _ (l .before .count-in .ensures r h (omega arith)) _ (l .loop .t) (l .loop .inv .0) (c .loop-test .left) (l .loop .inv .1 r h)
+    every-one (l .before .trains-in .ensures r h) _ (l .loop .t) (l .loop .inv .0) (c .loop-test .left) (l .loop .inv .1 r h)
 
 pub all-below-spec : {M : Type 1} → statement M
 all-below-spec =
@@ -60,7 +60,7 @@ all-below-spec =
     (tie.spec
     Inv-loop
     μ-loop
-    count-in-requires
+    trains-in-requires
     loop-holds
     goes-below-requires
     add-t

@@ -11,7 +11,7 @@ use Rattle.railway.specs.declared.Railway.{Railway}
 use Rattle.plan.specs.Test.{byTables}
 use Rattle.plan.specs.Computed.{placementPasses}
 use Rattle.compiled.specs.Table.{Compiled}
-use Rattle.plantest.proofs.Testing.{but-a-placement, every-placement}
+use Rattle.plantest.proofs.Testing.{but-one, every-one}
 use Rattle.plantest.proofs.all_pass.Statement.{statement}
 use Rattle.plantest.proofs.all_pass.Tie as tie
 
@@ -44,13 +44,13 @@ returns : tie.Need-returns Inv-loop μ-loop
 returns c =
     λ r h.
     let l = c .before .before .before in
-    but-a-placement r _ (l .before .placements .ensures r h) _ (l .loop .p) (c .before .before .loop-test .taken) (sym (c .before .placement-passes .ensures r h) ∙ c .if1 .left)
+    but-one (l .before .placements .ensures r h) _ (l .loop .p) (c .before .before .loop-test .taken) (sym (c .before .placement-passes .ensures r h) ∙ c .if1 .left)
 
 returns-2 : tie.Need-returns-2 Inv-loop μ-loop
 returns-2 c =
     λ r h.
     let l = c .before in
-    every-placement r _ (l .before .placements .ensures r h) _ (l .loop .p) (l .loop .inv .0) (c .loop-test .left) (l .loop .inv .1 r h)
+    every-one (l .before .placements .ensures r h) _ (l .loop .p) (l .loop .inv .0) (c .loop-test .left) (l .loop .inv .1 r h)
 
 pub all-pass-spec : {M : Type 1} → statement M
 all-pass-spec =

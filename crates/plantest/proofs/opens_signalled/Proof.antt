@@ -10,7 +10,7 @@ use Rattle.laws.proofs.Below.{all-next}
 use Rattle.railway.specs.declared.Railway.{Railway}
 use Rattle.moves.specs.Steps.{On}
 use Rattle.plantest.specs.Steps.{signalledIn}
-use Rattle.plantest.proofs.Testing.{train-there, but-a-train, every-train}
+use Rattle.plantest.proofs.Testing.{within, but-one, every-one}
 use Rattle.plantest.proofs.opens_signalled.Statement.{statement}
 use Rattle.plantest.proofs.opens_signalled.Tie as tie
 
@@ -20,8 +20,8 @@ Inv-loop table q v k t₀ t = (t ≤ k) × ((r : Railway) (p : ℕ) → On r p t
 abbrev μ-loop : tie.MeasureT-loop
 μ-loop table q v k t₀ t = k - t
 
-count-in-requires : tie.Need-count-in-requires Inv-loop μ-loop
-count-in-requires c κs = search needs
+trains-in-requires : tie.Need-trains-in-requires Inv-loop μ-loop
+trains-in-requires c κs = search needs
 
 loop-holds : tie.Need-loop-holds Inv-loop μ-loop
 unfolding allBelow
@@ -39,21 +39,21 @@ loop-less c = omega arith
 loop-again : tie.Need-loop-again Inv-loop μ-loop
 loop-again c =
     let l = c .before .before .before in
-    (omega arith, λ r p on. let there = train-there r _ (l .before .count-in .ensures r (on .compiled) (omega arith)) _ (c .before .before .loop-test .taken) in all-next _ _ (l .loop .inv .1 r p on) (sym (c .before .train-signalled .ensures r p on there) ∙ c .if1 .taken))
+    (omega arith, λ r p on. let there = within (l .before .trains-in .ensures r (on .compiled)) _ (c .before .before .loop-test .taken) in all-next _ _ (l .loop .inv .1 r p on) (sym (c .before .train-signalled .ensures r p on there) ∙ c .if1 .taken))
 
 returns : tie.Need-returns Inv-loop μ-loop
 returns c =
     λ r p on.
     let l = c .before .before .before in
-    let e = l .before .count-in .ensures r (on .compiled) (omega arith) in
-    let there = train-there r _ e _ (c .before .before .loop-test .taken) in
-    but-a-train r _ e _ (l .loop .t) (c .before .before .loop-test .taken) (sym (c .before .train-signalled .ensures r p on there) ∙ c .if1 .left)
+    let e = l .before .trains-in .ensures r (on .compiled) in
+    let there = within e _ (c .before .before .loop-test .taken) in
+    but-one e _ (l .loop .t) (c .before .before .loop-test .taken) (sym (c .before .train-signalled .ensures r p on there) ∙ c .if1 .left)
 
 returns-2 : tie.Need-returns-2 Inv-loop μ-loop
 returns-2 c =
     λ r p on.
     let l = c .before in
-    every-train r _ (l .before .count-in .ensures r (on .compiled) (omega arith)) _ (l .loop .t) (l .loop .inv .0) (c .loop-test .left) (l .loop .inv .1 r p on)
+    every-one (l .before .trains-in .ensures r (on .compiled)) _ (l .loop .t) (l .loop .inv .0) (c .loop-test .left) (l .loop .inv .1 r p on)
 
 pub opens-signalled-spec : {M : Type 1} → statement M
 opens-signalled-spec =
@@ -61,7 +61,7 @@ opens-signalled-spec =
     (tie.spec
     Inv-loop
     μ-loop
-    count-in-requires
+    trains-in-requires
     loop-holds
     train-signalled-requires
     add-t

@@ -12,7 +12,7 @@ use Rattle.game.specs.Game.{may}
 use Rattle.game.specs.Moves.{gameOf}
 use Rattle.tables.specs.Entries.{settingAt}
 use Rattle.compiled.specs.Table.{Compiled}
-use Rattle.plantest.proofs.Testing.{one-of-trains, none-of-trains}
+use Rattle.plantest.proofs.Testing.{one-of, none-of}
 use Rattle.plantest.proofs.some_may.Statement.{statement}
 use Rattle.plantest.proofs.some_may.Tie as tie
 
@@ -22,8 +22,8 @@ Inv-loop table p v k t₀ t = (t ≤ k) × ((r : Railway) → Compiled r table �
 abbrev μ-loop : tie.MeasureT-loop
 μ-loop table p v k t₀ t = k - t
 
-count-in-requires : tie.Need-count-in-requires Inv-loop μ-loop
-count-in-requires c κs = search needs
+trains-in-requires : tie.Need-trains-in-requires Inv-loop μ-loop
+trains-in-requires c κs = search needs
 
 loop-holds : tie.Need-loop-holds Inv-loop μ-loop
 unfolding anyBelow
@@ -36,7 +36,7 @@ returns : tie.Need-returns Inv-loop μ-loop
 returns c =
     λ r h.
     let l = c .before .before .before in
-    one-of-trains r _ (l .before .count-in .ensures r h (omega arith)) _ (l .loop .t) (c .before .before .loop-test .taken) (sym (c .before .may-move .ensures r h) ∙ c .if1 .taken)
+    one-of (l .before .trains-in .ensures r h) _ (l .loop .t) (c .before .before .loop-test .taken) (sym (c .before .may-move .ensures r h) ∙ c .if1 .taken)
 
 add-t : tie.Need-add-t Inv-loop μ-loop
 add-t c = omega arith
@@ -51,7 +51,7 @@ returns-2 : tie.Need-returns-2 Inv-loop μ-loop
 returns-2 c =
     λ r h.
     let l = c .before in
-    none-of-trains r _ (l .before .count-in .ensures r h (omega arith)) _ (l .loop .t) (l .loop .inv .0) (c .loop-test .left) (l .loop .inv .1 r h)
+    none-of (l .before .trains-in .ensures r h) _ (l .loop .t) (l .loop .inv .0) (c .loop-test .left) (l .loop .inv .1 r h)
 
 pub some-may-spec : {M : Type 1} → statement M
 some-may-spec =
@@ -59,7 +59,7 @@ some-may-spec =
     (tie.spec
     Inv-loop
     μ-loop
-    count-in-requires
+    trains-in-requires
     loop-holds
     may-move-requires
     returns

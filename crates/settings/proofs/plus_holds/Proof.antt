@@ -9,7 +9,7 @@ use Rattle.laws.specs.Below.{allBelow}
 use Rattle.laws.proofs.Below.{all-next, all-each, all-but}
 use Rattle.railway.specs.declared.Railway.{Railway}
 use Rattle.tables.specs.Tables.{figureIn}
-use Rattle.moves.specs.Answers.{codeOn}
+use Rattle.game.specs.Placement.{codeOn}
 use Rattle.moves.specs.Steps.{sectionIn, On}
 use Rattle.settings.specs.Ways.{goodAtPlus}
 use Rattle.settings.proofs.Ways.{all-at-minus}

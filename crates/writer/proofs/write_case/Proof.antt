@@ -5,7 +5,8 @@ use borrow.Author.Needs.{needs}
 use mathlib.Core.Path.{refl}
 use denote.Ref.{now}
 use Rattle.casefile.proofs.Call.{writer-answers}
-use Rattle.writer.proofs.Written.{record-refused, own-fits, own-cut, space-refused, case-written}
+use Rattle.text.proofs.Appending.{front-fits, front-cut}
+use Rattle.writer.proofs.Written.{record-refused, space-refused, case-written}
 use Rattle.writer.proofs.write_case.Statement.{statement}
 use Rattle.writer.proofs.write_case.Tie as tie
 
@@ -28,10 +29,10 @@ returns : tie.Need-returns
 returns c = writer-answers _ _ _ _ .0 (space-refused (c .before .before .before .before .before .before .test-record .ensures) (c .before .before .before .before .enum-told .given .1) refl (c .before .before .put-text .ensures) (now (c .before .before .before .before .before .before .before .before .args .buffer)) (c .if1 .taken))
 
 array-share-prefix-text : tie.Need-array-share-prefix-text
-array-share-prefix-text c = own-fits (c .before .before .before .before .before .before .before .test-record .ensures) (c .before .before .before .before .before .enum-told .given .1) refl (c .before .before .before .put-text .ensures) (c .before .before .before .put-text .kept .0)
+array-share-prefix-text c = front-fits (c .before .before .before .put-text .ensures) (c .before .before .before .put-text .kept .0)
 
 slice-aggregate-bytes : tie.Need-slice-aggregate-bytes
-slice-aggregate-bytes c = own-cut (c .before .before .before .before .before .before .before .before .test-record .ensures) (c .before .before .before .before .before .before .enum-told .given .1) refl (c .before .before .before .before .put-text .ensures) (c .before .before .before .before .put-text .kept .0)
+slice-aggregate-bytes c = front-cut (c .before .before .before .before .put-text .ensures) (c .before .before .before .before .put-text .kept .0)
 
 bytes-requires : tie.Need-bytes-requires
 bytes-requires c κs = search needs

@@ -2,7 +2,8 @@
 -- Assumes nothing.
 use borrow.Author.Needs.{needs}
 use Rattle.checker.specs.Answers.{checking}
-use Rattle.checker.proofs.Calling.{compiled-if, line-refused, line-small, line-entered}
+use Rattle.cases.proofs.Opened.{opened-table}
+use Rattle.checker.proofs.Calling.{line-refused, line-small, line-entered}
 use Rattle.checker.proofs.Checker.take.Statement.{statement}
 use Rattle.checker.proofs.Checker.take.Tie as tie
 
@@ -28,7 +29,7 @@ enter-requires c κs =
     let o = e .before .before in
     let a = o .before .before .before .before .before .before .args in
     let k = checking (a .self) (a .figures .now) (a .settings .now) in
-    line-small (a .r) k _ (o .open-case .ensures) (a .text .now) (e .enum-told .given .1) _ (l .read-line .ensures (a .r) (compiled-if (a .r) k _ (o .open-case .ensures) (e .enum-told .given .1)))
+    line-small (a .r) k _ (o .open-case .ensures) (a .text .now) (e .enum-told .given .1) _ (l .read-line .ensures (a .r) (opened-table (o .open-case .ensures) (e .enum-told .given .1)))
 
 same-length : tie.Need-same-length
 same-length c = search needs
@@ -57,7 +58,7 @@ returns-2 c =
     let o = e .before .before in
     let a = o .before .before .before .before .before .before .args in
     let k = checking (a .self) (a .figures .now) (a .settings .now) in
-    line-entered (a .r) k _ (o .open-case .ensures) (a .text .now) (e .enum-told .given .1) _ (l .read-line .ensures (a .r) (compiled-if (a .r) k _ (o .open-case .ensures) (e .enum-told .given .1))) _ (n .enter .ensures)
+    line-entered (a .r) k _ (o .open-case .ensures) (a .text .now) (e .enum-told .given .1) _ (l .read-line .ensures (a .r) (opened-table (o .open-case .ensures) (e .enum-told .given .1))) _ (n .enter .ensures)
 
 pub take-spec : {M : Type 1} → statement M
 take-spec =

@@ -2,7 +2,8 @@
 -- Assumes nothing.
 use borrow.Author.Needs.{needs}
 use Rattle.checker.specs.Answers.{checking}
-use Rattle.checker.proofs.Calling.{compiled-if, test-refused, test-judged, test-handed}
+use Rattle.cases.proofs.Opened.{opened-table}
+use Rattle.checker.proofs.Calling.{test-refused, test-judged, test-handed}
 use Rattle.checker.proofs.Checker.test.Statement.{statement}
 use Rattle.checker.proofs.Checker.test.Tie as tie
 
@@ -40,7 +41,7 @@ returns-2 c =
     let a = o .before .before .before .args in
     let k = checking (a .self) (a .figures .now) (a .settings .now) in
     test-handed (a .r) (a .self) (a .figures .now) (a .settings .now) _ _ _ (c .tested3 .ensures .0) (c .tested3 .ensures .1)
-    (test-judged (a .r) k _ (o .open-case .ensures) (e .enum-told .given .1) _ (v .verdict .ensures (a .r) (a .self) (compiled-if (a .r) k _ (o .open-case .ensures) (e .enum-told .given .1))))
+    (test-judged (a .r) k _ (o .open-case .ensures) (e .enum-told .given .1) _ (v .verdict .ensures (a .r) (a .self) (opened-table (o .open-case .ensures) (e .enum-told .given .1))))
 
 pub test-spec : {M : Type 1} → statement M
 test-spec =

@@ -1,10 +1,10 @@
--- `moves::four` meets its contract: four bytes fit.
+-- `moves::code_of_sections` meets its contract: the code of four bytes fits.
 -- Assumes nothing.
 use native.Mathlib.Omega.{arith}
 use borrow.Author.Needs.{needs}
 use Rattle.moves.proofs.Coding.{last-fits, third-fits, second-fits}
-use Rattle.moves.proofs.four.Statement.{statement}
-use Rattle.moves.proofs.four.Tie as tie
+use Rattle.moves.proofs.code_of_sections.Statement.{statement}
+use Rattle.moves.proofs.code_of_sections.Tie as tie
 
 mul-result : tie.Need-mul-result
 mul-result c = let a = c .args in let f = c .fits in omega (arith, last-fits (a .s) (omega arith) (a .b) (a .c) (a .d) (omega arith) (omega arith) (omega arith))
@@ -27,7 +27,7 @@ add-result-3 c = let a = c .args in let f = c .fits in omega (arith, second-fits
 returns : tie.Need-returns
 returns c = search needs
 
-pub four-spec : {M : Type 1} → statement M
-four-spec =
+pub code-of-sections-spec : {M : Type 1} → statement M
+code-of-sections-spec =
     tie.close
     (tie.spec mul-result add-result mul-result-2 add-result-2 mul-result-3 add-result-3 returns)
