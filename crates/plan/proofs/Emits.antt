@@ -68,16 +68,16 @@ module _ (r : Railway) (figs sets : List ℕ) (unrefused : caseRefusal r figs se
     Whole ls = record { lines = ls; last = some End }
 
     -- the lines from a place on
-    abbrev textsFrom : PlanPlace → List (List ℕ)
+    abbrev pub textsFrom : PlanPlace → List (List ℕ)
     textsFrom Top = startText ∷ texts 0
     textsFrom (From c) = texts c
 
     -- A CALL: the end where no lines are left; else the first of them, if it fits into the buffer, and the others are those from the next place on
-    data Call (place : PlanPlace) (b : List ℕ) : List (List ℕ) → Type 0 where
+    pub data Call (place : PlanPlace) (b : List ℕ) : List (List ℕ) → Type 0 where
       ends : emitLine r figs sets place b ≡ unwritten End b → Call place b []
       writes : (l : List ℕ) (next : PlanPlace) → (length l ≤ length b → emitLine r figs sets place b ≡ record { answer = Line (length l) next; buffer = l ++ drop (length l) b }) → Call place b (l ∷ textsFrom next)
 
-    call : (place : PlanPlace) (b : List ℕ) → Call place b (textsFrom place)
+    pub call : (place : PlanPlace) (b : List ℕ) → Call place b (textsFrom place)
     call Top b = writes startText (From 0) (λ h. emit-at Top b ∙ put-line startText (From 0) b h)
     call (From c) b = elim (option? (nextCode r figs c)) [
       | inl x ↦ rw (next-none (fromOn (hasFigure figs) c) (placements r) x) (ends (emit-at (From c) b ∙ rw x))
@@ -163,7 +163,7 @@ module _ (r : Railway) (figs sets : List ℕ) (unrefused : caseRefusal r figs se
     each-text [] = refl
     each-text (x ∷ xs) = ap (λ (ls : List (List ℕ)). textFor x ∷ ls) (each-text xs)
 
-    from-top : textsFrom Top ≡ planTexts r figs sets
+    pub from-top : textsFrom Top ≡ planTexts r figs sets
     unfolding planTexts planLines
     from-top =
         ap (λ (xs : List ℕ). startText ∷ map textFor xs) (from-zero (hasFigure figs) (placements r))

@@ -1,8 +1,11 @@
 // Case texts, and what program signalplan writes for each. Standard input is records (crate framed).
 use casefile::CaseAnswer;
+use libc::STDOUT_FILENO;
 use railway::Railway;
+use tables::ENTRIES;
 
-const ENTRIES: usize = 8192;
+// Room for a first line and one for each entry, as in signalplan.
+const TEXT: usize = (ENTRIES + 1) * planlines::MOST_LINE_BYTES;
 
 fn main() {
     let mut turns: u64 = 0;
@@ -43,5 +46,8 @@ fn show(case: &[u8]) {
 fn plan(r: Railway) {
     let mut figures = [0u32; ENTRIES];
     let mut settings = [0u32; ENTRIES];
-    planwriter::write_plan(r, &mut figures, &mut settings);
+    let mut text = [0u8; TEXT];
+    let made = planwriter::plan_text(r, &mut figures, &mut settings, &mut text);
+    let n = made.bytes;
+    io::write_all(STDOUT_FILENO, &text[..n]);
 }

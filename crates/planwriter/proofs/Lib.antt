@@ -1,4 +1,4 @@
-pub mod Fitting
-pub mod Advancing
-pub mod Writing
-pub mod Plan
+pub mod Answers
+pub mod Sizes
+pub mod Lines
+pub mod Whole

@@ -1,17 +1,29 @@
--- What follows from the contracts: after a solver that answered a figure, what is written out is the plan, all of it. Assumes nothing.
+-- What follows from the contract: how long the text can be, and that a buffer of so many bytes has all of it. Assumes nothing.
 use mathlib.Core.Path.{_≡_}
 use mathlib.Core.List.{List}
-use Prim.Native.Nat.{ℕ}
+use Prim.Native.Nat.{ℕ, suc, _*_, _≤_}
+use lib.ListN.{length, take}
 use Rattle.railway.specs.declared.Railway.{Railway}
-use Rattle.tables.specs.declared.SolverAnswer.the-variants.{Figure}
+use Rattle.game.specs.Placement.{placements}
+use Rattle.tables.specs.declared.SolverAnswer.{SolverAnswer}
 use Rattle.tables.specs.Solver.{SolverPost}
-use Rattle.plan.specs.declared.Emitted.{Emitted}
-use Rattle.plan.specs.declared.Emitted.the-variants.{End}
-use Rattle.plan.specs.Text.{planTexts}
-use Rattle.planwriter.specs.Written.{LinesWritten}
+use Rattle.plan.specs.Lines.{mostLineBytes}
+use Rattle.planwriter.specs.declared.PlanText.{PlanText}
+use Rattle.planwriter.specs.Written.{outputText, PlanTextPost}
 
--- The lines are those of the plan by the tables that the solver left, and the calls came to their end.
-abbrev pub PlanWritten : Type 0
-PlanWritten =
-    (r : Railway) (n : ℕ) (figs sets figs′ sets′ : List ℕ) → SolverPost r (Figure n) figs sets figs′ sets′
-    → (a : Emitted) (w : LinesWritten r figs′ sets′ a) → (w .emission .lines ≡ planTexts r figs′ sets′) × (a ≡ End)
+-- A first line and one for each placement, of the most bytes each, are never too few.
+abbrev pub TextShort : Type 0
+TextShort =
+    (r : Railway) (a : SolverAnswer) (figs sets figs′ sets′ : List ℕ) → SolverPost r a figs sets figs′ sets′
+    → length (outputText r a figs′ sets′) ≤ suc (placements r) * mostLineBytes
+
+-- The first bytes of the buffer, as many as the answer says, are the text, and all of it.
+pub record Whole (r : Railway) (t : PlanText) (figs sets buffer : List ℕ) : Type 0 where
+  pub within : t .bytes ≤ length buffer
+  pub text : take (t .bytes) buffer ≡ outputText r (t .answer) figs sets
+
+-- So it is, refused or not, with a buffer that has room for one line more than the figure table has entries.
+abbrev pub TextWhole : Type 0
+TextWhole =
+    (r : Railway) (t : PlanText) (figs sets buffer figs′ sets′ buffer′ : List ℕ) → PlanTextPost r figs sets buffer t figs′ sets′ buffer′
+    → suc (length figs) * mostLineBytes ≤ length buffer → Whole r t figs′ sets′ buffer′

@@ -1,36 +1,23 @@
--- The emitter's calls by which a plan is written out, each line as it comes (document 01, end of "The two
--- tables and the plan": what `signalplan` writes). Assumes nothing.
-use mathlib.Core.Path.{_≡_}
-use mathlib.Core.Bool.{Bool, true}
+-- What program `signalplan` writes for a railway, and the promise of the call that makes this text (document 01, end of "The two tables and the
+-- plan": what `signalplan` writes). Assumes nothing.
 use mathlib.Core.List.{List}
-use mathlib.Core.Option.{some}
 use Prim.Native.Nat.{ℕ}
-use lib.ListN.{length}
-use lib.Dec.{leb}
-use Rattle.laws.specs.Lists.{all}
 use Rattle.railway.specs.declared.Railway.{Railway}
-use Rattle.plan.specs.declared.PlanPlace.{PlanPlace}
-use Rattle.plan.specs.declared.PlanPlace.the-variants.{Top}
-use Rattle.plan.specs.declared.Emitted.{Emitted}
-use Rattle.plan.specs.Lines.{mostLineBytes}
-use Rattle.plan.specs.Promises.{EmitterPost}
-use Rattle.plan.specs.Calls.{Emission, Emitting}
+use Rattle.tables.specs.declared.SolverAnswer.{SolverAnswer}
+use Rattle.tables.specs.declared.SolverAnswer.the-variants.{Refused, Unsolvable, Figure}
+use Rattle.tables.specs.Solver.{SolverPost}
+use Rattle.plan.specs.Text.{planText}
+use Rattle.answerlines.specs.Lines.{refusalLine, noneLine, Spelled}
+use Rattle.planwriter.specs.declared.PlanText.{PlanText}
 
--- A buffer with room for every line.
-abbrev pub roomy : List ℕ → Bool
-roomy b = leb mostLineBytes (length b)
+-- THE WHOLE TEXT, by the solver's answer and the two tables that it left: the plan, or `none`, or the refusal.
+abbrev pub outputText : Railway → SolverAnswer → List ℕ → List ℕ → List ℕ
+outputText r (Refused f) figs sets = refusalLine f
+outputText r Unsolvable figs sets = noneLine
+outputText r (Figure n) figs sets = planText r figs sets
 
--- ONE CALL at a place, with such a buffer, which was answered by a.
-pub record LineWritten (r : Railway) (figs sets : List ℕ) (place : PlanPlace) (a : Emitted) : Type 0 where
-  pub old : List ℕ
-  pub new : List ℕ
-  pub room : roomy old ≡ true
-  pub call : EmitterPost r figs sets place old a new
-
--- ALL CALLS from the top on, with such buffers, until one was answered by a, which is no line.
-pub record LinesWritten (r : Railway) (figs sets : List ℕ) (a : Emitted) : Type 0 where
-  pub buffers : List (List ℕ)
-  pub emission : Emission
-  pub room : all roomy buffers ≡ true
-  pub calls : Emitting r figs sets Top buffers emission
-  pub last : emission .last ≡ some a
+-- THE PROMISE: answer and tables are a solver's, and the text for them stands at the front of the buffer, as far as there is room for it; how many
+-- bytes it has stands beside the answer.
+pub record PlanTextPost (r : Railway) (figs sets buffer : List ℕ) (t : PlanText) (figs′ sets′ buffer′ : List ℕ) : Type 0 where
+  pub solved : SolverPost r (t .answer) figs sets figs′ sets′
+  pub spelled : Spelled (outputText r (t .answer) figs′ sets′) buffer buffer′ (t .bytes)

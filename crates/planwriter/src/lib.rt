@@ -1,64 +1,51 @@
-// The plan of a railway, written on standard output: its lines, or `none`, or `refused`, a tab and the number.
-ghost use Rattle.tables.specs.Solver.{SolverPost};
-ghost use Rattle.planwriter.specs.Written.{LineWritten, LinesWritten};
-use libc::STDOUT_FILENO;
+// A railway's plan as a text, in a lent buffer: its lines, or `none`, or `refused`, a tab and the number. It is what program signalplan writes.
+// A byte that finds no room is lost; the answer says how many bytes the text has, whether or not there was room for them.
+ghost use Rattle.plan.specs.Text.{planText};
+ghost use Rattle.answerlines.specs.Lines.{Spelled};
+ghost use Rattle.planwriter.specs.Written.{PlanTextPost};
+ghost use Rattle.planwriter.specs.Solved.{Solved};
 use plan::Emitted;
 use plan::PlanPlace;
 use planlines::MOST_LINE_BYTES;
 use railway::Railway;
-use railway::Refusal;
 use tables::SolverAnswer;
+use text::append;
 
-// A railway, with two lent tables: the solver's answer, with the tables as it left them.
-pub fn write_plan(r: Railway, figures: &mut [u32], settings: &mut [u32]) -> SolverAnswer
-    ensures { λ a. ⌜ SolverPost r a (now (figures .entry)) (now (settings .entry)) (now (figures .exit)) (now (settings .exit)) ⌝ }
+// The solver's answer, and how many bytes the text has.
+pub struct PlanText {
+    pub answer: SolverAnswer,
+    pub bytes: usize,
+}
+
+// A railway, with two lent tables, which are left as the solver leaves them.
+pub fn plan_text(r: Railway, figures: &mut [u32], settings: &mut [u32], text: &mut [u8]) -> PlanText
+    ensures { λ t. ⌜ PlanTextPost r (now (figures .entry)) (now (settings .entry)) (now (text .entry)) t (now (figures .exit)) (now (settings .exit)) (now (text .exit)) ⌝ }
 {
     let answer = solver::solve(r, figures, settings);
-    match answer {
-        SolverAnswer::Refused(f) => {
-            write_refusal(f);
-        }
-        SolverAnswer::Unsolvable => {
-            write_none();
-        }
-        SolverAnswer::Figure(_) => {
-            write_lines(r, figures, settings);
-        }
-    }
-    answer
+    let bytes = match answer {
+        SolverAnswer::Refused(f) => answerlines::refusal_line(f, text),
+        SolverAnswer::Unsolvable => answerlines::none_line(text),
+        SolverAnswer::Figure(_) => plan_lines(r, figures, settings, text),
+    };
+    PlanText { answer, bytes }
 }
 
-fn write_refusal(f: Refusal) {
-    let mut line = [0u8; output::LINE];
-    output::refusal(f, &mut line);
-}
-
-fn write_none() {
-    let mut line = [0u8; output::LINE];
-    output::no_plan(&mut line);
-}
-
-// Line after line, until the emitter answers that there is no further one, or refuses: that answer.
-fn write_lines(r: Railway, figures: &[u32], settings: &[u32]) -> Emitted
-    ensures { λ a. ⌜ LinesWritten r (now (figures .entry)) (now (settings .entry)) a ⌝ }
+// Line behind line, until the emitter answers that there is no further one.
+fn plan_lines(r: Railway, figures: &[u32], settings: &[u32], text: &mut [u8]) -> usize
+    requires { ⌜ Solved r (now figures) (now settings) ⌝ }
+    ensures { λ n. ⌜ Spelled (planText r (now (figures .entry)) (now (settings .entry))) (now (text .entry)) (now (text .exit)) n ⌝ }
 {
     let mut place = PlanPlace::Top;
+    let mut at: usize = 0;
+    let mut bytes: usize = 0;
     loop {
-        let emitted = write_line(r, figures, settings, place);
-        let Emitted::Line(_, next) = emitted else {
-            return emitted;
+        let mut line = [0u8; MOST_LINE_BYTES];
+        let emitted = emitter::emit_line(r, figures, settings, place, &mut line);
+        let Emitted::Line(n, next) = emitted else {
+            return bytes;
         };
+        at = append::bytes(text, at, &line[..n]);
+        bytes += n;
         place = next;
     }
-}
-
-fn write_line(r: Railway, figures: &[u32], settings: &[u32], place: PlanPlace) -> Emitted
-    ensures { λ a. ⌜ LineWritten r (now (figures .entry)) (now (settings .entry)) place a ⌝ }
-{
-    let mut line = [0u8; MOST_LINE_BYTES];
-    let emitted = emitter::emit_line(r, figures, settings, place, &mut line);
-    if let Emitted::Line(n, _) = emitted {
-        io::write_all(STDOUT_FILENO, &line[..n]);
-    }
-    emitted
 }

@@ -1,12 +1,15 @@
 // A case text on standard input; its plan on standard output, or `none`, or `refused`, a tab and the number.
 use casefile::CaseAnswer;
 use libc::STDIN_FILENO;
+use libc::STDOUT_FILENO;
 use railway::Railway;
+use tables::ENTRIES;
 
 // One byte more than a case text may have: whatever follows, such a text is refused for its length.
 const CASE: usize = casefile::MOST_BYTES + 1;
 
-const ENTRIES: usize = 8192;
+// Room for a first line and one for each entry (planwriter/Claims: for whatever is written).
+const TEXT: usize = (ENTRIES + 1) * planlines::MOST_LINE_BYTES;
 
 fn main() {
     let mut case = [0u8; CASE];
@@ -25,5 +28,8 @@ fn main() {
 fn plan(r: Railway) {
     let mut figures = [0u32; ENTRIES];
     let mut settings = [0u32; ENTRIES];
-    planwriter::write_plan(r, &mut figures, &mut settings);
+    let mut text = [0u8; TEXT];
+    let made = planwriter::plan_text(r, &mut figures, &mut settings, &mut text);
+    let n = made.bytes;
+    io::write_all(STDOUT_FILENO, &text[..n]);
 }

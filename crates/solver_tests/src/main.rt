@@ -4,10 +4,9 @@
 use casefile::CaseAnswer;
 use libc::STDOUT_FILENO;
 use railway::Railway;
+use tables::ENTRIES;
 use tables::NO_FIGURE;
 use tables::SolverAnswer;
-
-const ENTRIES: usize = 8192;
 
 const MARK: u32 = 7;
 

@@ -13,6 +13,9 @@ pub enum SolverAnswer {
 // The figure table's entry for none.
 pub const NO_FIGURE: u32 = 4294967295;
 
+// As many entries has each table that a program makes for itself.
+pub const ENTRIES: usize = 8192;
+
 // A table's entry at a code, and what is given for codes past its end.
 pub fn entry_at(entries: &[u32], p: u32, past: u32) -> u32
     ensures { λ e. ⌜ e ≡ getD (now (entries .entry)) p past ⌝ }

@@ -10,7 +10,7 @@ use plan::TestAnswer;
 use railway::Railway;
 
 // As many entries has each of the two tables that a plan is entered into.
-pub const ENTRIES: usize = 8192;
+pub const ENTRIES: usize = tables::ENTRIES;
 
 // A railway and a plan's text. The tables are the call's own.
 pub fn check_plan(r: Railway, plan: &[u8]) -> TestAnswer

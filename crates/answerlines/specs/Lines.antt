@@ -2,6 +2,7 @@
 use mathlib.Core.Path.{_≡_}
 use mathlib.Core.List.{List, [], _∷_}
 use Prim.Native.Nat.{ℕ}
+use lib.ListN.{length}
 use Rattle.text.specs.Text.{decimal, line, bytes}
 use Rattle.text.specs.Appending.{bytesAfter}
 use Rattle.railway.specs.declared.Refusal.{Refusal}
@@ -33,3 +34,8 @@ testLine (Refused f) = refusalLine f
 -- A text at the front of a buffer, the rest as it was; what finds no room is lost.
 abbrev pub Fronted : List ℕ → List ℕ → List ℕ → Type 0
 Fronted old text new = new ≡ bytesAfter old 0 text
+
+-- WHAT THE CALLS PROMISE that put a text at the front of a buffer: the buffer so, and the length of the text, whether or not there was room for it.
+pub record Spelled (text old new : List ℕ) (n : ℕ) : Type 0 where
+  pub front : Fronted old text new
+  pub bytes : n ≡ length text

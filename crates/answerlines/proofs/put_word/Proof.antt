@@ -1,9 +1,9 @@
--- `output::put_word` meets its contract: the letters, two at a time, and the line end.
+-- `answerlines::put_word` meets its contract: the letters, two at a time, and the line end.
 -- Assumes nothing.
-use Rattle.output.proofs.Made.{word-made}
+use Rattle.answerlines.proofs.Made.{word-made}
 use borrow.Author.Needs.{needs}
-use Rattle.output.proofs.put_word.Statement.{statement}
-use Rattle.output.proofs.put_word.Tie as tie
+use Rattle.answerlines.proofs.put_word.Statement.{statement}
+use Rattle.answerlines.proofs.put_word.Tie as tie
 
 two-requires : tie.Need-two-requires
 two-requires c κs = search needs

@@ -1,9 +1,9 @@
--- `output::put_refusal` meets its contract: the word, a tab, the number.
+-- `answerlines::put_refusal` meets its contract: the word, a tab, the number.
 -- Assumes nothing.
-use Rattle.output.proofs.Made.{refusal-made}
+use Rattle.answerlines.proofs.Made.{refusal-made}
 use borrow.Author.Needs.{needs}
-use Rattle.output.proofs.put_refusal.Statement.{statement}
-use Rattle.output.proofs.put_refusal.Tie as tie
+use Rattle.answerlines.proofs.put_refusal.Statement.{statement}
+use Rattle.answerlines.proofs.put_refusal.Tie as tie
 
 two-requires : tie.Need-two-requires
 two-requires c κs = search needs
