@@ -1,6 +1,5 @@
--- What is claimed of the case file, a sentence to each: of the lines, the writer's order and the same railway (document 01, "The case file"), of
--- which number is given (there, "Numbers that a desk can get") and of the writer's buffer (there, row 9 and the rule on refusals). proofs/ has the
--- proofs. Assumes nothing.
+-- What is claimed of the case file, a sentence to each: of the lines, the writer's order and the same railway (document 01, "The case file"), and of
+-- which number is given (there, "Numbers that a desk can get"). proofs/ has the proofs. Assumes nothing.
 use mathlib.Core.Path.{_≡_}
 use mathlib.Core.Bool.{Bool, true, _&&_}
 use mathlib.Core.Logic.{_↔_, _⊎_}
@@ -21,11 +20,10 @@ use Rattle.railway.specs.Record.{joined, hasSignal, legsOf, runOf}
 use Rattle.railway.specs.Rows.{recordRefusal}
 use Rattle.railway.specs.Same.{SameRailway}
 use Rattle.casefile.specs.declared.CaseRead.{CaseRead}
-use Rattle.casefile.specs.declared.Written.{Written}
 use Rattle.casefile.specs.Form.{EndField, section, port, JoinLine, SignalLine, TrainLine, Description, Describes}
 use Rattle.casefile.specs.Rows.{mostBytes, FormRow}
 use Rattle.casefile.specs.Recording.{noTrainLine}
-use Rattle.casefile.specs.Writing.{writtenText, written, bufferAfter, WriterPost}
+use Rattle.casefile.specs.Writing.{writtenText}
 use Rattle.casefile.specs.Given.{accepted, refused, readNumber, RefusedWith, NumberedWith, AcceptedWith, ReaderPost}
 use Rattle.casefile.specs.Reading.{read, caseAnswer}
 
@@ -122,12 +120,6 @@ abbrev pub ReadAgain : Type 0
 ReadAgain =
     (text : List ℕ) (r : Railway) → caseAnswer text ≡ accepted r
     → (q : Railway) × (caseAnswer (writtenText r) ≡ accepted q) × SameRailway r q × (writtenText q ≡ writtenText r)
-
--- THE WRITER'S CALL. Its answer and the buffer afterwards keep a writer's promise, and are the only ones that do.
-abbrev pub WriterAnswers : Type 0
-WriterAnswers =
-    (r : Railway) (buffer : List ℕ) (w : Written) (after : List ℕ)
-    → ((w ≡ written r buffer) × (after ≡ bufferAfter r buffer)) ↔ WriterPost r buffer w after
 
 -- THE WRITER'S ORDER. Where an end stands in it: section ends by number, down before up, and ports behind them all
 -- (2,000 is past every section end, for numbers are below 1,000).

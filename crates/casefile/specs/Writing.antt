@@ -1,13 +1,12 @@
 -- The writer (document 01, "The case file", last paragraph; row 9 of the table of numbers): the text that it makes of a railway, and what it
 -- answers and leaves when it is handed a record and a lent buffer. Assumes nothing.
 use mathlib.Core.Path.{_≡_}
-use mathlib.Core.Logic.{_↔_, _⊎_}
 use mathlib.Core.Bool.{Bool, cond}
 use mathlib.Core.List.{List, [], _∷_, _++_}
 use mathlib.Core.Option.{Option, none, some}
-use Prim.Native.Nat.{ℕ, suc, _<_, _≤_}
+use Prim.Native.Nat.{ℕ, suc}
 use lib.Dec.{ltb}
-use lib.ListN.{length, take, drop}
+use lib.ListN.{length, drop}
 use Rattle.laws.specs.Below.{listBelow, gatherBelow}
 use Rattle.railway.specs.declared.Joined.{Joined}
 use Rattle.railway.specs.declared.Joined.the-variants.{Nothing, With}
@@ -17,9 +16,9 @@ use Rattle.railway.specs.declared.Refusal.{Refusal}
 use Rattle.railway.specs.declared.Refusal.the-variants.{Space}
 use Rattle.railway.specs.Bounds.{sectionEnds}
 use Rattle.railway.specs.Ends.{endIndex, endAt}
-use Rattle.railway.specs.Refusals.{number, Row, row, first}
+use Rattle.railway.specs.Refusals.{number, numberOf, Row, row, first}
 use Rattle.railway.specs.Record.{linkAt, flagAt, legsOf, runOf}
-use Rattle.railway.specs.Rows.{recordRows, recordRefusal}
+use Rattle.railway.specs.Rows.{recordRows}
 use Rattle.casefile.specs.declared.Written.{Written}
 use Rattle.casefile.specs.declared.Written.the-variants.{Bytes, Refused}
 use Rattle.casefile.specs.Form.{JoinLine, SignalLine, TrainLine, Description, spell}
@@ -91,12 +90,7 @@ written r buffer = writerAnswer (writtenText r) (writerRefusal r buffer)
 unfoldable pub bufferAfter : Railway → List ℕ → List ℕ
 bufferAfter r buffer = writerBuffer (writtenText r) buffer (writerRefusal r buffer)
 
--- The refusal that an answer gives, if it does.
-abbrev pub writtenRefusal : Written → Option Refusal
-writtenRefusal (Bytes n) = none
-writtenRefusal (Refused f) = some f
-
--- The number of that refusal in the table.
+-- The number that an answer gives, if it refuses.
 abbrev pub writtenNumber : Written → Option ℕ
 writtenNumber (Bytes n) = none
 writtenNumber (Refused f) = some (number f)
@@ -106,26 +100,9 @@ abbrev pub writtenCount : Written → Option ℕ
 writtenCount (Bytes n) = some n
 writtenCount (Refused f) = none
 
--- WHAT A WRITER PROMISES of its answer and of the buffer that it leaves, in words that go round the rows above. Space is given for an accepted
--- record whose text is longer than the buffer.
-pub record NoRoom (r : Railway) (buffer : List ℕ) : Type 0 where
-  pub accepted : recordRefusal r ≡ none
-  pub longer : length buffer < length (writtenText r)
-
--- The text is written: an accepted record, whose text fits, and its length is the count.
-pub record Room (r : Railway) (buffer : List ℕ) (n : ℕ) : Type 0 where
-  pub accepted : recordRefusal r ≡ none
-  pub fits : length (writtenText r) ≤ length buffer
-  pub count : n ≡ length (writtenText r)
-
--- The first of rows 3 to 8; then 9, exactly where there is no room; else the count. A refusal keeps every byte; a text stands in front and all behind
--- it is kept; the buffer's length is kept.
-pub record WriterPost (r : Railway) (buffer : List ℕ) (w : Written) (after : List ℕ) : Type 0 where
-  pub refusal : (f : Refusal) → (writtenRefusal w ≡ some f) ↔ ((recordRefusal r ≡ some f) ⊎ (NoRoom r buffer × (f ≡ Space)))
-  pub record-number : (f : Refusal) → recordRefusal r ≡ some f → writtenNumber w ≡ some (number f)
-  pub space : (writtenNumber w ≡ some 9) ↔ NoRoom r buffer
-  pub count : (n : ℕ) → (writtenCount w ≡ some n) ↔ Room r buffer n
-  pub kept : (n : ℕ) → writtenNumber w ≡ some n → after ≡ buffer
-  pub front : (n : ℕ) → writtenCount w ≡ some n → take n after ≡ writtenText r
-  pub behind : (n : ℕ) → writtenCount w ≡ some n → drop n after ≡ drop n buffer
-  pub same-length : length after ≡ length buffer
+-- WHAT A WRITER PROMISES, handed a buffer that comes back as `new`: the answer and the bytes, and the answer's number, that of the first row that
+-- applies.
+pub record WriterPost (r : Railway) (old : List ℕ) (w : Written) (new : List ℕ) : Type 0 where
+  pub answer : w ≡ written r old
+  pub numbered : writtenNumber w ≡ numberOf (first (writerRows r old))
+  pub buffer : new ≡ bufferAfter r old

@@ -1,47 +1,54 @@
--- What follows from the writer's promise: an accepted record's text has no more bytes than a case text may have, and is read back as the same
--- railway; the promise says that those bytes stand in front of the buffer, and the case file's theorems speak of them.
+-- What follows from the writer's promise: a refusal leaves the buffer; else the text of an accepted record stands in front, which has no more bytes
+-- than a case text may have and is read back as the same railway.
 -- Assumes nothing.
 use Prim.Native.Nat.{ℕ}
 use mathlib.Core.Path.{_≡_, refl, sym, _∙_, ap}
+use mathlib.Core.List.{List}
 use mathlib.Core.Option.{some}
 use native.Mathlib.Omega.{arith}
-use lib.ListN.{length, take}
-use Rattle.laws.proofs.Bools.{some-none}
-use Rattle.railway.specs.Refusals.{number}
+use lib.ListN.{length, take, drop}
+use lib.Seq.{take-append-seam, drop-append-seam}
+use Rattle.laws.proofs.Bools.{some-none, some-one}
+use Rattle.railway.specs.declared.Railway.{Railway}
 use Rattle.casefile.specs.declared.Written.{Written}
-use Rattle.casefile.specs.declared.Written.the-variants.{Bytes, Refused}
 use Rattle.casefile.specs.Reading.{caseAnswer}
-use Rattle.casefile.specs.Writing.{writtenText, writtenCount, writtenNumber, Room}
+use Rattle.casefile.specs.Writing.{writtenText, written, writtenNumber, writtenCount}
 use Rattle.casefile.proofs.Lengths.{written-fits}
 use Rattle.casefile.proofs.RoundTrip.{round-trip, same-text}
-use Rattle.writer.specs.Claims.{RoomEnough, BytesReadBack, RefusedKeeps}
-
--- an answer with a count is that count
-bytes-counted : (w : Written) (n : ℕ) → writtenCount w ≡ some n → w ≡ Bytes n
-bytes-counted (Bytes m) n e = let z : m ≡ n = cc in rw z
-bytes-counted (Refused f) n e = some-none e refl
+use Rattle.casefile.proofs.Call.{by-none, Call, refused, done, call}
+use Rattle.writer.specs.Claims.{RoomEnough, ReadBack, BytesReadBack, RefusedKeeps}
 
 pub room-enough : RoomEnough
+unfolding written
 room-enough r buffer w after p h l =
     let k = written-fits r h in
-    let n = length (writtenText r) in
-    (n, bytes-counted w n (p .count n .1 (record { accepted = h; fits = omega arith; count = refl })))
+    ap writtenCount (p .answer) ∙ rw (by-none r buffer h (omega arith))
+
+-- by the two cases of a call
+module _ (r : Railway) (buffer : List ℕ) where
+  read-back : (v : Written) (left : List ℕ) → Call r buffer v left → (n : ℕ) → writtenCount v ≡ some n → ReadBack r buffer left n
+  read-back v left (refused f) n e = some-none e refl
+  read-back v left (done h l) n e =
+      let t = writtenText r in
+      let q = round-trip r h in
+      let z : length t ≡ n = some-one e in
+      let front : take n left ≡ t = rw (← z) (take-append-seam t (drop (length t) buffer)) in
+      record {
+        railway = q .0;
+        reads = ap caseAnswer front ∙ q .1;
+        same = q .2;
+        again = sym (same-text r (q .0) (q .2)) ∙ sym front;
+        short = rw (← z) (written-fits r h);
+        within = rw (← z) l;
+        behind = rw (← z) (drop-append-seam t (drop (length t) buffer));
+      }
+
+  keeps : (v : Written) (left : List ℕ) → Call r buffer v left → (n : ℕ) → writtenNumber v ≡ some n → left ≡ buffer
+  keeps v left (refused f) n e = refl
+  keeps v left (done h l) n e = some-none e refl
 
 pub bytes-read-back : BytesReadBack
-bytes-read-back r buffer w after p n e =
-    let counted : writtenCount w ≡ some n = ap writtenCount e in
-    let room : Room r buffer n = p .count n .0 counted in
-    let front : take n after ≡ writtenText r = p .front n counted in
-    let t = round-trip r (room .accepted) in
-    record {
-      railway = t .0;
-      reads = ap caseAnswer front ∙ t .1;
-      same = t .2;
-      again = sym (same-text r (t .0) (t .2)) ∙ sym front;
-      short = rw (room .count) (written-fits r (room .accepted));
-      within = rw (room .count) (room .fits);
-      behind = p .behind n counted;
-    }
+bytes-read-back r buffer w after p n e = rw (p .buffer) (read-back r buffer _ _ (call r buffer) n (sym (ap writtenCount (p .answer)) ∙ e))
 
 pub refused-keeps : RefusedKeeps
-refused-keeps r buffer w after p f e = p .kept (number f) (ap writtenNumber e)
+refused-keeps r buffer w after p n e = p .buffer ∙ keeps r buffer _ _ (call r buffer) n (sym (ap writtenNumber (p .answer)) ∙ e)

@@ -3,25 +3,23 @@
 -- Assumes nothing.
 use mathlib.Core.Path.{_≡_}
 use mathlib.Core.List.{List}
-use mathlib.Core.Option.{none}
+use mathlib.Core.Option.{none, some}
 use Prim.Native.Nat.{ℕ, _≤_}
 use lib.ListN.{length, take, drop}
 use Rattle.railway.specs.declared.Railway.{Railway}
-use Rattle.railway.specs.declared.Refusal.{Refusal}
 use Rattle.railway.specs.Rows.{recordRefusal}
 use Rattle.railway.specs.Same.{SameRailway}
 use Rattle.casefile.specs.declared.Written.{Written}
-use Rattle.casefile.specs.declared.Written.the-variants.{Bytes, Refused}
 use Rattle.casefile.specs.Rows.{mostBytes}
 use Rattle.casefile.specs.Given.{accepted}
 use Rattle.casefile.specs.Reading.{caseAnswer}
-use Rattle.casefile.specs.Writing.{writtenText, WriterPost}
+use Rattle.casefile.specs.Writing.{writtenText, writtenNumber, writtenCount, WriterPost}
 
--- ROOM ENOUGH. An accepted record is written into any buffer that is as long as a case text may be.
+-- ROOM ENOUGH. An accepted record is written whole into any buffer that is as long as a case text may be.
 abbrev pub RoomEnough : Type 0
 RoomEnough =
     (r : Railway) (buffer : List ℕ) (w : Written) (after : List ℕ) → WriterPost r buffer w after
-    → recordRefusal r ≡ none → mostBytes ≤ length buffer → (n : ℕ) × (w ≡ Bytes n)
+    → recordRefusal r ≡ none → mostBytes ≤ length buffer → writtenCount w ≡ some (length (writtenText r))
 
 -- READ BACK. The bytes that were answered for are a case text of the same railway, and what is written of that one is the same again; they are no
 -- more than a case text may have, and the bytes behind them are as they were.
@@ -36,8 +34,9 @@ pub record ReadBack (r : Railway) (buffer after : List ℕ) (n : ℕ) : Type 0 w
 
 -- Whenever a count of bytes is answered, these bytes are read back.
 abbrev pub BytesReadBack : Type 0
-BytesReadBack = (r : Railway) (buffer : List ℕ) (w : Written) (after : List ℕ) → WriterPost r buffer w after → (n : ℕ) → w ≡ Bytes n → ReadBack r buffer after n
+BytesReadBack =
+    (r : Railway) (buffer : List ℕ) (w : Written) (after : List ℕ) → WriterPost r buffer w after → (n : ℕ) → writtenCount w ≡ some n → ReadBack r buffer after n
 
 -- REFUSED, the buffer is as it was.
 abbrev pub RefusedKeeps : Type 0
-RefusedKeeps = (r : Railway) (buffer : List ℕ) (w : Written) (after : List ℕ) → WriterPost r buffer w after → (f : Refusal) → w ≡ Refused f → after ≡ buffer
+RefusedKeeps = (r : Railway) (buffer : List ℕ) (w : Written) (after : List ℕ) → WriterPost r buffer w after → (n : ℕ) → writtenNumber w ≡ some n → after ≡ buffer

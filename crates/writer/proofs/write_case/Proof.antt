@@ -4,7 +4,6 @@
 use borrow.Author.Needs.{needs}
 use mathlib.Core.Path.{refl}
 use denote.Ref.{now}
-use Rattle.casefile.proofs.Call.{writer-answers}
 use Rattle.text.proofs.Appending.{front-fits, front-cut}
 use Rattle.writer.proofs.Written.{record-refused, space-refused, case-written}
 use Rattle.writer.proofs.write_case.Statement.{statement}
@@ -26,7 +25,7 @@ put-text-requires : tie.Need-put-text-requires
 put-text-requires c κs = search needs
 
 returns : tie.Need-returns
-returns c = writer-answers _ _ _ _ .0 (space-refused (c .before .before .before .before .before .before .test-record .ensures) (c .before .before .before .before .enum-told .given .1) refl (c .before .before .put-text .ensures) (now (c .before .before .before .before .before .before .before .before .args .buffer)) (c .if1 .taken))
+returns c = space-refused (c .before .before .before .before .before .before .test-record .ensures) (c .before .before .before .before .enum-told .given .1) refl (c .before .before .put-text .ensures) (now (c .before .before .before .before .before .before .before .before .args .buffer)) (c .if1 .taken)
 
 array-share-prefix-text : tie.Need-array-share-prefix-text
 array-share-prefix-text c = front-fits (c .before .before .before .put-text .ensures) (c .before .before .before .put-text .kept .0)
@@ -38,13 +37,13 @@ bytes-requires : tie.Need-bytes-requires
 bytes-requires c κs = search needs
 
 returns-2 : tie.Need-returns-2
-returns-2 c = writer-answers _ _ _ _ .0 (record-refused (c .before .before .before .before .before .args .r) (now (c .before .before .before .before .before .args .buffer)) (c .before .f .given .0 .0) (c .before .before .before .test-record .ensures) (c .before .f .given .1))
+returns-2 c = record-refused (c .before .before .before .before .before .args .r) (now (c .before .before .before .before .before .args .buffer)) (c .before .f .given .0 .0) (c .before .before .before .test-record .ensures) (c .before .f .given .1)
 
 same-length : tie.Need-same-length
 same-length c = search needs
 
 returns-3 : tie.Need-returns-3
-returns-3 c = writer-answers _ _ _ _ .0 (case-written (c .before .before .before .before .before .before .before .before .before .before .before .test-record .ensures) (c .before .before .before .before .before .before .before .before .before .enum-told .given .1) refl (c .before .before .before .before .before .before .before .put-text .ensures) (now (c .before .before .before .before .before .before .before .before .before .before .before .before .before .args .buffer)) _ _ (c .before .before .before .before .before .if1 .left) (c .before .before .bytes .ensures))
+returns-3 c = case-written (c .before .before .before .before .before .before .before .before .before .before .before .test-record .ensures) (c .before .before .before .before .before .before .before .before .before .enum-told .given .1) refl (c .before .before .before .before .before .before .before .put-text .ensures) (now (c .before .before .before .before .before .before .before .before .before .before .before .before .before .args .buffer)) _ _ (c .before .before .before .before .before .if1 .left) (c .before .before .bytes .ensures)
 
 pub write-case-spec : {M : Type 1} → statement M
 write-case-spec =
