@@ -7,7 +7,7 @@ use mathlib.Core.Option.{none}
 use Prim.Native.Nat.{ℕ, suc, _+_, _≤_}
 use Prim.Native.Char.{code}
 use lib.ListN.{length, getD}
-use lib.Dec.{eqb, ltb, leb}
+use lib.Dec.{eqb, ltb}
 use Rattle.laws.specs.Below.{whichBelow}
 use Rattle.laws.specs.Lists.{all}
 use Rattle.text.specs.Text.{decimal, line, bytes}
@@ -92,11 +92,6 @@ LinesShort = (r : Railway) → recordRefusal r ≡ none → (l : PlanLine) → f
 -- The code of a line's placement.
 abbrev pub lineCode : Railway → PlacementLine → ℕ
 lineCode r d = codeOf (r .sections) (d .sections)
-
--- Codes that strictly rise, the first of them at least c.
-unfoldable pub rises : ℕ → List ℕ → Bool
-rises c [] = true
-rises c (x ∷ xs) = leb c x && rises (suc x) xs
 
 -- The lines of a plan: the first line, and those for placements.
 abbrev pub planOf : ℕ → List PlacementLine → List PlanLine
