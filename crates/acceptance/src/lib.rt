@@ -258,7 +258,7 @@ pub fn wrong_pair(r: Railway, e: End, f: End) -> bool
     same_side(r.side_of(e), r.side_of(f))
 }
 
-// Both are ports, or both belong to one section.
+// Two ports, or two ends of one section.
 fn both_or_one(e: End, f: End) -> bool
     ensures { λ b. ⌜ b ≡ (bothPorts (sectionOf e) (sectionOf f) || oneSection (sectionOf e) (sectionOf f)) ⌝ }
 {

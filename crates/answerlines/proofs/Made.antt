@@ -2,10 +2,9 @@
 use mathlib.Core.Path.{_≡_}
 use mathlib.Core.List.{List, [], _∷_, _++_}
 use Prim.Native.Nat.{ℕ, _≤_}
-use Prim.Native.Char.{code}
 use native.Mathlib.Omega.{arith}
 use lib.ListN.{length, take}
-use Rattle.text.specs.Text.{digits, decimal, tab, lineEnd, line, bytes}
+use Rattle.text.specs.Text.{byte, digits, decimal, tab, lineEnd, line, bytes}
 use Rattle.text.specs.Appending.{Appended}
 use Rattle.text.proofs.Appending.{append-then, line-more, line-last, front-text}
 use Rattle.railway.specs.declared.Refusal.{Refusal}
@@ -16,8 +15,8 @@ use Rattle.plan.specs.declared.TestAnswer.the-variants.{Pass, Refused}
 use Rattle.answerlines.specs.Lines.{refusedWord, refusalLine, noneLine, testLine, Spelled}
 
 module _ {o o₁ o₂ o₃ o₄ o₅ : List ℕ} {a a₁ a₂ a₃ a₄ a₅ : ℕ} where
-  pub refusal-made : (f : Refusal) (n : ℕ) → n ≡ number f → Appended o a (code "r" ∷ code "e" ∷ []) o₁ a₁ → Appended o₁ a₁ (code "f" ∷ code "u" ∷ []) o₂ a₂
-      → Appended o₂ a₂ (code "s" ∷ code "e" ∷ []) o₃ a₃ → Appended o₃ a₃ (code "d" ∷ tab ∷ []) o₄ a₄ → Appended o₄ a₄ (decimal n ++ (lineEnd ∷ [])) o₅ a₅ → Appended o a (refusalLine f) o₅ a₅
+  pub refusal-made : (f : Refusal) (n : ℕ) → n ≡ number f → Appended o a (byte "r" ∷ byte "e" ∷ []) o₁ a₁ → Appended o₁ a₁ (byte "f" ∷ byte "u" ∷ []) o₂ a₂
+      → Appended o₂ a₂ (byte "s" ∷ byte "e" ∷ []) o₃ a₃ → Appended o₃ a₃ (byte "d" ∷ tab ∷ []) o₄ a₄ → Appended o₄ a₄ (decimal n ++ (lineEnd ∷ [])) o₅ a₅ → Appended o a (refusalLine f) o₅ a₅
   unfolding bytes
   refusal-made f n is p q s t d = rw (← is) (line-more refusedWord (decimal n) [] (append-then p (append-then q (append-then s t))) (line-last (decimal n) d))
 
@@ -49,13 +48,13 @@ pub made-copied : {blank text buffer old new : List ℕ} {n m : ℕ} → Appende
 made-copied p room s = rw (front-text p room) at s
 
 -- the word of four letters where there is no plan
-pub none-line : (old new : List ℕ) (n : ℕ) → Spelled (line ((code "n" ∷ code "o" ∷ code "n" ∷ code "e" ∷ []) ∷ [])) old new n → Spelled noneLine old new n
+pub none-line : (old new : List ℕ) (n : ℕ) → Spelled (line ((byte "n" ∷ byte "o" ∷ byte "n" ∷ byte "e" ∷ []) ∷ [])) old new n → Spelled noneLine old new n
 unfolding bytes
 none-line old new n h = h
 
 -- the test's answer is one of the two
 module _ (old new : List ℕ) (n : ℕ) (t : TestAnswer) where
-  pub passed-line : t ≡ Pass → Spelled (line ((code "p" ∷ code "a" ∷ code "s" ∷ code "s" ∷ []) ∷ [])) old new n → Spelled (testLine t) old new n
+  pub passed-line : t ≡ Pass → Spelled (line ((byte "p" ∷ byte "a" ∷ byte "s" ∷ byte "s" ∷ []) ∷ [])) old new n → Spelled (testLine t) old new n
   unfolding bytes
   passed-line e h = rw e h
 

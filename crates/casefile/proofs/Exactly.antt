@@ -1,4 +1,4 @@
--- A case text is answered with a refusal exactly where its row applies and none before it, and accepted exactly where no row applies.
+-- A case text gets the refusal of the earliest row that applies to it, and is accepted if there is none.
 -- The rows that the reading computes apply exactly where those of the table do, since what is read is what the text says, and it says one thing
 -- at most. Of two rows that are first in one table, neither stands before the other, so they are one. An answer is made up of its refusal and its
 -- railway, so these two tell it.

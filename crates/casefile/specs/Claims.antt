@@ -38,7 +38,7 @@ DescribesOne = (text : List ℕ) (d e : Description) → Describes text d → De
 abbrev pub FormDecided : Type 0
 FormDecided = (text : List ℕ) → (read text ≡ none) ↔ FormRow text
 
--- GIVEN EXACTLY IF. A refusal is answered exactly where its row applies and none before it.
+-- WHICH ANSWER. A refusal is given for the earliest row that applies, and for no other.
 abbrev pub RefusedExactly : Type 0
 RefusedExactly = (text : List ℕ) (f : Refusal) → (caseAnswer text ≡ refused f) ↔ RefusedWith text f
 
@@ -65,7 +65,7 @@ Names (section n s) (Port m l) = ⊥
 Names (port n l) (Section m t) = ⊥
 Names (port n l) (Port m k) = (n ≡ suc (m .0)) × (l ≡ k)
 
--- Some J line ties the two ends, either first.
+-- The two ends are named by one of the J lines, in one order or the other.
 pub record Joins (js : List JoinLine) (e f : End) : Type 0 where
   pub join : JoinLine
   pub member : List·Memᴰ join js

@@ -1,6 +1,6 @@
 -- What a case text is answered with (document 01, "Numbers that a desk can get": its third column, and the sentence on which number is given).
--- A number is given exactly if its row applies and none before it; a text is accepted exactly if no row applies. Stated over texts and what
--- they say, not through any reading. Assumes nothing.
+-- The number is that of the earliest row that applies; a text to which none does is accepted. Stated over texts and what they say, not through
+-- any reading. Assumes nothing.
 use mathlib.Core.Path.{_≡_}
 use mathlib.Core.Bool.{Bool, true, false}
 use mathlib.Core.List.{List, [], _∷_}

@@ -1,5 +1,5 @@
--- Demand 3 of the calls that run: each contract computes to its promise, so what plan/Demand has of any solver, emitter and checker that keep their promises
--- holds of these. Assumes nothing.
+-- Demand 3 of the calls that run: each contract computes to its promise, so what plan/Demand has of any solver, emitter and checker that
+-- keep their promises holds of these. Assumes nothing.
 use mathlib.Core.Path.{refl}
 use denote.Ref.{now}
 use Rattle.plan.proofs.Demand.{demand3-holds}

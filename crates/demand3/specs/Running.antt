@@ -1,6 +1,7 @@
--- Demand 3 of the solver, the emitter and the checker as they run (document 01, "Agreement"). `Learnt` of a function is what its contract tells whoever calls
--- it, as the prover makes it: of the arguments, the answer, and what was lent, as the call leaves it. Each is the promise of which plan/Demand3 speaks, and
--- nothing else: the same proposition. Arguments stand in the order of the signature, one within the other: `a .0` is the first, `a .1 .0` the second. Assumes nothing.
+-- Demand 3 of the solver, the emitter and the checker as they run (document 01, "Agreement"). `Learnt` of a function is what its contract
+-- tells whoever calls it, as the prover makes it: of the arguments, the answer, and what was lent, as the call leaves it. Each is the
+-- promise of which plan/Demand3 speaks, and nothing else: the same proposition. Arguments stand in the order of the signature, one within
+-- the other: `a .0` is the first, `a .1 .0` the second. Assumes nothing.
 use mathlib.Core.Path.{_≡_}
 use mathlib.Core.Option.{none}
 use Prim.Native.Nat.{_≤_}
@@ -66,8 +67,8 @@ SolvedHolds =
     → recordRefusal (a .0) ≡ none → placements (a .0) ≤ length (now (a .1 .0)) → placements (a .0) ≤ length (now (a .1 .1 .0))
     → SolveLearnt κs a answer left → Demand3 (a .0) answer (now (left .1 .0)) (now (left .1 .1 .0))
 
--- DEMAND 3, of the calls that run: the whole holds of what the solver answers and leaves, and where it speaks of the emitter's calls and the checker's,
--- it speaks of the contracts of `emit_line`, `fresh`, `take` and `test`.
+-- DEMAND 3, of the calls that run: the whole holds of what the solver answers and leaves, and where it speaks of the emitter's calls and
+-- the checker's, it speaks of the contracts of `emit_line`, `fresh`, `take` and `test`.
 pub record Demand3Runs : Type 1 where
   pub whole : SolvedHolds
   pub solver : SolverRuns

@@ -14,8 +14,7 @@ use Rattle.railway.specs.declared.Refusal.the-variants.{Space}
 use Rattle.plan.specs.declared.PlanPlace.{PlanPlace}
 use Rattle.plan.specs.declared.Emitted.the-variants.{Line, Refused}
 use Rattle.plan.specs.Lines.{startLine, spell, mostLineBytes}
-use Rattle.plan.specs.Emitter.{Wrote, written}
-use Rattle.emitter.specs.Emitting.{leaves}
+use Rattle.plan.specs.Emitter.{Wrote, written, leaves}
 
 -- THE LENT BUFFER: too short, or with the line in front
 module _ (l : List ℕ) (place : PlanPlace) (old : List ℕ) where

@@ -23,7 +23,7 @@ use Rattle.plan.specs.declared.Emitted.{Emitted}
 use Rattle.plan.specs.declared.Emitted.the-variants.{End, NoPlan, Refused}
 use Rattle.plan.specs.Lines.{startLine, placementLine, spell, mostLineBytes}
 use Rattle.plan.specs.Text.{hasFigure, lineFor}
-use Rattle.plan.specs.Emitter.{Wrote, written, figureFrom, nextCode, dueFor, writtenDue, emitted, emitLine}
+use Rattle.plan.specs.Emitter.{Wrote, written, figureFrom, nextCode, dueFor, writtenDue, emitted, emitLine, leaves}
 use Rattle.plan.specs.Promises.{EmitterPost}
 use Rattle.plan.proofs.Reading.{list-is}
 use Rattle.plan.proofs.Lengths.{lines-short}
@@ -36,7 +36,6 @@ use Rattle.moves.specs.Steps.{sectionIn, On}
 use Rattle.cases.specs.Cases.{CasePost}
 use Rattle.cases.proofs.Opened.{opened-refused, opened-none, opened-table}
 use Rattle.planlines.specs.Spelling.{lineOf}
-use Rattle.emitter.specs.Emitting.{leaves}
 use Rattle.emitter.proofs.Next.{found-at, found-none, from-figure}
 use Rattle.emitter.proofs.Copying.{own-written}
 

@@ -94,6 +94,7 @@ gameOf r =
       next = moveOf r;
     }
 
--- What a setting says besides of the railway's points and signals tells nothing: settings that agree on those let the same trains move, to the same ends.
+-- What a setting says besides of the railway's points and signals tells nothing: settings that agree on those let the same trains move, to
+-- the same ends.
 abbrev pub AgreeingAlike : Type 0
 AgreeingAlike = (r : Railway) → recordRefusal r ≡ none → (a b : Setting) → SameSetting r a b → (p : ℕ) → Alike (gameOf r) p a b

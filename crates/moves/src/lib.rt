@@ -28,7 +28,7 @@ pub struct Placement {
     pub sections: [u8; Railway::TRAINS as usize],
 }
 
-// What stands for no code. No table is long enough to have an entry there.
+// What stands for no code: no railway has so many placements.
 pub const NO_CODE: u32 = 4294967295;
 
 // The bit of the first train in an entry of the setting table: points have the bits below.

@@ -26,7 +26,7 @@ use Rattle.plan.specs.declared.PlanPlace.the-variants.{Top, From}
 use Rattle.plan.specs.declared.Emitted.the-variants.{Line, End, NoPlan}
 use Rattle.plan.specs.Lines.{startLine, placementLine, spell}
 use Rattle.plan.specs.Text.{hasFigure, lineFor, planLines, planTexts}
-use Rattle.plan.specs.Emitter.{isLine, Wrote, unwritten, written, nextCode, due, writtenDue, emitLine}
+use Rattle.plan.specs.Emitter.{isLine, Wrote, leaves, written, nextCode, due, writtenDue, emitLine}
 use Rattle.plan.specs.Calls.{Emission, EmittingInto, wrote, stopped, longEnough}
 use Rattle.plan.proofs.Promises.{emits-so}
 use Rattle.plan.proofs.Calls.{goOn, emission}
@@ -46,7 +46,7 @@ put-line l next b h = rw (le-ltb (length b) (length l) h)
 
 module _ (r : Railway) (figs sets : List ℕ) (unrefused : caseRefusal r figs sets ≡ none) where
   -- none is answered where the start has no figure
-  pub emits-none : figureIn figs (startCode r) ≡ none → (place : PlanPlace) (buffer : List ℕ) → emitLine r figs sets place buffer ≡ unwritten NoPlan buffer
+  pub emits-none : figureIn figs (startCode r) ≡ none → (place : PlanPlace) (buffer : List ℕ) → emitLine r figs sets place buffer ≡ leaves NoPlan buffer
   unfolding emitLine
   emits-none e place buffer = rw (unrefused, e)
 
@@ -74,7 +74,7 @@ module _ (r : Railway) (figs sets : List ℕ) (unrefused : caseRefusal r figs se
 
     -- A CALL: the end where no lines are left; else the first of them, if it fits into the buffer, and the others are those from the next place on
     pub data Call (place : PlanPlace) (b : List ℕ) : List (List ℕ) → Type 0 where
-      ends : emitLine r figs sets place b ≡ unwritten End b → Call place b []
+      ends : emitLine r figs sets place b ≡ leaves End b → Call place b []
       writes : (l : List ℕ) (next : PlanPlace) → (length l ≤ length b → emitLine r figs sets place b ≡ record { answer = Line (length l) next; buffer = l ++ drop (length l) b }) → Call place b (l ∷ textsFrom next)
 
     pub call : (place : PlanPlace) (b : List ℕ) → Call place b (textsFrom place)
@@ -150,7 +150,7 @@ module _ (r : Railway) (figs sets : List ℕ) (unrefused : caseRefusal r figs se
         go : (ls : List (List ℕ)) → Call place b ls → length ls < suc k → Fit b ls
             → ((next : PlanPlace) (b′ : List ℕ) → length (textsFrom next) < k → Fit b′ (textsFrom next) → EmittingInto r figs sets next b′ (Whole (textsFrom next)))
             → EmittingInto r figs sets place b (Whole ls)
-        go [] (ends c) m fit more = stopped place End b b refl (emits-so r figs sets place b (unwritten End b) (sym c))
+        go [] (ends c) m fit more = stopped place End b b refl (emits-so r figs sets place b (leaves End b) (sym c))
         go (l ∷ ls) (writes _ to c) m fit more =
             let h = fitting b l (textsFrom to) fit in
             let b′ : List ℕ = l ++ drop (length l) b in

@@ -35,7 +35,7 @@ use Rattle.plan.specs.declared.PlanPlace.the-variants.{Top, From}
 use Rattle.plan.specs.declared.Emitted.the-variants.{Line, End, NoPlan, Refused}
 use Rattle.plan.specs.Lines.{PlacementLine, placementLine, spell, fits}
 use Rattle.plan.specs.Text.{lineFor}
-use Rattle.plan.specs.Emitter.{numberGiven, Wrote, unwritten, emitLine}
+use Rattle.plan.specs.Emitter.{numberGiven, Wrote, leaves, emitLine}
 use Rattle.plan.specs.Test.{listedSetting}
 use Rattle.plan.specs.Reading.{guess, readLine}
 use Rattle.plan.specs.Computed.{placementPasses, testHolds}
@@ -157,11 +157,11 @@ emit place buffer = emitLine yardA figsA setsA place buffer
 emitted :
     (emit Top (replicate 45 7) ≡ record { answer = Line 7 (From 0); buffer = bytes "plan\t2\n" ++ replicate 38 7 })
     × (emit (From 3) (replicate 12 7) ≡ record { answer = Line 10 (From 8); buffer = bytes "2\t3\t2\t0\t+\n" ++ replicate 2 7 })
-    × (emit (From 3) (replicate 9 7) ≡ unwritten (Refused Space) (replicate 9 7))
-    × (emit (From 8) [] ≡ unwritten End [])
-    × (emit (From 4000000000) [] ≡ unwritten End [])
-    × (emitLine yardA (replicate 9 4294967295) setsA Top [] ≡ unwritten NoPlan [])
-    × (emitLine yardA (replicate 8 4294967295) setsA Top [] ≡ unwritten (Refused Space) [])
+    × (emit (From 3) (replicate 9 7) ≡ leaves (Refused Space) (replicate 9 7))
+    × (emit (From 8) [] ≡ leaves End [])
+    × (emit (From 4000000000) [] ≡ leaves End [])
+    × (emitLine yardA (replicate 9 4294967295) setsA Top [] ≡ leaves NoPlan [])
+    × (emitLine yardA (replicate 8 4294967295) setsA Top [] ≡ leaves (Refused Space) [])
     × (numberGiven (emitLine wrongJoin [] [] Top [] .answer) ≡ some 5)
 unfolding bytes emitLine caseRefusal tablesShort first unknownRow joinRow looseRow placeRow endAt joined hasSignal legsOf runOf withJoin withSignal withLegs withTrain anyBelow sumBelow whichBelow listBelow lowest lineFor spell line digits codeOf sectionsIn startCode
 emitted = (refl, refl, refl, refl, refl, refl, refl, refl)

@@ -4,7 +4,6 @@ use mathlib.Core.Path.{_≡_, _∙_}
 use mathlib.Core.Bool.{true, false}
 use mathlib.Core.List.{List, [], _∷_, _++_, map}
 use Prim.Native.Nat.{ℕ, suc, _+_, _*_, _≤_, _<_}
-use Prim.Native.Char.{code}
 use native.Mathlib.Omega.{arith}
 use lib.ListN.{length, getD, length-append, length-map}
 use lib.Dec.{ltb}
@@ -13,7 +12,7 @@ use Rattle.laws.specs.Below.{whichBelow}
 use Rattle.laws.specs.Lists.{all}
 use Rattle.laws.proofs.Bools.{and-true}
 use Rattle.laws.proofs.Which.{which-length}
-use Rattle.text.specs.Text.{decimal, line, bytes}
+use Rattle.text.specs.Text.{byte, decimal, line, bytes}
 use Rattle.text.proofs.Decimal.{digits-length, digits-short}
 use Rattle.railway.specs.declared.Railway.{Railway}
 use Rattle.game.proofs.Accepted.{Facts, facts}
@@ -63,9 +62,9 @@ at-most r ok (placementLine d) e =
     let s₁ : total (map sectionField (d .sections)) ≤ 3 * length (d .sections) = sections-total (d .sections) (r .sections) (ok .few-sections) (f .there) in
     let s₂ : length (decimal (d .figure)) ≤ 10 = digits-length 10 (d .figure) in
     let s₃ : length (openField (d .opens)) ≤ 4 =
-    or-length (code "0") (map trainDigit (whichBelow (λ t. getD (d .opens) t false) (length (d .opens)))) 4
+    or-length (byte "0") (map trainDigit (whichBelow (λ t. getD (d .opens) t false) (length (d .opens)))) 4
     (omega (arith, length-map (whichBelow (λ t. getD (d .opens) t false) (length (d .opens))) trainDigit, which-length (λ t. getD (d .opens) t false) (length (d .opens)), ok .few-trains, f .opened)) (omega arith) in
-    let s₄ : length (pointField (d .plus)) ≤ 16 = or-length (code ".") (map sign (d .plus)) 16 (omega (arith, length-map (d .plus) sign, ok .few-points, f .pointed)) (omega arith) in
+    let s₄ : length (pointField (d .plus)) ≤ 16 = or-length (byte ".") (map sign (d .plus)) 16 (omega (arith, length-map (d .plus) sign, ok .few-points, f .pointed)) (omega arith) in
     rw (lines-total (d .sections) (decimal (d .figure)) (openField (d .opens) ∷ pointField (d .plus) ∷ [])) (omega (arith, ok .few-trains, f .each-train))
 
 pub lines-short : LinesShort

@@ -6,7 +6,6 @@ use mathlib.Core.Bool.{Bool, true, false, cond, _&&_}
 use mathlib.Core.List.{List, [], _∷_, _++_, map}
 use mathlib.Core.Option.{none, some}
 use Prim.Native.Nat.{ℕ, zero, suc, _+_, _-_, _<_}
-use Prim.Native.Char.{code}
 use native.Mathlib.Omega.{arith}
 use lib.ListN.{length, getD, take, length-map}
 use lib.Seq.{ext-getD, getD-append-add, getD-at, take-at}
@@ -18,7 +17,7 @@ use Rattle.laws.proofs.Bools.{clash, some-none, same-bool, and-true, and-both}
 use Rattle.laws.proofs.Below.{any-at, any-of, list-length, list-get}
 use Rattle.laws.proofs.Lists.{all-append}
 use Rattle.laws.proofs.Which.{any-which}
-use Rattle.text.specs.Text.{decimal, line, bytes}
+use Rattle.text.specs.Text.{byte, decimal, line, bytes}
 use Rattle.text.specs.Reading.{isDigit, isPlain, fields, valueOf, sameText}
 use Rattle.text.proofs.Decimal.{digit-is, digits-are, decimal-plain, value-decimal}
 use Rattle.text.proofs.Lines.{same-is, same-self, cut-line}
@@ -85,8 +84,8 @@ last-plain : (d : PlacementLine) → all (all isPlain) (lastFields d) ≡ true
 unfolding all isPlain
 last-plain d =
     rw (decimal-plain (d .figure))
-    (rw (or-plain (code "0") (map trainDigit (whichBelow (λ t. getD (d .opens) t false) (length (d .opens)))) refl (trains-plain (whichBelow (λ t. getD (d .opens) t false) (length (d .opens)))))
-    (rw (or-plain (code ".") (map sign (d .plus)) refl (signs-plain (d .plus)))))
+    (rw (or-plain (byte "0") (map trainDigit (whichBelow (λ t. getD (d .opens) t false) (length (d .opens)))) refl (trains-plain (whichBelow (λ t. getD (d .opens) t false) (length (d .opens)))))
+    (rw (or-plain (byte ".") (map sign (d .plus)) refl (signs-plain (d .plus)))))
 
 -- a line is cut into its fields
 cut-placement : (xs : List ℕ) (d : PlacementLine) → fields (line (map sectionField xs ++ lastFields d)) ≡ map sectionField xs ++ lastFields d
@@ -105,9 +104,9 @@ pub list-is : {A : Type 0} (f : ℕ → A) (xs : List A) (k : ℕ) (d : A) → l
 list-is f xs k d n h = ext-getD d (listBelow f k) xs (list-length f k ∙ sym n) (λ i l. let m : i < k = rw (list-length f k) at l in list-get f k i d m ∙ h i m)
 
 -- open trains
-or-byte : (s : List ℕ) (t : ℕ) → any (eqb (trainDigit t)) (orByte (code "0") s) ≡ any (eqb (trainDigit t)) s
+or-byte : (s : List ℕ) (t : ℕ) → any (eqb (trainDigit t)) (orByte (byte "0") s) ≡ any (eqb (trainDigit t)) s
 unfolding any
-or-byte [] t = rw (ne-eqb (trainDigit t) (code "0") (λ e. omega arith))
+or-byte [] t = rw (ne-eqb (trainDigit t) (byte "0") (λ e. omega arith))
 or-byte (b ∷ s) t = refl
 
 open-digit : (f : ℕ → Bool) (k t : ℕ) → t < k → any (eqb (trainDigit t)) (map trainDigit (whichBelow f k)) ≡ f t
@@ -127,16 +126,16 @@ open-back os k n =
     (λ t l. or-byte (map trainDigit (whichBelow (λ u. getD os u false) (length os))) t ∙ open-digit (λ u. getD os u false) (length os) t (omega arith))
 
 -- points
-pub sign-at : (ps : List Bool) (i : ℕ) → i < length ps → eqb (getD (map sign ps) i 0) (code "+") ≡ getD ps i false
+pub sign-at : (ps : List Bool) (i : ℕ) → i < length ps → eqb (getD (map sign ps) i 0) (byte "+") ≡ getD ps i false
 sign-at [] i l = absurd (omega arith)
 sign-at (true ∷ ps) zero l = refl
 sign-at (false ∷ ps) zero l = refl
 sign-at (p ∷ ps) (suc i) l = sign-at ps i (omega arith)
 
-points-back : (ps : List Bool) (k : ℕ) → length ps ≡ k → listBelow (λ i. eqb (getD (pointField ps) i 0) (code "+")) k ≡ ps
+points-back : (ps : List Bool) (k : ℕ) → length ps ≡ k → listBelow (λ i. eqb (getD (pointField ps) i 0) (byte "+")) k ≡ ps
 unfolding listBelow
 points-back [] k n = let z : k ≡ 0 = omega arith in rw z
-points-back (p ∷ ps) k n = list-is (λ i. eqb (getD (map sign (p ∷ ps)) i 0) (code "+")) (p ∷ ps) k false n (λ i l. sign-at (p ∷ ps) i (omega arith))
+points-back (p ∷ ps) k n = list-is (λ i. eqb (getD (map sign (p ∷ ps)) i 0) (byte "+")) (p ∷ ps) k false n (λ i l. sign-at (p ∷ ps) i (omega arith))
 
 -- sections
 sections-back : (xs : List ℕ) (s : ℕ) → s < noFigure → all (λ x. ltb x s) xs ≡ true → map (λ f. valueOf 0 f - 1) (map sectionField xs) ≡ xs
@@ -156,7 +155,7 @@ unfolding bytes sameText all
 not-word [] p = refl
 not-word (b ∷ s) p =
     let l = digit-is b (and-true (isDigit b) (all isDigit s) p .0) in
-    rw (ne-eqb b (code "p") (λ q. omega arith))
+    rw (ne-eqb b (byte "p") (λ q. omega arith))
 
 first-digits : (xs : List ℕ) (d : PlacementLine) → all isDigit (getD (map sectionField xs ++ lastFields d) 0 []) ≡ true
 first-digits [] d = digits-are 10 (d .figure)

@@ -33,7 +33,7 @@ use Rattle.plan.specs.declared.TestAnswer.{TestAnswer}
 use Rattle.plan.specs.declared.TestAnswer.the-variants.{Pass, Refused as TestRefused}
 use Rattle.plan.specs.Lines.{PlacementLine, PlanLine, startLine, placementLine, Spells, lineCode}
 use Rattle.plan.specs.Text.{isSome, hasFigure}
-use Rattle.plan.specs.Emitter.{isLine, unwritten, written, Due, due, writtenDue, emitted, emitLine}
+use Rattle.plan.specs.Emitter.{isLine, leaves, written, Due, due, writtenDue, emitted, emitLine}
 use Rattle.plan.specs.Test.{byTables}
 use Rattle.plan.specs.Computed.{testHolds}
 use Rattle.plan.specs.Checker.{Checking, Left, left, lineEntry, begin, enter, refuse, takes, takesIf, takeLine, tests, testPlan}
@@ -56,12 +56,12 @@ differ f e n = absurd (n (ap f e))
 -- THE EMITTER. Refused by rows 3 to 9.
 module _ (r : Railway) (figs sets : List ℕ) (place : PlanPlace) (buffer : List ℕ) where
   -- every answer but a line leaves the buffer
-  unwritten-rule : (a : Emitted) → isLine a ≡ false
+  leaves-rule : (a : Emitted) → isLine a ≡ false
       → ((f : Refusal) → caseRefusal r figs sets ≡ some f → a ≡ EmitRefused f)
       → ((f : Refusal) → caseRefusal r figs sets ≡ none → a ≡ EmitRefused f → f ≡ Space)
       → (caseRefusal r figs sets ≡ none → (a ≡ EmitRefused Space) ↔ TooShort r figs sets place buffer)
-      → EmitRule r figs sets place buffer (unwritten a buffer)
-  unwritten-rule a o rows rest short =
+      → EmitRule r figs sets place buffer (leaves a buffer)
+  leaves-rule a o rows rest short =
       record {
         first = rows;
         others = rest;
@@ -72,21 +72,21 @@ module _ (r : Railway) (figs sets : List ℕ) (place : PlanPlace) (buffer : List
         as-long = refl;
       }
 
-  refused-rule : (f : Refusal) → caseRefusal r figs sets ≡ some f → EmitRule r figs sets place buffer (unwritten (EmitRefused f) buffer)
-  refused-rule f e = unwritten-rule (EmitRefused f) refl (λ g q. (let z : f ≡ g = cc in rw z)) (λ g q p. some-none e q) (λ q. some-none e q)
+  refused-rule : (f : Refusal) → caseRefusal r figs sets ≡ some f → EmitRule r figs sets place buffer (leaves (EmitRefused f) buffer)
+  refused-rule f e = leaves-rule (EmitRefused f) refl (λ g q. (let z : f ≡ g = cc in rw z)) (λ g q p. some-none e q) (λ q. some-none e q)
 
   module _ (unrefused : caseRefusal r figs sets ≡ none) where
     -- nothing to write: no plan, or its end
-    idle-rule : (a : Emitted) → isLine a ≡ false → ((f : Refusal) → ¬ (a ≡ EmitRefused f)) → ¬ (TooShort r figs sets place buffer) → EmitRule r figs sets place buffer (unwritten a buffer)
-    idle-rule a o n t = unwritten-rule a o (λ f q. some-none q unrefused) (λ f q p. absurd (n f p)) (λ q. (λ p. absurd (n Space p), λ x. absurd (t x)))
+    idle-rule : (a : Emitted) → isLine a ≡ false → ((f : Refusal) → ¬ (a ≡ EmitRefused f)) → ¬ (TooShort r figs sets place buffer) → EmitRule r figs sets place buffer (leaves a buffer)
+    idle-rule a o n t = leaves-rule a o (λ f q. some-none q unrefused) (λ f q p. absurd (n f p)) (λ q. (λ p. absurd (n Space p), λ x. absurd (t x)))
 
     due-rule : hasFigure figs (startCode r) ≡ true → (d : Due) → due r figs sets place ≡ some d → EmitRule r figs sets place buffer (written (d .text) (d .next) buffer)
     due-rule h d u = go (ltb (length buffer) (length (d .text))) refl
       where
         go : (b : Bool) → ltb (length buffer) (length (d .text)) ≡ b
-            → EmitRule r figs sets place buffer (cond b (unwritten (EmitRefused Space) buffer) (record { answer = Line (length (d .text)) (d .next); buffer = d .text ++ drop (length (d .text)) buffer }))
+            → EmitRule r figs sets place buffer (cond b (leaves (EmitRefused Space) buffer) (record { answer = Line (length (d .text)) (d .next); buffer = d .text ++ drop (length (d .text)) buffer }))
         go true e =
-            unwritten-rule (EmitRefused Space) refl (λ f q. some-none q unrefused) (λ f q p. cc)
+            leaves-rule (EmitRefused Space) refl (λ f q. some-none q unrefused) (λ f q p. cc)
             (λ q. (λ p. record { planned = h; line = d; is-due = u; shorter = ltb-true (length buffer) (length (d .text)) e }, λ x. refl))
         go false e =
             let k : length (d .text) ≤ length buffer = ltb-false (length buffer) (length (d .text)) e in

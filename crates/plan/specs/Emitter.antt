@@ -51,15 +51,15 @@ pub record Wrote : Type 0 where
   pub answer : Emitted
   pub buffer : List ℕ
 
--- Every answer but a line leaves the buffer as it was.
-abbrev pub unwritten : Emitted → List ℕ → Wrote
-unwritten a buffer = record { answer = a; buffer = buffer }
+-- An answer, with the lent buffer beside it: every answer but a line leaves it as it was.
+abbrev pub leaves : Emitted → List ℕ → Wrote
+leaves a buffer = record { answer = a; buffer = buffer }
 
 -- A line goes to the front of the buffer, and what stands behind it stays; a buffer shorter than the line gives space (9).
 abbrev pub written : List ℕ → PlanPlace → List ℕ → Wrote
 written l next buffer =
     cond (ltb (length buffer) (length l))
-    (unwritten (Refused Space) buffer)
+    (leaves (Refused Space) buffer)
     (record { answer = Line (length l) next; buffer = l ++ drop (length l) buffer })
 
 -- A code from c on whose placement has a figure.
@@ -87,7 +87,7 @@ due r figs sets (From c) = dueFor r figs sets (nextCode r figs c)
 
 -- It is written; the end where none is due.
 abbrev pub writtenDue : List ℕ → Option Due → Wrote
-writtenDue buffer none = unwritten End buffer
+writtenDue buffer none = leaves End buffer
 writtenDue buffer (some d) = written (d .text) (d .next) buffer
 
 -- THE ROWS of a call. A line is due that is longer than the buffer.
@@ -105,8 +105,8 @@ emitterRows r figs sets place buffer = recordRows r ++ (row Space (tablesShort r
 
 -- THE CALL. A refusal by the record or the tables comes first, then that there is no plan (the start lacks a figure), then the line.
 abbrev pub emitted : Railway → List ℕ → List ℕ → PlanPlace → List ℕ → Option Refusal → Option ℕ → Wrote
-emitted r figs sets place buffer (some f) start = unwritten (Refused f) buffer
-emitted r figs sets place buffer none none = unwritten NoPlan buffer
+emitted r figs sets place buffer (some f) start = leaves (Refused f) buffer
+emitted r figs sets place buffer none none = leaves NoPlan buffer
 emitted r figs sets place buffer none (some n) = writtenDue buffer (due r figs sets place)
 
 -- All of it, for any record, tables, place and buffer.

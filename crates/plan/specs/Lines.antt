@@ -5,12 +5,11 @@ use mathlib.Core.Bool.{Bool, true, false, cond, _&&_}
 use mathlib.Core.List.{List, [], _∷_, _++_, map}
 use mathlib.Core.Option.{none}
 use Prim.Native.Nat.{ℕ, suc, _+_, _≤_}
-use Prim.Native.Char.{code}
 use lib.ListN.{length, getD}
 use lib.Dec.{eqb, ltb}
 use Rattle.laws.specs.Below.{whichBelow}
 use Rattle.laws.specs.Lists.{all}
-use Rattle.text.specs.Text.{decimal, line, bytes}
+use Rattle.text.specs.Text.{byte, decimal, line, bytes}
 use Rattle.railway.specs.declared.Railway.{Railway}
 use Rattle.railway.specs.Rows.{recordRefusal}
 use Rattle.game.specs.Placement.{codeOf}
@@ -35,19 +34,19 @@ orByte b (x ∷ xs) = x ∷ xs
 
 -- The digit of a train, by the document's number.
 abbrev pub trainDigit : ℕ → ℕ
-trainDigit t = code "1" + t
+trainDigit t = byte "1" + t
 
 -- Open trains: their digits, rising; `0` if there are none.
 abbrev pub openField : List Bool → List ℕ
-openField os = orByte (code "0") (map trainDigit (whichBelow (λ t. getD os t false) (length os)))
+openField os = orByte (byte "0") (map trainDigit (whichBelow (λ t. getD os t false) (length os)))
 
 -- `+` for a point at plus, `-` for one at minus.
 abbrev pub sign : Bool → ℕ
-sign plus = cond plus (code "+") (code "-")
+sign plus = cond plus (byte "+") (byte "-")
 
 -- Points: a sign for each, in their order; `.` if there are none.
 abbrev pub pointField : List Bool → List ℕ
-pointField ps = orByte (code ".") (map sign ps)
+pointField ps = orByte (byte ".") (map sign ps)
 
 -- A train's section, by the document's number.
 abbrev pub sectionField : ℕ → List ℕ

@@ -4,11 +4,11 @@ use mathlib.Core.Bool.{cond, _&&_}
 use mathlib.Core.List.{List, [], map}
 use mathlib.Core.Option.{Option, none, some}
 use Prim.Native.Nat.{ℕ, _+_, _-_}
-use Prim.Native.Char.{code}
 use lib.ListN.{getD, take}
 use lib.Dec.{eqb}
 use Rattle.laws.specs.Below.{listBelow}
 use Rattle.laws.specs.Lists.{any}
+use Rattle.text.specs.Text.{byte}
 use Rattle.text.specs.Reading.{fields, valueOf, sameText}
 use Rattle.railway.specs.declared.Railway.{Railway}
 use Rattle.plan.specs.Lines.{PlacementLine, PlanLine, startLine, placementLine, trainDigit, planWord, spell, fits}
@@ -20,7 +20,7 @@ guessPlacement r fs =
       sections = map (λ f. valueOf 0 f - 1) (take (r .trains) fs);
       figure = valueOf 0 (getD fs (r .trains) []);
       opens = listBelow (λ t. any (eqb (trainDigit t)) (getD fs (r .trains + 1) [])) (r .trains);
-      plus = listBelow (λ n. eqb (getD (getD fs (r .trains + 2) []) n 0) (code "+")) (r .points);
+      plus = listBelow (λ n. eqb (getD (getD fs (r .trains + 2) []) n 0) (byte "+")) (r .points);
     }
 
 -- The only line of either kind.

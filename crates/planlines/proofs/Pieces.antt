@@ -1,7 +1,6 @@
 -- The pieces of a placement's line, one behind the other, are its fields: by induction on the number of trains and points. The digits of the
 -- open trains are none exactly if no train is open, and then `0` stands for them. Assumes nothing.
 use Prim.Native.Nat.{ℕ, zero, suc, _+_, _<_}
-use Prim.Native.Char.{code}
 use mathlib.Core.Path.{_≡_, refl, sym, _∙_, ap}
 use mathlib.Core.Logic.{inl, inr}
 use mathlib.Core.Bool.{Bool, true, false, cond}
@@ -15,7 +14,7 @@ use Rattle.laws.proofs.Bools.{lt?, either, clash}
 use Rattle.laws.proofs.Below.{any-false, list-length, list-get}
 use Rattle.laws.proofs.Lists.{map-append}
 use Rattle.laws.proofs.Which.{which-map}
-use Rattle.text.specs.Text.{decimal, tab, lineEnd, line, bytes}
+use Rattle.text.specs.Text.{byte, decimal, tab, lineEnd, line, bytes}
 use Rattle.text.specs.Appending.{Appended}
 use Rattle.text.proofs.Appending.{append-none, append-then, line-more, line-last}
 use Rattle.tables.specs.Entries.{opensIn}
@@ -56,16 +55,16 @@ module _ (f : ℕ → Bool) where
   pieces-not zero h = refl
   pieces-not (suc k) h = rw (pieces-not k (λ t l. h t (omega arith)), h k (omega arith))
 
-  open-pieces : (k : ℕ) → openField (listBelow f k) ≡ orByte (code "0") (gatherBelow (openPiece f) k)
+  open-pieces : (k : ℕ) → openField (listBelow f k) ≡ orByte (byte "0") (gatherBelow (openPiece f) k)
   open-pieces k =
       rw (list-length f k)
-      (ap (orByte (code "0")) (which-map (λ t. getD (listBelow f k) t false) f trainDigit trainDigit k (λ t l. list-get f k t false l) (λ t l. refl) ∙ which-pieces k))
+      (ap (orByte (byte "0")) (which-map (λ t. getD (listBelow f k) t false) f trainDigit trainDigit k (λ t l. list-get f k t false l) (λ t l. refl) ∙ which-pieces k))
 
   module _ (k : ℕ) {o o₁ : List ℕ} {a a₁ : ℕ} (b : Bool) (is : b ≡ anyBelow f k) where
     pub open-some : b ≡ true → Appended o a (gatherBelow (openPiece f) k) o₁ a₁ → Appended o a (openField (listBelow f k)) o₁ a₁
-    open-some e p = rw (open-pieces k, or-kept (code "0") (gatherBelow (openPiece f) k) (pieces-some k (sym is ∙ e))) p
+    open-some e p = rw (open-pieces k, or-kept (byte "0") (gatherBelow (openPiece f) k) (pieces-some k (sym is ∙ e))) p
 
-    pub open-none : b ≡ false → Appended o a (code "0" ∷ []) o₁ a₁ → Appended o a (openField (listBelow f k)) o₁ a₁
+    pub open-none : b ≡ false → Appended o a (byte "0" ∷ []) o₁ a₁ → Appended o a (openField (listBelow f k)) o₁ a₁
     open-none e p = rw (open-pieces k, pieces-not k (any-false f k (sym is ∙ e))) p
 
   module _ (t : ℕ) {o : List ℕ} {a : ℕ} (b : Bool) (is : b ≡ f t) where
@@ -80,10 +79,10 @@ pub open-digit : (v t : ℕ) (b : Bool) → v < 4294967296 → b ≡ opensIn v t
 open-digit v t b l is e = elim (lt? t 16) [ inl h ↦ h | inr h ↦ clash (sym is ∙ e) (sym (bit-high v (16 + t) l (omega arith))) ]
 
 -- POINTS
-pub sign-plus : (plus : Bool) → plus ≡ true → code "+" ≡ sign plus
+pub sign-plus : (plus : Bool) → plus ≡ true → byte "+" ≡ sign plus
 sign-plus plus e = rw e
 
-pub sign-minus : (plus : Bool) → plus ≡ false → code "-" ≡ sign plus
+pub sign-minus : (plus : Bool) → plus ≡ false → byte "-" ≡ sign plus
 sign-minus plus e = rw e
 
 module _ (f : ℕ → Bool) where
@@ -98,12 +97,12 @@ module _ (f : ℕ → Bool) where
   signs-length (suc m) = length-append (gatherBelow (pointPiece f) m) (pointPiece f m) ∙ (rw (signs-length m) (omega arith))
 
   module _ (m : ℕ) {o o₁ : List ℕ} {a a₁ : ℕ} where
-    pub points-none : m ≡ 0 → Appended o a (code "." ∷ []) o₁ a₁ → Appended o a (pointField (listBelow f m)) o₁ a₁
+    pub points-none : m ≡ 0 → Appended o a (byte "." ∷ []) o₁ a₁ → Appended o a (pointField (listBelow f m)) o₁ a₁
     unfolding listBelow
     points-none e p = rw e p
 
     pub points-some : (m ≡ 0 → ⊥) → Appended o a (gatherBelow (pointPiece f) m) o₁ a₁ → Appended o a (pointField (listBelow f m)) o₁ a₁
-    points-some e p = rw (sign-pieces m, or-kept (code ".") (gatherBelow (pointPiece f) m) (rw (signs-length m) (omega arith))) p
+    points-some e p = rw (sign-pieces m, or-kept (byte ".") (gatherBelow (pointPiece f) m) (rw (signs-length m) (omega arith))) p
 
   pub sign-piece : (n b : ℕ) (plus : Bool) {o o₁ : List ℕ} {a a₁ : ℕ} → plus ≡ f n → b ≡ sign plus → Appended o a (b ∷ []) o₁ a₁ → Appended o a (pointPiece f n) o₁ a₁
   sign-piece n b plus is e p = rw (← is, ← e) p
@@ -127,7 +126,7 @@ module _ (q : Placement) (t x : ℕ) {o o₁ : List ℕ} {a a₁ : ℕ} where
 
 -- THE LINES
 module _ {o o₁ o₂ o₃ o₄ : List ℕ} {a a₁ a₂ a₃ a₄ : ℕ} where
-  pub start-spelled : (n : ℕ) → Appended o a (code "p" ∷ code "l" ∷ []) o₁ a₁ → Appended o₁ a₁ (code "a" ∷ code "n" ∷ []) o₂ a₂ → Appended o₂ a₂ (tab ∷ []) o₃ a₃
+  pub start-spelled : (n : ℕ) → Appended o a (byte "p" ∷ byte "l" ∷ []) o₁ a₁ → Appended o₁ a₁ (byte "a" ∷ byte "n" ∷ []) o₂ a₂ → Appended o₂ a₂ (tab ∷ []) o₃ a₃
       → Appended o₃ a₃ (decimal n ++ (lineEnd ∷ [])) o₄ a₄ → Appended o a (spell (startLine n)) o₄ a₄
   unfolding bytes spell
   start-spelled n p q t d = line-more planWord (decimal n) [] (append-then p (append-then q t)) (line-last (decimal n) d)

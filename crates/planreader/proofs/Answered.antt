@@ -1,7 +1,6 @@
 -- The answers, by what the walk has taken and what the comparison has said. A line that fits and spells the text is the line that the walk takes;
 -- so no line is read where nothing is taken or what is taken is spelled otherwise, and else the line that is taken. Assumes nothing.
 use Prim.Native.Nat.{ℕ, suc, _≤_, _<_}
-use Prim.Native.Char.{code}
 use mathlib.Core.Path.{_≡_, refl, sym, _∙_, ap}
 use mathlib.Core.Logic.{inl, inr}
 use mathlib.Core.Bool.{Bool, true, false}
@@ -17,7 +16,7 @@ use Rattle.laws.specs.Bits.{bit}
 use Rattle.laws.proofs.Bools.{clash, option?, and-true}
 use Rattle.laws.proofs.Below.{listed, list-length}
 use Rattle.laws.proofs.Lists.{all-each, of-four}
-use Rattle.text.specs.Text.{decimal, tab, lineEnd, line, bytes}
+use Rattle.text.specs.Text.{byte, decimal, tab, lineEnd, line, bytes}
 use Rattle.text.specs.Reading.{isDigit, Got, bad, got, sameText}
 use Rattle.text.proofs.Decimal.{digit-is, digits-are, digits-begin}
 use Rattle.text.proofs.Lines.{same-is, same-self}
@@ -54,7 +53,7 @@ first-digit x rest l e =
     let b = digits-begin 10 (suc x) (omega arith) (omega arith) in
     let a : all isDigit (b .head ∷ b .rest) ≡ true = rw (b .is) at (digits-are 10 (suc x)) in
     let h = digit-is (b .head) (and-true (isDigit (b .head)) (all isDigit (b .rest)) a .0) in
-    let f : b .head ≡ code "p" = rw (b .is) at e in
+    let f : b .head ≡ byte "p" = rw (b .is) at e in
     omega arith
 
 first-section : (xs : List ℕ) (d : PlacementLine) (s : ℕ) → s ≤ 48 → 1 ≤ length xs → all (λ x. ltb x s) xs ≡ true → BeginsLikeStart (line (map sectionField xs ++ lastFields d)) → ⊥

@@ -1,7 +1,6 @@
 -- A line that fits is taken from its spelling: every field is read where it is written. Open trains are the
 -- digits of one number, case by case for four trains. Assumes nothing.
 use Prim.Native.Nat.{ℕ, suc, _+_, _-_, _*_, _^_, _≤_, _<_}
-use Prim.Native.Char.{code}
 use mathlib.Core.Path.{_≡_, refl, sym, _∙_, ap}
 use mathlib.Core.Logic.{inl, inr}
 use mathlib.Core.Bool.{Bool, true, false}
@@ -16,7 +15,7 @@ use Rattle.laws.specs.Bits.{fromBits}
 use Rattle.laws.proofs.Bools.{lt?}
 use Rattle.laws.proofs.Lists.{all-in, getD-member}
 use Rattle.laws.proofs.Bits.{bits-same}
-use Rattle.text.specs.Text.{digits, decimal, tab, lineEnd, line}
+use Rattle.text.specs.Text.{byte, digits, decimal, tab, lineEnd, line}
 use Rattle.text.specs.Reading.{isDigit, got, then, byteAt}
 use Rattle.text.proofs.Walking.{Lies, Reads, go-on, stop-here, peek, byte-complete, number-complete}
 use Rattle.railway.specs.declared.Railway.{Railway}
@@ -101,7 +100,7 @@ module _ (text : List ℕ) where
   signs-complete [] rest c t = refl
   signs-complete (p ∷ ps) rest c t =
       bits-same (plusAt text c) (λ n. getD (p ∷ ps) n false) (length (p ∷ ps))
-      (λ i l. ap (λ (x : ℕ). eqb x (code "+")) (peek t i ∙ List·getD-append (map sign (p ∷ ps)) rest 0 i (rw (length-map (p ∷ ps) sign) l)) ∙ sign-at (p ∷ ps) i l)
+      (λ i l. ap (λ (x : ℕ). eqb x (byte "+")) (peek t i ∙ List·getD-append (map sign (p ∷ ps)) rest 0 i (rw (length-map (p ∷ ps) sign) l)) ∙ sign-at (p ∷ ps) i l)
 
   -- THE ENTRY of open trains and points
   entry-of : (ps : List Bool) (rest : List ℕ) (o v m c : ℕ) → length ps ≡ m → openBits o ≡ v → Lies text c (pointField ps ++ rest)

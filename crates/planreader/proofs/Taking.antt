@@ -1,7 +1,6 @@
 -- The walk over a line as code makes it, step by step: each test of the code is a test of the definition, and
 -- each loop adds one bit or one byte to what was seen before. Assumes nothing.
 use Prim.Native.Nat.{ℕ, suc, _+_, _-_, _*_, _%_, _/_, _≤_, _<_}
-use Prim.Native.Char.{code}
 use mathlib.Core.Path.{_≡_, refl, _∙_, ap}
 use mathlib.Core.Bool.{Bool, true, false, cond}
 use mathlib.Core.List.{List, [], _∷_}
@@ -13,7 +12,7 @@ use borrow.Author.Tests.{lt-ltb, le-ltb, ltb-true, ltb-false, eq-eqb, ne-eqb}
 use Rattle.laws.specs.Bits.{fromBits}
 use Rattle.laws.proofs.Lists.{of-four}
 use Rattle.laws.proofs.Bits.{bits-same, bits-below}
-use Rattle.text.specs.Text.{tab}
+use Rattle.text.specs.Text.{byte, tab}
 use Rattle.text.specs.Reading.{Got, bad, got, then, byteAt, numberAt}
 use Rattle.text.proofs.Walking.{bad-got, steps, on}
 use Rattle.tables.specs.Tables.{noFigure}
@@ -128,11 +127,11 @@ module _ (text : List ℕ) (at i : ℕ) where
   pub plus-past : length text ≤ at + i → _≡_ {A = ℕ} 0 (cond (plusAt text at i) 1 0)
   plus-past h = let e = List·getD-eq-default text 0 h in rw e
 
-  pub plus-there : getD text (at + i) 0 ≡ code "+" → _≡_ {A = ℕ} 1 (cond (plusAt text at i) 1 0)
+  pub plus-there : getD text (at + i) 0 ≡ byte "+" → _≡_ {A = ℕ} 1 (cond (plusAt text at i) 1 0)
   plus-there e = rw e
 
-  pub plus-not : (getD text (at + i) 0 ≡ code "+" → ⊥) → _≡_ {A = ℕ} 0 (cond (plusAt text at i) 1 0)
-  plus-not e = rw (ne-eqb (getD text (at + i) 0) (code "+") e)
+  pub plus-not : (getD text (at + i) 0 ≡ byte "+" → ⊥) → _≡_ {A = ℕ} 0 (cond (plusAt text at i) 1 0)
+  plus-not e = rw (ne-eqb (getD text (at + i) 0) (byte "+") e)
 
 -- the bits from i on, of m
 module _ (f : ℕ → Bool) (m : ℕ) where

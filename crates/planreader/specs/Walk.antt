@@ -4,11 +4,10 @@ use mathlib.Core.Path.{_≡_}
 use mathlib.Core.Bool.{Bool, cond}
 use mathlib.Core.List.{List, [], _∷_}
 use Prim.Native.Nat.{ℕ, _+_, _-_, _/_, _%_}
-use Prim.Native.Char.{code}
 use lib.Dec.{eqb, ltb}
 use lib.ListN.{getD}
 use Rattle.laws.specs.Bits.{fromBits}
-use Rattle.text.specs.Text.{tab}
+use Rattle.text.specs.Text.{byte, tab}
 use Rattle.text.specs.Reading.{Got, bad, got, then, byteAt, numberAt}
 use Rattle.railway.specs.Bounds.{mostPoints}
 use Rattle.tables.specs.Tables.{noFigure}
@@ -17,7 +16,7 @@ use Rattle.planreader.specs.declared.Sections.the-variants.{NoSections, 
 
 -- A text begins like a first line, with its letter `p`.
 abbrev pub BeginsLikeStart : List ℕ → Type 0
-BeginsLikeStart text = getD text 0 0 ≡ code "p"
+BeginsLikeStart text = getD text 0 0 ≡ byte "p"
 
 -- Two texts have the same byte at a place.
 abbrev pub sameAt : List ℕ → List ℕ → ℕ → Bool
@@ -42,7 +41,7 @@ figureOf n c = cond (ltb n noFigure) (got n c) bad
 module _ (text : List ℕ) where
   -- A `+` stands so far behind the cursor.
   abbrev pub plusAt : ℕ → ℕ → Bool
-  plusAt c i = eqb (getD text (c + i) 0) (code "+")
+  plusAt c i = eqb (getD text (c + i) 0) (byte "+")
 
   -- A number of 1 + most digits at most, and the tab behind it.
   unfoldable pub numberTab : ℕ → ℕ → Got ℕ

@@ -138,7 +138,7 @@ fn entry_at(text: &[u8], m: u8, c: Cursor) -> Number
     Number::Value(points + open_bits(o), next)
 }
 
-// Open trains, whose digits are read as one number of four digits at most.
+// Open trains, whose digits were read as one number: its last four digits, for a case has no more trains.
 fn open_bits(o: u64) -> u64
     ensures { λ v. ⌜ v ≡ openBits o ⌝ }
 {

@@ -21,7 +21,7 @@ use Rattle.railway.specs.declared.Railway.{Railway}
 use Rattle.railway.specs.Bounds.{mostSections, mostPoints, mostTrains, sectionEnds, allEnds}
 use Rattle.railway.specs.Ends.{endIndex, endAt, sameSide}
 use Rattle.railway.specs.Refusals.{first}
-use Rattle.railway.specs.Record.{linkAt, flagAt, joined, hasSignal, runOf, sideOf}
+use Rattle.railway.specs.Record.{linkAt, flagAt, joined, runOf, sideOf}
 use Rattle.railway.specs.Rows.{outside, known, unknownLink, unknownLinkAt, unknownSignalAt, unknownTrainAt, sectionOf, bothPorts, oneSection, tied, wrongPair, wrongLink, wrongLinkAt, leadsTo, unreturned, unreturnedAt, unjoined, looseAt, sharesWith, sharesAt, countRow, unknownRow, joinRow, looseRow, doubleRow, placeRow, recordRefusal}
 use Rattle.railway.proofs.Ends.{Numbered, end-index, index-one, numbered-of}
 use Rattle.railway.proofs.Refusals.{refuse-none}
@@ -223,14 +223,3 @@ module _ (r : Railway) (w : Accepted r) where
           let ne = known-numbered r w e (joined-known e f h .0) in
           let ng = known-numbered r w g (joined-known f g p .1) in
           p ∙ ap With (index-one g e ng ne (eqb-true (endIndex g) (endIndex e) q))
-
-  -- signals stand at known ends
-  pub signal-section : (e : End) → hasSignal r e ≡ true → known r e ≡ true
-  unfolding hasSignal
-  signal-section e h = cases (ltb (endIndex e) sectionEnds) refl h
-    where
-      cases : (b : Bool) → ltb (endIndex e) sectionEnds ≡ b → cond b (flagAt r (endIndex e)) false ≡ true → known r e ≡ true
-      cases true p q =
-          let l = ltb-true (endIndex e) sectionEnds p in
-          rw (end-index e (numbered-of e (omega arith))) at (w .signal-known (endIndex e) l q)
-      cases false p q = clash q refl

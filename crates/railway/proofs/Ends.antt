@@ -134,6 +134,3 @@ index-end i h = cases (ltb i sectionEnds) refl
         let l = ltb-false i sectionEnds e in
         let z = leg-rest (i - sectionEnds) (eqb ((i - sectionEnds) % 3) 0) (eqb ((i - sectionEnds) % 3) 1) refl refl in
         rw (end-port i l, lt-ltb ((i - sectionEnds) / 3) mostPoints (omega arith)) (omega arith)
-
-pub end-numbered : (i : ℕ) → i < allEnds → Numbered (endAt i)
-end-numbered i h = numbered-of (endAt i) (rw (index-end i h) h)

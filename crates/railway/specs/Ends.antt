@@ -29,8 +29,7 @@ portSide legs Stem = opposite legs
 portSide legs Plus = legs
 portSide legs Minus = legs
 
--- An end's index: 1d, 1u, 2d, 2u, .. are 0, 1, 2, 3, ..; behind the section ends come 1s, 1+, 1-, 2s, ..
--- A section or point whose number no railway can have has no index of its own: its ends get the number past the last.
+-- The index of a section's end among its two.
 abbrev pub sideIndex : Side → ℕ
 sideIndex Down = 0
 sideIndex Up = 1
@@ -41,7 +40,8 @@ legIndex Stem = 0
 legIndex Plus = 1
 legIndex Minus = 2
 
--- The index of an end.
+-- An end's index: 1d, 1u, 2d, 2u, .. are 0, 1, 2, 3, ..; behind the section ends come 1s, 1+, 1-, 2s, ..
+-- A section or point whose number no railway can have has no index of its own: its ends get the number past the last.
 abbrev pub endIndex : End → ℕ
 endIndex (Section n s) = cond (ltb (n .0) mostSections) (2 * n .0 + sideIndex s) allEnds
 endIndex (Port n l) = cond (ltb (n .0) mostPoints) (sectionEnds + 3 * n .0 + legIndex l) allEnds

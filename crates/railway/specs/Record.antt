@@ -48,7 +48,7 @@ bareRailway s p k =
 abbrev pub emptyRailway : Railway
 emptyRailway = bareRailway 0 0 0
 
--- ASKED BY INDEX. The join of the end with this index, and whether a signal stands there.
+-- ASKED BY INDEX. The join of the end with this index.
 abbrev pub linkAt : Railway → ℕ → Joined
 linkAt r i = getD (r .links) i noLink .to
 
@@ -112,7 +112,7 @@ withSignal r e =
       runs = r .runs;
     }) r
 
--- The side of a point's legs, and a train, by its number.
+-- A point given the side of its legs, by its number.
 unfoldable pub withLegs : Railway → ℕ → Side → Railway
 withLegs r n side =
     cond (ltb n mostPoints)

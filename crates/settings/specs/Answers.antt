@@ -17,7 +17,7 @@ abbrev pub entryFound : Found → Option ℕ
 entryFound Nothing = none
 entryFound (Entry v) = some v
 
--- The entry of the first setting, in the plan's order, under which every move from placement p ends in a figure below n.
+-- The entry of the first setting, in the plan's order, under which somebody may move at placement p, and whoever may comes to a figure below n.
 -- Where trains share a section, nothing is kept.
 unfoldable pub firstKeeping : Railway → (ℕ → Option ℕ) → ℕ → ℕ → Option ℕ
 firstKeeping r F p n = cond (shared r p) none (find r F p n)

@@ -1,5 +1,5 @@
-// The solver: a record and two lent tables, filled in place round by round. Round n gives figure n to every placement from which some
-// setting lets all moves end at smaller figures. The search for figure n reads only figures below n, so entries made in the same round do not
+// The solver: a record and two lent tables, filled in place round by round. In round n a placement without a figure gets n if some
+// setting leads from it to smaller figures only. The search for figure n reads only figures below n, so entries made in the same round do not
 // disturb it. A placement that gains figure n has a move to one of figure n - 1, so a round visits only what is one move before those: they
 // are its frontier. Marks, one for a stretch of codes, say how large the figures in it are at most, so that a round passes by the stretches
 // where the frontier has none.

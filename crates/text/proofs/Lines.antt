@@ -1,7 +1,7 @@
 -- A line is cut into the fields it was made of: no field has a byte that parts or ends them, so every cut falls where a tab was put.
 -- Assumes nothing.
 use Prim.Native.Nat.{ℕ}
-use mathlib.Core.Path.{_≡_, refl, sym, _∙_, ap}
+use mathlib.Core.Path.{_≡_, refl, _∙_, ap}
 use mathlib.Core.Bool.{Bool, true, false, cond, not, _&&_}
 use mathlib.Core.List.{List, [], _∷_, _++_}
 use lib.Dec.{eqb}
@@ -55,8 +55,3 @@ cut-line f [] p q = cut-end f p
 cut-line f (g ∷ fs) p q =
     let h = and-true (all isPlain g) (all (all isPlain) fs) q in
     cut-tab f (line (g ∷ fs)) p ∙ ap (λ (gs : List (List ℕ)). f ∷ gs) (cut-line g fs (h .0) (h .1))
-
--- A line has one list of fields, for it is cut into them
-pub line-one : (f g : List ℕ) (fs gs : List (List ℕ)) → all isPlain f ≡ true → all (all isPlain) fs ≡ true → all isPlain g ≡ true → all (all isPlain) gs ≡ true
-    → line (f ∷ fs) ≡ line (g ∷ gs) → f ∷ fs ≡ g ∷ gs
-line-one f g fs gs p q u v e = sym (cut-line f fs p q) ∙ ap fields e ∙ cut-line g gs u v

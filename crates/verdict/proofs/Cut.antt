@@ -1,6 +1,6 @@
--- The first bytes of a text decide its check. A line that is taken has 45 bytes at most and leaves fewer that can still be taken, for codes rise and stay below the
--- number of placements. A line that the cut falls into is longer than all that could still be taken, and so is what the cut leaves of it: both are refused,
--- and the lines before it are the same. Assumes nothing.
+-- The first bytes of a text decide its check. A line that is taken has 45 bytes at most and leaves fewer that can still be taken, for codes
+-- rise and stay below the number of placements. A line that the cut falls into is longer than all that could still be taken, and so is what
+-- the cut leaves of it: both are refused, and the lines before it are the same. Assumes nothing.
 use mathlib.Core.Path.{_≡_, refl, sym, _∙_, ap}
 use mathlib.Core.Logic.{inl, inr}
 use mathlib.Core.Bool.{Bool, true, false, cond}

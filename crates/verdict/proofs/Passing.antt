@@ -3,7 +3,7 @@
 -- and its number that of the first row that applies. Assumes nothing.
 use mathlib.Core.Path.{_≡_, refl, sym, _∙_, ap, subst}
 use mathlib.Core.Bool.{true, false}
-use mathlib.Core.List.{List, [], _∷_, List·Memᴰ, List·Memᴰ·head, List·Memᴰ·tail}
+use mathlib.Core.List.{List, [], _∷_, _++_, List·Memᴰ, List·Memᴰ·head, List·Memᴰ·tail}
 use mathlib.Core.Logic.{_⊎_, inl, inr, _↔_}
 use mathlib.Core.Option.{Option, none, some}
 use Prim.Native.Nat.{ℕ, _≤_, _<_}
@@ -16,7 +16,7 @@ use Rattle.railway.specs.declared.Refusal.the-variants.{PlanForm, PlanFault}
 use Rattle.railway.specs.Refusals.{Row, row, first, numberOf}
 use Rattle.railway.specs.Rows.{recordRefusal}
 use Rattle.game.specs.Placement.{placements}
-use Rattle.tables.specs.Tables.{noFigure, caseRefusal}
+use Rattle.tables.specs.Tables.{noFigure, caseRows, caseRefusal}
 use Rattle.tables.proofs.Refusals.{case-then, case-none}
 use Rattle.plan.specs.declared.LineAnswer.{LineAnswer}
 use Rattle.plan.specs.declared.LineAnswer.the-variants.{Taken, Refused as LineRefused}
@@ -88,6 +88,10 @@ unfolding run
 still-none r [] c e = e
 still-none r (l ∷ ls) c e = still-none r ls (takeLine r c l .checking) (still-fine r c l e)
 
+-- in a case that is not refused the first row is one of those behind the case's
+behind-case : (r : Railway) (figs sets : List ℕ) → caseRefusal r figs sets ≡ none → (rest : List Row) → first (caseRows r figs sets ++ rest) ≡ first rest
+behind-case r figs sets e rest = case-then r figs sets rest ∙ rw e
+
 -- THE ANSWER by the plan is one of three.
 data ByTest (a : TestAnswer) : Type 0 where
   passed : a ≡ Pass → ByTest a
@@ -158,15 +162,13 @@ module _ (r : Railway) (ls : List (List ℕ)) (c : Checking) (k : Checked r ls (
     fault = row PlanFault (planFails r (after .end) (after .end .state))
 
     plan-rows : first (rowsBy r c after) ≡ first (row PlanForm (planOutOfForm after) ∷ fault ∷ [])
-    plan-rows = case-then r (c .figs) (c .sets) (row PlanForm (planOutOfForm after) ∷ fault ∷ []) ∙ rw unrefused
+    plan-rows = behind-case r (c .figs) (c .sets) unrefused (row PlanForm (planOutOfForm after) ∷ fault ∷ [])
 
     rows-of-test : all isTaken (after .answers) ≡ true → first (rowsBy r c after) ≡ first (testRows r (after .end))
     rows-of-test e =
         let form : Row = row PlanForm (nothingTaken (after .end .state)) in
         let same : first (row PlanForm (planOutOfForm after) ∷ fault ∷ []) ≡ first (form ∷ fault ∷ []) = rw e in
-        let test : first (testRows r (after .end)) ≡ first (form ∷ fault ∷ []) =
-        case-then r (after .end .figs) (after .end .sets) (form ∷ fault ∷ []) ∙ rw (still-none r ls c unrefused) in
-        plan-rows ∙ same ∙ sym test
+        plan-rows ∙ same ∙ sym (behind-case r (after .end .figs) (after .end .sets) (still-none r ls c unrefused) (form ∷ fault ∷ []))
 
     row-of-line : all isTaken (after .answers) ≡ false → first (rowsBy r c after) ≡ some PlanForm
     unfolding first

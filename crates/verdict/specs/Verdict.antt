@@ -46,7 +46,7 @@ rowsBy r c u = caseRows r (c .figs) (c .sets) ++ (row PlanForm (planOutOfForm u)
 abbrev pub entries : ℕ
 entries = 8192
 
--- A checker that has taken no line, with two fresh tables.
+-- Where a check begins: no line yet, and both tables fresh.
 abbrev pub fresh : Checking
 fresh = freshChecking entries entries
 

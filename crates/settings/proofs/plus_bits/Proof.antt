@@ -1,4 +1,5 @@
--- `settings::plus_bits` meets its contract. The loop's invariant: no train before t fails however the points lie, and the bits are those that they need.
+-- `settings::plus_bits` meets its contract. The loop's invariant: no train before t fails however the points lie, and the bits are those
+-- that they need.
 -- Assumes nothing.
 use native.Mathlib.Omega.{arith}
 use borrow.Author.Needs.{needs}
