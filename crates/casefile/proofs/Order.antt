@@ -3,17 +3,16 @@
 use Prim.Native.Nat.{ℕ, zero, suc, _+_, _/_, _%_, _<_, _≤_}
 use mathlib.Core.Path.{_≡_, refl, ap}
 use mathlib.Core.Bool.{Bool, true, false, cond}
-use mathlib.Core.List.{List, [], _∷_, _++_, map, List·Memᴰ, List·Memᴰ·head, List·Memᴰ·tail, List·Memᴰ·append-cases}
-use mathlib.Core.Logic.{inl, inr}
+use mathlib.Core.List.{List, [], _∷_, _++_, map, List·Memᴰ, List·Memᴰ·head, List·Memᴰ·tail}
 use native.Mathlib.Omega.{arith}
-use lib.Dec.{ltb, eqb}
+use lib.Dec.{leb, eqb}
 use lib.ListN.{length}
-use borrow.Author.Tests.{lt-ltb, eqb-true, eqb-false}
+use borrow.Author.Tests.{leb-true, le-leb, eqb-true, eqb-false}
 use Rattle.laws.specs.Below.{gatherBelow}
-use Rattle.laws.specs.Lists.{all, Every}
+use Rattle.laws.specs.Lists.{Every, rises}
 use Rattle.laws.proofs.Bools.{and-true, and-both}
 use Rattle.laws.proofs.Below.{gathered}
-use Rattle.laws.proofs.Lists.{all-in, all-each, map-in, map-append}
+use Rattle.laws.proofs.Lists.{map-in, map-append}
 use Rattle.railway.specs.declared.Side.{Side}
 use Rattle.railway.specs.declared.Side.the-variants.{Up, Down}
 use Rattle.railway.specs.declared.SectionNo.{SectionNo}
@@ -28,44 +27,51 @@ use Rattle.railway.proofs.Accepted.{Accepted, accepted-facts, known-numbered}
 use Rattle.casefile.specs.Form.{section}
 use Rattle.casefile.specs.Recording.{fieldOf, signalOf}
 use Rattle.casefile.specs.Writing.{joinAt, signalAt, descriptionOf, writtenText}
-use Rattle.casefile.specs.Claims.{rank, rises, Sorted, WriterSorts}
+use Rattle.casefile.specs.Claims.{rank, Sorted, WriterSorts}
 use Rattle.casefile.proofs.Whole.{describes-one}
 use Rattle.casefile.proofs.Writer.{origin, signal-origin, from-link}
 use Rattle.casefile.proofs.Lengths.{one-at-most, one-join}
 use Rattle.casefile.proofs.RoundTrip.{described}
 
--- RISING LISTS
-rises-append : (s t : List ℕ) → rises s ≡ true → rises t ≡ true → ((x y : ℕ) → List·Memᴰ x s → List·Memᴰ y t → x < y) → rises (s ++ t) ≡ true
+-- RISING LISTS: from a lower bound, one behind another, one element at most
+rises-lower : (c d : ℕ) (t : List ℕ) → c ≤ d → rises d t ≡ true → rises c t ≡ true
 unfolding rises
-rises-append [] t p q h = q
-rises-append (z ∷ s) t p q h =
-    let k = and-true (all (ltb z) s) (rises s) p in
-    and-both (all (ltb z) (s ++ t)) (rises (s ++ t))
-    (all-each (ltb z) (s ++ t) (λ y m. elim (List·Memᴰ·append-cases s m) [ inl a ↦ all-in (ltb z) s y (k .0) a | inr a ↦ lt-ltb z y (h z y (List·Memᴰ·head refl) a) ]))
-    (rises-append s t (k .1) q (λ x y a b. h x y (List·Memᴰ·tail a) b))
+rises-lower c d [] h q = refl
+rises-lower c d (x ∷ t) h q =
+    let k = and-true (leb d x) (rises (suc x) t) q in
+    and-both (leb c x) (rises (suc x) t) (le-leb c x (omega (arith, leb-true d x (k .0)))) (k .1)
 
-rises-one : (l : List ℕ) → length l ≤ 1 → rises l ≡ true
-unfolding rises all
-rises-one [] h = refl
-rises-one (x ∷ []) h = refl
-rises-one (x ∷ y ∷ l) h = absurd (omega arith)
+rises-append : (c d : ℕ) (s t : List ℕ) → c ≤ d → rises c s ≡ true → rises d t ≡ true → Every (λ x. x < d) s → rises c (s ++ t) ≡ true
+unfolding rises
+rises-append c d [] t l p q h = rises-lower c d t l q
+rises-append c d (z ∷ s) t l p q h =
+    let k = and-true (leb c z) (rises (suc z) s) p in
+    and-both (leb c z) (rises (suc z) (s ++ t)) (k .0)
+    (rises-append (suc z) d s t (omega (arith, h z (List·Memᴰ·head refl))) (k .1) q (λ x m. h x (List·Memᴰ·tail m)))
+
+rises-one : (d : ℕ) (l : List ℕ) → length l ≤ 1 → Every (λ x. d ≤ x) l → rises d l ≡ true
+unfolding rises
+rises-one d [] h b = refl
+rises-one d (x ∷ []) h b = and-both (leb d x) true (le-leb d x (b x (List·Memᴰ·head refl))) refl
+rises-one d (x ∷ y ∷ l) h b = absurd (omega arith)
 
 map-length : {A : Type 0} (key : A → ℕ) (l : List A) → length (map key l) ≡ length l
 map-length key [] = refl
 map-length key (x ∷ l) = ap suc (map-length key l)
 
 rises-gather : {A : Type 0} (key : A → ℕ) (f : ℕ → List A) (k : ℕ) → ((i : ℕ) → length (f i) ≤ 1) → ((i : ℕ) (x : A) → i < k → List·Memᴰ x (f i) → key x ≡ i + 2)
-    → rises (map key (gatherBelow f k)) ≡ true
+    → rises 0 (map key (gatherBelow f k)) ≡ true
 unfolding gatherBelow rises
 rises-gather key f zero p h = refl
 rises-gather key f (suc k) p h =
     rw (map-append key (gatherBelow f k) (f k))
-    (rises-append (map key (gatherBelow f k)) (map key (f k)) (rises-gather key f k p (λ i x b m. h i x (omega arith) m)) (rises-one (map key (f k)) (rw (map-length key (f k)) (p k)))
-    (λ x y m n.
+    (rises-append 0 (k + 2) (map key (gatherBelow f k)) (map key (f k)) (omega arith) (rises-gather key f k p (λ i x b m. h i x (omega arith) m))
+    (rises-one (k + 2) (map key (f k)) (rw (map-length key (f k)) (p k))
+    (λ y n. let b = map-in key (f k) y n in omega (arith, b .is, h k (b .element) (omega arith) (b .member))))
+    (λ x m.
     let a = map-in key (gatherBelow f k) x m in
-    let b = map-in key (f k) y n in
     let g = gathered f k (a .element) (a .member) in
-    omega (arith, a .is, b .is, g .below, h (g .index) (a .element) (omega (arith, g .below)) (g .there), h k (b .element) (omega arith) (b .member))))
+    omega (arith, a .is, g .below, h (g .index) (a .element) (omega (arith, g .below)) (g .there))))
 
 -- RANKS
 rank-side : (i : ℕ) (b : Bool) → eqb (i % 2) 0 ≡ b → rank (section (suc (i / 2)) (cond b Down Up)) ≡ i + 2

@@ -1,14 +1,13 @@
 -- What is claimed of the case file, a sentence to each: of the lines, the writer's order and the same railway (document 01, "The case file"), and of
 -- which number is given (there, "Numbers that a desk can get"). proofs/ has the proofs. Assumes nothing.
 use mathlib.Core.Path.{_≡_}
-use mathlib.Core.Bool.{Bool, true, _&&_}
+use mathlib.Core.Bool.{true}
 use mathlib.Core.Logic.{_↔_, _⊎_}
-use mathlib.Core.List.{List, [], _∷_, map, List·Memᴰ}
+use mathlib.Core.List.{List, map, List·Memᴰ}
 use mathlib.Core.Option.{none, some}
 use Prim.Native.Nat.{ℕ, suc, _*_, _<_, _≤_}
-use lib.Dec.{ltb}
 use lib.ListN.{length, getD}
-use Rattle.laws.specs.Lists.{all, Every}
+use Rattle.laws.specs.Lists.{Every, rises}
 use Rattle.railway.specs.declared.Side.the-variants.{Up, Down}
 use Rattle.railway.specs.declared.End.{End}
 use Rattle.railway.specs.declared.End.the-variants.{Section, Port}
@@ -128,16 +127,11 @@ rank (section n Down) = 2 * n
 rank (section n Up) = suc (2 * n)
 rank (port n l) = 2000
 
--- Numbers that strictly rise.
-unfoldable pub rises : List ℕ → Bool
-rises [] = true
-rises (x ∷ xs) = all (ltb x) xs && rises xs
-
 -- Of a J line the earlier end comes first, which so is a section's; J and G lines rise by the end that they begin with.
 pub record Sorted (d : Description) : Type 0 where
   pub first : Every (λ j. rank (j .one) < rank (j .other)) (d .joins)
-  pub joins : rises (map (λ j. rank (j .one)) (d .joins)) ≡ true
-  pub signals : rises (map (λ g. rank (section (g .number) (g .side))) (d .signals)) ≡ true
+  pub joins : rises 0 (map (λ j. rank (j .one)) (d .joins)) ≡ true
+  pub signals : rises 0 (map (λ g. rank (section (g .number) (g .side))) (d .signals)) ≡ true
 
 -- The writer's text of an accepted record is in this order.
 abbrev pub WriterSorts : Type 0

@@ -13,7 +13,7 @@ use lib.Seq.{getD-set-same, getD-set-other}
 use lib.Dec.{eqb, ltb, leb}
 use borrow.Author.Tests.{ltb-true, ltb-false, eq-eqb, ne-eqb}
 use Rattle.laws.specs.Bits.{bit}
-use Rattle.laws.specs.Lists.{all}
+use Rattle.laws.specs.Lists.{all, rises}
 use Rattle.laws.proofs.Bools.{eq?, clash, some-none, and-true}
 use Rattle.laws.proofs.Lists.{all-in, getD-member}
 use Rattle.laws.proofs.Bits.{bit-none}
@@ -33,7 +33,7 @@ use Rattle.plan.specs.declared.LineAnswer.{LineAnswer}
 use Rattle.plan.specs.declared.LineAnswer.the-variants.{Taken, Refused as LineRefused}
 use Rattle.plan.specs.declared.TestAnswer.{TestAnswer}
 use Rattle.plan.specs.declared.TestAnswer.the-variants.{Pass, Refused as TestRefused}
-use Rattle.plan.specs.Lines.{PlacementLine, PlanLine, startLine, placementLine, spell, fits, Spells, lineCode, rises}
+use Rattle.plan.specs.Lines.{PlacementLine, PlanLine, startLine, placementLine, spell, fits, Spells, lineCode}
 use Rattle.plan.specs.Reading.{readLine}
 use Rattle.plan.specs.Test.{Test, lineOn, figureOn, opensOn, plusOn, byLines, byTables}
 use Rattle.plan.specs.Computed.{testHolds}

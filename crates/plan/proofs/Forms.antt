@@ -7,13 +7,13 @@ use Prim.Native.Nat.{ℕ, suc, _≤_, _<_}
 use native.Mathlib.Omega.{arith}
 use lib.Dec.{leb}
 use borrow.Author.Tests.{leb-true, le-leb}
-use Rattle.laws.specs.Lists.{all}
+use Rattle.laws.specs.Lists.{all, rises}
 use Rattle.laws.proofs.Bools.{and-true, and-both}
 use Rattle.laws.proofs.Lists.{all-append}
 use Rattle.laws.proofs.Snoc.{Snoc, empty, snoc, snoc?, snoc-not-empty, snoc-same, all-parts}
 use Rattle.railway.specs.declared.Railway.{Railway}
 use Rattle.tables.specs.Tables.{noFigure}
-use Rattle.plan.specs.Lines.{PlacementLine, PlanLine, startLine, placementLine, spell, fits, lineCode, rises, planOf}
+use Rattle.plan.specs.Lines.{PlacementLine, PlanLine, startLine, placementLine, spell, fits, lineCode, planOf}
 use Rattle.plan.specs.Checked.{Form, InForm}
 use Rattle.plan.proofs.Reading.{spells-one}
 

@@ -13,7 +13,7 @@ use lib.Dec.{eqb, ltb, leb}
 use borrow.Author.Tests.{lt-ltb, eqb-true, eq-eqb, ne-eqb, le-leb, le-ltb}
 use Rattle.laws.specs.Below.{whichBelow, orElse}
 use Rattle.laws.specs.Bits.{bit}
-use Rattle.laws.specs.Lists.{all}
+use Rattle.laws.specs.Lists.{all, rises}
 use Rattle.laws.proofs.Bools.{lt?, eq?, clash, and-true, and-both}
 use Rattle.laws.proofs.Below.{list-length, list-get}
 use Rattle.laws.proofs.Bits.{bit-none}
@@ -31,7 +31,7 @@ use Rattle.tables.proofs.Entries.{entry-opens}
 use Rattle.tables.proofs.Certify.{entry-is, figure-small}
 use Rattle.tables.proofs.Plays.{filled-solved, filled-apart}
 use Rattle.tables.proofs.Unique.{figs-one, sets-one}
-use Rattle.plan.specs.Lines.{PlacementLine, placementLine, fits, lineCode, rises}
+use Rattle.plan.specs.Lines.{PlacementLine, placementLine, fits, lineCode}
 use Rattle.plan.specs.Text.{isSome, hasFigure, lineFor, planLines, planTexts}
 use Rattle.plan.specs.Test.{listedSetting, Test, lineOn, figureOn, opensOn, plusOn, byLines, byTables}
 use Rattle.plan.specs.Checked.{Form, Passing}

@@ -7,7 +7,7 @@ use mathlib.Core.List.{List, [], _∷_, _++_, map, List·Memᴰ}
 use mathlib.Core.Option.{none, some}
 use Prim.Native.Nat.{ℕ, _≤_, _<_}
 use lib.ListN.{length}
-use Rattle.laws.specs.Lists.{all}
+use Rattle.laws.specs.Lists.{all, rises}
 use Rattle.railway.specs.declared.Railway.{Railway}
 use Rattle.railway.specs.declared.Refusal.the-variants.{PlanForm, PlanFault}
 use Rattle.railway.specs.Rows.{recordRefusal}
@@ -19,7 +19,7 @@ use Rattle.tables.specs.Tables.{noFigure}
 use Rattle.plan.specs.declared.LineAnswer.{LineAnswer}
 use Rattle.plan.specs.declared.LineAnswer.the-variants.{Taken, Refused as LineRefused}
 use Rattle.plan.specs.declared.TestAnswer.the-variants.{Pass, Refused as TestRefused}
-use Rattle.plan.specs.Lines.{PlacementLine, PlanLine, spell, fits, Spells, lineCode, rises, planOf}
+use Rattle.plan.specs.Lines.{PlacementLine, PlanLine, spell, fits, Spells, lineCode, planOf}
 use Rattle.plan.specs.Test.{Listing, listedSetting, Test, byLines}
 use Rattle.plan.specs.Reading.{readLine}
 use Rattle.plan.specs.Computed.{testHolds}

@@ -6,7 +6,7 @@ use mathlib.Core.List.{List, [], _∷_, _++_, map}
 use mathlib.Core.Option.{none}
 use Prim.Native.Nat.{ℕ, suc, _+_, _≤_}
 use lib.ListN.{length, getD}
-use lib.Dec.{eqb, ltb, leb}
+use lib.Dec.{eqb, ltb}
 use Rattle.laws.specs.Below.{whichBelow}
 use Rattle.laws.specs.Lists.{all}
 use Rattle.text.specs.Text.{byte, decimal, line, bytes}
@@ -91,11 +91,6 @@ LinesShort = (r : Railway) → recordRefusal r ≡ none → (l : PlanLine) → f
 -- The code of a line's placement.
 abbrev pub lineCode : Railway → PlacementLine → ℕ
 lineCode r d = codeOf (r .sections) (d .sections)
-
--- Codes that strictly rise, the first of them at least c.
-unfoldable pub rises : ℕ → List ℕ → Bool
-rises c [] = true
-rises c (x ∷ xs) = leb c x && rises (suc x) xs
 
 -- The lines of a plan: the first line, and those for placements.
 abbrev pub planOf : ℕ → List PlacementLine → List PlanLine

@@ -6,10 +6,10 @@ use mathlib.Core.Bool.{Bool, true, false, cond, not, _&&_}
 use mathlib.Core.List.{List, [], _∷_, _++_}
 use lib.Dec.{eqb}
 use borrow.Author.Tests.{eqb-true, eq-eqb}
-use Rattle.laws.specs.Lists.{all}
+use Rattle.laws.specs.Lists.{all, onFirst}
 use Rattle.laws.proofs.Bools.{clash, and-true, and-both}
 use Rattle.text.specs.Text.{line}
-use Rattle.text.specs.Reading.{isPlain, onFirst, fields, sameText}
+use Rattle.text.specs.Reading.{isPlain, fields, sameText}
 
 -- the same text
 pub same-is : (a b : List ℕ) → sameText a b ≡ true → a ≡ b

@@ -6,6 +6,7 @@ use mathlib.Core.Option.{Option, none, some}
 use Prim.Native.Nat.{ℕ, zero, suc, _+_, _-_, _*_}
 use lib.Dec.{ltb, eqb}
 use lib.ListN.{getD}
+use Rattle.laws.specs.Lists.{onFirst}
 use Rattle.text.specs.Text.{byte, tab, lineEnd}
 
 -- A byte that is a digit: `0` is byte 48, `9` is 57.
@@ -48,12 +49,7 @@ module _ (s : List ℕ) where
       (cond (eqb (getD s c 0) (byte "0")) (got 0 (c + 1)) (digitsAt most (getD s c 0 - byte "0") (c + 1)))
       bad
 
--- BY CUTTING. One byte more in front of the first field.
-abbrev pub onFirst : ℕ → List (List ℕ) → List (List ℕ)
-onFirst b [] = (b ∷ []) ∷ []
-onFirst b (f ∷ fs) = (b ∷ f) ∷ fs
-
--- A text cut at its tabs; line ends fall away.
+-- BY CUTTING. A text cut at its tabs; line ends fall away.
 unfoldable pub fields : List ℕ → List (List ℕ)
 fields [] = [] ∷ []
 fields (b ∷ bs) = cond (eqb b tab) ([] ∷ fields bs) (cond (eqb b lineEnd) (fields bs) (onFirst b (fields bs)))

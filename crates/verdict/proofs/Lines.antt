@@ -10,15 +10,16 @@ use lib.Dec.{eqb}
 use lib.ListN.{length, getD, take, drop, drop-of-length-le, length-drop}
 use lib.Seq.{drop-cons, drop-drop}
 use borrow.Author.Tests.{eq-eqb, ne-eqb}
+use Rattle.laws.specs.Lists.{onFirst}
 use Rattle.laws.proofs.Bools.{bool?}
 use Rattle.text.specs.Text.{lineEnd}
-use Rattle.verdict.specs.Verdict.{begun, linesOf}
+use Rattle.verdict.specs.Verdict.{linesOf}
 use Rattle.verdict.specs.Lengths.{lineBytes}
 
 pub first-line : (b : ℕ) (bs : List ℕ) → linesOf (b ∷ bs) ≡ take (lineBytes (b ∷ bs)) (b ∷ bs) ∷ linesOf (drop (lineBytes (b ∷ bs)) (b ∷ bs))
 unfolding linesOf lineBytes
 first-line b [] = elim (bool? (eqb b lineEnd)) [ inl e ↦ rw e refl | inr e ↦ rw e refl ]
-first-line b (c ∷ cs) = let rest = first-line c cs in elim (bool? (eqb b lineEnd)) [ inl e ↦ rw e refl | inr e ↦ rw e (ap (begun b) rest) ]
+first-line b (c ∷ cs) = let rest = first-line c cs in elim (bool? (eqb b lineEnd)) [ inl e ↦ rw e refl | inr e ↦ rw e (ap (onFirst b) rest) ]
 
 no-line : lineBytes [] ≡ 0
 unfolding lineBytes

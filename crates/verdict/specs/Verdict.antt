@@ -6,7 +6,7 @@ use mathlib.Core.List.{List, [], _∷_, _++_}
 use mathlib.Core.Option.{Option}
 use Prim.Native.Nat.{ℕ}
 use lib.Dec.{eqb}
-use Rattle.laws.specs.Lists.{all}
+use Rattle.laws.specs.Lists.{all, onFirst}
 use Rattle.text.specs.Text.{lineEnd}
 use Rattle.railway.specs.declared.Railway.{Railway}
 use Rattle.railway.specs.declared.Refusal.{Refusal}
@@ -19,15 +19,10 @@ use Rattle.plan.specs.declared.TestAnswer.{TestAnswer}
 use Rattle.plan.specs.declared.TestAnswer.the-variants.{Refused as TestRefused}
 use Rattle.plan.specs.Checker.{testNumber, Checking, freshChecking, takeLine, nothingTaken, planFails, testPlan, Run, run, isTaken}
 
--- A byte more in front of the first line.
-abbrev pub begun : ℕ → List (List ℕ) → List (List ℕ)
-begun b [] = (b ∷ []) ∷ []
-begun b (l ∷ ls) = (b ∷ l) ∷ ls
-
 -- THE LINES OF A TEXT, each with its line end; bytes behind the last line end are a line as they stand.
 unfoldable pub linesOf : List ℕ → List (List ℕ)
 linesOf [] = []
-linesOf (b ∷ bs) = cond (eqb b lineEnd) ((b ∷ []) ∷ linesOf bs) (begun b (linesOf bs))
+linesOf (b ∷ bs) = cond (eqb b lineEnd) ((b ∷ []) ∷ linesOf bs) (onFirst b (linesOf bs))
 
 -- THE CALLS. After a line that was taken the calls go on; a refused one ends them, and its refusal is the answer.
 abbrev pub afterLine : LineAnswer → Checking → (Checking → TestAnswer) → TestAnswer
