@@ -6,6 +6,7 @@ use Prim.Native.Nat.{ℕ, _+_, _<_}
 use lib.ListN.{set}
 use lib.Dec.{ltb}
 use Rattle.railway.specs.declared.Refusal.the-variants.{PlanForm}
+use Rattle.moves.specs.Steps.{noCode}
 use Rattle.plan.specs.declared.CheckerState.{CheckerState}
 use Rattle.plan.specs.declared.CheckerState.the-variants.{Fresh, Begun}
 use Rattle.plan.specs.declared.LineAnswer.{LineAnswer}
@@ -38,4 +39,4 @@ takesRead c state (Placed code n v) = takesPlacement c state code n v
 abbrev pub CodeSmall : LineRead → Type 0
 CodeSmall NoLine = Unit {0}
 CodeSmall (Start n) = Unit {0}
-CodeSmall (Placed code n v) = code < 4294967295
+CodeSmall (Placed code n v) = code < noCode

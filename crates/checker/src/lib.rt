@@ -7,6 +7,7 @@ ghost use lib.ListN.{length, set, replicate};
 ghost use mathlib.Core.Option.{none};
 ghost use Rattle.railway.specs.declared.Railway.{Railway};
 ghost use Rattle.compiled.specs.Table.{Compiled};
+ghost use Rattle.moves.specs.Steps.{noCode};
 ghost use Rattle.plan.specs.Checker.{refuse, tests};
 ghost use Rattle.plan.specs.Promises.{LinePost, TestPost, FreshPost};
 ghost use Rattle.checker.specs.declared.Checker.{Checker};
@@ -90,7 +91,7 @@ impl Checker {
 
     // A placement comes after the first line, its code above all before it.
     fn list(self, code: u32, n: u32, v: u32, figures: &mut [u32], settings: &mut [u32]) -> Taken
-        requires { ⌜ code < 4294967295 ⌝ }
+        requires { ⌜ code < noCode ⌝ }
         ensures { λ x. ⌜ took x (now (figures .exit)) (now (settings .exit)) ≡ takesPlacement (checking self (now (figures .entry)) (now (settings .entry))) (self .state) code n v ⌝ }
     {
         let state = self.state;

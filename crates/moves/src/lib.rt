@@ -32,7 +32,7 @@ pub struct Placement {
 pub const NO_CODE: u32 = 4294967295;
 
 // The bit of the first train in an entry of the setting table: points have the bits below.
-const TRAIN_BITS: u32 = Railway::POINTS as u32;
+pub const TRAIN_BITS: u32 = Railway::POINTS as u32;
 
 // What comes of a move: it is not allowed, loses, or leads to the next placement.
 pub enum Move {

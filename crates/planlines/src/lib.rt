@@ -8,6 +8,7 @@ ghost use Rattle.tables.specs.Entries.{opensIn};
 ghost use Rattle.plan.specs.Lines.{startLine, placementLine, openField, sign, pointField, spell};
 ghost use Rattle.planlines.specs.Spelling.{sectionPiece, openPiece, pointPiece, lineOf};
 use moves::Placement;
+use moves::TRAIN_BITS;
 use text::LINE_END;
 use text::TAB;
 use text::append;
@@ -74,7 +75,7 @@ fn any_open(k: u8, v: u32) -> bool
 {
     let mut t: u8 = 0;
     while t < k {
-        if moves::bit_at(v, 16 + (t as u32)) {
+        if moves::bit_at(v, TRAIN_BITS + (t as u32)) {
             return true;
         }
         t += 1;
@@ -98,7 +99,7 @@ fn put_trains(out: &mut [u8], at: usize, k: u8, v: u32) -> usize
 fn put_train(out: &mut [u8], at: usize, t: u8, v: u32) -> usize
     ensures { λ x. ⌜ Appended (now (out .entry)) at (openPiece (opensIn v) t) (now (out .exit)) x ⌝ }
 {
-    if moves::bit_at(v, 16 + (t as u32)) {
+    if moves::bit_at(v, TRAIN_BITS + (t as u32)) {
         append::byte(out, at, b'1' + t)
     } else {
         at

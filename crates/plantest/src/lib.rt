@@ -21,6 +21,7 @@ ghost use Rattle.plantest.specs.Steps.{signalledIn};
 use compiled::Table;
 use moves::Move;
 use moves::Placement;
+use moves::TRAIN_BITS;
 use tables::NO_FIGURE;
 
 // THE TEST, m being the first line's figure: the start is listed with it, and every listed placement is as it must be.
@@ -103,7 +104,7 @@ fn opens_signalled(table: &Table, q: Placement, v: u32) -> bool
 fn train_signalled(table: &Table, q: Placement, v: u32, t: u8) -> bool
     ensures { λ b. ⌜ ((r : Railway) (p : ℕ) → On r p (now (table .entry)) q → t < r .trains → b ≡ signalledIn r p v t) ⌝ }
 {
-    if moves::bit_at(v, 16 + (t as u32)) {
+    if moves::bit_at(v, TRAIN_BITS + (t as u32)) {
         moves::held_in(table, q, t)
     } else {
         true
