@@ -16,7 +16,6 @@ use Rattle.tables.specs.Solver.{SolverPost}
 use Rattle.tables.proofs.Refusals.{case-none}
 use Rattle.plan.specs.Lines.{mostLineBytes}
 use Rattle.answerlines.specs.Lines.{noneLine, Spelled}
-use Rattle.answerlines.proofs.Made.{refusal-short}
 use Rattle.planwriter.specs.declared.PlanText.{PlanText}
 use Rattle.planwriter.specs.Written.{outputText, PlanTextPost}
 use Rattle.planwriter.specs.Claims.{TextShort, Whole, TextWhole}
@@ -28,13 +27,13 @@ unfolding line bytes
 none-short = omega arith
 
 pub text-short : TextShort
-text-short r (Refused f) figs sets figs′ sets′ post = omega (arith, refusal-short f)
+text-short r (Refused f) figs sets figs′ sets′ post = omega arith
 text-short r Unsolvable figs sets figs′ sets′ post = omega (arith, none-short)
 text-short r (Figure n) figs sets figs′ sets′ post = plan-short r figs′ sets′ (solved-by r n figs sets figs′ sets′ post)
 
 -- the placements of a case that is not refused are no more than the entries
 by-entries : (r : Railway) (a : SolverAnswer) (figs sets figs′ sets′ : List ℕ) → SolverPost r a figs sets figs′ sets′ → length (outputText r a figs′ sets′) ≤ suc (length figs) * mostLineBytes
-by-entries r (Refused f) figs sets figs′ sets′ post = omega (arith, refusal-short f)
+by-entries r (Refused f) figs sets figs′ sets′ post = omega arith
 by-entries r Unsolvable figs sets figs′ sets′ post = omega (arith, none-short)
 by-entries r (Figure n) figs sets figs′ sets′ post =
     omega (arith, text-short r (Figure n) figs sets figs′ sets′ post, case-none r figs sets .0 (sym (post .refusal)) .1 .figures)

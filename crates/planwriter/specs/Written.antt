@@ -1,18 +1,18 @@
 -- What program `signalplan` writes for a railway, and the promise of the call that makes this text (document 01, end of "The two tables and the
 -- plan": what `signalplan` writes). Assumes nothing.
-use mathlib.Core.List.{List}
+use mathlib.Core.List.{List, []}
 use Prim.Native.Nat.{ℕ}
 use Rattle.railway.specs.declared.Railway.{Railway}
 use Rattle.tables.specs.declared.SolverAnswer.{SolverAnswer}
 use Rattle.tables.specs.declared.SolverAnswer.the-variants.{Refused, Unsolvable, Figure}
 use Rattle.tables.specs.Solver.{SolverPost}
 use Rattle.plan.specs.Text.{planText}
-use Rattle.answerlines.specs.Lines.{refusalLine, noneLine, Spelled}
+use Rattle.answerlines.specs.Lines.{noneLine, Spelled}
 use Rattle.planwriter.specs.declared.PlanText.{PlanText}
 
--- THE WHOLE TEXT, by the solver's answer and the two tables that it left: the plan, or `none`, or the refusal.
+-- THE WHOLE TEXT, by the solver's answer and the two tables that it left: the plan, or `none`. For a refusal there is none, and the buffer keeps its bytes.
 abbrev pub outputText : Railway → SolverAnswer → List ℕ → List ℕ → List ℕ
-outputText r (Refused f) figs sets = refusalLine f
+outputText r (Refused f) figs sets = []
 outputText r Unsolvable figs sets = noneLine
 outputText r (Figure n) figs sets = planText r figs sets
 

@@ -1,5 +1,5 @@
-// A railway's plan as a text, in a lent buffer: its lines, or `none`, or `refused`, a tab and the number. It is what program signalplan writes.
-// A byte that finds no room is lost; the answer says how many bytes the text has, whether or not there was room for them.
+// A railway's plan as a text, in a lent buffer: its lines, or `none`. It is what program signalplan writes; where the solver refuses, the buffer is left as
+// it was. A byte that finds no room is lost; the answer says how many bytes the text has, whether or not there was room for them.
 ghost use Rattle.plan.specs.Text.{planText};
 ghost use Rattle.answerlines.specs.Lines.{Spelled};
 ghost use Rattle.planwriter.specs.Written.{PlanTextPost};
@@ -23,7 +23,7 @@ pub fn plan_text(r: Railway, figures: &mut [u32], settings: &mut [u32], text: &m
 {
     let answer = solver::solve(r, figures, settings);
     let bytes = match answer {
-        SolverAnswer::Refused(f) => answerlines::refusal_line(f, text),
+        SolverAnswer::Refused(_) => 0,
         SolverAnswer::Unsolvable => answerlines::none_line(text),
         SolverAnswer::Figure(_) => plan_lines(r, figures, settings, text),
     };

@@ -3,7 +3,9 @@ use casefile::CaseAnswer;
 use libc::STDIN_FILENO;
 use libc::STDOUT_FILENO;
 use railway::Railway;
+use railway::Refusal;
 use tables::ENTRIES;
+use tables::SolverAnswer;
 
 // One byte more than a case text may have: whatever follows, such a text is refused for its length.
 const CASE: usize = casefile::MOST_BYTES + 1;
@@ -17,12 +19,14 @@ fn main() {
     let read = reader::read_case(&case[..n]);
     let answer = read.answer;
     match answer {
-        CaseAnswer::Refused(f) => {
-            let mut line = [0u8; output::LINE];
-            output::refusal(f, &mut line);
-        }
+        CaseAnswer::Refused(f) => refuse(f),
         CaseAnswer::Accepted => plan(read.railway),
     }
+}
+
+fn refuse(f: Refusal) {
+    let mut line = [0u8; output::LINE];
+    output::refusal(f, &mut line);
 }
 
 fn plan(r: Railway) {
@@ -31,5 +35,10 @@ fn plan(r: Railway) {
     let mut text = [0u8; TEXT];
     let made = planwriter::plan_text(r, &mut figures, &mut settings, &mut text);
     let n = made.bytes;
+    let answer = made.answer;
+    if let SolverAnswer::Refused(f) = answer {
+        refuse(f);
+        return;
+    }
     io::write_all(STDOUT_FILENO, &text[..n]);
 }
