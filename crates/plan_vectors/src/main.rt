@@ -1,10 +1,7 @@
 // Case texts, and what program signalplan writes for each. Standard input is records (crate framed).
 use casefile::CaseAnswer;
-use libc::STDOUT_FILENO;
 use railway::Railway;
-use railway::Refusal;
 use tables::ENTRIES;
-use tables::SolverAnswer;
 
 // Room for a first line and one for each entry, as in signalplan.
 const TEXT: usize = (ENTRIES + 1) * planlines::MOST_LINE_BYTES;
@@ -37,26 +34,17 @@ fn show(case: &[u8]) {
     let read = reader::read_case(case);
     let answer = read.answer;
     match answer {
-        CaseAnswer::Refused(f) => refuse(f),
+        CaseAnswer::Refused(f) => {
+            let mut line = [0u8; output::LINE];
+            output::refusal(f, &mut line);
+        }
         CaseAnswer::Accepted => plan(read.railway),
     }
-}
-
-fn refuse(f: Refusal) {
-    let mut line = [0u8; output::LINE];
-    output::refusal(f, &mut line);
 }
 
 fn plan(r: Railway) {
     let mut figures = [0u32; ENTRIES];
     let mut settings = [0u32; ENTRIES];
     let mut text = [0u8; TEXT];
-    let made = planwriter::plan_text(r, &mut figures, &mut settings, &mut text);
-    let n = made.bytes;
-    let answer = made.answer;
-    if let SolverAnswer::Refused(f) = answer {
-        refuse(f);
-        return;
-    }
-    io::write_all(STDOUT_FILENO, &text[..n]);
+    planwriter::write_plan(r, &mut figures, &mut settings, &mut text);
 }

@@ -1,10 +1,10 @@
 -- The text's length is that of a line or of the plan, so a buffer with a line for each entry of the figure table and one more has room for it, and
 -- what is put there stands whole. Assumes nothing.
-use mathlib.Core.Path.{_≡_, refl, sym, _∙_, ap}
+use mathlib.Core.Path.{_≡_, refl, sym}
 use mathlib.Core.List.{List, _++_}
 use Prim.Native.Nat.{ℕ, suc, _*_, _≤_}
 use native.Mathlib.Omega.{arith}
-use lib.ListN.{length, take, drop, replicate, length-append, length-replicate}
+use lib.ListN.{length, take, drop, length-append}
 use lib.Seq.{take-append-seam}
 use Rattle.text.specs.Text.{line, bytes}
 use Rattle.text.specs.Appending.{Appended, cursorAfter}
@@ -16,9 +16,8 @@ use Rattle.tables.specs.Solver.{SolverPost}
 use Rattle.tables.proofs.Refusals.{case-none}
 use Rattle.plan.specs.Lines.{mostLineBytes}
 use Rattle.answerlines.specs.Lines.{noneLine, Spelled}
-use Rattle.planwriter.specs.declared.PlanText.{PlanText}
-use Rattle.planwriter.specs.Written.{outputText, PlanTextPost}
-use Rattle.planwriter.specs.Claims.{TextShort, Whole, TextWhole}
+use Rattle.planwriter.specs.Written.{outputText}
+use Rattle.planwriter.specs.Claims.{TextShort, TextWhole}
 use Rattle.planwriter.proofs.Sizes.{plan-short}
 use Rattle.planwriter.proofs.Answers.{solved-by}
 
@@ -56,11 +55,3 @@ text-whole r t figs sets buffer figs′ sets′ buffer′ post room =
       within = first-within (outputText r (t .answer) figs′ sets′) buffer buffer′ (t .bytes) (post .spelled) fits;
       text = first-whole (outputText r (t .answer) figs′ sets′) buffer buffer′ (t .bytes) (post .spelled) fits;
     }
-
--- with a table and a buffer that a program has made for itself
-pub own-whole : (r : Railway) (t : PlanText) (figs sets buffer figs′ sets′ buffer′ : List ℕ) → PlanTextPost r figs sets buffer t figs′ sets′ buffer′
-    → (entries bytes : ℕ) → figs ≡ replicate entries 0 → buffer ≡ replicate bytes 0 → suc entries * mostLineBytes ≤ bytes → Whole r t figs′ sets′ buffer′
-own-whole r t figs sets buffer figs′ sets′ buffer′ post entries bytes f b room =
-    let k : length figs ≡ entries = ap length f ∙ length-replicate {A = ℕ} entries 0 in
-    let m : length buffer ≡ bytes = ap length b ∙ length-replicate {A = ℕ} bytes 0 in
-    text-whole r t figs sets buffer figs′ sets′ buffer′ post (omega arith)

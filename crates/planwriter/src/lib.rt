@@ -4,6 +4,7 @@ ghost use Rattle.plan.specs.Text.{planText};
 ghost use Rattle.answerlines.specs.Lines.{Spelled};
 ghost use Rattle.planwriter.specs.Written.{PlanTextPost};
 ghost use Rattle.planwriter.specs.Solved.{Solved};
+use libc::STDOUT_FILENO;
 use plan::Emitted;
 use plan::PlanPlace;
 use planlines::MOST_LINE_BYTES;
@@ -28,6 +29,28 @@ pub fn plan_text(r: Railway, figures: &mut [u32], settings: &mut [u32], text: &m
         SolverAnswer::Figure(_) => plan_lines(r, figures, settings, text),
     };
     PlanText { answer, bytes }
+}
+
+// The same, and what the text came to is written on standard output; for a refusal, its line, which goes into no lent buffer.
+pub fn write_plan(
+    r: Railway,
+    figures: &mut [u32],
+    settings: &mut [u32],
+    text: &mut [u8],
+) -> PlanText
+    ensures { λ t. ⌜ PlanTextPost r (now (figures .entry)) (now (settings .entry)) (now (text .entry)) t (now (figures .exit)) (now (settings .exit)) (now (text .exit)) ⌝ }
+{
+    let made = plan_text(r, figures, settings, text);
+    let n = made.bytes;
+    let answer = made.answer;
+    if let SolverAnswer::Refused(f) = answer {
+        let mut line = [0u8; output::LINE];
+        output::refusal(f, &mut line);
+    }
+    if n <= text.len() {
+        io::write_all(STDOUT_FILENO, &text[..n]);
+    }
+    made
 }
 
 // Line behind line, until the emitter answers that there is no further one.

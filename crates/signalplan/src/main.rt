@@ -1,11 +1,8 @@
 // A case text on standard input; its plan on standard output, or `none`, or `refused`, a tab and the number.
 use casefile::CaseAnswer;
 use libc::STDIN_FILENO;
-use libc::STDOUT_FILENO;
 use railway::Railway;
-use railway::Refusal;
 use tables::ENTRIES;
-use tables::SolverAnswer;
 
 // One byte more than a case text may have: whatever follows, such a text is refused for its length.
 const CASE: usize = casefile::MOST_BYTES + 1;
@@ -19,26 +16,17 @@ fn main() {
     let read = reader::read_case(&case[..n]);
     let answer = read.answer;
     match answer {
-        CaseAnswer::Refused(f) => refuse(f),
+        CaseAnswer::Refused(f) => {
+            let mut line = [0u8; output::LINE];
+            output::refusal(f, &mut line);
+        }
         CaseAnswer::Accepted => plan(read.railway),
     }
-}
-
-fn refuse(f: Refusal) {
-    let mut line = [0u8; output::LINE];
-    output::refusal(f, &mut line);
 }
 
 fn plan(r: Railway) {
     let mut figures = [0u32; ENTRIES];
     let mut settings = [0u32; ENTRIES];
     let mut text = [0u8; TEXT];
-    let made = planwriter::plan_text(r, &mut figures, &mut settings, &mut text);
-    let n = made.bytes;
-    let answer = made.answer;
-    if let SolverAnswer::Refused(f) = answer {
-        refuse(f);
-        return;
-    }
-    io::write_all(STDOUT_FILENO, &text[..n]);
+    planwriter::write_plan(r, &mut figures, &mut settings, &mut text);
 }
