@@ -12,7 +12,7 @@ use Rattle.game.specs.Setting.{Setting}
 use Rattle.compiled.specs.Table.{Compiled}
 use Rattle.moves.specs.declared.Placement.{Placement}
 
--- What stands for no code: no table is long enough to have an entry there.
+-- What stands for no code: no railway has so many placements.
 abbrev pub noCode : ℕ
 noCode = 4294967295
 
