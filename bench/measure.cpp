@@ -46,16 +46,19 @@ long memory(const char* line) {
     return kilobytes * 1024;
 }
 
-// The least time of some batches; a batch lasts a twentieth of a second at least.
+// The least time of some batches of which each lasts a twentieth of a second at least: shorter ones are not counted, and grow.
 double least_time(const Solver& s, std::string_view text, Tables& tables) {
     double least = 1e99, spent = 0;
     for (int batch = 1; spent < 0.5;) {
         double begin = now();
         for (int i = 0; i < batch; i++) s.solve(text, tables);
         double took = now() - begin;
+        if (took < 0.05) {
+            batch *= 2;
+            continue;
+        }
         least = std::min(least, took / batch);
         spent += took;
-        if (took < 0.05) batch *= 2;
     }
     return least;
 }

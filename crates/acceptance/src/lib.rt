@@ -1,6 +1,6 @@
 // The test of a record: accepted, or refused with the first of rows 3 to 8 that applies. Any record may come in, also one that
 // no text describes; each row looks at every place that it concerns. Besides the test, some of its parts are public for the
-// reader of case texts: they judge one row, pair or place of a record by itself, and are no entries.
+// reader of case texts: they judge one row, pair or place of a record by itself, and are no entry points.
 ghost use mathlib.Core.Path.{_≡_};
 ghost use mathlib.Core.Bool.{_||_, _&&_};
 ghost use Rattle.laws.specs.Below.{anyBelow};
