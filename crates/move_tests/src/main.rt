@@ -139,9 +139,18 @@ fn codes() {
         b"end of train 2 in (2,3)",
         railway::index_of(moves::heads_for(&t, 7, 1)) as u32,
     );
-    flag(b"train 1 may move in (2,3), closed", moves::may_move(&t, 7, 0, 0));
-    flag(b"train 1 may move in (2,3), open", moves::may_move(&t, 7, 65536, 0));
-    flag(b"train 2 may move in (2,3), free", moves::may_move(&t, 7, 0, 1));
+    flag(
+        b"train 1 may move in (2,3), closed",
+        moves::may_move(&t, 7, 0, 0),
+    );
+    flag(
+        b"train 1 may move in (2,3), open",
+        moves::may_move(&t, 7, 65536, 0),
+    );
+    flag(
+        b"train 2 may move in (2,3), free",
+        moves::may_move(&t, 7, 0, 1),
+    );
     flag(b"train 3 may move, not there", moves::may_move(&t, 7, 0, 2));
 }
 

@@ -170,6 +170,9 @@ fn together() {
     show(b"5 and 8", 2, 0, 2, b"T212.J1u2u");
     show(b"6 and 8", 2, 1, 2, b"T212.");
     show(b"3 and 8", 2, 17, 2, b"T212.");
+    show(b"3 and 5", 49, 0, 1, b"J1u2u");
+    show(b"3 and 6", 49, 1, 1, b"");
+    show(b"4 and 8", 2, 0, 2, b"T131.T221.");
 }
 
 fn main() {
