@@ -179,7 +179,7 @@ cases =
     ∷
     record { number = 5; text = "H\t2\t0\t1\nJ\t1u\t2d\nJ\t2d\t1u\nT\t1\tu\t1\t1\n" }
     ∷
-    -- with legs up the stem lies down and plus and minus up; with legs down the reverse
+    -- joins at a stem and at legs, by the side that each lies on
     record { number = 0; text = "H\t3\t1\t1\nP\t1\tu\nJ\t1u\t1s\nJ\t2d\t1+\nJ\t3d\t1-\nT\t1\tu\t1\t1\n" }
     ∷
     record { number = 5; text = "H\t3\t1\t1\nP\t1\tu\nJ\t1d\t1s\nJ\t2d\t1+\nJ\t3d\t1-\nT\t1\tu\t1\t1\n" }

@@ -8,7 +8,7 @@ use mathlib.Core.Option.{Option, none, some}
 use Prim.Native.Nat.{ℕ, zero, suc, _+_, _≤_, _<_}
 use native.Mathlib.Omega.{arith}
 use Rattle.laws.proofs.Bools.{bool?, option?, clash, some-none}
-use Rattle.game.specs.Game.{Outcome, lost, at, Game, Turn, Way, Choice, Position, lostByMove, standing, may, mover, home, over, grown, arrive, turn, step, play, homeAt, HomeWithin}
+use Rattle.game.specs.Game.{Outcome, lost, at, Game, Turn, Way, Choice, Position, lostByMove, standing, may, mover, home, over, grown, standAfter, turn, step, play, homeAt, HomeWithin}
 use Rattle.game.specs.Claim.{Below, figureOf, Keeps}
 use Rattle.game.specs.Local.{Inside}
 use Rattle.game.proofs.Turns.{home-over, not-over, no-keeps-zero, mover-cases}
@@ -26,7 +26,7 @@ module _ {S : Type 0} (g : Game S) (F : ℕ → Option ℕ) (f : ℕ → S) (ins
     Ahead n m (standing h q) = (q < g .placements) × (w h q ≡ f q) × ((home g q ≡ true) ⊎ ((j : ℕ) × (F q ≡ some j) × (j + m ≤ n)))
 
     arrives : (n m : ℕ) (h : List (Turn S)) (q : ℕ) (s : S) (t j : ℕ) (o : Outcome) → q < g .placements → may g q s t ≡ true → g .next q s t ≡ o
-        → Below j (figureOf F o) → j + m ≤ n → Ahead n (suc m) (arrive g (grown g h q s (some t)) o)
+        → Below j (figureOf F o) → j + m ≤ n → Ahead n (suc m) (standAfter g (grown g h q s (some t)) o)
     arrives n m h q s t j (lost l) hq e eo b le = b
     arrives n m h q s t j (at y) hq e eo b le = (
       inside q s t y hq e eo,

@@ -22,7 +22,7 @@ use Rattle.game.specs.Setting.{Setting, headsFor, held, mayMove}
 use Rattle.game.specs.Moves.{passes, occupied, moveOf, gameOf}
 use Rattle.railway.specs.Yards.{yardH, lineP, lineJ, lineG, lineT, sec, port, yardA}
 
--- THE YARDS. A loop: a train up from 1 by the plus leg comes round into its own section, by the minus leg to 2.
+-- THE YARDS. A loop: up from 1 a train gets back to 1 over the plus leg, and to 2 over the minus leg.
 abbrev loop : Railway
 loop =
     lineT 2 Up 2 1
@@ -68,13 +68,13 @@ unfolding mayMove held headsFor standsOn sectionsIn trainOf hasSignal withJoin w
 may = (refl, refl, refl, refl)
 
 -- MOVES
-moves :  -- by the stem to the leg that is set
+moves :  -- from the stem, the point at plus and at minus
     (moveOf yardA 7 plus 1 ≡ at 1) × (moveOf yardA 6 shut 1 ≡ at 3)
-    -- by the leg that is set to the stem
+    -- from either leg, the point lying for it
     × (moveOf yardA 3 plus 0 ≡ at 5) × (moveOf yardA 1 shut 0 ≡ at 2)
-    -- by the other leg, and at the end of the track
+    -- from a leg that the point does not lie for; where the track ends
     × (moveOf yardA 3 shut 0 ≡ lost derailment) × (moveOf yardA 7 plus 0 ≡ lost derailment) × (moveOf yardA 1 plus 1 ≡ lost derailment)
-    -- where another train stands; round into its own section
+    -- onto another train; round the loop
     × (moveOf yardA 7 shut 1 ≡ lost collision) × (moveOf loop 2 shut 0 ≡ lost collision) × (moveOf loop 2 plus 0 ≡ at 2)
     -- the points met: one, also where the train derails at it; none
     × (passes yardA (plus .plus) (sec 2 Up) .met ≡ 0 ∷ []) × (passes yardA (plus .plus) (sec 1 Down) .met ≡ []) × (passes lines (plus .plus) (sec 1 Up) .met ≡ [])

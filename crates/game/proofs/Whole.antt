@@ -11,7 +11,7 @@ use Prim.Native.Nat.{ℕ, zero, suc, _+_, _≤_, _<_}
 use native.Mathlib.Omega.{arith}
 use Rattle.laws.proofs.Bools.{bool?, option?, lt?, clash}
 use Rattle.laws.proofs.Below.{upto}
-use Rattle.game.specs.Game.{Outcome, lost, at, Game, Turn, Way, Choice, following, positional, Position, lostByMove, standing, may, mover, home, over, arrive, step, play, homeAt, HomeWithin, ComesHome, Beats, IsFigure}
+use Rattle.game.specs.Game.{Outcome, lost, at, Game, Turn, Way, Choice, following, positional, Position, lostByMove, standing, may, mover, home, over, standAfter, step, play, homeAt, HomeWithin, ComesHome, Beats, IsFigure}
 use Rattle.game.specs.Claim.{Below, figureOf, Keeps, Alike, OneChoice, Whole}
 use Rattle.game.specs.Local.{Inside, Solved}
 use Rattle.game.proofs.Turns.{not-over, may-train, mover-cases}
@@ -174,7 +174,7 @@ module _ {S : Type 0} (g : Game S) (F : ℕ → Option ℕ) (f : ℕ → S) (ins
   under (some i) j b = omega arith
 
   behind-move : (m : ℕ) (h : List (Turn S)) (q : ℕ) (s : S) (t : ℕ) (o : Outcome) → q < g .placements → over g q ≡ false → may g q s t ≡ true → g .next q s t ≡ o
-      → ((u : ℕ) → may g q s u ≡ true → AtMost (figureOf F (g .next q s u)) (figureOf F o)) → R m (F q) → Behind (suc m) (arrive g h o)
+      → ((u : ℕ) → may g q s u ≡ true → AtMost (figureOf F (g .next q s u)) (figureOf F o)) → R m (F q) → Behind (suc m) (standAfter g h o)
   behind-move m h q s t (lost x) hq ho e eo top r = tt
   behind-move m h q s t (at q′) hq ho e eo top r = (
     inside q s t q′ hq e eo,

@@ -78,14 +78,14 @@ module _ {S : Type 0} (g : Game S) where
   grown h p s m = h ++ (record { placement = p; setting = s; moved = m } ∷ [])
 
   -- Where the play stands when a move has ended so.
-  abbrev pub arrive : List (Turn S) → Outcome → Position S
-  arrive h (lost l) = lostByMove
-  arrive h (at q) = standing h q
+  abbrev pub standAfter : List (Turn S) → Outcome → Position S
+  standAfter h (lost l) = lostByMove
+  standAfter h (at q) = standing h q
 
   -- A turn by the mover; without one nothing moves, and yet a turn has been played.
   abbrev pub turn : List (Turn S) → ℕ → S → Option ℕ → Position S
   turn h p s none = standing (grown h p s none) p
-  turn h p s (some t) = arrive (grown h p s (some t)) (g .next p s t)
+  turn h p s (some t) = standAfter (grown h p s (some t)) (g .next p s t)
 
   -- The turn by the setting picked: way and choice are both handed the history.
   abbrev pub turnBy : Choice S → List (Turn S) → ℕ → S → Position S

@@ -13,7 +13,7 @@ use Rattle.tables.specs.Entries.{opensIn}
 use Rattle.tables.specs.Tables.{noFigure, figureIn}
 use Rattle.plan.specs.Lines.{PlacementLine, PlanLine, spell, planOf}
 
--- There is a figure.
+-- There is one.
 abbrev pub isSome : Option ℕ → Bool
 isSome none = false
 isSome (some n) = true

@@ -1,4 +1,4 @@
--- Both searches give exactly the plan's entry, in an accepted case where no two trains share a section: they find v exactly if v is the
+-- Both searches give exactly the plan's entry, in an accepted case at a placement that is not lost: they find v exactly if v is the
 -- entry of the plan's setting, and nothing exactly if no whole setting keeps the figure. What is found is the plan's entry, and there is
 -- one. Assumes nothing.
 use mathlib.Core.Path.{_≡_, sym, _∙_}

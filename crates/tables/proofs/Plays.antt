@@ -20,7 +20,7 @@ use Rattle.game.proofs.Figures.{lost-unforced, figures-solved}
 use Rattle.game.proofs.Whole.{whole}
 use Rattle.tables.specs.Tables.{figureIn, settingIn, IsPlanEntry, Filled}
 
--- a placement that has a figure is not lost: no two trains share a section
+-- a placement that has a figure is not lost: each train has a section to itself
 pub figure-apart : (r : Railway) (p n : ℕ) → IsFigure (gameOf r) p (some n) → shared r p ≡ false
 figure-apart r p n i = not-true (shared r p) (λ y. lost-unforced (gameOf r) p n y (i .0))
 

@@ -16,7 +16,7 @@ use Rattle.plan.specs.declared.TestAnswer.{TestAnswer}
 use Rattle.plan.specs.declared.TestAnswer.the-variants.{Pass, Refused}
 use Rattle.plan.specs.Lines.{mostLineBytes}
 use Rattle.plan.specs.Checked.{InForm, Passing, Failing}
-use Rattle.verdict.specs.Verdict.{linesOf, entries, refusalOf, checkText, PlanPost}
+use Rattle.verdict.specs.Verdict.{linesOf, entries, checkRefusal, checkText, PlanPost}
 
 -- The answer to lines by their form and the test of the plan in them.
 pub record ByPlan (r : Railway) (ls : List (List ℕ)) (a : TestAnswer) : Type 0 where
@@ -33,7 +33,7 @@ VerdictHolds =
 abbrev pub CaseHolds : Type 0
 CaseHolds =
     (r : Railway) (plan : List ℕ) (a : TestAnswer) → PlanPost r plan a
-    → (f : Refusal) → ¬ (f ≡ PlanForm) → ¬ (f ≡ PlanFault) → (a ≡ Refused f) ↔ (refusalOf r ≡ some f)
+    → (f : Refusal) → ¬ (f ≡ PlanForm) → ¬ (f ≡ PlanFault) → (a ≡ Refused f) ↔ (checkRefusal r ≡ some f)
 
 -- One byte more than a plan can have: a first line, and one for each entry of a table.
 abbrev pub readBytes : ℕ

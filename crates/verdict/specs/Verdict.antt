@@ -51,8 +51,8 @@ abbrev pub fresh : Checking
 fresh = freshChecking entries entries
 
 -- The first of rows 3 to 9 that applies to a railway with these tables.
-abbrev pub refusalOf : Railway → Option Refusal
-refusalOf r = caseRefusal r (fresh .figs) (fresh .sets)
+abbrev pub checkRefusal : Railway → Option Refusal
+checkRefusal r = caseRefusal r (fresh .figs) (fresh .sets)
 
 -- The plan in a text, checked from there.
 abbrev pub checkText : Railway → List ℕ → TestAnswer
