@@ -10,7 +10,7 @@ use Rattle.railway.specs.declared.Joined.the-variants.{Nothing, With}
 use Rattle.railway.specs.declared.Train.{Train}
 use Rattle.railway.specs.declared.Railway.{Railway}
 use Rattle.railway.specs.Ends.{endAt}
-use Rattle.railway.specs.Record.{linkAt, joined, runOf}
+use Rattle.railway.specs.Record.{linkAt, joined, trainOf}
 use Rattle.railway.specs.declared.Refusal.the-variants.{Count, Unknown, Join, Loose, Place}
 use Rattle.acceptance.specs.declared.Tested.{Tested}
 use Rattle.acceptance.specs.declared.Tested.the-variants.{Accepted, Refused}
@@ -42,7 +42,7 @@ module _ (r : Railway) (i : ℕ) (j : Joined) (is : j ≡ linkAt r i) where
     link-unreturned g hg h = rw (← is, to, ← at, ← hg) h
 
 -- a train's start and destination
-module _ (r : Railway) (t : ℕ) (x : Train) (is : x ≡ runOf r t) where
+module _ (r : Railway) (t : ℕ) (x : Train) (is : x ≡ trainOf r t) where
   pub train-unknown : (b : Bool) → b ≡ not (ltb (x .start .0) (r .sections) && ltb (x .destination .0) (r .sections)) → b ≡ unknownTrainAt r t
   train-unknown b h = rw (← is) h
 

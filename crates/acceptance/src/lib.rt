@@ -171,7 +171,7 @@ fn unknown_signal(r: Railway, i: u8) -> bool
 fn unknown_train(r: Railway, t: u8) -> bool
     ensures { λ b. ⌜ b ≡ unknownTrainAt r t ⌝ }
 {
-    let x = r.run_of(t);
+    let x = r.train_of(t);
     let s = r.sections;
     if x.start.0 < s {
         if x.destination.0 < s { false } else { true }
@@ -219,8 +219,8 @@ fn loose_port(r: Railway, n: u8) -> bool
 fn shares_with(r: Railway, t: u8, u: u8) -> bool
     ensures { λ b. ⌜ b ≡ sharesWith r t u ⌝ }
 {
-    let x = r.run_of(u);
-    let y = r.run_of(t);
+    let x = r.train_of(u);
+    let y = r.train_of(t);
     if x.start.0 == y.start.0 {
         true
     } else {

@@ -23,7 +23,7 @@ use Rattle.railway.specs.declared.Train.{Train}
 use Rattle.railway.specs.declared.Railway.{Railway}
 use Rattle.railway.specs.Bounds.{sectionEnds, allEnds}
 use Rattle.railway.specs.Ends.{sameSide, portSide, endIndex, endAt}
-use Rattle.railway.specs.Record.{linkAt, flagAt, joined, runOf}
+use Rattle.railway.specs.Record.{linkAt, flagAt, joined, trainOf}
 use Rattle.railway.specs.Record as R
 use Rattle.railway.specs.Rows.{bothPorts, oneSection, recordRefusal}
 use Rattle.railway.specs.Rows as RR
@@ -31,12 +31,12 @@ use Rattle.railway.proofs.Ends.{end-section}
 use Rattle.railway.proofs.Accepted.{Right, Accepted, facts-accepted}
 use Rattle.casefile.specs.Form.{EndField, section, port, SignalLine, TrainLine, Description, WellFormed}
 use Rattle.casefile.specs.Rows.{known, sectionOf, sideOf, sameSignal}
-use Rattle.casefile.specs.Recording.{endOf, fieldOf, partner, signalOf, trainOf, noTrainLine, railwayOf}
+use Rattle.casefile.specs.Recording.{endOf, fieldOf, partner, signalOf, trainOfLine, noTrainLine, railwayOf}
 use Rattle.casefile.specs.Claims.{AcceptedAgain}
 use Rattle.casefile.proofs.Exactly.{accepted-exactly}
 use Rattle.casefile.proofs.Faultless.{Faultless, faultless-facts, within-is}
 use Rattle.casefile.proofs.Ends.{signal-is, end-field, field-end, ports-same, one-same, Ties, forth, back, partner-ties, partner-one, partner-other, partner-nothing}
-use Rattle.casefile.proofs.Described.{link-at, flag-at, legs-at, run-at, joined-at, counted-end, numbered-end, run-known}
+use Rattle.casefile.proofs.Described.{link-at, flag-at, legs-at, roster-at, joined-at, counted-end, numbered-end, roster-known}
 
 -- the tests of row 5, turned round
 ports-turned : (a b : Option ℕ) → bothPorts a b ≡ false → bothPorts b a ≡ false
@@ -112,23 +112,23 @@ module _ (d : Description) (w : Faultless d) where
       (partner-nothing (d .joins) (port (suc n) l) (sym (joined-at d (Port (record { 0 = n }) l) (omega arith)) ∙ e))
 
   module _ (f : WellFormed d) where
-    train-known : (t : ℕ) → t < d .trains → (runOf (railwayOf d) t .start .0 < d .sections) × (runOf (railwayOf d) t .destination .0 < d .sections)
+    train-known : (t : ℕ) → t < d .trains → (trainOf (railwayOf d) t .start .0 < d .sections) × (trainOf (railwayOf d) t .destination .0 < d .sections)
     train-known t h =
-        let k = run-known d w f t h in
-        rw (run-at d t h (w .bounds .few-trains)) (omega arith)
+        let k = roster-known d w f t h in
+        rw (roster-at d t h (w .bounds .few-trains)) (omega arith)
 
     -- a number of each train: where those of the T lines do not repeat, those of the record are apart
-    apart : (p : TrainLine → ℕ) (q : Train → ℕ) → ((t : TrainLine) → q (trainOf t) ≡ p t - 1)
-        → ((t : ℕ) → t < d .trains → 1 ≤ p (getD (d .runs) t noTrainLine))
-        → repeats eqb (map p (d .runs)) ≡ false → (t u : ℕ) → u < t → t < d .trains → q (runOf (railwayOf d) u) ≡ q (runOf (railwayOf d) t) → ⊥
+    apart : (p : TrainLine → ℕ) (q : Train → ℕ) → ((t : TrainLine) → q (trainOfLine t) ≡ p t - 1)
+        → ((t : ℕ) → t < d .trains → 1 ≤ p (getD (d .roster) t noTrainLine))
+        → repeats eqb (map p (d .roster)) ≡ false → (t u : ℕ) → u < t → t < d .trains → q (trainOf (railwayOf d) u) ≡ q (trainOf (railwayOf d) t) → ⊥
     apart p q h g e t u l b z =
         let c = w .bounds .few-trains in
-        let x : q (runOf (railwayOf d) u) ≡ p (getD (d .runs) u noTrainLine) - 1 = ap q (run-at d u (omega arith) c) ∙ h _ in
-        let y : q (runOf (railwayOf d) t) ≡ p (getD (d .runs) t noTrainLine) - 1 = ap q (run-at d t b c) ∙ h _ in
+        let x : q (trainOf (railwayOf d) u) ≡ p (getD (d .roster) u noTrainLine) - 1 = ap q (roster-at d u (omega arith) c) ∙ h _ in
+        let y : q (trainOf (railwayOf d) t) ≡ p (getD (d .roster) t noTrainLine) - 1 = ap q (roster-at d t b c) ∙ h _ in
         let i = g u (omega arith) in
         let j = g t b in
-        let k = repeats-apart eqb (map p (d .runs)) (p noTrainLine) u t e l (rw (length-map (d .runs) p, f .one-a-train) b) in
-        eqb-false (p (getD (d .runs) u noTrainLine)) (p (getD (d .runs) t noTrainLine)) (rw (List·getD-map p (d .runs) u noTrainLine, List·getD-map p (d .runs) t noTrainLine) at k) (omega arith)
+        let k = repeats-apart eqb (map p (d .roster)) (p noTrainLine) u t e l (rw (length-map (d .roster) p, f .one-a-train) b) in
+        eqb-false (p (getD (d .roster) u noTrainLine)) (p (getD (d .roster) t noTrainLine)) (rw (List·getD-map p (d .roster) u noTrainLine, List·getD-map p (d .roster) t noTrainLine) at k) (omega arith)
 
     pub accepted-record : Accepted (railwayOf d)
     unfolding railwayOf
@@ -140,8 +140,8 @@ module _ (d : Description) (w : Faultless d) where
           train-known = train-known;
           link-right = λ i x h l. rw end-field at (tied-right (fieldOf (endAt i)) x (ties-at i x h l));
           port-joined = port-joined;
-          starts = apart (λ t. t .start) (λ t. t .start .0) (λ t. refl) (λ t h. run-known d w f t h .0) (w .starts);
-          destinations = apart (λ t. t .destination) (λ t. t .destination .0) (λ t. refl) (λ t h. run-known d w f t h .2) (w .destinations);
+          starts = apart (λ t. t .start) (λ t. t .start .0) (λ t. refl) (λ t h. roster-known d w f t h .0) (w .starts);
+          destinations = apart (λ t. t .destination) (λ t. t .destination .0) (λ t. refl) (λ t h. roster-known d w f t h .2) (w .destinations);
         }
 
 refusal-of : (r q : Railway) → r ≡ q → recordRefusal q ≡ none → recordRefusal r ≡ none

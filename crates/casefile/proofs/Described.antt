@@ -23,13 +23,13 @@ use Rattle.railway.specs.declared.Legs.{Legs}
 use Rattle.railway.specs.declared.Railway.{Railway}
 use Rattle.railway.specs.Bounds.{mostPoints, mostTrains, sectionEnds, allEnds}
 use Rattle.railway.specs.Ends.{sideAt, endIndex, endAt}
-use Rattle.railway.specs.Record.{noLegs, noLink, noTrain, linkAt, flagAt, joined, hasSignal, legsOf, runOf}
+use Rattle.railway.specs.Record.{noLegs, noLink, noTrain, linkAt, flagAt, joined, hasSignal, legsOf, trainOf}
 use Rattle.railway.proofs.Ends.{Numbered, end-index, index-below, numbered-of, end-section, section-below}
 use Rattle.railway.proofs.Lookups.{Flagged, signal-flag}
 use Rattle.casefile.specs.Form.{EndField, section, port, SignalLine, Description, WellFormed}
 use Rattle.casefile.specs.Rows.{known, sameSignal}
-use Rattle.casefile.specs.Recording.{endOf, fieldOf, partner, signalOf, trainOf, noTrainLine, railwayOf}
-use Rattle.casefile.specs.Claims.{Names, Joins, Signals, Runs, AsDescribed, ReadAsDescribed}
+use Rattle.casefile.specs.Recording.{endOf, fieldOf, partner, signalOf, trainOfLine, noTrainLine, railwayOf}
+use Rattle.casefile.specs.Claims.{Names, Joins, Signals, TrainSaid, AsDescribed, ReadAsDescribed}
 use Rattle.casefile.proofs.Exactly.{accepted-exactly}
 use Rattle.casefile.proofs.Faultless.{Faultless, faultless-facts, within-is}
 use Rattle.casefile.proofs.Ends.{signal-is, signal-self, end-field, Counted, Ties, forth, back, partner-ties, partner-one, partner-other}
@@ -63,9 +63,9 @@ module _ (d : Description) where
   unfolding railwayOf legsOf
   legs-at n h b = rw (lt-ltb n (d .points) h) (ap (λ (l : Legs). l .side) (list-get (λ n. record { side = getD (d .legs) n Up }) mostPoints n noLegs (omega arith)))
 
-  pub run-at : (t : ℕ) → t < d .trains → d .trains ≤ mostTrains → runOf (railwayOf d) t ≡ trainOf (getD (d .runs) t noTrainLine)
-  unfolding railwayOf runOf
-  run-at t h b = rw (lt-ltb t (d .trains) h) (list-get (λ t. trainOf (getD (d .runs) t noTrainLine)) mostTrains t noTrain (omega arith))
+  pub roster-at : (t : ℕ) → t < d .trains → d .trains ≤ mostTrains → trainOf (railwayOf d) t ≡ trainOfLine (getD (d .roster) t noTrainLine)
+  unfolding railwayOf trainOf
+  roster-at t h b = rw (lt-ltb t (d .trains) h) (list-get (λ t. trainOfLine (getD (d .roster) t noTrainLine)) mostTrains t noTrain (omega arith))
 
   -- a lookup by end
   pub joined-at : (e : End) → Numbered e → joined (railwayOf d) e ≡ partner (d .joins) (fieldOf e)
@@ -159,20 +159,20 @@ module _ (d : Description) (w : Faultless d) where
 
   -- the T lines
   module _ (f : WellFormed d) where
-    pub run-known : (t : ℕ) → t < d .trains
-        → (1 ≤ getD (d .runs) t noTrainLine .start) × (getD (d .runs) t noTrainLine .start ≤ d .sections)
-        × (1 ≤ getD (d .runs) t noTrainLine .destination) × (getD (d .runs) t noTrainLine .destination ≤ d .sections)
-    run-known t h =
+    pub roster-known : (t : ℕ) → t < d .trains
+        → (1 ≤ getD (d .roster) t noTrainLine .start) × (getD (d .roster) t noTrainLine .start ≤ d .sections)
+        × (1 ≤ getD (d .roster) t noTrainLine .destination) × (getD (d .roster) t noTrainLine .destination ≤ d .sections)
+    roster-known t h =
         let o = f .one-a-train in
-        let k = w .train-known (getD (d .runs) t noTrainLine) (getD-member (d .runs) t noTrainLine (omega arith)) in
-        let a = within-is (getD (d .runs) t noTrainLine .start) (d .sections) (k .0) in
-        let b = within-is (getD (d .runs) t noTrainLine .destination) (d .sections) (k .1) in
+        let k = w .train-known (getD (d .roster) t noTrainLine) (getD-member (d .roster) t noTrainLine (omega arith)) in
+        let a = within-is (getD (d .roster) t noTrainLine .start) (d .sections) (k .0) in
+        let b = within-is (getD (d .roster) t noTrainLine .destination) (d .sections) (k .1) in
         (a .0, a .1, b .0, b .1)
 
-    runs-described : (t : ℕ) → t < d .trains → Runs (getD (d .runs) t noTrainLine) (runOf (railwayOf d) t)
-    runs-described t h =
-        let k = run-known t h in
-        rw (run-at d t h (w .bounds .few-trains)) (record { heading = refl; start = omega arith; destination = omega arith })
+    roster-described : (t : ℕ) → t < d .trains → TrainSaid (getD (d .roster) t noTrainLine) (trainOf (railwayOf d) t)
+    roster-described t h =
+        let k = roster-known t h in
+        rw (roster-at d t h (w .bounds .few-trains)) (record { heading = refl; start = omega arith; destination = omega arith })
 
     pub as-described : AsDescribed d (railwayOf d)
     unfolding railwayOf
@@ -184,7 +184,7 @@ module _ (d : Description) (w : Faultless d) where
           legs = λ n h. legs-at d n h (w .bounds .few-points);
           joins = λ e x. (λ h. joins-described e x (partner-ties (d .joins) (fieldOf e) x (sym (joined-at d e (joined-numbered (railwayOf d) e x h)) ∙ h)), described-joins e x);
           signals = λ e. (λ h. signals-described e (signal-flag (railwayOf d) e h), described-signals e);
-          runs = runs-described;
+          roster = roster-described;
         }
 
 described-along : (d : Description) (r q : Railway) → r ≡ q → AsDescribed d q → AsDescribed d r

@@ -32,13 +32,13 @@ pub record Faultless (d : Description) : Type 0 where
   pub bounds : Bounded (d .sections) (d .points) (d .trains)
   pub join-known : Every (λ j. (known d (j .one) ≡ true) × (known d (j .other) ≡ true)) (d .joins)
   pub signal-known : Every (λ g. within (g .number) (d .sections) ≡ true) (d .signals)
-  pub train-known : Every (λ t. (within (t .start) (d .sections) ≡ true) × (within (t .destination) (d .sections) ≡ true)) (d .runs)
+  pub train-known : Every (λ t. (within (t .start) (d .sections) ≡ true) × (within (t .destination) (d .sections) ≡ true)) (d .roster)
   pub join-right : Every (RightJoin d) (d .joins)
   pub ends-once : repeats sameEnd (joinEnds (d .joins)) ≡ false
   pub port-joined : (n : ℕ) (l : Leg) → n < d .points → any (sameEnd (port (suc n) l)) (joinEnds (d .joins)) ≡ true
   pub signals-once : repeats sameSignal (d .signals) ≡ false
-  pub starts : repeats eqb (map (λ t. t .start) (d .runs)) ≡ false
-  pub destinations : repeats eqb (map (λ t. t .destination) (d .runs)) ≡ false
+  pub starts : repeats eqb (map (λ t. t .start) (d .roster)) ≡ false
+  pub destinations : repeats eqb (map (λ t. t .destination) (d .roster)) ≡ false
 
 pub within-is : (n s : ℕ) → within n s ≡ true → (1 ≤ n) × (n ≤ s)
 within-is n s e = let t = and-true (leb 1 n) (leb n s) e in (leb-true 1 n (t .0), leb-true n s (t .1))
@@ -72,15 +72,15 @@ module _ (d : Description) where
       let r8 = h (row Place (placeRow d)) (List·Memᴰ·tail (List·Memᴰ·tail (List·Memᴰ·tail (List·Memᴰ·tail (List·Memᴰ·tail (List·Memᴰ·head refl)))))) in
       let joins = any (unknownJoin d) (d .joins) in
       let signals = any (unknownSignal d) (d .signals) in
-      let rest = or-false (joins || signals) (any (unknownTrain d) (d .runs)) r4 in
+      let rest = or-false (joins || signals) (any (unknownTrain d) (d .roster)) r4 in
       let both = or-false joins signals (rest .0) in
       let ends = or-false (any (wrongJoin d) (d .joins)) (repeats sameEnd (joinEnds (d .joins))) r5 in
-      let places = or-false (repeats eqb (map (λ t. t .start) (d .runs))) (repeats eqb (map (λ t. t .destination) (d .runs))) r8 in
+      let places = or-false (repeats eqb (map (λ t. t .start) (d .roster))) (repeats eqb (map (λ t. t .destination) (d .roster))) r8 in
       record {
         bounds = bounded (d .sections) (d .points) (d .trains) r3;
         join-known = λ j m. not-and (known d (j .one)) (known d (j .other)) (any-false (unknownJoin d) (d .joins) j (both .0) m);
         signal-known = λ g m. not-is (within (g .number) (d .sections)) (any-false (unknownSignal d) (d .signals) g (both .1) m);
-        train-known = λ t m. not-and (within (t .start) (d .sections)) (within (t .destination) (d .sections)) (any-false (unknownTrain d) (d .runs) t (rest .1) m);
+        train-known = λ t m. not-and (within (t .start) (d .sections)) (within (t .destination) (d .sections)) (any-false (unknownTrain d) (d .roster) t (rest .1) m);
         join-right = λ j m. right-join j (any-false (wrongJoin d) (d .joins) j (ends .0) m);
         ends-once = ends .1;
         port-joined = λ n l b. not-is (any (sameEnd (port (suc n) l)) (joinEnds (d .joins))) (port-of n l (Below.any-false (looseAt d) (d .points) r6 n b));
@@ -97,7 +97,7 @@ module _ (d : Description) where
         (or-none _ _
         (any-none (unknownJoin d) (d .joins) (λ j m. let k = w .join-known j m in rw (k .0, k .1)))
         (any-none (unknownSignal d) (d .signals) (λ g m. rw (w .signal-known g m))))
-        (any-none (unknownTrain d) (d .runs) (λ t m. let k = w .train-known t m in rw (k .0, k .1)))
+        (any-none (unknownTrain d) (d .roster) (λ t m. let k = w .train-known t m in rw (k .0, k .1)))
 
     no-join : joinRow d ≡ false
     unfolding joinRow

@@ -105,7 +105,7 @@ module _ (r : Railway) (w : Accepted r) where
         rising-short (λ s. Unit {0}) pointLine (λ n s h u. point-short n s h) 1 (d .legs) (omega (arith, f .one-a-point, p .0)) (λ s m. tt),
         each-short WritableJoin joinLine join-short (d .joins) (f .joins),
         each-short WritableSignal signalLine signal-short (d .signals) (f .signals),
-        rising-short WritableTrain trainLine train-short 1 (d .runs) (omega (arith, f .one-a-train, p .1)) (f .runs),
+        rising-short WritableTrain trainLine train-short 1 (d .roster) (omega (arith, f .one-a-train, p .1)) (f .roster),
         few-joins,
         few-signals,
         f .one-a-point,

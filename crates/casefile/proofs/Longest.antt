@@ -38,7 +38,7 @@ long short wide =
       legs = [];
       joins = [];
       signals = copies short (record { number = 1; side = Up }) (copies wide (record { number = 10; side = Up }) []);
-      runs = record { heading = Up; start = 1; destination = 1 } ∷ [];
+      roster = record { heading = Up; start = 1; destination = 1 } ∷ [];
     }
 
 long-described : (a b : ℕ) → Describes (spell (long a b)) (long a b)
@@ -52,7 +52,7 @@ long-described a b =
             trains = omega arith;
             joins = every-none WritableJoin;
             signals = every-copies WritableSignal a _ _ (omega arith) (every-copies WritableSignal b _ _ (omega arith) (every-none WritableSignal));
-            runs = every-more WritableTrain _ _ (omega arith, omega arith) (every-none WritableTrain);
+            roster = every-more WritableTrain _ _ (omega arith, omega arith) (every-none WritableTrain);
             one-a-point = refl;
             one-a-train = refl;
           };

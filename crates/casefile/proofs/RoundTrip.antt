@@ -22,7 +22,7 @@ use Rattle.railway.specs.declared.Train.{Train}
 use Rattle.railway.specs.declared.Railway.{Railway}
 use Rattle.railway.specs.Bounds.{mostSections, sectionEnds, allEnds}
 use Rattle.railway.specs.Ends.{sideIndex, endIndex, endAt}
-use Rattle.railway.specs.Record.{joined, hasSignal, legsOf, runOf}
+use Rattle.railway.specs.Record.{joined, hasSignal, legsOf, trainOf}
 use Rattle.railway.specs.Rows.{bothPorts, oneSection}
 use Rattle.railway.specs.Rows as RR
 use Rattle.railway.specs.Same.{SameRailway}
@@ -32,10 +32,10 @@ use Rattle.railway.proofs.Accepted.{Accepted, accepted-facts, known-numbered, j
 use Rattle.railway.proofs.Same.{refusal-same, same-sym, same-trans}
 use Rattle.casefile.specs.Form.{EndField, section, TrainLine, Description, spell, Describes}
 use Rattle.casefile.specs.Recording.{fieldOf, signalOf, noTrainLine, railwayOf}
-use Rattle.casefile.specs.Writing.{joinAt, signalAt, trainFrom, descriptionOf, writtenText}
+use Rattle.casefile.specs.Writing.{joinAt, signalAt, lineOfTrain, descriptionOf, writtenText}
 use Rattle.casefile.specs.Given.{accepted}
 use Rattle.casefile.specs.Reading.{caseAnswer}
-use Rattle.casefile.specs.Claims.{Names, Joins, Signals, Runs, AsDescribed, WrittenAsDescribed, RoundTrip, ReadAgain, SameRefusal, SameText, TextSame}
+use Rattle.casefile.specs.Claims.{Names, Joins, Signals, TrainSaid, AsDescribed, WrittenAsDescribed, RoundTrip, ReadAgain, SameRefusal, SameText, TextSame}
 use Rattle.casefile.proofs.Exactly.{accepted-exactly, accepted-one}
 use Rattle.casefile.proofs.Faultless.{facts-faultless}
 use Rattle.casefile.proofs.Ends.{field-one}
@@ -55,8 +55,8 @@ bool-one true b p q = sym (p refl)
 bool-one false true p q = q refl
 bool-one false false p q = refl
 
-run-one : (t : TrainLine) (a b : Train) → Runs t a → Runs t b → a ≡ b
-run-one t a b p q =
+roster-one : (t : TrainLine) (a b : Train) → TrainSaid t a → TrainSaid t b → a ≡ b
+roster-one t a b p q =
     let s : a .start .0 ≡ b .start .0 = omega (arith, p .start, q .start) in
     let d : a .destination .0 ≡ b .destination .0 = omega (arith, p .destination, q .destination) in
     parts (a .heading) (b .heading) (a .start .0) (b .start .0) (a .destination .0) (b .destination .0) (p .heading ∙ sym (q .heading)) s d
@@ -87,7 +87,7 @@ module _ (d : Description) (r q : Railway) (t : AsDescribed d r) (u : AsDescribe
         signals = λ i h.
             let x = sym (index-end i (omega arith)) in
             signal-there r (endAt i) i x h ∙ signal-described (endAt i) ∙ sym (signal-there q (endAt i) i x h);
-        runs = λ n h. let b : n < d .trains = rw (t .trains) at h in run-one (getD (d .runs) n noTrainLine) (runOf r n) (runOf q n) (t .runs n b) (u .runs n b);
+        roster = λ n h. let b : n < d .trains = rw (t .trains) at h in roster-one (getD (d .roster) n noTrainLine) (trainOf r n) (trainOf q n) (t .roster n b) (u .roster n b);
       }
 
 -- WHAT THE WRITER SAYS OF A RECORD
@@ -162,9 +162,9 @@ module _ (r : Railway) (w : Accepted r) where
       sym (signal-there r e i (sym (ap endIndex z ∙ index-end i (omega arith))) b) ∙ l)
       (t .signal) (t .member) (t .names)
 
-  runs-described : (t : ℕ) → t < r .trains → Runs (getD (descriptionOf r .runs) t noTrainLine) (runOf r t)
+  roster-described : (t : ℕ) → t < r .trains → TrainSaid (getD (descriptionOf r .roster) t noTrainLine) (trainOf r t)
   unfolding descriptionOf
-  runs-described t h = rw (list-get (λ t. trainFrom (runOf r t)) (r .trains) t noTrainLine h) (record { heading = refl; start = refl; destination = refl })
+  roster-described t h = rw (list-get (λ t. lineOfTrain (trainOf r t)) (r .trains) t noTrainLine h) (record { heading = refl; start = refl; destination = refl })
 
   pub self-described : AsDescribed (descriptionOf r) r
   unfolding descriptionOf
@@ -176,7 +176,7 @@ module _ (r : Railway) (w : Accepted r) where
         legs = λ n h. sym (list-get (legsOf r) (r .points) n Up h);
         joins = λ e f. (joins-described e f, described-joins e f);
         signals = λ e. (λ h. signals-described e (signal-flag r e h), described-signals e);
-        runs = runs-described;
+        roster = roster-described;
       }
 
   pub described : Describes (writtenText r) (descriptionOf r)
@@ -208,8 +208,8 @@ description-same r q h =
     = gather-same (joinAt r) (joinAt q) sectionEnds (λ i l. (let z = h .joins i (omega arith) in rw z)) in
     let c : gatherBelow (signalAt r) sectionEnds ≡ gatherBelow (signalAt q) sectionEnds
     = gather-same (signalAt r) (signalAt q) sectionEnds (λ i l. (let z = h .signals i l in rw z)) in
-    let e : listBelow (λ t. trainFrom (runOf r t)) (r .trains) ≡ listBelow (λ t. trainFrom (runOf q t)) (r .trains)
-    = list-same (λ t. trainFrom (runOf r t)) (λ t. trainFrom (runOf q t)) (r .trains) (λ t l. ap trainFrom (h .runs t l)) in
+    let e : listBelow (λ t. lineOfTrain (trainOf r t)) (r .trains) ≡ listBelow (λ t. lineOfTrain (trainOf q t)) (r .trains)
+    = list-same (λ t. lineOfTrain (trainOf r t)) (λ t. lineOfTrain (trainOf q t)) (r .trains) (λ t l. ap lineOfTrain (h .roster t l)) in
     rw (a, b, c, e, h .sections, h .points, h .trains)
 
 pub same-refusal : SameRefusal

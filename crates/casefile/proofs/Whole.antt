@@ -116,13 +116,13 @@ module _ (s : List ℕ) where
       on (counted (pointLineAt s) (h .points) 1 c1) _ d c k1 (λ legs c2 f2 k2.
       on (while (λ c. eqb (getD s c 0) (byte "J")) (joinLineAt s) (length s) c2) _ d c k2 (λ joins c3 f3 k3.
       on (while (λ c. eqb (getD s c 0) (byte "G")) (signalLineAt s) (length s) c3) _ d c k3 (λ signals c4 f4 k4.
-      on (counted (trainLineAt s) (h .trains) 1 c4) _ d c k4 (λ runs c5 f5 k5.
+      on (counted (trainLineAt s) (h .trains) 1 c4) _ d c k4 (λ roster c5 f5 k5.
       let z = ended s c5 (ltb c5 (length s)) refl k5 in
       let w1 = header-sound s 0 h c1 f1 in
       let w2 = counted-sound (λ x. Unit {0}) pointLine s (pointLineAt s) points-sound (h .points) 1 c1 legs c2 f2 in
       let w3 = while-sound WritableJoin joinLine s (λ c. eqb (getD s c 0) (byte "J")) (joinLineAt s) (join-sound s) (length s) c2 joins c3 f3 in
       let w4 = while-sound WritableSignal signalLine s (λ c. eqb (getD s c 0) (byte "G")) (signalLineAt s) (signal-sound s) (length s) c3 signals c4 f4 in
-      let w5 = counted-sound WritableTrain trainLine s (trainLineAt s) trains-sound (h .trains) 1 c4 runs c5 f5 in
+      let w5 = counted-sound WritableTrain trainLine s (trainLineAt s) trains-sound (h .trains) 1 c4 roster c5 f5 in
       carry (λ d c. Describes s d) (z .1)
       (record {
         well-formed =
@@ -133,7 +133,7 @@ module _ (s : List ℕ) where
               one-a-point = w2 .many;
               joins = w3 .small;
               signals = w4 .small;
-              runs = w5 .small;
+              roster = w5 .small;
               one-a-train = w5 .many;
             };
         spelling = sym (w1 .text ∙ rw (w2 .text, w3 .text, w4 .text, w5 .text, drop-of-length-le s (z .0), append-nil));
@@ -146,11 +146,11 @@ module _ (s : List ℕ) where
       rw (← e)
       (counted-complete (λ x. Unit {0}) pointLine s (pointLineAt s) (λ n at x rest b u. point-complete s at n x rest b) 1 c legs rest (omega arith) (λ x m. tt) t)
 
-  trains-complete : (c n : ℕ) (runs : List TrainLine) → n < 1000 → length runs ≡ n → Every WritableTrain runs → Lies s c (rising trainLine 1 runs)
-      → Reads s (counted (trainLineAt s) n 1 c) runs []
-  trains-complete c n runs h e a t =
+  trains-complete : (c n : ℕ) (roster : List TrainLine) → n < 1000 → length roster ≡ n → Every WritableTrain roster → Lies s c (rising trainLine 1 roster)
+      → Reads s (counted (trainLineAt s) n 1 c) roster []
+  trains-complete c n roster h e a t =
       rw (← e)
-      (counted-complete WritableTrain trainLine s (trainLineAt s) (λ n at x rest b u. train-complete s at n x rest b u) 1 c runs [] (omega arith) a (rw append-nil t))
+      (counted-complete WritableTrain trainLine s (trainLineAt s) (λ n at x rest b u. train-complete s at n x rest b u) 1 c roster [] (omega arith) a (rw append-nil t))
 
   -- as many lines as there are fit into the text
   each-long : {A : Type 0} (spelling : A → List ℕ) → ((x : A) → 1 ≤ length (spelling x)) → (xs : List A) → length xs ≤ length (each spelling xs)
@@ -199,9 +199,9 @@ module _ (s : List ℕ) where
       let t : Lies s 0 (spell d) = record { text = sym (w .spelling) } in
       go-on _ (header-complete s 0 (record { sections = d .sections; points = d .points; trains = d .trains }) _ (f .sections, f .points, f .trains) t) (λ c1 t1.
       go-on _ (points-complete c1 (d .points) (d .legs) _ (f .points) (f .one-a-point) t1) (λ c2 t2.
-      go-on _ (joins-complete c2 (d .joins) (d .signals) (d .runs) (f .joins) t2) (λ c3 t3.
-      go-on _ (signals-complete c3 (d .signals) (d .runs) (f .signals) t3) (λ c4 t4.
-      go-on _ (trains-complete c4 (d .trains) (d .runs) (f .trains) (f .one-a-train) (f .runs) t4) (λ c5 t5.
+      go-on _ (joins-complete c2 (d .joins) (d .signals) (d .roster) (f .joins) t2) (λ c3 t3.
+      go-on _ (signals-complete c3 (d .signals) (d .roster) (f .signals) t3) (λ c4 t4.
+      go-on _ (trains-complete c4 (d .trains) (d .roster) (f .trains) (f .one-a-train) (f .roster) t4) (λ c5 t5.
       rw (at-end c5 t5) (stop-here t5))))))
 
   pub read-complete : (d : Description) → Describes s d → read s ≡ some d

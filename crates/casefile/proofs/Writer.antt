@@ -24,7 +24,7 @@ use Rattle.railway.specs.declared.Train.{Train}
 use Rattle.railway.specs.declared.Railway.{Railway}
 use Rattle.railway.specs.Bounds.{sectionEnds, allEnds}
 use Rattle.railway.specs.Ends.{sideAt, endIndex, endAt}
-use Rattle.railway.specs.Record.{linkAt, flagAt, joined, legsOf, runOf}
+use Rattle.railway.specs.Record.{linkAt, flagAt, joined, legsOf, trainOf}
 use Rattle.railway.specs.Record as R
 use Rattle.railway.specs.Rows.{bothPorts, oneSection}
 use Rattle.railway.specs.Rows as RR
@@ -34,7 +34,7 @@ use Rattle.railway.proofs.Accepted.{Right, Accepted, joined-known, joined-right
 use Rattle.casefile.specs.Form.{EndField, section, port, JoinLine, SignalLine, TrainLine, WritableEnd, WritableSignal, WritableTrain, WellFormed}
 use Rattle.casefile.specs.Rows.{within, known, sectionOf, sideOf, sameEnd, joinEnds, sameSignal}
 use Rattle.casefile.specs.Recording.{fieldOf, signalOf}
-use Rattle.casefile.specs.Writing.{joinFrom, joinAt, signalAt, trainFrom, descriptionOf}
+use Rattle.casefile.specs.Writing.{joinFrom, joinAt, signalAt, lineOfTrain, descriptionOf}
 use Rattle.casefile.proofs.Faultless.{Faultless, RightJoin, is-within}
 use Rattle.casefile.proofs.Ends.{same-self, not-same, signal-is, field-one, other-end}
 
@@ -263,9 +263,9 @@ module _ (r : Railway) (w : Accepted r) where
       port-link e (joined r e) (port-behind (record { 0 = n }) l) (w .port-joined n l b) refl
 
   -- TRAINS
-  pub from-train : (P : TrainLine → Type 0) → ((t : ℕ) → t < r .trains → P (trainFrom (runOf r t))) → Every P (descriptionOf r .runs)
+  pub from-train : (P : TrainLine → Type 0) → ((t : ℕ) → t < r .trains → P (lineOfTrain (trainOf r t))) → Every P (descriptionOf r .roster)
   unfolding descriptionOf
-  from-train P h t m = let k = listed (λ t. trainFrom (runOf r t)) (r .trains) t m in rw (k .is) (h (k .index) (k .below))
+  from-train P h t m = let k = listed (λ t. lineOfTrain (trainOf r t)) (r .trains) t m in rw (k .is) (h (k .index) (k .below))
 
   pub from-flag : (P : SignalLine → Type 0) → ((i : ℕ) → i < sectionEnds → flagAt r i ≡ true → P (signalOf i)) → Every P (descriptionOf r .signals)
   unfolding descriptionOf
@@ -279,13 +279,13 @@ module _ (r : Railway) (w : Accepted r) where
   map-list p f zero = refl
   map-list p f (suc k) = map-append p (listBelow f k) (f k ∷ []) ∙ ap (λ (l : List _). l ++ (p (f k) ∷ [])) (map-list p f k)
 
-  no-repeat : (p : TrainLine → ℕ) (q : Train → ℕ) → ((t : Train) → p (trainFrom t) ≡ suc (q t))
-      → ((t u : ℕ) → u < t → t < r .trains → q (runOf r u) ≡ q (runOf r t) → ⊥) → repeats eqb (map p (descriptionOf r .runs)) ≡ false
+  no-repeat : (p : TrainLine → ℕ) (q : Train → ℕ) → ((t : Train) → p (lineOfTrain t) ≡ suc (q t))
+      → ((t u : ℕ) → u < t → t < r .trains → q (trainOf r u) ≡ q (trainOf r t) → ⊥) → repeats eqb (map p (descriptionOf r .roster)) ≡ false
   unfolding descriptionOf
   no-repeat p q h e =
-      rw (map-list p (λ t. trainFrom (runOf r t)) (r .trains))
-      (repeats-list eqb (λ t. p (trainFrom (runOf r t))) (r .trains)
-      (λ u t a b. ne-eqb (p (trainFrom (runOf r u))) (p (trainFrom (runOf r t))) (λ z. e t u a b (omega (arith, h (runOf r u), h (runOf r t))))))
+      rw (map-list p (λ t. lineOfTrain (trainOf r t)) (r .trains))
+      (repeats-list eqb (λ t. p (lineOfTrain (trainOf r t))) (r .trains)
+      (λ u t a b. ne-eqb (p (lineOfTrain (trainOf r u))) (p (lineOfTrain (trainOf r t))) (λ z. e t u a b (omega (arith, h (trainOf r u), h (trainOf r t))))))
 
   -- a section end with a signal has a section that is there
   flag-section : (i : ℕ) → i < sectionEnds → flagAt r i ≡ true → i / 2 < r .sections
@@ -306,7 +306,7 @@ module _ (r : Railway) (w : Accepted r) where
             from-train (λ t. (within (t .start) (r .sections) ≡ true) × (within (t .destination) (r .sections) ≡ true))
             (λ t h.
             let k = w .train-known t h in
-            (is-within (suc (runOf r t .start .0)) (r .sections) (omega arith) (omega arith), is-within (suc (runOf r t .destination .0)) (r .sections) (omega arith) (omega arith)));
+            (is-within (suc (trainOf r t .start .0)) (r .sections) (omega arith) (omega arith), is-within (suc (trainOf r t .destination .0)) (r .sections) (omega arith) (omega arith)));
         join-right = join-right;
         ends-once = ends-once;
         port-joined = port-joined;
@@ -333,7 +333,7 @@ module _ (r : Railway) (w : Accepted r) where
             let k = link-ends j t in
             (rw (t .origin .one) (field-small (endAt (t .index)) (k .0)), rw (t .origin .other) (field-small (t .origin .to) (k .1)));
         signals = from-flag WritableSignal (λ i h l. omega arith);
-        runs = from-train WritableTrain (λ t h. let k = w .train-known t h in (omega arith, omega arith));
+        roster = from-train WritableTrain (λ t h. let k = w .train-known t h in (omega arith, omega arith));
         one-a-point = list-length (legsOf r) (r .points);
-        one-a-train = list-length (λ t. trainFrom (runOf r t)) (r .trains);
+        one-a-train = list-length (λ t. lineOfTrain (trainOf r t)) (r .trains);
       }

@@ -15,7 +15,7 @@ use Rattle.railway.specs.declared.Joined.the-variants.{With}
 use Rattle.railway.specs.declared.Train.{Train}
 use Rattle.railway.specs.declared.Railway.{Railway}
 use Rattle.railway.specs.declared.Refusal.{Refusal}
-use Rattle.railway.specs.Record.{joined, hasSignal, legsOf, runOf}
+use Rattle.railway.specs.Record.{joined, hasSignal, legsOf, trainOf}
 use Rattle.railway.specs.Rows.{recordRefusal}
 use Rattle.railway.specs.Same.{SameRailway}
 use Rattle.casefile.specs.declared.CaseRead.{CaseRead}
@@ -78,13 +78,13 @@ pub record Signals (gs : List SignalLine) (e : End) : Type 0 where
   pub names : Names (section (signal .number) (signal .side)) e
 
 -- A T line says this of a train.
-pub record Runs (t : TrainLine) (run : Train) : Type 0 where
-  pub heading : run .heading ≡ t .heading
-  pub start : suc (run .start .0) ≡ t .start
-  pub destination : suc (run .destination .0) ≡ t .destination
+pub record TrainSaid (t : TrainLine) (train : Train) : Type 0 where
+  pub heading : train .heading ≡ t .heading
+  pub start : suc (train .start .0) ≡ t .start
+  pub destination : suc (train .destination .0) ≡ t .destination
 
 -- The record has what the lines say: the H line its counts, P line n the legs of point n, the J lines its joins, the G lines its signals and
--- T line t the run of train t.
+-- T line t the data of train t.
 pub record AsDescribed (d : Description) (r : Railway) : Type 0 where
   pub sections : r .sections ≡ d .sections
   pub points : r .points ≡ d .points
@@ -92,7 +92,7 @@ pub record AsDescribed (d : Description) (r : Railway) : Type 0 where
   pub legs : (n : ℕ) → n < d .points → legsOf r n ≡ getD (d .legs) n Up
   pub joins : (e f : End) → (joined r e ≡ With f) ↔ Joins (d .joins) e f
   pub signals : (e : End) → (hasSignal r e ≡ true) ↔ Signals (d .signals) e
-  pub runs : (t : ℕ) → t < d .trains → Runs (getD (d .runs) t noTrainLine) (runOf r t)
+  pub roster : (t : ℕ) → t < d .trains → TrainSaid (getD (d .roster) t noTrainLine) (trainOf r t)
 
 -- A text that is accepted is read as a record that has what its lines say.
 abbrev pub ReadAsDescribed : Type 0

@@ -40,7 +40,7 @@ pub record Description : Type 0 where
   pub legs : List Side
   pub joins : List JoinLine
   pub signals : List SignalLine
-  pub runs : List TrainLine
+  pub roster : List TrainLine
 
 -- FIELDS. A side or a heading: `u` or `d`.
 abbrev pub sideByte : Side → ℕ
@@ -101,7 +101,7 @@ spell d =
     ++ (rising pointLine 1 (d .legs)
     ++ (each joinLine (d .joins)
     ++ (each signalLine (d .signals)
-    ++ rising trainLine 1 (d .runs))))
+    ++ rising trainLine 1 (d .roster))))
 
 -- WELL FORMED. A number that one to three digits can write.
 abbrev pub Writable : ℕ → Type 0
@@ -131,9 +131,9 @@ pub record WellFormed (d : Description) : Type 0 where
   pub trains : Writable (d .trains)
   pub joins : Every WritableJoin (d .joins)
   pub signals : Every WritableSignal (d .signals)
-  pub runs : Every WritableTrain (d .runs)
+  pub roster : Every WritableTrain (d .roster)
   pub one-a-point : length (d .legs) ≡ d .points
-  pub one-a-train : length (d .runs) ≡ d .trains
+  pub one-a-train : length (d .roster) ≡ d .trains
 
 -- A text says what a well-formed description says that spells it.
 pub record Describes (text : List ℕ) (d : Description) : Type 0 where

@@ -114,9 +114,9 @@ module _ (s : List ℕ) where
       then (counted pointLineAt (h .points) 1 c) (λ legs c.
       then (while (λ c. eqb (getD s c 0) (byte "J")) joinLineAt (length s) c) (λ joins c.
       then (while (λ c. eqb (getD s c 0) (byte "G")) signalLineAt (length s) c) (λ signals c.
-      then (counted trainLineAt (h .trains) 1 c) (λ runs c.
+      then (counted trainLineAt (h .trains) 1 c) (λ roster c.
       cond (ltb c (length s)) bad
-      (got (record { sections = h .sections; points = h .points; trains = h .trains; legs = legs; joins = joins; signals = signals; runs = runs }) c))))))
+      (got (record { sections = h .sections; points = h .points; trains = h .trains; legs = legs; joins = joins; signals = signals; roster = roster }) c))))))
 
   -- What a text says, if it is in form.
   unfoldable pub read : Option Description

@@ -39,8 +39,8 @@ abbrev pub signalOf : ℕ → SignalLine
 signalOf i = record { number = suc (i / 2); side = sideAt (i % 2) }
 
 -- What a T line says of its train, in the record.
-abbrev pub trainOf : TrainLine → Train
-trainOf t = record { heading = t .heading; start = record { 0 = t .start - 1 }; destination = record { 0 = t .destination - 1 } }
+abbrev pub trainOfLine : TrainLine → Train
+trainOfLine t = record { heading = t .heading; start = record { 0 = t .start - 1 }; destination = record { 0 = t .destination - 1 } }
 
 -- What stands for a T line that is not there.
 abbrev pub noTrainLine : TrainLine
@@ -56,5 +56,5 @@ railwayOf d =
       legs = listBelow (λ n. record { side = getD (d .legs) n Up }) mostPoints;
       links = listBelow (λ i. record { to = partner (d .joins) (fieldOf (endAt i)) }) allEnds;
       signals = listBelow (λ i. any (sameSignal (signalOf i)) (d .signals)) sectionEnds;
-      runs = listBelow (λ t. trainOf (getD (d .runs) t noTrainLine)) mostTrains;
+      roster = listBelow (λ t. trainOfLine (getD (d .roster) t noTrainLine)) mostTrains;
     }

@@ -56,7 +56,7 @@ unknownTrain d t = not (within (t .start) (d .sections) && within (t .destinatio
 
 -- 4, unknown: one of these lines has a section or point with number 0, or one above the H line's.
 unfoldable pub unknownRow : Description → Bool
-unknownRow d = any (unknownJoin d) (d .joins) || any (unknownSignal d) (d .signals) || any (unknownTrain d) (d .runs)
+unknownRow d = any (unknownJoin d) (d .joins) || any (unknownSignal d) (d .signals) || any (unknownTrain d) (d .roster)
 
 -- The section that an end belongs to; a port belongs to none.
 abbrev pub sectionOf : EndField → Option ℕ
@@ -114,7 +114,7 @@ doubleRow d = repeats sameSignal (d .signals)
 
 -- 8, place: a section is the start of two trains, or the destination of two.
 unfoldable pub placeRow : Description → Bool
-placeRow d = repeats eqb (map (λ t. t .start) (d .runs)) || repeats eqb (map (λ t. t .destination) (d .runs))
+placeRow d = repeats eqb (map (λ t. t .start) (d .roster)) || repeats eqb (map (λ t. t .destination) (d .roster))
 
 -- Rows 3 to 8 of what a text says, in the table's order.
 abbrev pub descriptionRows : Description → List Row

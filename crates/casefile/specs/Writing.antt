@@ -17,7 +17,7 @@ use Rattle.railway.specs.declared.Refusal.the-variants.{Space}
 use Rattle.railway.specs.Bounds.{sectionEnds}
 use Rattle.railway.specs.Ends.{endIndex, endAt}
 use Rattle.railway.specs.Refusals.{number, numberOf, Row, row, first}
-use Rattle.railway.specs.Record.{linkAt, flagAt, legsOf, runOf}
+use Rattle.railway.specs.Record.{linkAt, flagAt, legsOf, trainOf}
 use Rattle.railway.specs.Rows.{recordRows}
 use Rattle.casefile.specs.declared.Written.{Written}
 use Rattle.casefile.specs.declared.Written.the-variants.{Bytes, Refused}
@@ -40,8 +40,8 @@ abbrev pub signalAt : Railway → ℕ → List SignalLine
 signalAt r i = cond (flagAt r i) (signalOf i ∷ []) []
 
 -- The T line of a train.
-abbrev pub trainFrom : Train → TrainLine
-trainFrom t = record { heading = t .heading; start = suc (t .start .0); destination = suc (t .destination .0) }
+abbrev pub lineOfTrain : Train → TrainLine
+lineOfTrain t = record { heading = t .heading; start = suc (t .start .0); destination = suc (t .destination .0) }
 
 -- What the writer's text says: all that the record has, by rising point, section end and train.
 unfoldable pub descriptionOf : Railway → Description
@@ -53,7 +53,7 @@ descriptionOf r =
       legs = listBelow (legsOf r) (r .points);
       joins = gatherBelow (joinAt r) sectionEnds;
       signals = gatherBelow (signalAt r) sectionEnds;
-      runs = listBelow (λ t. trainFrom (runOf r t)) (r .trains);
+      roster = listBelow (λ t. lineOfTrain (trainOf r t)) (r .trains);
     }
 
 -- The writer's text.

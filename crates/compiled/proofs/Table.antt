@@ -25,14 +25,14 @@ use Rattle.railway.specs.declared.Railway.{Railway}
 use Rattle.railway.specs.declared.Refusal.{Refusal}
 use Rattle.railway.specs.Bounds.{mostTrains}
 use Rattle.railway.specs.Ends.{sideIndex}
-use Rattle.railway.specs.Record.{noTrain, joined, hasSignal, runOf}
+use Rattle.railway.specs.Record.{noTrain, joined, hasSignal, trainOf}
 use Rattle.railway.specs.Rows.{recordRefusal}
 use Rattle.acceptance.specs.declared.Tested.{Tested}
 use Rattle.acceptance.specs.declared.Tested.the-variants.{Accepted, Refused}
 use Rattle.acceptance.specs.Answers.{refusalGiven, Judged}
 use Rattle.game.specs.Moves.{through, behindPort, pastPoint, pastJoin, passes}
 use Rattle.game.proofs.Accepted.{facts}
-use Rattle.compiled.specs.Table.{wayBytes, countBytes, tableBytes, flagByte, pointByte, sectionByte, endOn, wayByte, countByte, runByte, compiledByte, byteIn, Compiled, CompilePost}
+use Rattle.compiled.specs.Table.{routeBytes, countBytes, tableBytes, flagByte, pointByte, sectionByte, endOn, routeByte, countByte, rosterByte, compiledByte, byteIn, Compiled, CompilePost}
 
 -- WRITING. Past a point and past a join
 module _ (r : Railway) where
@@ -56,50 +56,50 @@ module _ (r : Railway) where
 
   -- the four kinds
   module _ (e : End) (j : ℕ) where
-    pub way-signal : (b : Bool) {c : Bool} {x : ℕ} → j ≡ 0 → b ≡ hasSignal r e → b ≡ c → x ≡ flagByte c → x ≡ wayByte r e j
-    unfolding wayByte
-    way-signal b {c} {x} p h q k = let s : hasSignal r e ≡ c = sym h ∙ q in rw (eq-eqb j 0 p, s) k
+    pub route-signal : (b : Bool) {c : Bool} {x : ℕ} → j ≡ 0 → b ≡ hasSignal r e → b ≡ c → x ≡ flagByte c → x ≡ routeByte r e j
+    unfolding routeByte
+    route-signal b {c} {x} p h q k = let s : hasSignal r e ≡ c = sym h ∙ q in rw (eq-eqb j 0 p, s) k
 
     module _ (not-signal : j ≡ 0 → ⊥) where
-      pub way-point : (x : ℕ) (to : Joined) → j ≡ 1 → to ≡ joined r e → x ≡ pointByte (pastJoin r (λ i. false) to .met) → x ≡ wayByte r e j
-      unfolding wayByte passes
-      way-point x to p t h = rw (ne-eqb j 0 not-signal, eq-eqb j 1 p, ← t) h
+      pub route-point : (x : ℕ) (to : Joined) → j ≡ 1 → to ≡ joined r e → x ≡ pointByte (pastJoin r (λ i. false) to .met) → x ≡ routeByte r e j
+      unfolding routeByte passes
+      route-point x to p t h = rw (ne-eqb j 0 not-signal, eq-eqb j 1 p, ← t) h
 
-      pub way-section : (x : ℕ) → (j ≡ 1 → ⊥) → x ≡ sectionByte (passes r (λ i. eqb j 3) e .reached) → x ≡ wayByte r e j
-      unfolding wayByte
-      way-section x p h = rw (ne-eqb j 0 not-signal, ne-eqb j 1 p) h
+      pub route-section : (x : ℕ) → (j ≡ 1 → ⊥) → x ≡ sectionByte (passes r (λ i. eqb j 3) e .reached) → x ≡ routeByte r e j
+      unfolding routeByte
+      route-section x p h = rw (ne-eqb j 0 not-signal, ne-eqb j 1 p) h
 
   pub from-join : (e : End) (plus : Bool) (x : ℕ) (to : Joined) → to ≡ joined r e → x ≡ sectionByte (pastJoin r (λ i. plus) to .reached) → x ≡ sectionByte (passes r (λ i. plus) e .reached)
   unfolding passes
   from-join e plus x to t h = rw (← t) h
 
   -- a train's three
-  module _ (i t : ℕ) (run : Train) (is : run ≡ runOf r t) where
-    pub run-heading : (x : ℕ) → i ≡ 0 → x ≡ sideIndex (run .heading) → x ≡ runByte r i t
-    unfolding runByte
-    run-heading x p h = rw (eq-eqb i 0 p, ← is) h
+  module _ (i t : ℕ) (train : Train) (is : train ≡ trainOf r t) where
+    pub roster-heading : (x : ℕ) → i ≡ 0 → x ≡ sideIndex (train .heading) → x ≡ rosterByte r i t
+    unfolding rosterByte
+    roster-heading x p h = rw (eq-eqb i 0 p, ← is) h
 
-    pub run-start : (i ≡ 0 → ⊥) → i ≡ 1 → run .start .0 ≡ runByte r i t
-    unfolding runByte
-    run-start p q = rw (ne-eqb i 0 p, eq-eqb i 1 q, ← is)
+    pub roster-start : (i ≡ 0 → ⊥) → i ≡ 1 → train .start .0 ≡ rosterByte r i t
+    unfolding rosterByte
+    roster-start p q = rw (ne-eqb i 0 p, eq-eqb i 1 q, ← is)
 
-    pub run-destination : (i ≡ 0 → ⊥) → (i ≡ 1 → ⊥) → run .destination .0 ≡ runByte r i t
-    unfolding runByte
-    run-destination p q = rw (ne-eqb i 0 p, ne-eqb i 1 q, ← is)
+    pub roster-destination : (i ≡ 0 → ⊥) → (i ≡ 1 → ⊥) → train .destination .0 ≡ rosterByte r i t
+    unfolding rosterByte
+    roster-destination p q = rw (ne-eqb i 0 p, ne-eqb i 1 q, ← is)
 
   -- the byte at an index
   module _ (i x : ℕ) where
-    pub for-way : (run : Train) → run ≡ runOf r (i / 192) → i < wayBytes → x ≡ wayByte r (Section (record { 0 = i / 4 % 48 }) (run .heading)) (i % 4) → x ≡ compiledByte r i
+    pub for-route : (train : Train) → train ≡ trainOf r (i / 192) → i < routeBytes → x ≡ routeByte r (Section (record { 0 = i / 4 % 48 }) (train .heading)) (i % 4) → x ≡ compiledByte r i
     unfolding compiledByte
-    for-way run is l h = rw (lt-ltb i wayBytes l, ← is) h
+    for-route train is l h = rw (lt-ltb i routeBytes l, ← is) h
 
-    pub for-count : wayBytes ≤ i → i < countBytes → x ≡ countByte r (i - wayBytes) → x ≡ compiledByte r i
+    pub for-count : routeBytes ≤ i → i < countBytes → x ≡ countByte r (i - routeBytes) → x ≡ compiledByte r i
     unfolding compiledByte
-    for-count l m h = rw (le-ltb i wayBytes l, lt-ltb i countBytes m) h
+    for-count l m h = rw (le-ltb i routeBytes l, lt-ltb i countBytes m) h
 
-    pub for-run : wayBytes ≤ i → countBytes ≤ i → x ≡ runByte r ((i - countBytes) / 4) ((i - countBytes) % 4) → x ≡ compiledByte r i
+    pub for-roster : routeBytes ≤ i → countBytes ≤ i → x ≡ rosterByte r ((i - countBytes) / 4) ((i - countBytes) % 4) → x ≡ compiledByte r i
     unfolding compiledByte
-    for-run l m h = rw (le-ltb i wayBytes l, le-ltb i countBytes m) h
+    for-roster l m h = rw (le-ltb i routeBytes l, le-ltb i countBytes m) h
 
 -- READING
 module _ (r : Railway) (table : List ℕ) where
@@ -111,28 +111,28 @@ module _ (r : Railway) (table : List ℕ) where
   count-there i x h l e = byte-there (768 + i) x h (omega arith) e ∙ is
     where
       is : compiledByte r (768 + i) ≡ countByte r i
-      is = let d : 768 + i - wayBytes ≡ i = omega arith in rw (le-ltb (768 + i) wayBytes (omega arith), lt-ltb (768 + i) countBytes (omega arith), d)
+      is = let d : 768 + i - routeBytes ≡ i = omega arith in rw (le-ltb (768 + i) routeBytes (omega arith), lt-ltb (768 + i) countBytes (omega arith), d)
 
-  pub run-there : (i t x : ℕ) → Compiled r table → i < 3 → t < 4 → x ≡ byteIn table (771 + 4 * i + t) → x ≡ runByte r i t
+  pub roster-there : (i t x : ℕ) → Compiled r table → i < 3 → t < 4 → x ≡ byteIn table (771 + 4 * i + t) → x ≡ rosterByte r i t
   unfolding compiledByte
-  run-there i t x h l m e = byte-there (771 + 4 * i + t) x h (omega arith) e ∙ is
+  roster-there i t x h l m e = byte-there (771 + 4 * i + t) x h (omega arith) e ∙ is
     where
-      is : compiledByte r (771 + 4 * i + t) ≡ runByte r i t
+      is : compiledByte r (771 + 4 * i + t) ≡ rosterByte r i t
       is =
           let d : (771 + 4 * i + t - countBytes) / mostTrains ≡ i = omega arith in
           let n : (771 + 4 * i + t - countBytes) % mostTrains ≡ t = omega arith in
-          rw (le-ltb (771 + 4 * i + t) wayBytes (omega arith), le-ltb (771 + 4 * i + t) countBytes (omega arith), d, n)
+          rw (le-ltb (771 + 4 * i + t) routeBytes (omega arith), le-ltb (771 + 4 * i + t) countBytes (omega arith), d, n)
 
-  pub way-there : (t x j y : ℕ) → Compiled r table → t < 4 → x < 48 → j < 4 → y ≡ byteIn table (4 * (48 * t + x) + j) → y ≡ wayByte r (endOn r t x) j
+  pub route-there : (t x j y : ℕ) → Compiled r table → t < 4 → x < 48 → j < 4 → y ≡ byteIn table (4 * (48 * t + x) + j) → y ≡ routeByte r (endOn r t x) j
   unfolding compiledByte
-  way-there t x j y h lt lx lj e = byte-there (4 * (48 * t + x) + j) y h (omega arith) e ∙ is
+  route-there t x j y h lt lx lj e = byte-there (4 * (48 * t + x) + j) y h (omega arith) e ∙ is
     where
-      is : compiledByte r (4 * (48 * t + x) + j) ≡ wayByte r (endOn r t x) j
+      is : compiledByte r (4 * (48 * t + x) + j) ≡ routeByte r (endOn r t x) j
       is =
           let a : (4 * (48 * t + x) + j) / 192 ≡ t = omega arith in
           let b : (4 * (48 * t + x) + j) / 4 % 48 ≡ x = omega arith in
           let d : (4 * (48 * t + x) + j) % 4 ≡ j = omega arith in
-          rw (lt-ltb (4 * (48 * t + x) + j) wayBytes (omega arith), a, b, d)
+          rw (lt-ltb (4 * (48 * t + x) + j) routeBytes (omega arith), a, b, d)
 
 -- the counts, by name
 module _ (r : Railway) (table : List ℕ) (x : ℕ) (h : Compiled r table) where
@@ -150,48 +150,48 @@ module _ (r : Railway) (table : List ℕ) (x : ℕ) (h : Compiled r table) where
 
 -- a train's sections, by name
 module _ (r : Railway) (t x : ℕ) where
-  pub start-is : x ≡ runByte r 1 t → x ≡ runOf r t .start .0
-  unfolding runByte
+  pub start-is : x ≡ rosterByte r 1 t → x ≡ trainOf r t .start .0
+  unfolding rosterByte
   start-is h = h
 
-  pub destination-is : x ≡ runByte r 2 t → x ≡ runOf r t .destination .0
-  unfolding runByte
+  pub destination-is : x ≡ rosterByte r 2 t → x ≡ trainOf r t .destination .0
+  unfolding rosterByte
   destination-is h = h
 
--- what lies on a train's way, by name
+-- what lies on a train's route, by name
 module _ (r : Railway) (e : End) (x : ℕ) where
-  pub signal-is : x ≡ wayByte r e 0 → eqb x 1 ≡ hasSignal r e
-  unfolding wayByte
+  pub signal-is : x ≡ routeByte r e 0 → eqb x 1 ≡ hasSignal r e
+  unfolding routeByte
   signal-is h = rw h (go (hasSignal r e))
     where
       go : (v : Bool) → eqb (flagByte v) 1 ≡ v
       go true = refl
       go false = refl
 
-  pub point-is : x ≡ wayByte r e 1 → x ≡ pointByte (passes r (λ n. false) e .met)
-  unfolding wayByte
+  pub point-is : x ≡ routeByte r e 1 → x ≡ pointByte (passes r (λ n. false) e .met)
+  unfolding routeByte
   point-is h = h
 
-  pub plus-is : (plus : Bool) → plus ≡ true → x ≡ wayByte r e 3 → x ≡ sectionByte (passes r (λ n. plus) e .reached)
-  unfolding wayByte
+  pub plus-is : (plus : Bool) → plus ≡ true → x ≡ routeByte r e 3 → x ≡ sectionByte (passes r (λ n. plus) e .reached)
+  unfolding routeByte
   plus-is plus b h = rw b h
 
-  pub minus-is : (plus : Bool) → plus ≡ false → x ≡ wayByte r e 2 → x ≡ sectionByte (passes r (λ n. plus) e .reached)
-  unfolding wayByte
+  pub minus-is : (plus : Bool) → plus ≡ false → x ≡ routeByte r e 2 → x ≡ sectionByte (passes r (λ n. plus) e .reached)
+  unfolding routeByte
   minus-is plus b h = rw b h
 
 -- a train that is not there
 module _ (r : Railway) (table : List ℕ) (i t : ℕ) (h : Compiled r table) (past : mostTrains ≤ t) where
-  no-train : runOf r t ≡ noTrain
-  unfolding runOf
+  no-train : trainOf r t ≡ noTrain
+  unfolding trainOf
   no-train = rw (le-ltb t (r .trains) (omega (arith, facts r (h .accepted) .few-trains)))
 
-  pub no-heading : i ≡ 0 → 1 ≡ runByte r i t
-  unfolding runByte
+  pub no-heading : i ≡ 0 → 1 ≡ rosterByte r i t
+  unfolding rosterByte
   no-heading e = rw (eq-eqb i 0 e, no-train)
 
-  pub no-section : (i ≡ 0 → ⊥) → 0 ≡ runByte r i t
-  unfolding runByte
+  pub no-section : (i ≡ 0 → ⊥) → 0 ≡ rosterByte r i t
+  unfolding rosterByte
   no-section e = rw (ne-eqb i 0 e, no-train) (go (eqb i 1))
     where
       go : (b : Bool) → _≡_ {A = ℕ} 0 (cond b 0 0)
@@ -200,17 +200,17 @@ module _ (r : Railway) (table : List ℕ) (i t : ℕ) (h : Compiled r table) (pa
 
 -- the side of a number
 module _ (r : Railway) (t x : ℕ) where
-  pub heading-down : x ≡ runByte r 0 t → x ≡ 0 → Down ≡ runOf r t .heading
-  unfolding runByte
-  heading-down h e = go (runOf r t .heading) (sym h ∙ e)
+  pub heading-down : x ≡ rosterByte r 0 t → x ≡ 0 → Down ≡ trainOf r t .heading
+  unfolding rosterByte
+  heading-down h e = go (trainOf r t .heading) (sym h ∙ e)
     where
       go : (s : Side) → sideIndex s ≡ 0 → Down ≡ s
       go Down z = refl
       go Up z = absurd (omega arith)
 
-  pub heading-up : x ≡ runByte r 0 t → (x ≡ 0 → ⊥) → Up ≡ runOf r t .heading
-  unfolding runByte
-  heading-up h e = go (runOf r t .heading) (λ z. e (h ∙ z))
+  pub heading-up : x ≡ rosterByte r 0 t → (x ≡ 0 → ⊥) → Up ≡ trainOf r t .heading
+  unfolding rosterByte
+  heading-up h e = go (trainOf r t .heading) (λ z. e (h ∙ z))
     where
       go : (s : Side) → (sideIndex s ≡ 0 → ⊥) → Up ≡ s
       go Down z = absurd (z refl)

@@ -13,19 +13,19 @@ use Rattle.railway.specs.declared.Railway.{Railway}
 use Rattle.railway.specs.declared.Refusal.{Refusal}
 use Rattle.railway.specs.Bounds.{mostSections, mostTrains}
 use Rattle.railway.specs.Ends.{sideIndex}
-use Rattle.railway.specs.Record.{hasSignal, runOf}
+use Rattle.railway.specs.Record.{hasSignal, trainOf}
 use Rattle.railway.specs.Rows.{recordRefusal}
 use Rattle.game.specs.Moves.{passes}
 use Rattle.acceptance.specs.Answers.{Judged}
 use Rattle.compiled.specs.declared.Compilation.{Compilation}
 
 -- Where the counts begin: behind four bytes for each train and section.
-abbrev pub wayBytes : ℕ
-wayBytes = 4 * (mostTrains * mostSections)
+abbrev pub routeBytes : ℕ
+routeBytes = 4 * (mostTrains * mostSections)
 
--- Where the runs begin: behind three counts.
+-- Where the trains' own bytes begin: behind three counts.
 abbrev pub countBytes : ℕ
-countBytes = wayBytes + 3
+countBytes = routeBytes + 3
 
 -- How long the table is: three bytes more for each train.
 abbrev pub tableBytes : ℕ
@@ -52,12 +52,12 @@ sectionByte (some x) = x
 
 -- The end that train t heads for on section x.
 abbrev pub endOn : Railway → ℕ → ℕ → End
-endOn r t x = Section (record { 0 = x }) (runOf r t .heading)
+endOn r t x = Section (record { 0 = x }) (trainOf r t .heading)
 
 -- Of a train that leaves by end e: whether a signal stands there, the point that it meets, and the section that it enters with the point at
 -- minus and at plus.
-unfoldable pub wayByte : Railway → End → ℕ → ℕ
-wayByte r e j =
+unfoldable pub routeByte : Railway → End → ℕ → ℕ
+routeByte r e j =
     cond (eqb j 0) (flagByte (hasSignal r e))
     (cond (eqb j 1) (pointByte (passes r (λ n. false) e .met))
     (sectionByte (passes r (λ n. eqb j 3) e .reached)))
@@ -67,14 +67,14 @@ unfoldable pub countByte : Railway → ℕ → ℕ
 countByte r i = cond (eqb i 0) (r .sections) (cond (eqb i 1) (r .points) (r .trains))
 
 -- The heading, start and destination of train t.
-unfoldable pub runByte : Railway → ℕ → ℕ → ℕ
-runByte r i t = cond (eqb i 0) (sideIndex (runOf r t .heading)) (cond (eqb i 1) (runOf r t .start .0) (runOf r t .destination .0))
+unfoldable pub rosterByte : Railway → ℕ → ℕ → ℕ
+rosterByte r i t = cond (eqb i 0) (sideIndex (trainOf r t .heading)) (cond (eqb i 1) (trainOf r t .start .0) (trainOf r t .destination .0))
 
 -- The byte at index i.
 unfoldable pub compiledByte : Railway → ℕ → ℕ
 compiledByte r i =
-    cond (ltb i wayBytes) (wayByte r (endOn r (i / (4 * mostSections)) (i / 4 % mostSections)) (i % 4))
-    (cond (ltb i countBytes) (countByte r (i - wayBytes)) (runByte r ((i - countBytes) / mostTrains) ((i - countBytes) % mostTrains)))
+    cond (ltb i routeBytes) (routeByte r (endOn r (i / (4 * mostSections)) (i / 4 % mostSections)) (i % 4))
+    (cond (ltb i countBytes) (countByte r (i - routeBytes)) (rosterByte r ((i - countBytes) / mostTrains) ((i - countBytes) % mostTrains)))
 
 -- The byte of a table at index i, and past its end.
 abbrev pub byteIn : List ℕ → ℕ → ℕ

@@ -8,9 +8,9 @@ ghost use Prim.Native.Nat.{_<_};
 ghost use Rattle.railway.specs.declared.Railway.{Railway};
 ghost use Rattle.railway.specs.Bounds.{mostSections, mostTrains};
 ghost use Rattle.railway.specs.Ends.{sideIndex};
-ghost use Rattle.railway.specs.Record.{hasSignal, runOf};
+ghost use Rattle.railway.specs.Record.{hasSignal, trainOf};
 ghost use Rattle.game.specs.Moves.{through, behindPort, pastPoint, pastJoin, passes};
-ghost use Rattle.compiled.specs.Table.{tableBytes, pointByte, sectionByte, endOn, wayByte, countByte, runByte, compiledByte, byteIn, Compiled, CompilePost};
+ghost use Rattle.compiled.specs.Table.{tableBytes, pointByte, sectionByte, endOn, routeByte, countByte, rosterByte, compiledByte, byteIn, Compiled, CompilePost};
 use acceptance::Tested;
 use railway::End;
 use railway::Joined;
@@ -24,16 +24,16 @@ const SECTIONS: usize = Railway::SECTIONS as usize;
 
 const TRAINS: usize = Railway::TRAINS as usize;
 
-// Bytes of a train's ways: four for each section.
-const WAYS: usize = 4 * SECTIONS;
+// Bytes of a train's routes: four for each section.
+const ROUTES: usize = 4 * SECTIONS;
 
-// Where the three counts stand, behind all trains' ways, and where the trains' own bytes do, behind those.
-const COUNTS: usize = WAYS * TRAINS;
+// Where the three counts stand, behind all trains' routes, and where the trains' own bytes do, behind those.
+const COUNTS: usize = ROUTES * TRAINS;
 
-const RUNS: usize = COUNTS + 3;
+const ROSTER: usize = COUNTS + 3;
 
 // Bytes of a table: three more for each train.
-pub const TABLE: usize = RUNS + 3 * TRAINS;
+pub const TABLE: usize = ROSTER + 3 * TRAINS;
 
 // A railway's table. Of every function that takes one, the promise is about the railways whose table it is.
 pub type Table = [u8; TABLE];
@@ -77,16 +77,16 @@ fn byte_for(r: Railway, i: usize) -> u8
     ensures { λ b. ⌜ b ≡ compiledByte r i ⌝ }
 {
     if i < COUNTS {
-        let t = (i / WAYS) as u8;
+        let t = (i / ROUTES) as u8;
         let x = (i / 4 % SECTIONS) as u8;
-        let run = r.run_of(t);
-        let h = run.heading;
-        way_byte(r, End::Section(SectionNo(x), h), (i % 4) as u8)
-    } else if i < RUNS {
+        let train = r.train_of(t);
+        let h = train.heading;
+        route_byte(r, End::Section(SectionNo(x), h), (i % 4) as u8)
+    } else if i < ROSTER {
         count_byte(r, (i - COUNTS) as u8)
     } else {
-        let j = i - RUNS;
-        run_byte(r, (j / TRAINS) as u8, (j % TRAINS) as u8)
+        let j = i - ROSTER;
+        roster_byte(r, (j / TRAINS) as u8, (j % TRAINS) as u8)
     }
 }
 
@@ -98,8 +98,8 @@ pub fn section_from(r: Railway, e: End, plus: bool) -> u8
 }
 
 // One of the four bytes on a train that leaves by an end.
-fn way_byte(r: Railway, e: End, j: u8) -> u8
-    ensures { λ b. ⌜ b ≡ wayByte r e j ⌝ }
+fn route_byte(r: Railway, e: End, j: u8) -> u8
+    ensures { λ b. ⌜ b ≡ routeByte r e j ⌝ }
 {
     if j == 0 {
         if r.has_signal(e) { 1 } else { 0 }
@@ -122,17 +122,17 @@ fn count_byte(r: Railway, i: u8) -> u8
     }
 }
 
-fn run_byte(r: Railway, i: u8, t: u8) -> u8
-    ensures { λ b. ⌜ b ≡ runByte r i t ⌝ }
+fn roster_byte(r: Railway, i: u8, t: u8) -> u8
+    ensures { λ b. ⌜ b ≡ rosterByte r i t ⌝ }
 {
-    let run = r.run_of(t);
+    let train = r.train_of(t);
     if i == 0 {
-        let h = run.heading;
+        let h = train.heading;
         heading_byte(h)
     } else if i == 1 {
-        run.start.0
+        train.start.0
     } else {
-        run.destination.0
+        train.destination.0
     }
 }
 
@@ -242,9 +242,9 @@ pub fn trains_in(table: &Table) -> u8
 
 // Which way a train heads.
 pub fn heading_in(table: &Table, t: u8) -> Side
-    ensures { λ h. ⌜ ((r : Railway) → Compiled r (now (table .entry)) → h ≡ runOf r t .heading) ⌝ }
+    ensures { λ h. ⌜ ((r : Railway) → Compiled r (now (table .entry)) → h ≡ trainOf r t .heading) ⌝ }
 {
-    if run_in(table, 0, t) == 0 {
+    if roster_in(table, 0, t) == 0 {
         Side::Down
     } else {
         Side::Up
@@ -253,25 +253,25 @@ pub fn heading_in(table: &Table, t: u8) -> Side
 
 // The section where a train starts.
 pub fn start_in(table: &Table, t: u8) -> u8
-    ensures { λ b. ⌜ ((r : Railway) → Compiled r (now (table .entry)) → b ≡ runOf r t .start .0) ⌝ }
+    ensures { λ b. ⌜ ((r : Railway) → Compiled r (now (table .entry)) → b ≡ trainOf r t .start .0) ⌝ }
 {
-    run_in(table, 1, t)
+    roster_in(table, 1, t)
 }
 
 // The section that a train is bound for.
 pub fn destination_in(table: &Table, t: u8) -> u8
-    ensures { λ b. ⌜ ((r : Railway) → Compiled r (now (table .entry)) → b ≡ runOf r t .destination .0) ⌝ }
+    ensures { λ b. ⌜ ((r : Railway) → Compiled r (now (table .entry)) → b ≡ trainOf r t .destination .0) ⌝ }
 {
-    run_in(table, 2, t)
+    roster_in(table, 2, t)
 }
 
 // One of a train's three bytes; past the table those of no train.
-fn run_in(table: &Table, i: u8, t: u8) -> u8
+fn roster_in(table: &Table, i: u8, t: u8) -> u8
     requires { ⌜ i < 3 ⌝ }
-    ensures { λ b. ⌜ ((r : Railway) → Compiled r (now (table .entry)) → b ≡ runByte r i t) ⌝ }
+    ensures { λ b. ⌜ ((r : Railway) → Compiled r (now (table .entry)) → b ≡ rosterByte r i t) ⌝ }
 {
     if t < Railway::TRAINS {
-        byte_at(table, RUNS + TRAINS * (i as usize) + (t as usize))
+        byte_at(table, ROSTER + TRAINS * (i as usize) + (t as usize))
     } else if i == 0 {
         1
     } else {
@@ -283,14 +283,14 @@ fn run_in(table: &Table, i: u8, t: u8) -> u8
 pub fn signal_in(table: &Table, t: u8, x: u8) -> bool
     ensures { λ b. ⌜ ((r : Railway) → Compiled r (now (table .entry)) → t < mostTrains → x < mostSections → b ≡ hasSignal r (endOn r t x)) ⌝ }
 {
-    way_in(table, t, x, 0) == 1
+    route_in(table, t, x, 0) == 1
 }
 
 // The point that a train meets when it leaves a section; `NO_BYTE`: none.
 pub fn point_past(table: &Table, t: u8, x: u8) -> u8
     ensures { λ b. ⌜ ((r : Railway) → Compiled r (now (table .entry)) → t < mostTrains → x < mostSections → b ≡ pointByte (passes r (λ n. false) (endOn r t x) .met)) ⌝ }
 {
-    way_in(table, t, x, 1)
+    route_in(table, t, x, 1)
 }
 
 // The section that it enters, with that point at plus or at minus; `NO_BYTE`: it derails.
@@ -298,16 +298,16 @@ pub fn section_past(table: &Table, t: u8, x: u8, plus: bool) -> u8
     ensures { λ b. ⌜ ((r : Railway) → Compiled r (now (table .entry)) → t < mostTrains → x < mostSections → b ≡ sectionByte (passes r (λ n. plus) (endOn r t x) .reached)) ⌝ }
 {
     if plus {
-        way_in(table, t, x, 3)
+        route_in(table, t, x, 3)
     } else {
-        way_in(table, t, x, 2)
+        route_in(table, t, x, 2)
     }
 }
 
-// One of the four bytes on a train's way from a section.
-fn way_in(table: &Table, t: u8, x: u8, j: u8) -> u8
+// One of the four bytes on a train's route from a section.
+fn route_in(table: &Table, t: u8, x: u8, j: u8) -> u8
     requires { ⌜ j < 4 ⌝ }
-    ensures { λ b. ⌜ ((r : Railway) → Compiled r (now (table .entry)) → t < mostTrains → x < mostSections → b ≡ wayByte r (endOn r t x) j) ⌝ }
+    ensures { λ b. ⌜ ((r : Railway) → Compiled r (now (table .entry)) → t < mostTrains → x < mostSections → b ≡ routeByte r (endOn r t x) j) ⌝ }
 {
     byte_at(
         table,

@@ -26,18 +26,18 @@ use Rattle.railway.specs.declared.Refusal.{Refusal}
 use Rattle.railway.specs.declared.Refusal.the-variants.{Count, Unknown, Join, Loose, Double, Place}
 use Rattle.railway.specs.Bounds.{sectionEnds}
 use Rattle.railway.specs.Refusals.{Row, row, first}
-use Rattle.railway.specs.Record.{bareRailway, emptyRailway, joined, runOf}
+use Rattle.railway.specs.Record.{bareRailway, emptyRailway, joined, trainOf}
 use Rattle.railway.specs.Rows.{outside, unjoined}
 use Rattle.railway.specs.Rows as RR
 use Rattle.railway.proofs.Refusals.{refuse-none}
 use Rattle.railway.proofs.Accepted.{Bounded, bounded}
 use Rattle.casefile.specs.Form.{EndField, port, JoinLine, SignalLine, TrainLine, Description, WellFormed}
 use Rattle.casefile.specs.Rows.{within, known, unknownJoin, unknownSignal, unknownTrain, wrongJoin, sameEnd, joinEnds, looseEnd, looseAt, countRow, unknownRow, joinRow, looseRow, doubleRow, placeRow, descriptionRows}
-use Rattle.casefile.specs.Recording.{partner, trainOf, noTrainLine, railwayOf}
+use Rattle.casefile.specs.Recording.{partner, trainOfLine, noTrainLine, railwayOf}
 use Rattle.casefile.specs.Reading.{judged}
 use Rattle.casefile.proofs.Faultless.{within-is}
 use Rattle.casefile.proofs.Ends.{less-one, partner-nothing}
-use Rattle.casefile.proofs.Described.{joined-at, run-at}
+use Rattle.casefile.proofs.Described.{joined-at, roster-at}
 use Rattle.drafts.specs.declared.Draft.{Draft}
 use Rattle.drafts.specs.Drafting.{opened, putPoint, putJoin, putSignal, putTrain, draftRows, answerOf, draftAnswer}
 use Rattle.drafts.proofs.Folding.{putRising, putEach, drafted}
@@ -82,9 +82,9 @@ loose-same d b = B.any-same (RR.looseAt (railwayOf d)) (looseAt d) (d .points) (
     at-point n h = rw (at-port n Stem h, at-port n Plus h, at-port n Minus h)
 
 -- ROW 8 of the railway of a description
-module _ (d : Description) (f : WellFormed d) (b : Bounded (d .sections) (d .points) (d .trains)) (kt : Every (KnownTrain d) (d .runs)) where
+module _ (d : Description) (f : WellFormed d) (b : Bounded (d .sections) (d .points) (d .trains)) (kt : Every (KnownTrain d) (d .roster)) where
   abbrev nth : ℕ → TrainLine
-  nth t = getD (d .runs) t noTrainLine
+  nth t = getD (d .roster) t noTrainLine
 
   shares : ℕ → ℕ → Bool
   shares t u = eqb (nth u .start) (nth t .start) || eqb (nth u .destination) (nth t .destination)
@@ -93,31 +93,31 @@ module _ (d : Description) (f : WellFormed d) (b : Bounded (d .sections) (d .poi
   unfolding shares
   shares-same t u h g =
       let o = f .one-a-train in
-      let ku = kt (nth u) (getD-member (d .runs) u noTrainLine (omega arith)) in
-      let kv = kt (nth t) (getD-member (d .runs) t noTrainLine (omega arith)) in
+      let ku = kt (nth u) (getD-member (d .roster) u noTrainLine (omega arith)) in
+      let kv = kt (nth t) (getD-member (d .roster) t noTrainLine (omega arith)) in
       let su = within-is (nth u .start) (d .sections) (ku .0) in
       let st = within-is (nth t .start) (d .sections) (kv .0) in
       let du = within-is (nth u .destination) (d .sections) (ku .1) in
       let dt = within-is (nth t .destination) (d .sections) (kv .1) in
-      by-runs (runOf (railwayOf d) u) (runOf (railwayOf d) t) (run-at d u (omega arith) (b .few-trains)) (run-at d t g (b .few-trains))
+      by-roster (trainOf (railwayOf d) u) (trainOf (railwayOf d) t) (roster-at d u (omega arith) (b .few-trains)) (roster-at d t g (b .few-trains))
       ∙ rw (less-one (nth u .start) (nth t .start) (su .0) (st .0), less-one (nth u .destination) (nth t .destination) (du .0) (dt .0))
     where
-      by-runs : (x y : Train) → x ≡ trainOf (nth u) → y ≡ trainOf (nth t)
+      by-roster : (x y : Train) → x ≡ trainOfLine (nth u) → y ≡ trainOfLine (nth t)
           → (eqb (x .start .0) (y .start .0) || eqb (x .destination .0) (y .destination .0))
           ≡ (eqb (nth u .start - 1) (nth t .start - 1) || eqb (nth u .destination - 1) (nth t .destination - 1))
-      by-runs x y p q = rw (p, q)
+      by-roster x y p q = rw (p, q)
 
   -- no two T lines share a number exactly if those at two places never do
-  apart-repeats : (p : TrainLine → ℕ) → ((t u : ℕ) → u < t → t < d .trains → eqb (p (nth u)) (p (nth t)) ≡ false) → repeats eqb (map p (d .runs)) ≡ false
+  apart-repeats : (p : TrainLine → ℕ) → ((t u : ℕ) → u < t → t < d .trains → eqb (p (nth u)) (p (nth t)) ≡ false) → repeats eqb (map p (d .roster)) ≡ false
   apart-repeats p h =
       let o = f .one-a-train in
-      rw (← list-places p (d .runs) noTrainLine) (repeats-list eqb (λ i. p (nth i)) (length (d .runs)) (λ i j a c. h j i a (omega arith)))
+      rw (← list-places p (d .roster) noTrainLine) (repeats-list eqb (λ i. p (nth i)) (length (d .roster)) (λ i j a c. h j i a (omega arith)))
 
-  repeats-no : (p : TrainLine → ℕ) → repeats eqb (map p (d .runs)) ≡ false → (t u : ℕ) → u < t → t < d .trains → eqb (p (nth u)) (p (nth t)) ≡ false
+  repeats-no : (p : TrainLine → ℕ) → repeats eqb (map p (d .roster)) ≡ false → (t u : ℕ) → u < t → t < d .trains → eqb (p (nth u)) (p (nth t)) ≡ false
   repeats-no p e t u h g =
       let o = f .one-a-train in
-      let k = repeats-apart eqb (map p (d .runs)) (p noTrainLine) u t e h (rw (length-map (d .runs) p, o) g) in
-      rw (List·getD-map p (d .runs) u noTrainLine, List·getD-map p (d .runs) t noTrainLine) at k
+      let k = repeats-apart eqb (map p (d .roster)) (p noTrainLine) u t e h (rw (length-map (d .roster) p, o) g) in
+      rw (List·getD-map p (d .roster) u noTrainLine, List·getD-map p (d .roster) t noTrainLine) at k
 
   place-same : RR.placeRow (railwayOf d) ≡ placeRow d
   unfolding RR.placeRow placeRow railwayOf shares
@@ -130,16 +130,16 @@ module _ (d : Description) (f : WellFormed d) (b : Bounded (d .sections) (d .poi
       (apart-repeats (λ t. t .start) (λ t u h g. or-false (eqb (nth u .start) (nth t .start)) (eqb (nth u .destination) (nth t .destination)) (no t u h g) .0))
       (apart-repeats (λ t. t .destination) (λ t u h g. or-false (eqb (nth u .start) (nth t .start)) (eqb (nth u .destination) (nth t .destination)) (no t u h g) .1)))
       (λ e.
-      let q = or-false (repeats eqb (map (λ t. t .start) (d .runs))) (repeats eqb (map (λ t. t .destination) (d .runs))) e in
+      let q = or-false (repeats eqb (map (λ t. t .start) (d .roster))) (repeats eqb (map (λ t. t .destination) (d .roster))) e in
       B.none-any (RR.sharesAt (railwayOf d)) (d .trains) (λ t g. B.none-any (RR.sharesWith (railwayOf d) t) t (λ u h.
       shares-same t u h g ∙ or-none _ _ (repeats-no (λ t. t .start) (q .0) t u h g) (repeats-no (λ t. t .destination) (q .1) t u h g))))
 
 module _ (d : Description) (f : WellFormed d) where
   -- ROW 3: the counts of the record are the description's, or none where they are out of bounds
   counts-of : (s p k : ℕ) (w : Draft) → Sized s p k (w .railway)
-      → Sized s p k (putRising putTrain 1 (putEach putSignal (putEach putJoin (putRising putPoint 1 w (d .legs)) (d .joins)) (d .signals)) (d .runs) .railway)
+      → Sized s p k (putRising putTrain 1 (putEach putSignal (putEach putJoin (putRising putPoint 1 w (d .legs)) (d .joins)) (d .signals)) (d .roster) .railway)
   counts-of s p k w z =
-      sized-rising s p k putTrain (sized-put-train s p k) (d .runs) 1 _
+      sized-rising s p k putTrain (sized-put-train s p k) (d .roster) 1 _
       (sized-each s p k putSignal (sized-put-signal s p k) (d .signals) _
       (sized-each s p k putJoin (sized-put-join s p k) (d .joins) _ (sized-rising s p k putPoint (sized-point s p k) (d .legs) 1 w z)))
 
@@ -153,7 +153,7 @@ module _ (d : Description) (f : WellFormed d) where
       cases : (c : Bool) → countRow d ≡ c
           → RR.countRow (putRising putTrain 1 (putEach putSignal (putEach putJoin (putRising putPoint 1
           (record { railway = cond c emptyRailway (bareRailway (d .sections) (d .points) (d .trains)); unknown = false; wrong = false; double = false })
-          (d .legs)) (d .joins)) (d .signals)) (d .runs) .railway) ≡ c
+          (d .legs)) (d .joins)) (d .signals)) (d .roster) .railway) ≡ c
       cases true e = sized-count 0 0 0 _ (counts-of 0 0 0 _ (sized-bare 0 0 0))
       cases false e =
           let z = sized-bare (d .sections) (d .points) (d .trains) in
@@ -171,22 +171,22 @@ module _ (d : Description) (f : WellFormed d) where
       kj : Every (KnownJoin d) (d .joins)
       unfolding unknownRow
       kj j m =
-          let a = or-false (any (unknownJoin d) (d .joins) || any (unknownSignal d) (d .signals)) (any (unknownTrain d) (d .runs)) h4 in
+          let a = or-false (any (unknownJoin d) (d .joins) || any (unknownSignal d) (d .signals)) (any (unknownTrain d) (d .roster)) h4 in
           let c = or-false (any (unknownJoin d) (d .joins)) (any (unknownSignal d) (d .signals)) (a .0) in
           not-and (known d (j .one)) (known d (j .other)) (any-false (unknownJoin d) (d .joins) j (c .0) m)
 
       kg : Every (KnownSignal d) (d .signals)
       unfolding unknownRow
       kg g m =
-          let a = or-false (any (unknownJoin d) (d .joins) || any (unknownSignal d) (d .signals)) (any (unknownTrain d) (d .runs)) h4 in
+          let a = or-false (any (unknownJoin d) (d .joins) || any (unknownSignal d) (d .signals)) (any (unknownTrain d) (d .roster)) h4 in
           let c = or-false (any (unknownJoin d) (d .joins)) (any (unknownSignal d) (d .signals)) (a .0) in
           not-is (within (g .number) (d .sections)) (any-false (unknownSignal d) (d .signals) g (c .1) m)
 
-      kt : Every (KnownTrain d) (d .runs)
+      kt : Every (KnownTrain d) (d .roster)
       unfolding unknownRow
       kt t m =
-          let a = or-false (any (unknownJoin d) (d .joins) || any (unknownSignal d) (d .signals)) (any (unknownTrain d) (d .runs)) h4 in
-          not-and (within (t .start) (d .sections)) (within (t .destination) (d .sections)) (any-false (unknownTrain d) (d .runs) t (a .1) m)
+          let a = or-false (any (unknownJoin d) (d .joins) || any (unknownSignal d) (d .signals)) (any (unknownTrain d) (d .roster)) h4 in
+          not-and (within (t .start) (d .sections)) (within (t .destination) (d .sections)) (any-false (unknownTrain d) (d .roster) t (a .1) m)
 
       is : drafted d ≡ record {
         railway = built d f b h3 kj kg kt;

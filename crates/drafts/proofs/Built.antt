@@ -17,7 +17,7 @@ use Rattle.railway.specs.Bounds.{mostPoints, mostTrains}
 use Rattle.railway.specs.Record.{hasSignal, withJoin, withSignal, withLegs, withTrain}
 use Rattle.casefile.specs.Form.{EndField, section, JoinLine, SignalLine, TrainLine, Description}
 use Rattle.casefile.specs.Rows.{within, known}
-use Rattle.casefile.specs.Recording.{endOf, trainOf}
+use Rattle.casefile.specs.Recording.{endOf, trainOfLine}
 use Rattle.casefile.proofs.Faultless.{is-within}
 use Rattle.drafts.specs.declared.Draft.{Draft}
 use Rattle.drafts.specs.Drafting.{putPoint, faulty, putJoin, putSignal, putTrain, withRailway}
@@ -30,10 +30,10 @@ abbrev pub legsRow : Side → Legs
 legsRow s = record { side = s }
 
 abbrev pub withAllLegs : Railway → List Legs → Railway
-withAllLegs r l = record { sections = r .sections; points = r .points; trains = r .trains; legs = l; links = r .links; signals = r .signals; runs = r .runs }
+withAllLegs r l = record { sections = r .sections; points = r .points; trains = r .trains; legs = l; links = r .links; signals = r .signals; roster = r .roster }
 
-abbrev pub withAllRuns : Railway → List Train → Railway
-withAllRuns r l = record { sections = r .sections; points = r .points; trains = r .trains; legs = r .legs; links = r .links; signals = r .signals; runs = l }
+abbrev pub withRoster : Railway → List Train → Railway
+withRoster r l = record { sections = r .sections; points = r .points; trains = r .trains; legs = r .legs; links = r .links; signals = r .signals; roster = l }
 
 abbrev pub signalEnd : SignalLine → EndField
 signalEnd g = section (g .number) (g .side)
@@ -84,7 +84,7 @@ module _ (d : Description) where
     unfolding putSignal
     signal-put g h = rw (there-known d (w .railway) z (signalEnd g) ∙ h)
 
-    train-put : (i : ℕ) (t : TrainLine) → i < d .trains → d .trains ≤ mostTrains → KnownTrain t → putTrain w (suc i) t ≡ withRailway w (withAllRuns (w .railway) (set (w .railway .runs) i (trainOf t)))
+    train-put : (i : ℕ) (t : TrainLine) → i < d .trains → d .trains ≤ mostTrains → KnownTrain t → putTrain w (suc i) t ≡ withRailway w (withRoster (w .railway) (set (w .railway .roster) i (trainOfLine t)))
     unfolding putTrain withTrain
     train-put i t h b k =
         let e : within (suc i) (w .railway .trains) ≡ true = ap (within (suc i)) (z .trains) ∙ is-within (suc i) (d .trains) (omega arith) (omega arith) in
@@ -122,15 +122,15 @@ module _ (d : Description) where
       rw (e, ← a) (signals-put gs _ (rw e at y) (λ x m. h x (List·Memᴰ·tail m)))
 
   pub trains-put : d .trains ≤ mostTrains → (ts : List TrainLine) (i : ℕ) (w : Draft) → SizedBy d (w .railway) → i + length ts ≤ d .trains → Every KnownTrain ts
-      → putRising putTrain (suc i) w ts ≡ withRailway w (withAllRuns (w .railway) (storeFrom (w .railway .runs) i (map trainOf ts)))
+      → putRising putTrain (suc i) w ts ≡ withRailway w (withRoster (w .railway) (storeFrom (w .railway .roster) i (map trainOfLine ts)))
   unfolding putRising storeFrom
   trains-put b [] i w z h k = refl
   trains-put b (t ∷ ts) i w z h k =
       let e = train-put w z i t (omega arith) b (k t (List·Memᴰ·head refl)) in
-      rw e (trains-put b ts (suc i) _ (runs-sized (w .railway) z (set (w .railway .runs) i (trainOf t)) (set-length (w .railway .runs) i (trainOf t))) (omega arith) (λ x m. k x (List·Memᴰ·tail m)))
+      rw e (trains-put b ts (suc i) _ (roster-sized (w .railway) z (set (w .railway .roster) i (trainOfLine t)) (set-length (w .railway .roster) i (trainOfLine t))) (omega arith) (λ x m. k x (List·Memᴰ·tail m)))
     where
       set-length : (l : List Train) (i : ℕ) (x : Train) → length (set l i x) ≡ length l
       set-length l i x = simp length-set
 
-      runs-sized : (r : Railway) → SizedBy d r → (l : List Train) → length l ≡ length (r .runs) → SizedBy d (withAllRuns r l)
-      runs-sized r z l e = record { sections = z .sections; points = z .points; trains = z .trains; legs = z .legs; links = z .links; signals = z .signals; runs = e ∙ z .runs }
+      roster-sized : (r : Railway) → SizedBy d r → (l : List Train) → length l ≡ length (r .roster) → SizedBy d (withRoster r l)
+      roster-sized r z l e = record { sections = z .sections; points = z .points; trains = z .trains; legs = z .legs; links = z .links; signals = z .signals; roster = e ∙ z .roster }

@@ -90,7 +90,7 @@ drafted d =
     putRising putTrain 1
     (putEach putSignal
     (putEach putJoin (putRising putPoint 1 (opened (d .sections) (d .points) (d .trains)) (d .legs)) (d .joins))
-    (d .signals)) (d .runs)
+    (d .signals)) (d .roster)
 
 pub draft-walked : (s : List ℕ) → draftOf s ≡ then (walk s) (λ d c. got (drafted d) c)
 unfolding draftOf walk drafted
@@ -107,5 +107,5 @@ draft-walked s =
     (fold-while (λ c. eqb (getD s c 0) (byte "G")) (signalLineAt s) putSignal (length s) c d2) (λ signals c.
     let d3 = putEach putSignal d2 signals in
     fold-step (counted (trainLineAt s) (h .trains) 1 c) (putRising putTrain 1 d3) _ _ f _
-    (fold-counted (trainLineAt s) putTrain (h .trains) 1 c d3) (λ runs c.
+    (fold-counted (trainLineAt s) putTrain (h .trains) 1 c d3) (λ roster c.
     last-step (ltb c (length s)) _ _ c drafted refl)))))

@@ -102,7 +102,7 @@ module _ (d : Description) where
         (ap (within n) (z .trains) ∙ is-within n (d .trains) l h) (ap (within (t .start)) (z .sections)) (ap (within (t .destination)) (z .sections))
 
   pub unknown-noted : (w : Draft) → SizedBy (w .railway) → w .unknown ≡ false → WellFormed d
-      → putRising putTrain 1 (putEach putSignal (putEach putJoin (putRising putPoint 1 w (d .legs)) (d .joins)) (d .signals)) (d .runs) .unknown ≡ unknownRow d
+      → putRising putTrain 1 (putEach putSignal (putEach putJoin (putRising putPoint 1 w (d .legs)) (d .joins)) (d .signals)) (d .roster) .unknown ≡ unknownRow d
   unfolding unknownRow
   unknown-noted w z u f =
       let s = d .sections in
@@ -118,5 +118,5 @@ module _ (d : Description) where
       let e1 : w1 .unknown ≡ w .unknown = points-keep (λ x. x .unknown) (λ w r. refl) (d .legs) 1 w in
       let e2 = flag-each s p k (λ x. x .unknown) (unknownJoin d) putJoin (sized-put-join s p k) join-unknown (d .joins) w1 z1 in
       let e3 = flag-each s p k (λ x. x .unknown) (unknownSignal d) putSignal (sized-put-signal s p k) signal-unknown (d .signals) w2 z2 in
-      let e4 = flag-rising s p k (λ x. x .unknown) (unknownTrain d) putTrain (d .trains) (sized-put-train s p k) train-unknown (d .runs) 1 w3 z3 (omega arith) (omega arith) in
+      let e4 = flag-rising s p k (λ x. x .unknown) (unknownTrain d) putTrain (d .trains) (sized-put-train s p k) train-unknown (d .roster) 1 w3 z3 (omega arith) (omega arith) in
       e4 ∙ rw (e3, e2, e1, u)

@@ -29,7 +29,7 @@ use Rattle.railway.proofs.Ends.{index-end}
 use Rattle.railway.proofs.Accepted.{Bounded}
 use Rattle.casefile.specs.Form.{JoinLine, SignalLine, Description, WellFormed}
 use Rattle.casefile.specs.Rows.{sameSignal}
-use Rattle.casefile.specs.Recording.{endOf, fieldOf, partner, signalOf, trainOf, noTrainLine, railwayOf}
+use Rattle.casefile.specs.Recording.{endOf, fieldOf, partner, signalOf, trainOfLine, noTrainLine, railwayOf}
 use Rattle.casefile.proofs.Faultless.{within-is}
 use Rattle.drafts.specs.declared.Draft.{Draft}
 use Rattle.drafts.specs.Drafting.{opened, putPoint, putJoin, putSignal}
@@ -37,7 +37,7 @@ use Rattle.drafts.proofs.Folding.{putRising, putEach, drafted}
 use Rattle.drafts.proofs.Stored.{storeFrom, store-length, store-all, same-everywhere}
 use Rattle.drafts.proofs.Sized.{Sized, sized-bare, sized-join, sized-signal}
 use Rattle.drafts.proofs.Known.{SizedBy, or-nothing}
-use Rattle.drafts.proofs.Built.{legsRow, signalEnd, withAllLegs, withAllRuns, joinAll, faults, signalAll, doubles, KnownJoin, KnownSignal, KnownTrain, points-put, joins-put, signals-put, trains-put}
+use Rattle.drafts.proofs.Built.{legsRow, signalEnd, withAllLegs, withRoster, joinAll, faults, signalAll, doubles, KnownJoin, KnownSignal, KnownTrain, points-put, joins-put, signals-put, trains-put}
 use Rattle.drafts.proofs.Joining.{Ready, Fit, joined-all, orJoined}
 use Rattle.drafts.proofs.Signalling.{Placed, flags-all}
 
@@ -45,44 +45,44 @@ use Rattle.drafts.proofs.Signalling.{Placed, flags-all}
 pub record JoinsKeep (r q : Railway) : Type 0 where
   pub legs : q .legs ≡ r .legs
   pub signals : q .signals ≡ r .signals
-  pub runs : q .runs ≡ r .runs
+  pub roster : q .roster ≡ r .roster
 
 join-keeps : (r : Railway) (a b : End) → JoinsKeep r (withJoin r a b)
 unfolding withJoin
 join-keeps r a b = cases (ltb (endIndex a) allEnds && ltb (endIndex b) allEnds)
   where
     cases : (c : Bool) → JoinsKeep r (cond c (withLinks r (setLink b a (setLink a b (r .links)))) r)
-    cases true = record { legs = refl; signals = refl; runs = refl }
-    cases false = record { legs = refl; signals = refl; runs = refl }
+    cases true = record { legs = refl; signals = refl; roster = refl }
+    cases false = record { legs = refl; signals = refl; roster = refl }
 
 pub joins-keep : (js : List JoinLine) (r : Railway) → JoinsKeep r (joinAll r js)
 unfolding joinAll
-joins-keep [] r = record { legs = refl; signals = refl; runs = refl }
+joins-keep [] r = record { legs = refl; signals = refl; roster = refl }
 joins-keep (j ∷ js) r =
     let a = join-keeps r (endOf (j .one)) (endOf (j .other)) in
     let b = joins-keep js (withJoin r (endOf (j .one)) (endOf (j .other))) in
-    record { legs = b .legs ∙ a .legs; signals = b .signals ∙ a .signals; runs = b .runs ∙ a .runs }
+    record { legs = b .legs ∙ a .legs; signals = b .signals ∙ a .signals; roster = b .roster ∙ a .roster }
 
 pub record SignalsKeep (r q : Railway) : Type 0 where
   pub legs : q .legs ≡ r .legs
   pub links : q .links ≡ r .links
-  pub runs : q .runs ≡ r .runs
+  pub roster : q .roster ≡ r .roster
 
 signal-keeps : (r : Railway) (e : End) → SignalsKeep r (withSignal r e)
 unfolding withSignal
 signal-keeps r e = cases (ltb (endIndex e) sectionEnds)
   where
-    cases : (c : Bool) → SignalsKeep r (cond c (record { sections = r .sections; points = r .points; trains = r .trains; legs = r .legs; links = r .links; signals = set (r .signals) (endIndex e) true; runs = r .runs }) r)
-    cases true = record { legs = refl; links = refl; runs = refl }
-    cases false = record { legs = refl; links = refl; runs = refl }
+    cases : (c : Bool) → SignalsKeep r (cond c (record { sections = r .sections; points = r .points; trains = r .trains; legs = r .legs; links = r .links; signals = set (r .signals) (endIndex e) true; roster = r .roster }) r)
+    cases true = record { legs = refl; links = refl; roster = refl }
+    cases false = record { legs = refl; links = refl; roster = refl }
 
 pub signals-keep : (gs : List SignalLine) (r : Railway) → SignalsKeep r (signalAll r gs)
 unfolding signalAll
-signals-keep [] r = record { legs = refl; links = refl; runs = refl }
+signals-keep [] r = record { legs = refl; links = refl; roster = refl }
 signals-keep (g ∷ gs) r =
     let a = signal-keeps r (endOf (signalEnd g)) in
     let b = signals-keep gs (withSignal r (endOf (signalEnd g))) in
-    record { legs = b .legs ∙ a .legs; links = b .links ∙ a .links; runs = b .runs ∙ a .runs }
+    record { legs = b .legs ∙ a .legs; links = b .links ∙ a .links; roster = b .roster ∙ a .roster }
 
 module _ (s p k : ℕ) where
   pub sized-joins : (js : List JoinLine) (r : Railway) → Sized s p k r → Sized s p k (joinAll r js)
@@ -96,12 +96,12 @@ module _ (s p k : ℕ) where
   sized-signals (g ∷ gs) r z = sized-signals gs _ (sized-signal s p k r z _)
 
 pub record-same : (r q : Railway) → r .sections ≡ q .sections → r .points ≡ q .points → r .trains ≡ q .trains → r .legs ≡ q .legs → r .links ≡ q .links
-    → r .signals ≡ q .signals → r .runs ≡ q .runs → r ≡ q
-record-same r q a b c e f g h = go (r .sections) (q .sections) (r .points) (q .points) (r .trains) (q .trains) (r .legs) (q .legs) (r .links) (q .links) (r .signals) (q .signals) (r .runs) (q .runs) a b c e f g h
+    → r .signals ≡ q .signals → r .roster ≡ q .roster → r ≡ q
+record-same r q a b c e f g h = go (r .sections) (q .sections) (r .points) (q .points) (r .trains) (q .trains) (r .legs) (q .legs) (r .links) (q .links) (r .signals) (q .signals) (r .roster) (q .roster) a b c e f g h
   where
     go : (s s′ p p′ k k′ : ℕ) (l l′ : List Legs) (m m′ : List Link) (n n′ : List Bool) (o o′ : List Train) → s ≡ s′ → p ≡ p′ → k ≡ k′ → l ≡ l′ → m ≡ m′ → n ≡ n′ → o ≡ o′
-        → _≡_ {A = Railway} (record { sections = s; points = p; trains = k; legs = l; links = m; signals = n; runs = o })
-        (record { sections = s′; points = p′; trains = k′; legs = l′; links = m′; signals = n′; runs = o′ })
+        → _≡_ {A = Railway} (record { sections = s; points = p; trains = k; legs = l; links = m; signals = n; roster = o })
+        (record { sections = s′; points = p′; trains = k′; legs = l′; links = m′; signals = n′; roster = o′ })
     go s s′ p p′ k k′ l l′ m m′ n n′ o o′ a b c e f g h = rw (a, b, c, e, f, g, h)
 
 joined-index : (r : Railway) (e : End) (i : ℕ) → endIndex e ≡ i → i < allEnds → joined r e ≡ linkAt r i
@@ -110,7 +110,7 @@ joined-index r e i q h = rw (q, lt-ltb i allEnds h)
 
 -- THE DRAFT, counts within their bounds and names all there
 module _ (d : Description) (f : WellFormed d) (b : Bounded (d .sections) (d .points) (d .trains)) (inside : outside (d .sections) (d .points) (d .trains) ≡ false)
-    (kj : Every (KnownJoin d) (d .joins)) (kg : Every (KnownSignal d) (d .signals)) (kt : Every (KnownTrain d) (d .runs)) where
+    (kj : Every (KnownJoin d) (d .joins)) (kg : Every (KnownSignal d) (d .signals)) (kt : Every (KnownTrain d) (d .roster)) where
   abbrev pub start : Railway
   start = bareRailway (d .sections) (d .points) (d .trains)
 
@@ -124,18 +124,18 @@ module _ (d : Description) (f : WellFormed d) (b : Bounded (d .sections) (d .poi
   withSignals = signalAll withJoins (d .signals)
 
   abbrev pub built : Railway
-  built = withAllRuns withSignals (storeFrom (withSignals .runs) 0 (map trainOf (d .runs)))
+  built = withRoster withSignals (storeFrom (withSignals .roster) 0 (map trainOfLine (d .roster)))
 
   legs-many : length (map legsRow (d .legs)) ≡ d .points
   legs-many = length-map (d .legs) legsRow ∙ f .one-a-point
 
-  runs-many : length (map trainOf (d .runs)) ≡ d .trains
-  runs-many = length-map (d .runs) trainOf ∙ f .one-a-train
+  roster-many : length (map trainOfLine (d .roster)) ≡ d .trains
+  roster-many = length-map (d .roster) trainOfLine ∙ f .one-a-train
 
   pub sized-points : SizedBy d withPoints
   sized-points =
       let z = sized-bare (d .sections) (d .points) (d .trains) in
-      record { sections = refl; points = refl; trains = refl; legs = store-length (map legsRow (d .legs)) (start .legs) 0 ∙ z .legs; links = z .links; signals = z .signals; runs = z .runs }
+      record { sections = refl; points = refl; trains = refl; legs = store-length (map legsRow (d .legs)) (start .legs) 0 ∙ z .legs; links = z .links; signals = z .signals; roster = z .roster }
 
   sized-2 : SizedBy d withJoins
   sized-2 = sized-joins (d .sections) (d .points) (d .trains) (d .joins) withPoints sized-points
@@ -155,7 +155,7 @@ module _ (d : Description) (f : WellFormed d) (b : Bounded (d .sections) (d .poi
       let e1 : putRising putPoint 1 w0 (d .legs) ≡ w1 = points-put d (b .few-points) (d .legs) 0 w0 (sized-bare (d .sections) (d .points) (d .trains)) (omega arith) in
       let e2 : putEach putJoin w1 (d .joins) ≡ w2 = joins-put d (d .joins) w1 sized-points kj in
       let e3 : putEach putSignal w2 (d .signals) ≡ w3 = signals-put d (d .signals) w2 sized-2 kg in
-      let e4 = trains-put d (b .few-trains) (d .runs) 0 w3 sized-3 (omega arith) kt in
+      let e4 = trains-put d (b .few-trains) (d .roster) 0 w3 sized-3 (omega arith) kt in
       rw inside (rw (e1, e2, e3) e4)
 
   -- its tables
@@ -216,17 +216,17 @@ module _ (d : Description) (f : WellFormed d) (b : Bounded (d .sections) (d .poi
         ∙ or-nothing (any (sameSignal (signalOf i)) (d .signals))
         ∙ sym (list-get (λ i. any (sameSignal (signalOf i)) (d .signals)) sectionEnds i false (omega arith)))
 
-    runs-built : storeFrom (withSignals .runs) 0 (map trainOf (d .runs)) ≡ listBelow (λ t. trainOf (getD (d .runs) t noTrainLine)) mostTrains
-    runs-built =
-        let m = runs-many in
+    roster-built : storeFrom (withSignals .roster) 0 (map trainOfLine (d .roster)) ≡ listBelow (λ t. trainOfLine (getD (d .roster) t noTrainLine)) mostTrains
+    roster-built =
+        let m = roster-many in
         let h = b .few-trains in
-        let e : withSignals .runs ≡ replicate mostTrains noTrain = signals-keep (d .signals) withJoins .runs ∙ joins-keep (d .joins) withPoints .runs in
-        ap (λ (l : List Train). storeFrom l 0 (map trainOf (d .runs))) e
-        ∙ store-all (map trainOf (d .runs)) mostTrains noTrain (omega arith) ∙ list-same _ _ mostTrains (λ i l. List·getD-map trainOf (d .runs) i noTrainLine)
+        let e : withSignals .roster ≡ replicate mostTrains noTrain = signals-keep (d .signals) withJoins .roster ∙ joins-keep (d .joins) withPoints .roster in
+        ap (λ (l : List Train). storeFrom l 0 (map trainOfLine (d .roster))) e
+        ∙ store-all (map trainOfLine (d .roster)) mostTrains noTrain (omega arith) ∙ list-same _ _ mostTrains (λ i l. List·getD-map trainOfLine (d .roster) i noTrainLine)
 
     pub built-is : built ≡ railwayOf d
     unfolding railwayOf
     built-is =
         record-same built _ (sized-3 .sections) (sized-3 .points) (sized-3 .trains)
         (signals-keep (d .signals) withJoins .legs ∙ joins-keep (d .joins) withPoints .legs ∙ legs-built)
-        (signals-keep (d .signals) withJoins .links ∙ links-built) signals-built runs-built
+        (signals-keep (d .signals) withJoins .links ∙ links-built) signals-built roster-built

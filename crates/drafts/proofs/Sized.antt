@@ -15,7 +15,7 @@ use Rattle.railway.specs.Ends.{endIndex}
 use Rattle.railway.specs.Record.{bareRailway, noLegs, noLink, noTrain, withJoin, withSignal, withLegs, withTrain}
 use Rattle.casefile.specs.Form.{JoinLine, SignalLine, TrainLine, section}
 use Rattle.casefile.specs.Rows.{within}
-use Rattle.casefile.specs.Recording.{trainOf}
+use Rattle.casefile.specs.Recording.{trainOfLine}
 use Rattle.drafts.specs.declared.Draft.{Draft}
 use Rattle.drafts.specs.declared.KnownEnd.{KnownEnd}
 use Rattle.drafts.specs.declared.KnownEnd.the-variants.{NotThere, There}
@@ -30,7 +30,7 @@ pub record Sized (s p k : ℕ) (r : Railway) : Type 0 where
   pub legs : length (r .legs) ≡ mostPoints
   pub links : length (r .links) ≡ allEnds
   pub signals : length (r .signals) ≡ sectionEnds
-  pub runs : length (r .runs) ≡ mostTrains
+  pub roster : length (r .roster) ≡ mostTrains
 
 pub sized-bare : (s p k : ℕ) → Sized s p k (bareRailway s p k)
 sized-bare s p k =
@@ -41,7 +41,7 @@ sized-bare s p k =
       legs = everywhere-length mostPoints noLegs;
       links = everywhere-length allEnds noLink;
       signals = everywhere-length sectionEnds false;
-      runs = everywhere-length mostTrains noTrain;
+      roster = everywhere-length mostTrains noTrain;
     }
 
 module _ (s p k : ℕ) where
@@ -54,25 +54,25 @@ module _ (s p k : ℕ) where
     unfolding withLegs
     sized-legs n side =
         either-sized (ltb n mostPoints) _ r
-        (record { sections = z .sections; points = z .points; trains = z .trains; legs = simp length-set (z .legs); links = z .links; signals = z .signals; runs = z .runs }) z
+        (record { sections = z .sections; points = z .points; trains = z .trains; legs = simp length-set (z .legs); links = z .links; signals = z .signals; roster = z .roster }) z
 
     pub sized-join : (a b : End) → Sized s p k (withJoin r a b)
     unfolding withJoin
     sized-join a b =
         either-sized (ltb (endIndex a) allEnds && ltb (endIndex b) allEnds) _ r
-        (record { sections = z .sections; points = z .points; trains = z .trains; legs = z .legs; links = simp length-set (z .links); signals = z .signals; runs = z .runs }) z
+        (record { sections = z .sections; points = z .points; trains = z .trains; legs = z .legs; links = simp length-set (z .links); signals = z .signals; roster = z .roster }) z
 
     pub sized-signal : (e : End) → Sized s p k (withSignal r e)
     unfolding withSignal
     sized-signal e =
         either-sized (ltb (endIndex e) sectionEnds) _ r
-        (record { sections = z .sections; points = z .points; trains = z .trains; legs = z .legs; links = z .links; signals = simp length-set (z .signals); runs = z .runs }) z
+        (record { sections = z .sections; points = z .points; trains = z .trains; legs = z .legs; links = z .links; signals = simp length-set (z .signals); roster = z .roster }) z
 
-    pub sized-train : (t : ℕ) (run : Train) → Sized s p k (withTrain r t run)
+    pub sized-train : (t : ℕ) (train : Train) → Sized s p k (withTrain r t train)
     unfolding withTrain
-    sized-train t run =
+    sized-train t train =
         either-sized (ltb t mostTrains) _ r
-        (record { sections = z .sections; points = z .points; trains = z .trains; legs = z .legs; links = z .links; signals = z .signals; runs = simp length-set (z .runs) }) z
+        (record { sections = z .sections; points = z .points; trains = z .trains; legs = z .legs; links = z .links; signals = z .signals; roster = simp length-set (z .roster) }) z
 
   -- and so does every line
   abbrev pub SizedDraft : Draft → Type 0
@@ -104,8 +104,8 @@ module _ (s p k : ℕ) where
     unfolding putTrain
     sized-put-train n t = cases (within n (d .railway .trains) && (within (t .start) (d .railway .sections) && within (t .destination) (d .railway .sections)))
       where
-        cases : (b : Bool) → SizedDraft (cond b (withRailway d (withTrain (d .railway) (n - 1) (trainOf t))) (unknownIn d))
-        cases true = sized-train (d .railway) z (n - 1) (trainOf t)
+        cases : (b : Bool) → SizedDraft (cond b (withRailway d (withTrain (d .railway) (n - 1) (trainOfLine t))) (unknownIn d))
+        cases true = sized-train (d .railway) z (n - 1) (trainOfLine t)
         cases false = z
 
   module _ {A : Type 0} where

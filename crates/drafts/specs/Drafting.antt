@@ -20,7 +20,7 @@ use Rattle.railway.specs.Rows.{outside, tied, wrongPair, unjoined, countRow, lo
 use Rattle.casefile.specs.declared.CaseRead.{CaseRead}
 use Rattle.casefile.specs.Form.{EndField, section, port, JoinLine, SignalLine, TrainLine}
 use Rattle.casefile.specs.Rows.{within}
-use Rattle.casefile.specs.Recording.{endOf, trainOf}
+use Rattle.casefile.specs.Recording.{endOf, trainOfLine}
 use Rattle.casefile.specs.Given.{accepted, refused}
 use Rattle.casefile.specs.Reading.{headerAt, pointLineAt, joinLineAt, signalLineAt, trainLineAt}
 use Rattle.drafts.specs.declared.Draft.{Draft}
@@ -31,7 +31,7 @@ use Rattle.drafts.specs.declared.KnownEnd.the-variants.{NotThere, There}
 use Rattle.drafts.specs.declared.Lines.{Lines}
 
 -- A test that a number lies within a count, and what a program makes of it.
-pub record Tested (n count : ℕ) (b : Bool) : Type 0 where
+pub record WithinCount (n count : ℕ) (b : Bool) : Type 0 where
   pub is : b ≡ within n count
   pub small : b ≡ true → (1 ≤ n) × (n ≤ 255)
 
@@ -92,7 +92,7 @@ putSignal d g = putAt d (endIn (d .railway) (section (g .number) (g .side)))
 unfoldable pub putTrain : Draft → ℕ → TrainLine → Draft
 putTrain d n t =
     cond (within n (d .railway .trains) && (within (t .start) (d .railway .sections) && within (t .destination) (d .railway .sections)))
-    (withRailway d (withTrain (d .railway) (n - 1) (trainOf t)))
+    (withRailway d (withTrain (d .railway) (n - 1) (trainOfLine t)))
     (unknownIn d)
 
 -- LINES INTO A DRAFT. A line of a kind, read where it begins.

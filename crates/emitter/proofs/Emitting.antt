@@ -23,7 +23,7 @@ use Rattle.plan.specs.declared.Emitted.{Emitted}
 use Rattle.plan.specs.declared.Emitted.the-variants.{End, NoPlan, Refused}
 use Rattle.plan.specs.Lines.{startLine, placementLine, spell, mostLineBytes}
 use Rattle.plan.specs.Text.{hasFigure, lineFor}
-use Rattle.plan.specs.Emitter.{Wrote, written, figureFrom, nextCode, dueFor, writtenDue, emitted, emitLine, leaves}
+use Rattle.plan.specs.Emitter.{Wrote, lineWritten, figureFrom, nextCode, dueFor, dueWritten, emitted, emitLine, leaves}
 use Rattle.plan.specs.Promises.{EmitterPost}
 use Rattle.plan.proofs.Reading.{list-is}
 use Rattle.plan.proofs.Lengths.{lines-short}
@@ -53,7 +53,7 @@ module _ (r : Railway) (figs sets : List ℕ) (p : ℕ) where
   pub placement-written : {k m len : ℕ} {n v : ℕ} {q : Placement} {own text table : List ℕ} {w : Wrote} (old : List ℕ) → Compiled r table → hasFigure figs p ≡ true
       → n ≡ getD figs p noFigure → n < 4294967296 → v ≡ getD sets p 0 → On r p table q → k ≡ r .trains → m ≡ r .points
       → own ≡ replicate mostLineBytes 0 → Appended own 0 (spell (placementLine (lineOf k m q n v))) text len
-      → w ≡ written (take len text) (From (p + 1)) old → w ≡ written (spell (placementLine (lineFor r figs sets p))) (From (suc p)) old
+      → w ≡ lineWritten (take len text) (From (p + 1)) old → w ≡ lineWritten (spell (placementLine (lineFor r figs sets p))) (From (suc p)) old
   placement-written {k} {m} {len} {n} {v} {q} {own} {text} {table} {w} old compiled has en small ev on ek em blank made e =
       let same : lineOf k m q n v ≡ lineFor r figs sets p = line-is k m q n v ek em (on .stands) en ev in
       let made′ : Appended own 0 (spell (placementLine (lineFor r figs sets p))) text len = rw same at made in
@@ -62,14 +62,14 @@ module _ (r : Railway) (figs sets : List ℕ) (p : ℕ) where
 
 -- WHAT IS DUE from a code on
 module _ (r : Railway) (figs sets : List ℕ) (c p total : ℕ) (old : List ℕ) (is : p ≡ Option·getD (lowest (figureFrom figs c) total) total) (all : total ≡ placements r) where
-  pub due-placement : {w : Wrote} → p < total → (hasFigure figs p ≡ true → w ≡ written (spell (placementLine (lineFor r figs sets p))) (From (suc p)) old)
-      → w ≡ writtenDue old (dueFor r figs sets (nextCode r figs c))
+  pub due-placement : {w : Wrote} → p < total → (hasFigure figs p ≡ true → w ≡ lineWritten (spell (placementLine (lineFor r figs sets p))) (From (suc p)) old)
+      → w ≡ dueWritten old (dueFor r figs sets (nextCode r figs c))
   due-placement l line =
       let found = found-at (figureFrom figs c) total p is l in
       let e : nextCode r figs c ≡ some p = rw all at (found .first) in
       line (from-figure figs c p (found .passes)) ∙ rw e
 
-  pub due-end : total ≤ p → leaves End old ≡ writtenDue old (dueFor r figs sets (nextCode r figs c))
+  pub due-end : total ≤ p → leaves End old ≡ dueWritten old (dueFor r figs sets (nextCode r figs c))
   due-end l = let e : nextCode r figs c ≡ none = rw all at (found-none (figureFrom figs c) total p is l) in rw e
 
 -- WHAT IS EMITTED at a place, by the start's figure
@@ -87,10 +87,10 @@ module _ (r : Railway) (figs sets : List ℕ) (place : PlanPlace) (old : List �
     there : figureIn figs (startCode r) ≡ some figure
     there = rw (ne-eqb figure noFigure (λ e. some-figure (figure-is ∙ e)))
 
-    pub top-emitted : {w : Wrote} → place ≡ Top → w ≡ written (spell (startLine n)) (From 0) old → w ≡ emitted r figs sets place old none (figureIn figs (startCode r))
-    top-emitted {w} e h = let k : w ≡ written (spell (startLine figure)) (From 0) old = rw figure-is at h in rw (there, e) k
+    pub top-emitted : {w : Wrote} → place ≡ Top → w ≡ lineWritten (spell (startLine n)) (From 0) old → w ≡ emitted r figs sets place old none (figureIn figs (startCode r))
+    top-emitted {w} e h = let k : w ≡ lineWritten (spell (startLine figure)) (From 0) old = rw figure-is at h in rw (there, e) k
 
-    pub from-emitted : {w : Wrote} (c : ℕ) → place ≡ From c → w ≡ writtenDue old (dueFor r figs sets (nextCode r figs c)) → w ≡ emitted r figs sets place old none (figureIn figs (startCode r))
+    pub from-emitted : {w : Wrote} (c : ℕ) → place ≡ From c → w ≡ dueWritten old (dueFor r figs sets (nextCode r figs c)) → w ≡ emitted r figs sets place old none (figureIn figs (startCode r))
     from-emitted {w} c e h = rw (there, e) h
 
 -- A CALL

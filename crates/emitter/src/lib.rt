@@ -11,7 +11,7 @@ ghost use Rattle.tables.specs.Tables.{noFigure, figureIn};
 ghost use Rattle.plan.specs.declared.PlanPlace.the-variants.{From};
 ghost use Rattle.plan.specs.Lines.{startLine, placementLine, spell};
 ghost use Rattle.plan.specs.Text.{hasFigure, lineFor};
-ghost use Rattle.plan.specs.Emitter.{written, figureFrom, nextCode, dueFor, writtenDue, emitted, leaves};
+ghost use Rattle.plan.specs.Emitter.{lineWritten, figureFrom, nextCode, dueFor, dueWritten, emitted, leaves};
 ghost use Rattle.plan.specs.Promises.{EmitterPost};
 ghost use Rattle.compiled.specs.Table.{Compiled};
 use acceptance::Tested;
@@ -66,7 +66,7 @@ fn emit_due(
 
 // The first line.
 fn emit_start(n: u32, out: &mut [u8]) -> Emitted
-    ensures { λ a. ⌜ leaves a (now (out .exit)) ≡ written (spell (startLine n)) (From 0) (now (out .entry)) ⌝ }
+    ensures { λ a. ⌜ leaves a (now (out .exit)) ≡ lineWritten (spell (startLine n)) (From 0) (now (out .entry)) ⌝ }
 {
     let mut text: [u8; MOST_LINE_BYTES] = [0; MOST_LINE_BYTES];
     let len = planlines::start_line(&mut text, 0, n);
@@ -76,7 +76,7 @@ fn emit_start(n: u32, out: &mut [u8]) -> Emitted
 // The line of the next placement with a figure, from code c on.
 fn emit_from(table: &Table, figures: &[u32], settings: &[u32], c: u32, out: &mut [u8]) -> Emitted
     ensures { λ a. ⌜ ((r : Railway) → Compiled r (now (table .entry))
-        → leaves a (now (out .exit)) ≡ writtenDue (now (out .entry)) (dueFor r (now (figures .entry)) (now (settings .entry)) (nextCode r (now (figures .entry)) c))) ⌝ }
+        → leaves a (now (out .exit)) ≡ dueWritten (now (out .entry)) (dueFor r (now (figures .entry)) (now (settings .entry)) (nextCode r (now (figures .entry)) c))) ⌝ }
 {
     let total = moves::placements(table);
     let p = next_code(figures, c, total);
@@ -96,7 +96,7 @@ fn emit_placement(
 ) -> Emitted
     requires { ⌜ p < noFigure ⌝ }
     ensures { λ a. ⌜ ((r : Railway) → Compiled r (now (table .entry)) → hasFigure (now (figures .entry)) p ≡ true
-        → leaves a (now (out .exit)) ≡ written (spell (placementLine (lineFor r (now (figures .entry)) (now (settings .entry)) p))) (From (suc p)) (now (out .entry))) ⌝ }
+        → leaves a (now (out .exit)) ≡ lineWritten (spell (placementLine (lineFor r (now (figures .entry)) (now (settings .entry)) p))) (From (suc p)) (now (out .entry))) ⌝ }
 {
     let n = tables::entry_at(figures, p, NO_FIGURE);
     let v = tables::entry_at(settings, p, 0);
@@ -110,7 +110,7 @@ fn emit_placement(
 
 // A line into the lent buffer, if it has room for it.
 fn put_line(out: &mut [u8], line: &[u8], next: PlanPlace) -> Emitted
-    ensures { λ a. ⌜ leaves a (now (out .exit)) ≡ written (now (line .entry)) next (now (out .entry)) ⌝ }
+    ensures { λ a. ⌜ leaves a (now (out .exit)) ≡ lineWritten (now (line .entry)) next (now (out .entry)) ⌝ }
 {
     if out.len() < line.len() {
         return Emitted::Refused(Refusal::Space);

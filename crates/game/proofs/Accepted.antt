@@ -18,7 +18,7 @@ use Rattle.railway.specs.declared.Refusal.{Refusal}
 use Rattle.railway.specs.Bounds.{mostSections, mostPoints, mostTrains, sectionEnds, allEnds}
 use Rattle.railway.specs.Ends.{endIndex, endAt}
 use Rattle.railway.specs.Refusals.{first, refuseIf}
-use Rattle.railway.specs.Record.{linkAt, joined, runOf}
+use Rattle.railway.specs.Record.{linkAt, joined, trainOf}
 use Rattle.railway.specs.Rows.{countRow, known, unknownLink, unknownLinkAt, unknownSignalAt, unknownTrainAt, unknownRow, recordRefusal}
 
 -- an end that something is joined to is there
@@ -33,8 +33,8 @@ pub record Facts (r : Railway) : Type 0 where
   pub one-train : 0 < r .trains
   pub few-trains : r .trains ≤ mostTrains
   pub joins : (e : End) → Known r (joined r e)
-  pub starts : (t : ℕ) → t < r .trains → runOf r t .start .0 < r .sections
-  pub destinations : (t : ℕ) → t < r .trains → runOf r t .destination .0 < r .sections
+  pub starts : (t : ℕ) → t < r .trains → trainOf r t .start .0 < r .sections
+  pub destinations : (t : ℕ) → t < r .trains → trainOf r t .destination .0 < r .sections
 
 -- where nothing is refused the first row does not apply, and the others refuse nothing either
 off : (b : Bool) (f : Refusal) (rest : Option Refusal) → refuseIf b f rest ≡ none → (b ≡ false) × (rest ≡ none)
@@ -66,9 +66,9 @@ module _ (r : Railway) where
       go true l = link-known r (endAt (endIndex e)) (linkAt r (endIndex e)) (any-false (unknownLinkAt r) allEnds h (endIndex e) (ltb-true (endIndex e) allEnds l))
       go false l = tt
 
-  train-known : anyBelow (unknownTrainAt r) (r .trains) ≡ false → (t : ℕ) → t < r .trains → (runOf r t .start .0 < r .sections) × (runOf r t .destination .0 < r .sections)
+  train-known : anyBelow (unknownTrainAt r) (r .trains) ≡ false → (t : ℕ) → t < r .trains → (trainOf r t .start .0 < r .sections) × (trainOf r t .destination .0 < r .sections)
   train-known h t l =
-      let both = not-and (ltb (runOf r t .start .0) (r .sections)) (ltb (runOf r t .destination .0) (r .sections)) (any-false (unknownTrainAt r) (r .trains) h t l) in
+      let both = not-and (ltb (trainOf r t .start .0) (r .sections)) (ltb (trainOf r t .destination .0) (r .sections)) (any-false (unknownTrainAt r) (r .trains) h t l) in
       (ltb-true _ _ (both .0), ltb-true _ _ (both .1))
 
   pub facts : recordRefusal r ≡ none → Facts r

@@ -18,7 +18,7 @@ use Rattle.railway.specs.declared.End.the-variants.{Section, Port}
 use Rattle.railway.specs.declared.Joined.{Joined}
 use Rattle.railway.specs.declared.Joined.the-variants.{Nothing, With}
 use Rattle.railway.specs.declared.Railway.{Railway}
-use Rattle.railway.specs.Record.{joined, runOf}
+use Rattle.railway.specs.Record.{joined, trainOf}
 use Rattle.game.specs.Game.{lost, at, collision}
 use Rattle.game.specs.Local.{Inside}
 use Rattle.game.specs.Placement.{sectionsIn, sectionsOf, standsOn, placements, startCode}
@@ -86,13 +86,13 @@ module _ (r : Railway) (ok : Facts r) where
 
   -- THE START is a placement, and each train stands on its start there
   abbrev starts : List ℕ
-  starts = listBelow (λ t. runOf r t .start .0) (r .trains)
+  starts = listBelow (λ t. trainOf r t .start .0) (r .trains)
 
   starts-length : length starts ≡ r .trains
-  starts-length = list-length (λ t. runOf r t .start .0) (r .trains)
+  starts-length = list-length (λ t. trainOf r t .start .0) (r .trains)
 
   starts-below : AllBelow (r .sections) starts
-  starts-below i l = let h : i < r .trains = rw starts-length at l in rw (list-get (λ t. runOf r t .start .0) (r .trains) i 0 h) (ok .starts i h)
+  starts-below i l = let h : i < r .trains = rw starts-length at l in rw (list-get (λ t. trainOf r t .start .0) (r .trains) i 0 h) (ok .starts i h)
 
   pub start-below : startCode r < placements r
   unfolding startCode

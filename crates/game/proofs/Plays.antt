@@ -14,7 +14,7 @@ use Rattle.railway.specs.declared.Leg.the-variants.{Stem, Plus, Minus}
 use Rattle.railway.specs.declared.Railway.{Railway}
 use Rattle.railway.specs.Ends.{endAt}
 use Rattle.railway.specs.Refusals.{first}
-use Rattle.railway.specs.Record.{joined, hasSignal, legsOf, runOf, withJoin, withSignal, withLegs, withTrain}
+use Rattle.railway.specs.Record.{joined, hasSignal, legsOf, trainOf, withJoin, withSignal, withLegs, withTrain}
 use Rattle.railway.specs.Rows.{unknownRow, joinRow, looseRow, placeRow, recordRefusal}
 use Rattle.game.specs.Game.{derailment, collision, lost, at, Turn, Way, Choice, lostByMove, standing, play}
 use Rattle.game.specs.Placement.{codeOf, sectionsIn, standsOn, sectionsOf, startCode, atHome, shared}
@@ -49,7 +49,7 @@ lines =
     (yardH 9 0 3))))))))))
 
 yards : (recordRefusal yardA ≡ none) × (recordRefusal loop ≡ none) × (recordRefusal lines ≡ none) × (startCode yardA ≡ 7) × (startCode lines ≡ 513) × (sectionsOf lines 524 ≡ 2 ∷ 4 ∷ 6 ∷ [])
-unfolding recordRefusal first unknownRow joinRow looseRow placeRow anyBelow joined legsOf runOf endAt withJoin withSignal withLegs withTrain startCode codeOf sumBelow listBelow sectionsIn
+unfolding recordRefusal first unknownRow joinRow looseRow placeRow anyBelow joined legsOf trainOf endAt withJoin withSignal withLegs withTrain startCode codeOf sumBelow listBelow sectionsIn
 yards = (refl, refl, refl, refl, refl, refl)
 
 -- THE SETTINGS. All points at plus and all signals closed; all at minus and closed; all at minus and open.
@@ -64,7 +64,7 @@ wide = record { plus = λ n. false; isOpen = λ i. true }
 
 -- WHO MAY MOVE: held by a closed signal, let go by an open one; free without one.
 may : (mayMove yardA 7 shut 0 ≡ false) × (mayMove yardA 7 wide 0 ≡ true) × (mayMove yardA 7 shut 1 ≡ true) × (mayMove yardA 1 shut 1 ≡ false)
-unfolding mayMove held headsFor standsOn sectionsIn runOf hasSignal withJoin withSignal withLegs withTrain
+unfolding mayMove held headsFor standsOn sectionsIn trainOf hasSignal withJoin withSignal withLegs withTrain
 may = (refl, refl, refl, refl)
 
 -- MOVES
@@ -78,7 +78,7 @@ moves :  -- by the stem to the leg that is set
     × (moveOf yardA 7 shut 1 ≡ lost collision) × (moveOf loop 2 shut 0 ≡ lost collision) × (moveOf loop 2 plus 0 ≡ at 2)
     -- the points met: one, also where the train derails at it; none
     × (passes yardA (plus .plus) (sec 2 Up) .met ≡ 0 ∷ []) × (passes yardA (plus .plus) (sec 1 Down) .met ≡ []) × (passes lines (plus .plus) (sec 1 Up) .met ≡ [])
-unfolding moveOf passes occupied headsFor standsOn sectionsIn codeOf sumBelow runOf joined anyBelow withJoin withSignal withLegs withTrain
+unfolding moveOf passes occupied headsFor standsOn sectionsIn codeOf sumBelow trainOf joined anyBelow withJoin withSignal withLegs withTrain
 moves = (refl, refl, refl, refl, refl, refl, refl, refl, refl, refl, refl, refl, refl)
 
 -- PLAYS
@@ -128,5 +128,5 @@ plays :  -- home in two turns, a setting for each anew; there the play has ended
     × (play (gameOf yardA) (always wide) (names 1) 2 3 ≡ standing [] 2)
     -- way and choice both look at the oldest turn, at every turn after it; and train 1 is moved on from its destination
     × (play (gameOf lines) by-first names-by-first 513 3 ≡ standing (turned 513 shut (some 1) ∷ turned 522 wide (some 0) ∷ turned 523 wide (some 0) ∷ []) 524)
-unfolding play lowest moveOf passes occupied mayMove held headsFor standsOn sectionsIn codeOf sumBelow runOf joined hasSignal allBelow anyBelow atHome shared withJoin withSignal withLegs withTrain
+unfolding play lowest moveOf passes occupied mayMove held headsFor standsOn sectionsIn codeOf sumBelow trainOf joined hasSignal allBelow anyBelow atHome shared withJoin withSignal withLegs withTrain
 plays = (refl, refl, refl, refl, refl, refl, refl, refl, refl, refl, refl)

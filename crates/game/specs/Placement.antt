@@ -7,7 +7,7 @@ use lib.ListN.{length, getD}
 use lib.Dec.{eqb}
 use Rattle.laws.specs.Below.{allBelow, anyBelow, sumBelow, listBelow}
 use Rattle.railway.specs.declared.Railway.{Railway}
-use Rattle.railway.specs.Record.{runOf}
+use Rattle.railway.specs.Record.{trainOf}
 
 -- The code of a placement, given as the section of each train: each section times a power of the number of sections, in sum.
 unfoldable pub codeOf : ℕ → List ℕ → ℕ
@@ -36,11 +36,11 @@ codeOn r section = codeOf (r .sections) (listBelow section (r .trains))
 
 -- The code of the start: each train stands on its start.
 unfoldable pub startCode : Railway → ℕ
-startCode r = codeOn r (λ t. runOf r t .start .0)
+startCode r = codeOn r (λ t. trainOf r t .start .0)
 
 -- Train t stands on its destination.
 abbrev pub arrived : Railway → ℕ → ℕ → Bool
-arrived r p t = eqb (standsOn r p t) (runOf r t .destination .0)
+arrived r p t = eqb (standsOn r p t) (trainOf r t .destination .0)
 
 -- Home: all trains do so at once.
 unfoldable pub atHome : Railway → ℕ → Bool

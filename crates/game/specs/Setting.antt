@@ -8,7 +8,7 @@ use Rattle.railway.specs.declared.End.the-variants.{Section}
 use Rattle.railway.specs.declared.Railway.{Railway}
 use Rattle.railway.specs.Bounds.{sectionEnds}
 use Rattle.railway.specs.Ends.{endIndex}
-use Rattle.railway.specs.Record.{flagAt, hasSignal, runOf}
+use Rattle.railway.specs.Record.{flagAt, hasSignal, trainOf}
 use Rattle.game.specs.Placement.{standsOn}
 
 -- A setting: every point at plus or not, by point; every signal open or closed, by the index of its section end.
@@ -23,7 +23,7 @@ pub record SameSetting (r : Railway) (a b : Setting) : Type 0 where
 
 -- The end that train t heads for in placement p.
 unfoldable pub headsFor : Railway → ℕ → ℕ → End
-headsFor r p t = Section (record { 0 = standsOn r p t }) (runOf r t .heading)
+headsFor r p t = Section (record { 0 = standsOn r p t }) (trainOf r t .heading)
 
 -- A signal stands at that end.
 unfoldable pub held : Railway → ℕ → ℕ → Bool

@@ -22,7 +22,7 @@ use Rattle.lines.specs.declared.JoinRead.the-variants.{NoJoin, EndsAre}
 use Rattle.lines.specs.declared.SignalRead.{SignalRead}
 use Rattle.lines.specs.declared.SignalRead.the-variants.{NoSignal, SignalIs}
 use Rattle.lines.specs.declared.TrainRead.{TrainRead}
-use Rattle.lines.specs.declared.TrainRead.the-variants.{NoTrain, RunIs}
+use Rattle.lines.specs.declared.TrainRead.the-variants.{NoTrain, TrainIs}
 
 -- A tab, and a field behind it.
 abbrev pub behindTab : {A : Type 0} → List ℕ → (ℕ → Got A) → ℕ → Got A
@@ -70,4 +70,4 @@ signalGot (SignalIs n s c) = got (record { number = n; side = s }) (c .at)
 -- A T line, as it was read.
 abbrev pub trainGot : TrainRead → Got TrainLine
 trainGot NoTrain = bad
-trainGot (RunIs h s d c) = got (record { heading = h; start = s; destination = d }) (c .at)
+trainGot (TrainIs h s d c) = got (record { heading = h; start = s; destination = d }) (c .at)

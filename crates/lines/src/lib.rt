@@ -55,7 +55,7 @@ pub enum SignalRead {
 // A T line: heading, start, destination.
 pub enum TrainRead {
     NoTrain,
-    RunIs(Side, u64, u64, Cursor),
+    TrainIs(Side, u64, u64, Cursor),
 }
 
 fn side_field(text: &[u8], c: Cursor) -> SideRead
@@ -234,7 +234,7 @@ pub fn train_line(text: &[u8], c: Cursor, n: u64) -> TrainRead
         return TrainRead::NoTrain;
     };
     if m == n {
-        return TrainRead::RunIs(heading, start, destination, c6);
+        return TrainRead::TrainIs(heading, start, destination, c6);
     }
     TrainRead::NoTrain
 }

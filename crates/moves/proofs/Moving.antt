@@ -24,7 +24,7 @@ use Rattle.railway.specs.declared.Joined.the-variants.{Nothing, With}
 use Rattle.railway.specs.declared.Railway.{Railway}
 use Rattle.railway.specs.Bounds.{mostSections, mostTrains}
 use Rattle.railway.specs.Ends.{endIndex}
-use Rattle.railway.specs.Record.{joined, hasSignal, runOf}
+use Rattle.railway.specs.Record.{joined, hasSignal, trainOf}
 use Rattle.game.specs.Game.{derailment, collision, lost, at, may}
 use Rattle.game.specs.Placement.{codeOf, sectionsOf, standsOn, codeOn}
 use Rattle.game.specs.Setting.{headsFor, held, mayMove}
@@ -61,11 +61,11 @@ module _ (r : Railway) (p : ℕ) (table : List ℕ) (q : Placement) (on : On r p
   facts-of = table-facts r table (on .compiled)
 
   -- THE END that a train heads for.
-  pub end-is : (t x : ℕ) (h : Side) → x ≡ sectionIn q t → h ≡ runOf r t .heading → Section (record { 0 = x }) h ≡ headsFor r p t
+  pub end-is : (t x : ℕ) (h : Side) → x ≡ sectionIn q t → h ≡ trainOf r t .heading → Section (record { 0 = x }) h ≡ headsFor r p t
   unfolding headsFor
   end-is t x h e f = let a : x ≡ standsOn r p t = e ∙ on .stands t in rw (a, f)
 
-  -- WHAT THE TABLE HAS on a train's way.
+  -- WHAT THE TABLE HAS on a train's route.
   module _ (t x : ℕ) (l : t < r .trains) (e : x ≡ sectionIn q t) where
     pub train-small : t < mostTrains
     train-small = omega (arith, facts-of .few-trains)
@@ -74,7 +74,7 @@ module _ (r : Railway) (p : ℕ) (table : List ℕ) (q : Placement) (on : On r p
     section-small = rw (e ∙ on .stands t) (omega (arith, section-below r facts-of p t l, facts-of .few-sections))
 
     pub end-on : endOn r t x ≡ headsFor r p t
-    end-on = end-is t x (runOf r t .heading) e refl
+    end-on = end-is t x (trainOf r t .heading) e refl
 
     pub held-is : (b : Bool) → b ≡ hasSignal r (endOn r t x) → b ≡ held r p t
     unfolding held

@@ -18,7 +18,7 @@ use Rattle.laws.proofs.Lists.{of-four}
 use Rattle.laws.proofs.Below.{any-same, any-none, any-one, all-each, all-but, list-length, list-get, list-same}
 use Rattle.railway.specs.declared.Railway.{Railway}
 use Rattle.railway.specs.Bounds.{mostTrains}
-use Rattle.railway.specs.Record.{runOf}
+use Rattle.railway.specs.Record.{trainOf}
 use Rattle.game.specs.Placement.{codeOf, sectionsOf, placements, standsOn, arrived, atHome, standsWith, sharesLower, shared, codeOn}
 use Rattle.game.proofs.Codes.{sections-length}
 use Rattle.game.proofs.Accepted.{Facts, facts}
@@ -148,7 +148,7 @@ module _ (r : Railway) (p : ℕ) (table : List ℕ) (q : Placement) (on : On r p
   pub shares-is : (x : ℕ) (b : Bool) → x ≡ sectionIn q t → b ≡ anyBelow (otherIn q t x) t → b ≡ sharesLower r p t
   shares-is x b e h = h ∙ any-same (otherIn q t x) (standsWith r p t) t (λ u l. let a : sectionIn q u ≡ standsOn r p u = on .stands u in let d : x ≡ standsOn r p t = e ∙ on .stands t in rw (ne-eqb u t (λ z. omega arith), a, d))
 
-  pub arrived-is : (x y : ℕ) → x ≡ sectionIn q t → y ≡ runOf r t .destination .0 → eqb x y ≡ arrived r p t
+  pub arrived-is : (x y : ℕ) → x ≡ sectionIn q t → y ≡ trainOf r t .destination .0 → eqb x y ≡ arrived r p t
   arrived-is x y e f = let d : x ≡ standsOn r p t = e ∙ on .stands t in rw (d, f)
 
 -- LOST AND HOME, of all trains: what the loops over them answer.

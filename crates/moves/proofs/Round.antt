@@ -11,7 +11,7 @@ use Rattle.laws.specs.Below.{listBelow}
 use Rattle.laws.proofs.Below.{all-at, all-of, list-length, list-get}
 use Rattle.railway.specs.declared.Railway.{Railway}
 use Rattle.railway.specs.Bounds.{mostTrains}
-use Rattle.railway.specs.Record.{runOf}
+use Rattle.railway.specs.Record.{trainOf}
 use Rattle.game.specs.Placement.{codeOf, sectionsIn, sectionsOf, placements, standsOn, arrived, atHome, codeOn}
 use Rattle.game.proofs.Codes.{AllBelow, code-sections, sections-code}
 use Rattle.game.proofs.Accepted.{Facts}
@@ -36,11 +36,11 @@ module _ (r : Railway) (facts : Facts r) where
   -- HOME has home's code, and only home has.
   pub home-code-home : atHome r (homeCode r) ≡ true
   unfolding atHome homeCode
-  home-code-home = all-of (arrived r (homeCode r)) (r .trains) (λ t l. eq-eqb _ _ (sections-again (λ t. runOf r t .destination .0) (facts .destinations) t l))
+  home-code-home = all-of (arrived r (homeCode r)) (r .trains) (λ t l. eq-eqb _ _ (sections-again (λ t. trainOf r t .destination .0) (facts .destinations) t l))
 
   pub home-has-code : (p : ℕ) → p < placements r → atHome r p ≡ true → p ≡ homeCode r
   unfolding atHome homeCode
-  home-has-code p l h = sym (code-again (λ t. runOf r t .destination .0) p l (λ t m. sym (eqb-true _ _ (all-at (arrived r p) (r .trains) h t m))))
+  home-has-code p l h = sym (code-again (λ t. trainOf r t .destination .0) p l (λ t m. sym (eqb-true _ _ (all-at (arrived r p) (r .trains) h t m))))
 
 -- The placement of a code, and its code.
 module _ (r : Railway) (table : List ℕ) (h : Compiled r table) (p : ℕ) where

@@ -4,7 +4,7 @@ use mathlib.Core.Bool.{cond}
 use mathlib.Core.Option.{Option, none, some}
 use Prim.Native.Nat.{ℕ}
 use Rattle.railway.specs.declared.Railway.{Railway}
-use Rattle.railway.specs.Record.{runOf}
+use Rattle.railway.specs.Record.{trainOf}
 use Rattle.game.specs.Game.{derailment, collision, Outcome, lost, at, may}
 use Rattle.game.specs.Placement.{codeOn}
 use Rattle.game.specs.Moves.{moveOf, gameOf}
@@ -14,7 +14,7 @@ use Rattle.moves.specs.declared.Move.the-variants.{NotAllowed, Derails, 
 
 -- Home's code: all trains on their destinations.
 unfoldable pub homeCode : Railway → ℕ
-homeCode r = codeOn r (λ t. runOf r t .destination .0)
+homeCode r = codeOn r (λ t. trainOf r t .destination .0)
 
 -- What a move ends in; none: it is not allowed.
 abbrev pub ended : Move → Option Outcome

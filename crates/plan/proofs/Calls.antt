@@ -15,7 +15,7 @@ use Rattle.plan.specs.declared.Emitted.the-variants.{Line, End, NoPlan, 
 use Rattle.plan.specs.declared.CheckerState.{CheckerState}
 use Rattle.plan.specs.declared.CheckerState.the-variants.{Fresh}
 use Rattle.plan.specs.Emitter.{isLine, Wrote, emitLine}
-use Rattle.plan.specs.Checker.{Checking, freshChecking, takeLine, Run, run}
+use Rattle.plan.specs.Checker.{Checking, freshChecking, takeLine, LineCalls, callLines}
 use Rattle.plan.specs.Promises.{EmitterPost, FreshPost}
 use Rattle.plan.specs.Calls.{Emission, Emitting, unasked, wrote, stopped, Taking, no-more, one-more}
 use Rattle.plan.proofs.Promises.{emits-so, takes-so}
@@ -59,16 +59,16 @@ module _ (r : Railway) (figs sets : List ℕ) where
       emitting-step place b bs (w .answer) (w .buffer) (emits-so r figs sets place b w refl) (emitting bs)
 
 -- THE CHECKER
-pub taking-one : (r : Railway) (c : Checking) (texts : List (List ℕ)) (u : Run) → Taking r c texts u → u ≡ run r texts c
-unfolding run
+pub taking-one : (r : Railway) (c : Checking) (texts : List (List ℕ)) (u : LineCalls) → Taking r c texts u → u ≡ callLines r texts c
+unfolding callLines
 taking-one r c [] u (no-more _) = refl
 taking-one r c (l ∷ ls) u (one-more _ c′ a _ _ v p more) = rw (← p .answer, ← p .checking, taking-one r c′ ls v more)
 
-pub taking : (r : Railway) (texts : List (List ℕ)) (c : Checking) → Taking r c texts (run r texts c)
-unfolding run
+pub taking : (r : Railway) (texts : List (List ℕ)) (c : Checking) → Taking r c texts (callLines r texts c)
+unfolding callLines
 taking r [] c = no-more c
 taking r (l ∷ ls) c =
-    one-more c (takeLine r c l .checking) (takeLine r c l .answer) l ls (run r ls (takeLine r c l .checking)) (takes-so r c l (takeLine r c l) refl)
+    one-more c (takeLine r c l .checking) (takeLine r c l .answer) l ls (callLines r ls (takeLine r c l .checking)) (takes-so r c l (takeLine r c l) refl)
     (taking r ls (takeLine r c l .checking))
 
 -- fresh tables

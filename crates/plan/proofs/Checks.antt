@@ -37,7 +37,7 @@ use Rattle.plan.specs.Lines.{PlacementLine, PlanLine, startLine, placeme
 use Rattle.plan.specs.Reading.{readLine}
 use Rattle.plan.specs.Test.{Test, lineOn, figureOn, opensOn, plusOn, byLines, byTables}
 use Rattle.plan.specs.Computed.{testHolds}
-use Rattle.plan.specs.Checker.{Checking, Left, left, freshChecking, lineEntry, enter, refuse, takes, takesIf, takeLine, tests, testPlan, Run, onward, run, isTaken, takenTexts}
+use Rattle.plan.specs.Checker.{Checking, Left, left, freshChecking, lineEntry, enter, refuse, takes, takesIf, takeLine, tests, testPlan, LineCalls, onward, callLines, isTaken, takenTexts}
 use Rattle.plan.specs.Checked.{Form, InForm, Passing, Failing, Checked, CheckedHolds}
 use Rattle.plan.proofs.Reading.{fits-parts, reads-line, reads}
 use Rattle.plan.proofs.Emits.{none-refused}
@@ -197,7 +197,7 @@ module _ (r : Railway) (a : recordRefusal r ≡ none) where
   call taken text c (begun m ds f s t) = reads-on (unrefused ds c t) s (begun-takes taken text c m ds f t (readLine r text) refl)
 
   -- ALL CALLS
-  pub record Ran (taken texts : List (List ℕ)) (u : Run) : Type 0 where
+  pub record Ran (taken texts : List (List ℕ)) (u : LineCalls) : Type 0 where
     pub holds : Holds (taken ++ takenTexts (u .answers) texts) (u .end)
     answered : length (u .answers) ≡ length texts
     others : (x : LineAnswer) → List·Memᴰ x (u .answers) → (x ≡ Taken) ⊎ (x ≡ LineRefused PlanForm)
@@ -207,11 +207,11 @@ module _ (r : Railway) (a : recordRefusal r ≡ none) where
   regroup taken l ls = append-assoc taken (l ∷ []) ls
 
   ran-step : (taken : List (List ℕ)) (l : List ℕ) (ls : List (List ℕ)) (c : Checking) (x : Left LineAnswer) → Holds taken c → Call taken l c x
-      → ((before : List (List ℕ)) → Holds before (x .checking) → Ran before ls (run r ls (x .checking))) → Ran taken (l ∷ ls) (onward (x .answer) (run r ls (x .checking)))
+      → ((before : List (List ℕ)) → Holds before (x .checking) → Ran before ls (callLines r ls (x .checking))) → Ran taken (l ∷ ls) (onward (x .answer) (callLines r ls (x .checking)))
   unfolding takenTexts
   ran-step taken l ls c x h (took e i k) rest =
       let n = rest (taken ++ (l ∷ [])) k in
-      let u : Run = run r ls (x .checking) in
+      let u : LineCalls = callLines r ls (x .checking) in
       record {
         holds = rw e (subst (λ (ts : List (List ℕ)). Holds ts (u .end)) (regroup taken l (takenTexts (u .answers) ls)) (n .holds));
         answered = ap suc (n .answered);
@@ -227,8 +227,8 @@ module _ (r : Railway) (a : recordRefusal r ≡ none) where
         whole = λ f. absurd (i (form-front r ls taken l (subst (InForm r) (sym (regroup taken l ls)) f)));
       }
 
-  pub ran : (texts taken : List (List ℕ)) (c : Checking) → Holds taken c → Ran taken texts (run r texts c)
-  unfolding run takenTexts
+  pub ran : (texts taken : List (List ℕ)) (c : Checking) → Holds taken c → Ran taken texts (callLines r texts c)
+  unfolding callLines takenTexts
   ran [] taken c h = record { holds = rw (append-nil taken) h; answered = refl; others = λ x m. elim m [ ]; whole = λ f. refl }
   ran (l ∷ ls) taken c h = ran-step taken l ls c (takeLine r c l) h (call taken l c h) (λ before k. ran ls before (takeLine r c l .checking) k)
 
@@ -311,9 +311,9 @@ module _ (r : Railway) (a : recordRefusal r ≡ none) where
   answers taken c (begun m ds f s t) = subst (Answers taken) (sym (tests-at c (unrefused ds c t) s)) (answers-begun taken m ds f (testHolds r m (byTables (c .figs) (c .sets))) (over-lines m ds c f t))
 
   -- CHECKED
-  checked : (texts : List (List ℕ)) (c : Checking) → Holds [] c → Checked r texts (run r texts c .answers) (takenTexts (run r texts c .answers) texts) (run r texts c .end)
+  checked : (texts : List (List ℕ)) (c : Checking) → Holds [] c → Checked r texts (callLines r texts c .answers) (takenTexts (callLines r texts c .answers) texts) (callLines r texts c .end)
   checked texts c h =
-      let u : Run = run r texts c in
+      let u : LineCalls = callLines r texts c in
       let n = ran texts [] c h in
       let x = answers (takenTexts (u .answers) texts) (u .end) (n .holds) in
       record {

@@ -23,7 +23,7 @@ use Rattle.plan.specs.declared.TestAnswer.{TestAnswer}
 use Rattle.plan.specs.Lines.{PlanLine, spell, fits, mostLineBytes}
 use Rattle.plan.specs.Text.{planLines, planTexts}
 use Rattle.plan.specs.Emitter.{saysNone, Wrote}
-use Rattle.plan.specs.Checker.{Checking, Left, takeLine, testPlan, Run, onward, run, isTaken, takenTexts}
+use Rattle.plan.specs.Checker.{Checking, Left, takeLine, testPlan, LineCalls, onward, callLines, isTaken, takenTexts}
 use Rattle.plan.specs.Promises.{TestPost, FreshPost}
 use Rattle.plan.specs.Calls.{longEnough, Taking}
 use Rattle.plan.specs.Checked.{InForm, Passing}
@@ -68,7 +68,7 @@ module _ (r : Railway) (accepted : recordRefusal r ≡ none) where
   plan-fits-in figs sets b e long = room-each (length b) long (planLines r figs sets) e
 
   -- THE CALLS WITH OTHER LINES AMONG THEM: taken are the lines of the plan, and they alone
-  record Handled (hs : List Handed) (u : Run) : Type 0 where
+  record Handled (hs : List Handed) (u : LineCalls) : Type 0 where
     marks : map isTaken (u .answers) ≡ map (λ h. h .own) hs
     texts : takenTexts (u .answers) (map (λ h. h .text) hs) ≡ ownTexts hs
 
@@ -76,10 +76,10 @@ module _ (r : Railway) (accepted : recordRefusal r ≡ none) where
   textsOf hs = map (λ h. h .text) hs
 
   module _ (l : List ℕ) (hs : List Handed) (taken : List (List ℕ)) (c : Checking) (k : Holds r accepted taken c) (x : Left LineAnswer)
-      (rest : (before : List (List ℕ)) → Holds r accepted before (x .checking) → InForm r (before ++ ownTexts hs) → othersRefused hs (run r (textsOf hs) (x .checking) .answers) ≡ true
-      → Handled hs (run r (textsOf hs) (x .checking))) where
-    abbrev after : Run
-    after = run r (textsOf hs) (x .checking)
+      (rest : (before : List (List ℕ)) → Holds r accepted before (x .checking) → InForm r (before ++ ownTexts hs) → othersRefused hs (callLines r (textsOf hs) (x .checking) .answers) ≡ true
+      → Handled hs (callLines r (textsOf hs) (x .checking))) where
+    abbrev after : LineCalls
+    after = callLines r (textsOf hs) (x .checking)
 
     handled-step : (own : Bool) → Call r accepted taken l c x → InForm r (taken ++ cond own (l ∷ ownTexts hs) (ownTexts hs)) → ((own || not (isTaken (x .answer))) && othersRefused hs (after .answers)) ≡ true
         → Handled (record { own = own; text = l } ∷ hs) (onward (x .answer) after)
@@ -95,30 +95,30 @@ module _ (r : Railway) (accepted : recordRefusal r ≡ none) where
         let n = rest taken (subst (Holds r accepted taken) (sym h) k) f (and-true (not (isTaken (x .answer))) (othersRefused hs (after .answers)) o .1) in
         record { marks = rw e (ap (λ (bs : List Bool). false ∷ bs) (n .marks)); texts = rw e (n .texts) }
 
-  handled : (hs : List Handed) (taken : List (List ℕ)) (c : Checking) → Holds r accepted taken c → InForm r (taken ++ ownTexts hs) → othersRefused hs (run r (textsOf hs) c .answers) ≡ true → Handled hs (run r (textsOf hs) c)
-  unfolding run ownTexts othersRefused takenTexts
+  handled : (hs : List Handed) (taken : List (List ℕ)) (c : Checking) → Holds r accepted taken c → InForm r (taken ++ ownTexts hs) → othersRefused hs (callLines r (textsOf hs) c .answers) ≡ true → Handled hs (callLines r (textsOf hs) c)
+  unfolding callLines ownTexts othersRefused takenTexts
   handled [] taken c k i e = record { marks = refl; texts = refl }
   handled (h ∷ hs) taken c k i e =
       handled-step (h .text) hs taken c k (takeLine r c (h .text)) (λ before k i e. handled hs before (takeLine r c (h .text) .checking) k i e) (h .own) (call r accepted taken (h .text) c k) i e
 
   -- any texts in form that pass, with any refused texts among them
-  passed : (hs : List Handed) (c : Checking) → Holds r accepted [] c → Passing r (ownTexts hs) → othersRefused hs (run r (textsOf hs) c .answers) ≡ true
-      → Passed hs (run r (textsOf hs) c .answers) (testPlan r (run r (textsOf hs) c .end) .answer)
+  passed : (hs : List Handed) (c : Checking) → Holds r accepted [] c → Passing r (ownTexts hs) → othersRefused hs (callLines r (textsOf hs) c .answers) ≡ true
+      → Passed hs (callLines r (textsOf hs) c .answers) (testPlan r (callLines r (textsOf hs) c .end) .answer)
   passed hs c k p e =
-      let u : Run = run r (textsOf hs) c in
+      let u : LineCalls = callLines r (textsOf hs) c in
       let n = handled hs [] c k (record { start = p .start; lines = p .lines; form = p .form; holds = tt }) e in
       let h : Holds r accepted (ownTexts hs) (u .end) = subst (λ (ls : List (List ℕ)). Holds r accepted ls (u .end)) (n .texts) (ran r accepted (textsOf hs) [] c k .holds) in
       record { taken = n .marks; passes = answers r accepted (ownTexts hs) (u .end) h .passes .1 p }
 
   -- the same of any calls that keep their promises
   passed-calls : (figs sets : List ℕ) (c : Checking) → placements r ≤ length figs → placements r ≤ length sets → FreshPost figs sets c
-      → (hs : List Handed) (u : Run) → Taking r c (textsOf hs) u → Passing r (ownTexts hs) → othersRefused hs (u .answers) ≡ true
+      → (hs : List Handed) (u : LineCalls) → Taking r c (textsOf hs) u → Passing r (ownTexts hs) → othersRefused hs (u .answers) ≡ true
       → (test : TestAnswer) (c′ : Checking) → TestPost r (u .end) test c′ → Passed hs (u .answers) test
   passed-calls figs sets c lf ls p hs u t y e test c′ q =
-      let s : u ≡ run r (textsOf hs) c = taking-one r c (textsOf hs) u t in
+      let s : u ≡ callLines r (textsOf hs) c = taking-one r c (textsOf hs) u t in
       let k : Holds r accepted [] c = subst (Holds r accepted []) (sym (fresh-one figs sets c p)) (fresh-holds r accepted (length figs) (length sets) lf ls) in
       let x = passed hs c k y (rw s at e) in
-      rw s (record { taken = x .taken; passes = q .answer ∙ ap (λ (v : Run). testPlan r (v .end) .answer) s ∙ x .passes })
+      rw s (record { taken = x .taken; passes = q .answer ∙ ap (λ (v : LineCalls). testPlan r (v .end) .answer) s ∙ x .passes })
 
 pub demand3-holds : Demand3Holds
 demand3-holds r a figs sets figs′ sets′ accepted lf ls post =

@@ -26,7 +26,7 @@ use Rattle.plan.specs.declared.PlanPlace.the-variants.{Top, From}
 use Rattle.plan.specs.declared.Emitted.the-variants.{Line, End, NoPlan}
 use Rattle.plan.specs.Lines.{startLine, placementLine, spell}
 use Rattle.plan.specs.Text.{hasFigure, lineFor, planLines, planTexts}
-use Rattle.plan.specs.Emitter.{isLine, Wrote, leaves, written, nextCode, due, writtenDue, emitLine}
+use Rattle.plan.specs.Emitter.{isLine, Wrote, leaves, lineWritten, nextCode, due, dueWritten, emitLine}
 use Rattle.plan.specs.Calls.{Emission, EmittingInto, wrote, stopped, longEnough}
 use Rattle.plan.proofs.Promises.{emits-so}
 use Rattle.plan.proofs.Calls.{goOn, emission}
@@ -41,7 +41,7 @@ no-buffers [] e = clash e refl
 no-buffers (l ∷ ls) e = clash e refl
 
 -- what is written where a line fits into the buffer
-put-line : (l : List ℕ) (next : PlanPlace) (b : List ℕ) → length l ≤ length b → written l next b ≡ record { answer = Line (length l) next; buffer = l ++ drop (length l) b }
+put-line : (l : List ℕ) (next : PlanPlace) (b : List ℕ) → length l ≤ length b → lineWritten l next b ≡ record { answer = Line (length l) next; buffer = l ++ drop (length l) b }
 put-line l next b h = rw (le-ltb (length b) (length l) h)
 
 module _ (r : Railway) (figs sets : List ℕ) (unrefused : caseRefusal r figs sets ≡ none) where
@@ -51,7 +51,7 @@ module _ (r : Railway) (figs sets : List ℕ) (unrefused : caseRefusal r figs se
   emits-none e place buffer = rw (unrefused, e)
 
   module _ (n : ℕ) (start : figureIn figs (startCode r) ≡ some n) where
-    emit-at : (place : PlanPlace) (buffer : List ℕ) → emitLine r figs sets place buffer ≡ writtenDue buffer (due r figs sets place)
+    emit-at : (place : PlanPlace) (buffer : List ℕ) → emitLine r figs sets place buffer ≡ dueWritten buffer (due r figs sets place)
     unfolding emitLine
     emit-at place buffer = rw (unrefused, start)
 

@@ -19,7 +19,7 @@ use Rattle.railway.specs.declared.Railway.{Railway}
 use Rattle.railway.specs.declared.Refusal.the-variants.{Space}
 use Rattle.railway.specs.Ends.{endAt}
 use Rattle.railway.specs.Refusals.{first}
-use Rattle.railway.specs.Record.{joined, hasSignal, legsOf, runOf, withJoin, withSignal, withLegs, withTrain}
+use Rattle.railway.specs.Record.{joined, hasSignal, legsOf, trainOf, withJoin, withSignal, withLegs, withTrain}
 use Rattle.railway.specs.Rows.{unknownRow, joinRow, looseRow, placeRow}
 use Rattle.game.specs.Local.{keepsTest}
 use Rattle.game.specs.Placement.{codeOf, sectionsIn, standsOn, startCode, atHome, shared}
@@ -39,7 +39,7 @@ use Rattle.plan.specs.Emitter.{numberGiven, Wrote, leaves, emitLine}
 use Rattle.plan.specs.Test.{listedSetting}
 use Rattle.plan.specs.Reading.{guess, readLine}
 use Rattle.plan.specs.Computed.{placementPasses, testHolds}
-use Rattle.plan.specs.Checker.{freshChecking, lineEntry, lineNumber, testNumber, takeLine, testPlan, Run, run}
+use Rattle.plan.specs.Checker.{freshChecking, lineEntry, lineNumber, testNumber, takeLine, testPlan, LineCalls, callLines}
 
 -- A text and the number that its call is to get; 0: it is taken.
 record Said : Type 0 where
@@ -68,11 +68,11 @@ numbers [] (s ∷ ss) = false
 numbers (a ∷ answers) [] = false
 numbers (a ∷ answers) (s ∷ ss) = isNumber a (s .number) && numbers answers ss
 
-abbrev ends : Script → Run → Bool
+abbrev ends : Script → LineCalls → Bool
 ends x u = numbers (map lineNumber (u .answers)) (x .said) && isNumber (testNumber (testPlan (x .yard) (u .end) .answer)) (x .test)
 
 abbrev holds : Script → Bool
-holds x = ends x (run (x .yard) (map (λ s. bytes (s .text)) (x .said)) (freshChecking (x .entries) (x .entries)))
+holds x = ends x (callLines (x .yard) (map (λ s. bytes (s .text)) (x .said)) (freshChecking (x .entries) (x .entries)))
 
 -- 1u joined with 2u: row 5 applies.
 abbrev wrongJoin : Railway
@@ -146,7 +146,7 @@ scripts =
     ∷ []
 
 as-said : all holds scripts ≡ true
-unfolding all numbers bytes run takeLine testPlan caseRefusal tablesShort first unknownRow joinRow looseRow placeRow endAt joined hasSignal legsOf runOf withJoin withSignal withLegs withTrain allBelow anyBelow sumBelow whichBelow listBelow lowest fromBits any readLine guess fields valueOf sameText spell line digits fits entryFrom codeOf testHolds placementPasses listedSetting keepsTest sectionsIn standsOn startCode atHome shared headsFor held mayMove passes occupied moveOf
+unfolding all numbers bytes callLines takeLine testPlan caseRefusal tablesShort first unknownRow joinRow looseRow placeRow endAt joined hasSignal legsOf trainOf withJoin withSignal withLegs withTrain allBelow anyBelow sumBelow whichBelow listBelow lowest fromBits any readLine guess fields valueOf sameText spell line digits fits entryFrom codeOf testHolds placementPasses listedSetting keepsTest sectionsIn standsOn startCode atHome shared headsFor held mayMove passes occupied moveOf
 as-said = refl
 
 -- THE EMITTER in Yard A, with its tables: the first line, the last line with bytes past it, a buffer that is too short, the end, a place past
@@ -163,7 +163,7 @@ emitted :
     × (emitLine yardA (replicate 9 4294967295) setsA Top [] ≡ leaves NoPlan [])
     × (emitLine yardA (replicate 8 4294967295) setsA Top [] ≡ leaves (Refused Space) [])
     × (numberGiven (emitLine wrongJoin [] [] Top [] .answer) ≡ some 5)
-unfolding bytes emitLine caseRefusal tablesShort first unknownRow joinRow looseRow placeRow endAt joined hasSignal legsOf runOf withJoin withSignal withLegs withTrain anyBelow sumBelow whichBelow listBelow lowest lineFor spell line digits codeOf sectionsIn startCode
+unfolding bytes emitLine caseRefusal tablesShort first unknownRow joinRow looseRow placeRow endAt joined hasSignal legsOf trainOf withJoin withSignal withLegs withTrain anyBelow sumBelow whichBelow listBelow lowest lineFor spell line digits codeOf sectionsIn startCode
 emitted = (refl, refl, refl, refl, refl, refl, refl, refl)
 
 -- THE ORDER OF SEVERAL POINTS, point 1 first and in bit 0, and of two open
@@ -180,5 +180,5 @@ several-points :
     × (lineEntry ladder startLadder ≡ 196609)
     × (lineFor ladder figsLadder (set (replicate 49 0) 42 196609) 42 ≡ startLadder)
     × (emitLine ladder figsLadder (set (replicate 49 0) 42 65540) (From 0) (replicate 12 7) ≡ record { answer = Line 12 (From 43); buffer = bytes "1\t7\t3\t1\t--+\n" })
-unfolding bytes emitLine caseRefusal tablesShort first unknownRow joinRow looseRow placeRow endAt joined hasSignal legsOf runOf withJoin withSignal withLegs withTrain anyBelow sumBelow whichBelow listBelow lowest fromBits any all readLine guess fields valueOf sameText fits lineFor spell line digits codeOf sectionsIn startCode entryFrom
+unfolding bytes emitLine caseRefusal tablesShort first unknownRow joinRow looseRow placeRow endAt joined hasSignal legsOf trainOf withJoin withSignal withLegs withTrain anyBelow sumBelow whichBelow listBelow lowest fromBits any all readLine guess fields valueOf sameText fits lineFor spell line digits codeOf sectionsIn startCode entryFrom
 several-points = (refl, refl, refl, refl, refl)

@@ -18,7 +18,7 @@ use Rattle.text.specs.Reading.{fields, valueOf, sameText}
 use Rattle.railway.specs.declared.Refusal.the-variants.{PlanFault}
 use Rattle.railway.specs.Ends.{endAt}
 use Rattle.railway.specs.Refusals.{first}
-use Rattle.railway.specs.Record.{joined, hasSignal, legsOf, runOf, withJoin, withSignal, withLegs, withTrain}
+use Rattle.railway.specs.Record.{joined, hasSignal, legsOf, trainOf, withJoin, withSignal, withLegs, withTrain}
 use Rattle.railway.specs.Rows.{unknownRow, joinRow, looseRow, placeRow}
 use Rattle.game.specs.Local.{keepsTest}
 use Rattle.game.specs.Placement.{codeOf, sectionsIn, placements, standsOn, startCode, atHome, shared}
@@ -39,7 +39,7 @@ use Rattle.plan.specs.Calls.{Emission, EmittingInto, longEnough}
 use Rattle.plan.specs.Test.{listedSetting}
 use Rattle.plan.specs.Reading.{guess, readLine}
 use Rattle.plan.specs.Computed.{placementPasses, testHolds}
-use Rattle.plan.specs.Checker.{freshChecking, takeLine, testPlan, Run, run, takenTexts}
+use Rattle.plan.specs.Checker.{freshChecking, takeLine, testPlan, LineCalls, callLines, takenTexts}
 use Rattle.plan.specs.Checked.{Passing, Failing}
 use Rattle.plan.specs.Demand3.{Handed, ownTexts, othersRefused, Passed, Demand3}
 use Rattle.plan.proofs.Promises.{tests-so}
@@ -62,7 +62,7 @@ kept new e = record { as-long = e; past = λ p l. List·getD-eq-default new 0 {n
 
 -- a solver that keeps its promise
 post : SolverPost yardA (Figure 2) lent lent figsA setsA
-unfolding caseRefusal tablesShort first unknownRow joinRow looseRow placeRow endAt joined hasSignal legsOf runOf withJoin withSignal withLegs withTrain anyBelow startCode codeOf sumBelow listBelow
+unfolding caseRefusal tablesShort first unknownRow joinRow looseRow placeRow endAt joined hasSignal legsOf trainOf withJoin withSignal withLegs withTrain anyBelow startCode codeOf sumBelow listBelow
 post = record { refusal = refl; numbered = refl; leaves = (record { filled = yardA-filled; kept-figs = kept figsA refl; kept-sets = kept setsA refl }, refl) }
 
 demand : Demand3 yardA (Figure 2) figsA setsA
@@ -85,22 +85,22 @@ buffers = replicate 5 (replicate 10 7)
 abbrev widest : List ℕ
 widest = replicate mostLineBytes 7
 
-abbrev handedRun : Run
-handedRun = run yardA (map (λ h. h .text) handed) (freshChecking 9 12)
+abbrev handedCalls : LineCalls
+handedCalls = callLines yardA (map (λ h. h .text) handed) (freshChecking 9 12)
 
-abbrev firstAlone : Run
-firstAlone = run yardA (bytes "plan\t2\n" ∷ []) (freshChecking 9 9)
+abbrev firstAlone : LineCalls
+firstAlone = callLines yardA (bytes "plan\t2\n" ∷ []) (freshChecking 9 9)
 
 computed :
     (figureIn figsA (startCode yardA) ≡ some 2)
     × (longEnough (planTexts yardA figsA setsA) buffers ≡ true)
     × (length (planTexts yardA figsA setsA) ≡ 4)
     × (ownTexts handed ≡ planTexts yardA figsA setsA)
-    × (othersRefused handed (handedRun .answers) ≡ true)
+    × (othersRefused handed (handedCalls .answers) ≡ true)
     × (testPlan yardA (firstAlone .end) .answer ≡ Refused PlanFault)
-    × (Pass ≡ testPlan yardA (handedRun .end) .answer)
+    × (Pass ≡ testPlan yardA (handedCalls .end) .answer)
     × (all (λ l. leb (length l) (length widest)) (planTexts yardA figsA setsA) ≡ true)
-unfolding longEnough planTexts planLines lineFor ownTexts othersRefused bytes run takeLine testPlan caseRefusal tablesShort first unknownRow joinRow looseRow placeRow endAt joined hasSignal legsOf runOf withJoin withSignal withLegs withTrain allBelow anyBelow sumBelow whichBelow listBelow fromBits any all readLine guess fields valueOf sameText spell line digits fits entryFrom codeOf testHolds placementPasses listedSetting keepsTest sectionsIn standsOn startCode atHome shared headsFor held mayMove passes occupied moveOf
+unfolding longEnough planTexts planLines lineFor ownTexts othersRefused bytes callLines takeLine testPlan caseRefusal tablesShort first unknownRow joinRow looseRow placeRow endAt joined hasSignal legsOf trainOf withJoin withSignal withLegs withTrain allBelow anyBelow sumBelow whichBelow listBelow fromBits any all readLine guess fields valueOf sameText spell line digits fits entryFrom codeOf testHolds placementPasses listedSetting keepsTest sectionsIn standsOn startCode atHome shared headsFor held mayMove passes occupied moveOf
 computed = (refl, refl, refl, refl, refl, refl, refl, refl)
 
 -- so demand 3 speaks of calls that there are: those of the functions, with buffers that are long enough and with buffers of the most bytes
@@ -121,11 +121,11 @@ room = demand .room 2 (computed .0) (replicate 5 widest) refl (omega (arith, com
 emits-into : EmittingInto yardA figsA setsA Top widest whole × (mostLineBytes ≤ length widest)
 emits-into = (into-whole yardA figsA setsA unrefused 2 (computed .0) widest (computed .7), omega arith)
 
-checks : Passed handed (handedRun .answers) Pass
+checks : Passed handed (handedCalls .answers) Pass
 checks =
     demand .checks 2 (computed .0) lent (replicate 12 5) (freshChecking 9 12) (omega (arith, nine)) (omega (arith, nine)) (record { state = refl; figures = refl; settings = refl })
-    handed handedRun (taking yardA (map (λ h. h .text) handed) (freshChecking 9 12)) (computed .3) (computed .4)
-    Pass (handedRun .end) (tests-so yardA (handedRun .end) Pass (computed .6))
+    handed handedCalls (taking yardA (map (λ h. h .text) handed) (freshChecking 9 12)) (computed .3) (computed .4)
+    Pass (handedCalls .end) (tests-so yardA (handedCalls .end) Pass (computed .6))
 
 -- and there are plans that pass, and plans that fail
 passing : Passing yardA (planTexts yardA figsA setsA)

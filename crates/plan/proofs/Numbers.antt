@@ -25,14 +25,14 @@ use Rattle.plan.specs.declared.CheckerState.{CheckerState}
 use Rattle.plan.specs.declared.CheckerState.the-variants.{Fresh, Begun}
 use Rattle.plan.specs.Lines.{PlanLine, startLine, placementLine, lineCode}
 use Rattle.plan.specs.Text.{isSome}
-use Rattle.plan.specs.Emitter.{numberGiven, Due, due, writtenDue, dueTooLong, bufferShort, emitterRows, emitted, emitLine}
+use Rattle.plan.specs.Emitter.{numberGiven, Due, due, dueWritten, dueTooLong, bufferShort, emitterRows, emitted, emitLine}
 use Rattle.plan.specs.Reading.{readLine}
 use Rattle.plan.specs.Computed.{testHolds}
 use Rattle.plan.specs.Test.{byTables}
 use Rattle.plan.specs.Checker.{lineNumber, testNumber, Checking, takes, takesIf, takeLine, outOfForm, lineRows, tests, testPlan, nothingTaken, planFails, testRows}
 
 -- THE EMITTER. A line that is due, by its length.
-due-number : (buffer : List ℕ) (o : Option Due) → numberGiven (writtenDue buffer o .answer) ≡ numberOf (refuseIf (dueTooLong buffer o) Space none)
+due-number : (buffer : List ℕ) (o : Option Due) → numberGiven (dueWritten buffer o .answer) ≡ numberOf (refuseIf (dueTooLong buffer o) Space none)
 due-number buffer none = refl
 due-number buffer (some d) = elim (bool? (ltb (length buffer) (length (d .text)))) [ inl e ↦ rw e refl | inr e ↦ rw e refl ]
 

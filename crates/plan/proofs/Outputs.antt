@@ -9,7 +9,7 @@ use Rattle.laws.specs.Bits.{fromBits}
 use Rattle.text.specs.Text.{digits, line, bytes}
 use Rattle.railway.specs.Ends.{endAt}
 use Rattle.railway.specs.Refusals.{first}
-use Rattle.railway.specs.Record.{joined, hasSignal, legsOf, runOf, withJoin, withSignal, withLegs, withTrain}
+use Rattle.railway.specs.Record.{joined, hasSignal, legsOf, trainOf, withJoin, withSignal, withLegs, withTrain}
 use Rattle.railway.specs.Rows.{unknownRow, joinRow, looseRow, placeRow, recordRefusal}
 use Rattle.game.specs.Local.{keepsTest}
 use Rattle.game.specs.Placement.{codeOf, sectionsIn, standsOn, startCode, atHome, shared}
@@ -27,7 +27,7 @@ use Rattle.plan.specs.Outputs.{Output, outputA, outputOne, Writes, Outpu
 use Rattle.plan.proofs.Plan.{texts-one}
 
 one-sure : Sure yardOne (0 ∷ []) (0 ∷ [])
-unfolding recordRefusal first unknownRow joinRow looseRow placeRow endAt joined hasSignal legsOf runOf withJoin withSignal withLegs withTrain allBelow anyBelow sumBelow lowest fromBits certified keepsTest sectionsIn standsOn codeOf atHome shared headsFor held mayMove passes occupied moveOf settingAt entryFrom tryOpen firstFound find
+unfolding recordRefusal first unknownRow joinRow looseRow placeRow endAt joined hasSignal legsOf trainOf withJoin withSignal withLegs withTrain allBelow anyBelow sumBelow lowest fromBits certified keepsTest sectionsIn standsOn codeOf atHome shared headsFor held mayMove passes occupied moveOf settingAt entryFrom tryOpen firstFound find
 one-sure = record { accepted = refl; passes = refl }
 
 -- a text that one pair of filled tables makes
@@ -35,7 +35,7 @@ writes : (x : Output) (figs sets : List ℕ) → recordRefusal (x .yard) ≡ non
 writes x figs sets a f e = record { accepted = a; text = λ figs′ sets′ g. ap flatten (texts-one (x .yard) a figs′ sets′ figs sets g f) ∙ e }
 
 computed : (planText yardA figsA setsA ≡ bytes (outputA .text)) × (planText yardOne (0 ∷ []) (0 ∷ []) ≡ bytes (outputOne .text))
-unfolding flatten bytes planTexts planLines lineFor spell digits line sumBelow whichBelow listBelow sectionsIn startCode codeOf runOf withJoin withSignal withLegs withTrain
+unfolding flatten bytes planTexts planLines lineFor spell digits line sumBelow whichBelow listBelow sectionsIn startCode codeOf trainOf withJoin withSignal withLegs withTrain
 computed = (refl, refl)
 
 -- THE TEXTS WRITTEN OUT

@@ -33,7 +33,7 @@ use Rattle.plan.specs.declared.TestAnswer.{TestAnswer}
 use Rattle.plan.specs.declared.TestAnswer.the-variants.{Pass, Refused as TestRefused}
 use Rattle.plan.specs.Lines.{PlacementLine, PlanLine, startLine, placementLine, Spells, lineCode}
 use Rattle.plan.specs.Text.{isSome, hasFigure}
-use Rattle.plan.specs.Emitter.{isLine, leaves, written, Due, due, writtenDue, emitted, emitLine}
+use Rattle.plan.specs.Emitter.{isLine, leaves, lineWritten, Due, due, dueWritten, emitted, emitLine}
 use Rattle.plan.specs.Test.{byTables}
 use Rattle.plan.specs.Computed.{testHolds}
 use Rattle.plan.specs.Checker.{Checking, Left, left, lineEntry, begin, enter, refuse, takes, takesIf, takeLine, tests, testPlan}
@@ -80,7 +80,7 @@ module _ (r : Railway) (figs sets : List ℕ) (place : PlanPlace) (buffer : List
     idle-rule : (a : Emitted) → isLine a ≡ false → ((f : Refusal) → ¬ (a ≡ EmitRefused f)) → ¬ (TooShort r figs sets place buffer) → EmitRule r figs sets place buffer (leaves a buffer)
     idle-rule a o n t = leaves-rule a o (λ f q. some-none q unrefused) (λ f q p. absurd (n f p)) (λ q. (λ p. absurd (n Space p), λ x. absurd (t x)))
 
-    due-rule : hasFigure figs (startCode r) ≡ true → (d : Due) → due r figs sets place ≡ some d → EmitRule r figs sets place buffer (written (d .text) (d .next) buffer)
+    due-rule : hasFigure figs (startCode r) ≡ true → (d : Due) → due r figs sets place ≡ some d → EmitRule r figs sets place buffer (lineWritten (d .text) (d .next) buffer)
     due-rule h d u = go (ltb (length buffer) (length (d .text))) refl
       where
         go : (b : Bool) → ltb (length buffer) (length (d .text)) ≡ b
@@ -108,7 +108,7 @@ module _ (r : Railway) (figs sets : List ℕ) (place : PlanPlace) (buffer : List
               as-long = simp (length-append, length-drop) (omega arith);
             }
 
-    place-rule : hasFigure figs (startCode r) ≡ true → (o : Option Due) → due r figs sets place ≡ o → EmitRule r figs sets place buffer (writtenDue buffer o)
+    place-rule : hasFigure figs (startCode r) ≡ true → (o : Option Due) → due r figs sets place ≡ o → EmitRule r figs sets place buffer (dueWritten buffer o)
     place-rule h none u = idle-rule End refl (λ f p. differ emittedKind p (λ z. omega arith)) (λ x. some-none (x .is-due) u)
     place-rule h (some d) u = due-rule h d u
 

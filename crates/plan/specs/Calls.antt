@@ -13,7 +13,7 @@ use Rattle.plan.specs.declared.Emitted.{Emitted}
 use Rattle.plan.specs.declared.Emitted.the-variants.{Line}
 use Rattle.plan.specs.declared.LineAnswer.{LineAnswer}
 use Rattle.plan.specs.Emitter.{isLine}
-use Rattle.plan.specs.Checker.{Checking, Run, onward}
+use Rattle.plan.specs.Checker.{Checking, LineCalls, onward}
 use Rattle.plan.specs.Promises.{EmitterPost, LinePost}
 
 -- THE EMITTER'S CALLS. What they give: the lines written, and the answer that was no line; none if the buffers ran out before it.
@@ -43,7 +43,7 @@ longEnough [] (b ∷ bs) = true
 longEnough (l ∷ ls) (b ∷ bs) = leb (length l) (length b) && longEnough ls bs
 
 -- THE CHECKER'S CALLS for lines, the first handed c, and every next one the state and the tables that the last one left.
-pub data Taking (r : Railway) : Checking → List (List ℕ) → Run → Type 0 where
+pub data Taking (r : Railway) : Checking → List (List ℕ) → LineCalls → Type 0 where
   no-more : (c : Checking) → Taking r c [] (record { answers = []; end = c })
-  one-more : (c c′ : Checking) (a : LineAnswer) (text : List ℕ) (texts : List (List ℕ)) (u : Run) → LinePost r c text a c′
+  one-more : (c c′ : Checking) (a : LineAnswer) (text : List ℕ) (texts : List (List ℕ)) (u : LineCalls) → LinePost r c text a c′
       → Taking r c′ texts u → Taking r c (text ∷ texts) (onward a u)

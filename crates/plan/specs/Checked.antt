@@ -23,7 +23,7 @@ use Rattle.plan.specs.Lines.{PlacementLine, PlanLine, spell, fits, Spell
 use Rattle.plan.specs.Test.{Listing, listedSetting, Test, byLines}
 use Rattle.plan.specs.Reading.{readLine}
 use Rattle.plan.specs.Computed.{testHolds}
-use Rattle.plan.specs.Checker.{Checking, freshChecking, takeLine, testPlan, Run, run, isTaken, takenTexts}
+use Rattle.plan.specs.Checker.{Checking, freshChecking, takeLine, testPlan, LineCalls, callLines, isTaken, takenTexts}
 
 -- A text is read as a line exactly if it is the spelling of that line and the line fits the case. (An accepted case has so few sections.)
 abbrev pub ReadsLine : Type 0
@@ -77,7 +77,7 @@ pub record Checked (r : Railway) (texts : List (List ℕ)) (answers : List LineA
 abbrev pub CheckedHolds : Type 0
 CheckedHolds =
     (r : Railway) → recordRefusal r ≡ none → (n m : ℕ) → placements r ≤ n → placements r ≤ m → (texts : List (List ℕ))
-    → (let u : Run = run r texts (freshChecking n m) in Checked r texts (u .answers) (takenTexts (u .answers) texts) (u .end))
+    → (let u : LineCalls = callLines r texts (freshChecking n m) in Checked r texts (u .answers) (takenTexts (u .answers) texts) (u .end))
 
 -- A plan that passes can be followed: from the start its settings lead home within the figure of its first line, against every choice of trains.
 abbrev pub PlanWorks : Type 0

@@ -128,18 +128,18 @@ unfoldable pub testPlan : Railway → Checking → Left TestAnswer
 testPlan r c = left (tests r c (caseRefusal r (c .figs) (c .sets)) (c .state)) c
 
 -- CALLS FOR LINES, one after the other, each with what the last one left: the answers, and what is left in the end.
-pub record Run : Type 0 where
+pub record LineCalls : Type 0 where
   pub answers : List LineAnswer
   pub end : Checking
 
 -- A call's answer, before those of the calls that follow it.
-abbrev pub onward : LineAnswer → Run → Run
+abbrev pub onward : LineAnswer → LineCalls → LineCalls
 onward a u = record { answers = a ∷ u .answers; end = u .end }
 
 -- The calls for these texts, from what the checker is handed first.
-unfoldable pub run : Railway → List (List ℕ) → Checking → Run
-run r [] c = record { answers = []; end = c }
-run r (l ∷ ls) c = onward (takeLine r c l .answer) (run r ls (takeLine r c l .checking))
+unfoldable pub callLines : Railway → List (List ℕ) → Checking → LineCalls
+callLines r [] c = record { answers = []; end = c }
+callLines r (l ∷ ls) c = onward (takeLine r c l .answer) (callLines r ls (takeLine r c l .checking))
 
 -- The line was taken.
 abbrev pub isTaken : LineAnswer → Bool

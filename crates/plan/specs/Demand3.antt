@@ -26,7 +26,7 @@ use Rattle.plan.specs.declared.TestAnswer.the-variants.{Pass}
 use Rattle.plan.specs.Lines.{mostLineBytes}
 use Rattle.plan.specs.Text.{planTexts}
 use Rattle.plan.specs.Emitter.{saysNone}
-use Rattle.plan.specs.Checker.{Checking, Run, isTaken}
+use Rattle.plan.specs.Checker.{Checking, LineCalls, isTaken}
 use Rattle.plan.specs.Promises.{EmitterPost, TestPost, FreshPost}
 use Rattle.plan.specs.Calls.{Emission, Emitting, EmittingInto, longEnough, Taking}
 
@@ -78,7 +78,7 @@ pub record Demand3 (r : Railway) (a : SolverAnswer) (figs sets : List ℕ) : Typ
   -- long enough: it takes those of the plan and no others, and then answers pass to the call for the test
   pub checks : (n : ℕ) → figureIn figs (startCode r) ≡ some n
       → (lent₁ lent₂ : List ℕ) (c : Checking) → placements r ≤ length lent₁ → placements r ≤ length lent₂ → FreshPost lent₁ lent₂ c
-      → (hs : List Handed) (u : Run) → Taking r c (map (λ h. h .text) hs) u → ownTexts hs ≡ planTexts r figs sets → othersRefused hs (u .answers) ≡ true
+      → (hs : List Handed) (u : LineCalls) → Taking r c (map (λ h. h .text) hs) u → ownTexts hs ≡ planTexts r figs sets → othersRefused hs (u .answers) ≡ true
       → (test : TestAnswer) (c′ : Checking) → TestPost r (u .end) test c′ → Passed hs (u .answers) test
 
 -- DEMAND 3: in an accepted case with tables long enough it holds of whatever a solver leaves that keeps its promise.

@@ -56,8 +56,8 @@ abbrev pub leaves : Emitted → List ℕ → Wrote
 leaves a buffer = record { answer = a; buffer = buffer }
 
 -- A line goes to the front of the buffer, and what stands behind it stays; a buffer shorter than the line gives space (9).
-abbrev pub written : List ℕ → PlanPlace → List ℕ → Wrote
-written l next buffer =
+abbrev pub lineWritten : List ℕ → PlanPlace → List ℕ → Wrote
+lineWritten l next buffer =
     cond (ltb (length buffer) (length l))
     (leaves (Refused Space) buffer)
     (record { answer = Line (length l) next; buffer = l ++ drop (length l) buffer })
@@ -86,9 +86,9 @@ due r figs sets Top = some (record { text = spell (startLine (getD figs (startCo
 due r figs sets (From c) = dueFor r figs sets (nextCode r figs c)
 
 -- It is written; the end where none is due.
-abbrev pub writtenDue : List ℕ → Option Due → Wrote
-writtenDue buffer none = leaves End buffer
-writtenDue buffer (some d) = written (d .text) (d .next) buffer
+abbrev pub dueWritten : List ℕ → Option Due → Wrote
+dueWritten buffer none = leaves End buffer
+dueWritten buffer (some d) = lineWritten (d .text) (d .next) buffer
 
 -- THE ROWS of a call. A line is due that is longer than the buffer.
 abbrev pub dueTooLong : List ℕ → Option Due → Bool
@@ -107,7 +107,7 @@ emitterRows r figs sets place buffer = recordRows r ++ (row Space (tablesShort r
 abbrev pub emitted : Railway → List ℕ → List ℕ → PlanPlace → List ℕ → Option Refusal → Option ℕ → Wrote
 emitted r figs sets place buffer (some f) start = leaves (Refused f) buffer
 emitted r figs sets place buffer none none = leaves NoPlan buffer
-emitted r figs sets place buffer none (some n) = writtenDue buffer (due r figs sets place)
+emitted r figs sets place buffer none (some n) = dueWritten buffer (due r figs sets place)
 
 -- All of it, for any record, tables, place and buffer.
 unfoldable pub emitLine : Railway → List ℕ → List ℕ → PlanPlace → List ℕ → Wrote

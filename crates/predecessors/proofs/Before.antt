@@ -16,7 +16,7 @@ use Rattle.railway.specs.declared.Train.{Train}
 use Rattle.railway.specs.declared.Railway.{Railway}
 use Rattle.railway.specs.Bounds.{mostSections, mostTrains}
 use Rattle.railway.specs.Ends.{opposite}
-use Rattle.railway.specs.Record.{runOf}
+use Rattle.railway.specs.Record.{trainOf}
 use Rattle.railway.specs.Rows.{recordRefusal}
 use Rattle.railway.proofs.Accepted.{accepted-facts}
 use Rattle.game.specs.Game.{lost, at, collision}
@@ -36,10 +36,10 @@ module _ (r : Railway) where
   pub fill-end : (behind : List ℕ) (i : ℕ) → FilledTo (behindByte r) behindBytes behind i → behindBytes ≤ i → Behind r behind
   fill-end behind i h l = record { bytes = λ j m. h .below j (omega arith) }
 
-  pub byte-is : (i y : ℕ) (run : Train) (s : Side) → run ≡ runOf r (i / (2 * mostSections)) → s ≡ opposite (run .heading)
+  pub byte-is : (i y : ℕ) (train : Train) (s : Side) → train ≡ trainOf r (i / (2 * mostSections)) → s ≡ opposite (train .heading)
       → y ≡ sectionByte (passes r (λ n. eqb (i % 2) 1) (Section (record { 0 = i / 2 % mostSections }) s) .reached) → y ≡ behindByte r i
   unfolding behindByte
-  byte-is i y run s is e h = let z : s ≡ opposite (runOf r (i / (2 * mostSections)) .heading) = e ∙ ap (λ (a : Train). opposite (a .heading)) is in rw z at h
+  byte-is i y train s is e h = let z : s ≡ opposite (trainOf r (i / (2 * mostSections)) .heading) = e ∙ ap (λ (a : Train). opposite (a .heading)) is in rw z at h
 
   -- A byte read again: j says which of the two of a train and section it is.
   pub read-behind : (t x i j y : ℕ) (plus : Bool) → t < mostTrains → x < mostSections → i ≡ 2 * (mostSections * t + x) + j → j < 2 → eqb j 1 ≡ plus → y ≡ behindByte r i → y ≡ sectionBehind r t x plus
@@ -90,8 +90,8 @@ module _ (r : Railway) (accepted : recordRefusal r ≡ none) (c p t : ℕ) (plus
     behind-is : y ≡ standsOn r p t
     unfolding headsFor
     behind-is =
-        let way : passes r (λ i. plus) (Section (record { 0 = standsOn r p t }) (runOf r t .heading)) .reached ≡ some x = into .reached ∙ ap (λ (a : ℕ). some a) (sym section-is) in
-        let back : passes r (λ i. plus) (endBehind r t x) .reached ≡ some (standsOn r p t) = goes-back r (accepted-facts r accepted) plus (runOf r t .heading) (standsOn r p t) x way in
+        let way : passes r (λ i. plus) (Section (record { 0 = standsOn r p t }) (trainOf r t .heading)) .reached ≡ some x = into .reached ∙ ap (λ (a : ℕ). some a) (sym section-is) in
+        let back : passes r (λ i. plus) (endBehind r t x) .reached ≡ some (standsOn r p t) = goes-back r (accepted-facts r accepted) plus (trainOf r t .heading) (standsOn r p t) x way in
         behind ∙ ap sectionByte back
 
     pub some-behind : y ≡ noByte → ⊥

@@ -1,4 +1,4 @@
--- A way is the same back: joins are returned and tie sides that differ, and a point that lets a train through from one port to another
+-- A route is the same back: joins are returned and tie sides that differ, and a point that lets a train through from one port to another
 -- lets it through back. So a train that comes to a section by an end comes, going back by that end with the points as they lie, to where
 -- it was. Assumes nothing.
 use mathlib.Core.Path.{_≡_, refl, sym, _∙_, ap}

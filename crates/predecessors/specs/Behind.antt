@@ -11,7 +11,7 @@ use Rattle.railway.specs.declared.End.the-variants.{Section}
 use Rattle.railway.specs.declared.Railway.{Railway}
 use Rattle.railway.specs.Bounds.{mostSections, mostTrains}
 use Rattle.railway.specs.Ends.{opposite}
-use Rattle.railway.specs.Record.{runOf}
+use Rattle.railway.specs.Record.{trainOf}
 use Rattle.game.specs.Moves.{passes}
 use Rattle.compiled.specs.Table.{sectionByte}
 
@@ -21,7 +21,7 @@ behindBytes = 2 * (mostTrains * mostSections)
 
 -- The end of section x that train t comes in by: it lies against its heading.
 abbrev pub endBehind : Railway → ℕ → ℕ → End
-endBehind r t x = Section (record { 0 = x }) (opposite (runOf r t .heading))
+endBehind r t x = Section (record { 0 = x }) (opposite (trainOf r t .heading))
 
 -- The section behind section x for train t, the points lying at plus or not: what a train enters that leaves by that end.
 abbrev pub sectionBehind : Railway → ℕ → ℕ → Bool → ℕ

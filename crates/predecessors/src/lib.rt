@@ -45,8 +45,8 @@ fn byte_behind(r: Railway, i: usize) -> u8
 {
     let t = (i / TRAIN) as u8;
     let x = (i / 2 % SECTIONS) as u8;
-    let run = r.run_of(t);
-    let h = run.heading;
+    let train = r.train_of(t);
+    let h = train.heading;
     compiled::section_from(r, End::Section(SectionNo(x), other_side(h)), i % 2 == 1)
 }
 

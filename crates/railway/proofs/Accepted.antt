@@ -21,7 +21,7 @@ use Rattle.railway.specs.declared.Railway.{Railway}
 use Rattle.railway.specs.Bounds.{mostSections, mostPoints, mostTrains, sectionEnds, allEnds}
 use Rattle.railway.specs.Ends.{endIndex, endAt, sameSide}
 use Rattle.railway.specs.Refusals.{first}
-use Rattle.railway.specs.Record.{linkAt, flagAt, joined, runOf, sideOf}
+use Rattle.railway.specs.Record.{linkAt, flagAt, joined, trainOf, sideOf}
 use Rattle.railway.specs.Rows.{outside, known, unknownLink, unknownLinkAt, unknownSignalAt, unknownTrainAt, sectionOf, bothPorts, oneSection, tied, wrongPair, wrongLink, wrongLinkAt, leadsTo, unreturned, unreturnedAt, unjoined, looseAt, sharesWith, sharesAt, countRow, unknownRow, joinRow, looseRow, doubleRow, placeRow, recordRefusal}
 use Rattle.railway.proofs.Ends.{Numbered, end-index, index-one, numbered-of}
 use Rattle.railway.proofs.Refusals.{refuse-none}
@@ -63,11 +63,11 @@ pub record Accepted (r : Railway) : Type 0 where
   pub bounds : Bounded (r .sections) (r .points) (r .trains)
   pub link-known : (i : ℕ) (f : End) → i < allEnds → linkAt r i ≡ With f → (known r (endAt i) ≡ true) × (known r f ≡ true)
   pub signal-known : (i : ℕ) → i < sectionEnds → flagAt r i ≡ true → known r (endAt i) ≡ true
-  pub train-known : (t : ℕ) → t < r .trains → (runOf r t .start .0 < r .sections) × (runOf r t .destination .0 < r .sections)
+  pub train-known : (t : ℕ) → t < r .trains → (trainOf r t .start .0 < r .sections) × (trainOf r t .destination .0 < r .sections)
   pub link-right : (i : ℕ) (f : End) → i < allEnds → linkAt r i ≡ With f → Right r (endAt i) f
   pub port-joined : (n : ℕ) (l : Leg) → n < r .points → joined r (Port (record { 0 = n }) l) ≡ Nothing → ⊥
-  pub starts : (t u : ℕ) → u < t → t < r .trains → runOf r u .start .0 ≡ runOf r t .start .0 → ⊥
-  pub destinations : (t u : ℕ) → u < t → t < r .trains → runOf r u .destination .0 ≡ runOf r t .destination .0 → ⊥
+  pub starts : (t u : ℕ) → u < t → t < r .trains → trainOf r u .start .0 ≡ trainOf r t .start .0 → ⊥
+  pub destinations : (t u : ℕ) → u < t → t < r .trains → trainOf r u .destination .0 ≡ trainOf r t .destination .0 → ⊥
 
 right-of : (r : Railway) (e f : End) → wrongPair (tied r e) (tied r f) ≡ false → not (leadsTo (joined r f) e) ≡ false → Right r e f
 right-of r e f h g =
@@ -102,8 +102,8 @@ module _ (r : Railway) where
       let r8 = refuse-none (placeRow r) Place _ (r7 .1) in
       let links = anyBelow (unknownLinkAt r) allEnds in
       let flags = anyBelow (unknownSignalAt r) sectionEnds in
-      let runs = anyBelow (unknownTrainAt r) (r .trains) in
-      let a = or-false (links || flags) runs (r4 .0) in
+      let roster = anyBelow (unknownTrainAt r) (r .trains) in
+      let a = or-false (links || flags) roster (r4 .0) in
       let b = or-false links flags (a .0) in
       let j = or-false (anyBelow (wrongLinkAt r) allEnds) (anyBelow (unreturnedAt r) allEnds) (r5 .0) in
       record {
@@ -111,18 +111,18 @@ module _ (r : Railway) where
         link-known = λ i f h l. not-and (known r (endAt i)) (known r f) (rw l at (any-false (unknownLinkAt r) allEnds (b .0) i h));
         signal-known = λ i h l. not-is (known r (endAt i)) (rw l at (any-false (unknownSignalAt r) sectionEnds (b .1) i h));
         train-known = λ t h.
-            let w = not-and (ltb (runOf r t .start .0) (r .sections)) (ltb (runOf r t .destination .0) (r .sections)) (any-false (unknownTrainAt r) (r .trains) (a .1) t h) in
-            (ltb-true (runOf r t .start .0) (r .sections) (w .0), ltb-true (runOf r t .destination .0) (r .sections) (w .1));
+            let w = not-and (ltb (trainOf r t .start .0) (r .sections)) (ltb (trainOf r t .destination .0) (r .sections)) (any-false (unknownTrainAt r) (r .trains) (a .1) t h) in
+            (ltb-true (trainOf r t .start .0) (r .sections) (w .0), ltb-true (trainOf r t .destination .0) (r .sections) (w .1));
         link-right = λ i f h l.
             right-of r (endAt i) f (rw l at (any-false (wrongLinkAt r) allEnds (j .0) i h)) (rw l at (any-false (unreturnedAt r) allEnds (j .1) i h));
         port-joined = λ n l h q. clash refl (rw q at (loose-none r n (any-false (looseAt r) (r .points) (r6 .0) n h) l));
-        starts = λ t u h g. eqb-false (runOf r u .start .0) (runOf r t .start .0) (apart (r8 .0) t u h g .0);
-        destinations = λ t u h g. eqb-false (runOf r u .destination .0) (runOf r t .destination .0) (apart (r8 .0) t u h g .1);
+        starts = λ t u h g. eqb-false (trainOf r u .start .0) (trainOf r t .start .0) (apart (r8 .0) t u h g .0);
+        destinations = λ t u h g. eqb-false (trainOf r u .destination .0) (trainOf r t .destination .0) (apart (r8 .0) t u h g .1);
       }
     where
-      apart : placeRow r ≡ false → (t u : ℕ) → u < t → t < r .trains → (eqb (runOf r u .start .0) (runOf r t .start .0) ≡ false) × (eqb (runOf r u .destination .0) (runOf r t .destination .0) ≡ false)
+      apart : placeRow r ≡ false → (t u : ℕ) → u < t → t < r .trains → (eqb (trainOf r u .start .0) (trainOf r t .start .0) ≡ false) × (eqb (trainOf r u .destination .0) (trainOf r t .destination .0) ≡ false)
       apart p t u h g =
-          or-false (eqb (runOf r u .start .0) (runOf r t .start .0)) (eqb (runOf r u .destination .0) (runOf r t .destination .0))
+          or-false (eqb (trainOf r u .start .0) (trainOf r t .start .0)) (eqb (trainOf r u .destination .0) (trainOf r t .destination .0))
           (any-false (sharesWith r t) t (any-false (sharesAt r) (r .trains) p t g) u h)
 
   -- the converse
@@ -156,7 +156,7 @@ module _ (r : Railway) where
         (none-any _ sectionEnds (λ i b. unknown-signal i (flagAt r i) b refl)))
         (none-any _ (r .trains) (λ t b.
         let k = w .train-known t b in
-        simp (lt-ltb (runOf r t .start .0) (r .sections) (k .0), lt-ltb (runOf r t .destination .0) (r .sections) (k .1))))
+        simp (lt-ltb (trainOf r t .start .0) (r .sections) (k .0), lt-ltb (trainOf r t .destination .0) (r .sections) (k .1))))
 
     no-join : joinRow r ≡ false
     unfolding joinRow
@@ -178,8 +178,8 @@ module _ (r : Railway) where
         none-any _ (r .trains) (λ t b.
         none-any _ t (λ u h.
         or-none _ _
-        (ne-eqb (runOf r u .start .0) (runOf r t .start .0) (w .starts t u h b))
-        (ne-eqb (runOf r u .destination .0) (runOf r t .destination .0) (w .destinations t u h b))))
+        (ne-eqb (trainOf r u .start .0) (trainOf r t .start .0) (w .starts t u h b))
+        (ne-eqb (trainOf r u .destination .0) (trainOf r t .destination .0) (w .destinations t u h b))))
 
     pub facts-accepted : recordRefusal r ≡ none
     unfolding recordRefusal first

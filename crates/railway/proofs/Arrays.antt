@@ -19,5 +19,5 @@ module _ (r : Railway) (vs : List Val) (p : Is T.the-row r vs) where
   pub signals-length : length (r .signals) ≡ sectionEnds
   signals-length = sym (length-map (r .signals) _) ∙ p .1 .1 .1 .1 .1 .1 .1 .0 .1 .0 .1
 
-  pub runs-length : length (r .runs) ≡ mostTrains
-  runs-length = sym (length-map (r .runs) _) ∙ p .1 .1 .1 .1 .1 .1 .1 .1 .0 .1 .0 .1
+  pub roster-length : length (r .roster) ≡ mostTrains
+  roster-length = sym (length-map (r .roster) _) ∙ p .1 .1 .1 .1 .1 .1 .1 .1 .0 .1 .0 .1

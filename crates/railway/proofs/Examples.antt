@@ -16,7 +16,7 @@ use Rattle.railway.specs.declared.Joined.the-variants.{Nothing, With}
 use Rattle.railway.specs.declared.Railway.{Railway}
 use Rattle.railway.specs.Ends.{endAt}
 use Rattle.railway.specs.Refusals.{first, numberOf}
-use Rattle.railway.specs.Record.{bareRailway, emptyRailway, joined, hasSignal, legsOf, runOf, sideOf, withLinks, setLink, withJoin, withSignal, withLegs, withTrain}
+use Rattle.railway.specs.Record.{bareRailway, emptyRailway, joined, hasSignal, legsOf, trainOf, sideOf, withLinks, setLink, withJoin, withSignal, withLegs, withTrain}
 use Rattle.railway.specs.Rows.{unknownRow, joinRow, looseRow, placeRow, recordRefusal}
 
 -- records, with the document's numbers: what is added to bare counts
@@ -70,7 +70,7 @@ cases =
     ∷ gets none (fork Up (u 1) (d 2) (d 3))
     ∷ gets none (bareRailway 48 0 1)
     ∷ gets none (train 4 Up 4 4 (train 3 Up 3 3 (train 2 Up 2 2 (bareRailway 4 0 4))))
-    -- a train may start on another's destination; runs and legs beyond the counts are not looked at
+    -- a train may start on another's destination; trains and legs beyond the counts are not looked at
     ∷ gets none (train 2 Down 2 1 (train 1 Up 1 2 (bareRailway 2 0 2)))
     ∷ gets none (legs 3 Down (train 2 Up 9 9 two))
     -- 3
@@ -115,7 +115,7 @@ cases =
     ∷ []
 
 numbers : map (λ k. numberOf (recordRefusal (k .of))) cases ≡ map (λ k. k .number) cases
-unfolding anyBelow endAt first joined hasSignal legsOf runOf withJoin withSignal withLegs withTrain unknownRow joinRow looseRow placeRow recordRefusal u d port train join half signal legs two two2 fork gets cases
+unfolding anyBelow endAt first joined hasSignal legsOf trainOf withJoin withSignal withLegs withTrain unknownRow joinRow looseRow placeRow recordRefusal u d port train join half signal legs two two2 fork gets cases
 numbers = refl
 
 -- LOOKUPS in such a record, the values written out: found from both ends, nothing elsewhere, nothing at ends that no railway has.

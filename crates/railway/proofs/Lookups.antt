@@ -15,7 +15,7 @@ use Rattle.railway.specs.declared.Joined.the-variants.{Nothing}
 use Rattle.railway.specs.declared.Railway.{Railway}
 use Rattle.railway.specs.Bounds.{sectionEnds, allEnds}
 use Rattle.railway.specs.Ends.{endIndex}
-use Rattle.railway.specs.Record.{noLegs, noLink, noTrain, linkAt, flagAt, joined, hasSignal, legsOf, runOf}
+use Rattle.railway.specs.Record.{noLegs, noLink, noTrain, linkAt, flagAt, joined, hasSignal, legsOf, trainOf}
 
 -- within a count, beyond it, and where what would be read is what stands for nothing
 module _ {A : Type 0} (n k : ℕ) (x d : A) where
@@ -75,17 +75,17 @@ module _ (r : Railway) (n : ℕ) where
   unfolding legsOf
   legs-past h = either-way n (r .points) (getD (r .legs) n noLegs .side) Up (ap (λ (l : Legs). l .side) (List·getD-eq-default (r .legs) noLegs h))
 
-  pub run-there : n < r .trains → getD (r .runs) n noTrain ≡ runOf r n
-  unfolding runOf
-  run-there h = within n (r .trains) (getD (r .runs) n noTrain) noTrain h
+  pub roster-there : n < r .trains → getD (r .roster) n noTrain ≡ trainOf r n
+  unfolding trainOf
+  roster-there h = within n (r .trains) (getD (r .roster) n noTrain) noTrain h
 
-  pub run-none : r .trains ≤ n → noTrain ≡ runOf r n
-  unfolding runOf
-  run-none h = beyond n (r .trains) (getD (r .runs) n noTrain) noTrain h
+  pub roster-none : r .trains ≤ n → noTrain ≡ trainOf r n
+  unfolding trainOf
+  roster-none h = beyond n (r .trains) (getD (r .roster) n noTrain) noTrain h
 
-  pub run-past : length (r .runs) ≤ n → noTrain ≡ runOf r n
-  unfolding runOf
-  run-past h = either-way n (r .trains) (getD (r .runs) n noTrain) noTrain (List·getD-eq-default (r .runs) noTrain h)
+  pub roster-past : length (r .roster) ≤ n → noTrain ≡ trainOf r n
+  unfolding trainOf
+  roster-past h = either-way n (r .trains) (getD (r .roster) n noTrain) noTrain (List·getD-eq-default (r .roster) noTrain h)
 
   pub link-past : length (r .links) ≤ n → Nothing ≡ linkAt r n
   link-past h = sym (ap (λ (l : Link). l .to) (List·getD-eq-default (r .links) noLink h))

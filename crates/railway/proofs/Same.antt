@@ -16,10 +16,10 @@ use Rattle.railway.specs.declared.Refusal.the-variants.{Count, Unknown, 
 use Rattle.railway.specs.declared.Railway.{Railway}
 use Rattle.railway.specs.Bounds.{sectionEnds, allEnds}
 use Rattle.railway.specs.Ends.{endIndex, endAt}
-use Rattle.railway.specs.Record.{linkAt, flagAt, joined, hasSignal, legsOf, runOf, sideOf}
+use Rattle.railway.specs.Record.{linkAt, flagAt, joined, hasSignal, legsOf, trainOf, sideOf}
 use Rattle.railway.specs.Rows.{known, unknownLink, unknownLinkAt, unknownSignalAt, unknownTrainAt, wrongLink, wrongLinkAt, unreturned, unreturnedAt, looseAt, sharesWith, sharesAt, countRow, unknownRow, joinRow, looseRow, placeRow, recordRefusal}
 use Rattle.railway.specs.Same.{SameRailway}
-use Rattle.railway.proofs.Lookups.{legs-none, run-none}
+use Rattle.railway.proofs.Lookups.{legs-none, roster-none}
 use Rattle.railway.proofs.Refusals.{first-same}
 
 -- AN EQUIVALENCE
@@ -32,7 +32,7 @@ same-refl r =
       legs = λ n b. refl;
       joins = λ i b. refl;
       signals = λ i b. refl;
-      runs = λ t b. refl;
+      roster = λ t b. refl;
     }
 
 pub same-sym : {r q : Railway} → SameRailway r q → SameRailway q r
@@ -44,7 +44,7 @@ same-sym h =
       legs = λ n b. sym (h .legs n (rw (h .points) b));
       joins = λ i b. sym (h .joins i b);
       signals = λ i b. sym (h .signals i b);
-      runs = λ t b. sym (h .runs t (rw (h .trains) b));
+      roster = λ t b. sym (h .roster t (rw (h .trains) b));
     }
 
 pub same-trans : {r q u : Railway} → SameRailway r q → SameRailway q u → SameRailway r u
@@ -56,7 +56,7 @@ same-trans h g =
       legs = λ n b. h .legs n b ∙ g .legs n (rw (h .points) at b);
       joins = λ i b. h .joins i b ∙ g .joins i b;
       signals = λ i b. h .signals i b ∙ g .signals i b;
-      runs = λ t b. h .runs t b ∙ g .runs t (rw (h .trains) at b);
+      roster = λ t b. h .roster t b ∙ g .roster t (rw (h .trains) at b);
     }
 
 -- THE SAME ANSWERS
@@ -83,12 +83,12 @@ module _ (r q : Railway) (h : SameRailway r q) where
       cases true e = h .legs n (ltb-true n (r .points) e)
       cases false e = let b = ltb-false n (r .points) e in sym (legs-none r n b) ∙ legs-none q n (rw (h .points) at b)
 
-  pub run-same : (t : ℕ) → runOf r t ≡ runOf q t
-  run-same t = cases (ltb t (r .trains)) refl
+  pub roster-same : (t : ℕ) → trainOf r t ≡ trainOf q t
+  roster-same t = cases (ltb t (r .trains)) refl
     where
-      cases : (b : Bool) → ltb t (r .trains) ≡ b → runOf r t ≡ runOf q t
-      cases true e = h .runs t (ltb-true t (r .trains) e)
-      cases false e = let b = ltb-false t (r .trains) e in sym (run-none r t b) ∙ run-none q t (rw (h .trains) at b)
+      cases : (b : Bool) → ltb t (r .trains) ≡ b → trainOf r t ≡ trainOf q t
+      cases true e = h .roster t (ltb-true t (r .trains) e)
+      cases false e = let b = ltb-false t (r .trains) e in sym (roster-none r t b) ∙ roster-none q t (rw (h .trains) at b)
 
   pub side-same : (e : End) → sideOf r e ≡ sideOf q e
   side-same (Section n s) = refl
@@ -119,7 +119,7 @@ module _ (r q : Railway) (h : SameRailway r q) where
       let b : anyBelow (unknownSignalAt r) sectionEnds ≡ anyBelow (unknownSignalAt q) sectionEnds
       = any-same (unknownSignalAt r) (unknownSignalAt q) sectionEnds (λ i b. (let z = h .signals i b in rw (z, known-same (endAt i)))) in
       let c : anyBelow (unknownTrainAt r) (r .trains) ≡ anyBelow (unknownTrainAt q) (r .trains)
-      = any-same (unknownTrainAt r) (unknownTrainAt q) (r .trains) (λ t b. rw (run-same t, h .sections)) in
+      = any-same (unknownTrainAt r) (unknownTrainAt q) (r .trains) (λ t b. rw (roster-same t, h .sections)) in
       rw (a, b, c, h .trains)
 
   join-same : joinRow r ≡ joinRow q
@@ -142,7 +142,7 @@ module _ (r q : Railway) (h : SameRailway r q) where
   unfolding placeRow
   place-same =
       let a : anyBelow (sharesAt r) (r .trains) ≡ anyBelow (sharesAt q) (r .trains)
-      = any-same (sharesAt r) (sharesAt q) (r .trains) (λ t b. any-same (sharesWith r t) (sharesWith q t) t (λ u c. rw (run-same u, run-same t))) in
+      = any-same (sharesAt r) (sharesAt q) (r .trains) (λ t b. any-same (sharesWith r t) (sharesWith q t) t (λ u c. rw (roster-same u, roster-same t))) in
       rw (a, h .trains)
 
   count-same : countRow r ≡ countRow q

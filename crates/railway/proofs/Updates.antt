@@ -86,7 +86,7 @@ module _ (r : Railway) (a b : End) (room : length (r .links) ≡ allEnds) (ha : 
 -- THE OTHER UPDATES, as code makes them
 module _ (r : Railway) (e : End) (i : ℕ) (is : i ≡ endIndex e) where
   pub signal-added : (q : Railway) → i < sectionEnds
-      → q ≡ record { sections = r .sections; points = r .points; trains = r .trains; legs = r .legs; links = r .links; signals = set (r .signals) i true; runs = r .runs }
+      → q ≡ record { sections = r .sections; points = r .points; trains = r .trains; legs = r .legs; links = r .links; signals = set (r .signals) i true; roster = r .roster }
       → q ≡ withSignal r e
   unfolding withSignal
   signal-added q h hq = rw (← is, lt-ltb i sectionEnds h) hq
@@ -97,7 +97,7 @@ module _ (r : Railway) (e : End) (i : ℕ) (is : i ≡ endIndex e) where
 
 module _ (r : Railway) (n : ℕ) where
   pub legs-set : (side : Side) (q : Railway) → n < mostPoints
-      → q ≡ record { sections = r .sections; points = r .points; trains = r .trains; legs = set (r .legs) n (record { side = side }); links = r .links; signals = r .signals; runs = r .runs }
+      → q ≡ record { sections = r .sections; points = r .points; trains = r .trains; legs = set (r .legs) n (record { side = side }); links = r .links; signals = r .signals; roster = r .roster }
       → q ≡ withLegs r n side
   unfolding withLegs
   legs-set side q h hq = rw (lt-ltb n mostPoints h) hq
@@ -106,12 +106,12 @@ module _ (r : Railway) (n : ℕ) where
   unfolding withLegs
   legs-out side h = rw (le-ltb n mostPoints h)
 
-  pub train-set : (run : Train) (q : Railway) → n < mostTrains
-      → q ≡ record { sections = r .sections; points = r .points; trains = r .trains; legs = r .legs; links = r .links; signals = r .signals; runs = set (r .runs) n run }
-      → q ≡ withTrain r n run
+  pub train-set : (train : Train) (q : Railway) → n < mostTrains
+      → q ≡ record { sections = r .sections; points = r .points; trains = r .trains; legs = r .legs; links = r .links; signals = r .signals; roster = set (r .roster) n train }
+      → q ≡ withTrain r n train
   unfolding withTrain
-  train-set run q h hq = rw (lt-ltb n mostTrains h) hq
+  train-set train q h hq = rw (lt-ltb n mostTrains h) hq
 
-  pub train-out : (run : Train) → mostTrains ≤ n → r ≡ withTrain r n run
+  pub train-out : (train : Train) → mostTrains ≤ n → r ≡ withTrain r n train
   unfolding withTrain
-  train-out run h = rw (le-ltb n mostTrains h)
+  train-out train h = rw (le-ltb n mostTrains h)

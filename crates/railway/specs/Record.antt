@@ -41,7 +41,7 @@ bareRailway s p k =
       legs = replicate mostPoints noLegs;
       links = replicate allEnds noLink;
       signals = replicate sectionEnds false;
-      runs = replicate mostTrains noTrain;
+      roster = replicate mostTrains noTrain;
     }
 
 -- The constructor's record. It has no section and no train, so row 3 applies to it.
@@ -69,8 +69,8 @@ unfoldable pub legsOf : Railway → ℕ → Side
 legsOf r n = cond (ltb n (r .points)) (getD (r .legs) n noLegs .side) Up
 
 -- A train's heading, start and destination.
-unfoldable pub runOf : Railway → ℕ → Train
-runOf r t = cond (ltb t (r .trains)) (getD (r .runs) t noTrain) noTrain
+unfoldable pub trainOf : Railway → ℕ → Train
+trainOf r t = cond (ltb t (r .trains)) (getD (r .roster) t noTrain) noTrain
 
 -- The side of an end: a section's own, a port's by the legs of its point.
 abbrev pub sideOf : Railway → End → Side
@@ -87,7 +87,7 @@ withLinks r links =
       legs = r .legs;
       links = links;
       signals = r .signals;
-      runs = r .runs;
+      roster = r .roster;
     }
 
 -- One direction of a join.
@@ -109,7 +109,7 @@ withSignal r e =
       legs = r .legs;
       links = r .links;
       signals = set (r .signals) (endIndex e) true;
-      runs = r .runs;
+      roster = r .roster;
     }) r
 
 -- A point given the side of its legs, by its number.
@@ -123,12 +123,12 @@ withLegs r n side =
       legs = set (r .legs) n (record { side = side });
       links = r .links;
       signals = r .signals;
-      runs = r .runs;
+      roster = r .roster;
     }) r
 
 -- A train, by its number.
 unfoldable pub withTrain : Railway → ℕ → Train → Railway
-withTrain r t run =
+withTrain r t train =
     cond (ltb t mostTrains)
     (record {
       sections = r .sections;
@@ -137,5 +137,5 @@ withTrain r t run =
       legs = r .legs;
       links = r .links;
       signals = r .signals;
-      runs = set (r .runs) t run;
+      roster = set (r .roster) t train;
     }) r

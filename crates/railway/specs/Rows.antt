@@ -18,7 +18,7 @@ use Rattle.railway.specs.declared.Refusal.the-variants.{Count, Unknown, 
 use Rattle.railway.specs.Bounds.{fewestSections, fewestTrains, mostSections, mostPoints, mostTrains, sectionEnds, allEnds}
 use Rattle.railway.specs.Ends.{sameSide, endIndex, endAt}
 use Rattle.railway.specs.Refusals.{Row, row, first}
-use Rattle.railway.specs.Record.{linkAt, flagAt, joined, runOf, sideOf}
+use Rattle.railway.specs.Record.{linkAt, flagAt, joined, trainOf, sideOf}
 
 -- 3, count: too few or too many sections, points or trains.
 abbrev pub outside : ℕ → ℕ → ℕ → Bool
@@ -35,7 +35,7 @@ known r (Port n l) = ltb (n .0) (r .points)
 
 -- 4, unknown: something in the record refers to a section or a point beyond the counts.
 -- A link at an end beyond the counts, and a link to one, is a join that names it; a flag beyond the sections is a signal that does.
--- Legs of points and runs of trains beyond the counts name nothing, and are not looked at.
+-- Legs of points and trains beyond the counts name nothing, and are not looked at.
 abbrev pub unknownLink : Railway → End → Joined → Bool
 unknownLink r e Nothing = false
 unknownLink r e (With f) = not (known r e && known r f)
@@ -50,7 +50,7 @@ unknownSignalAt r i = flagAt r i && not (known r (endAt i))
 
 -- A train whose start or destination is not there.
 abbrev pub unknownTrainAt : Railway → ℕ → Bool
-unknownTrainAt r t = not (ltb (runOf r t .start .0) (r .sections) && ltb (runOf r t .destination .0) (r .sections))
+unknownTrainAt r t = not (ltb (trainOf r t .start .0) (r .sections) && ltb (trainOf r t .destination .0) (r .sections))
 
 -- Row 4.
 unfoldable pub unknownRow : Railway → Bool
@@ -139,7 +139,7 @@ doubleRow r = false
 
 -- 8, place: two trains would begin, or would end, on one section.
 abbrev pub sharesWith : Railway → ℕ → ℕ → Bool
-sharesWith r t u = eqb (runOf r u .start .0) (runOf r t .start .0) || eqb (runOf r u .destination .0) (runOf r t .destination .0)
+sharesWith r t u = eqb (trainOf r u .start .0) (trainOf r t .start .0) || eqb (trainOf r u .destination .0) (trainOf r t .destination .0)
 
 -- A train shares a place with one before it.
 abbrev pub sharesAt : Railway → ℕ → Bool

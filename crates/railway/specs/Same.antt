@@ -4,7 +4,7 @@ use mathlib.Core.Path.{_≡_}
 use Prim.Native.Nat.{ℕ, _<_}
 use Rattle.railway.specs.declared.Railway.{Railway}
 use Rattle.railway.specs.Bounds.{sectionEnds, allEnds}
-use Rattle.railway.specs.Record.{linkAt, flagAt, legsOf, runOf}
+use Rattle.railway.specs.Record.{linkAt, flagAt, legsOf, trainOf}
 
 -- The same railway.
 pub record SameRailway (r q : Railway) : Type 0 where
@@ -14,4 +14,4 @@ pub record SameRailway (r q : Railway) : Type 0 where
   pub legs : (n : ℕ) → n < r .points → legsOf r n ≡ legsOf q n
   pub joins : (i : ℕ) → i < allEnds → linkAt r i ≡ linkAt q i
   pub signals : (i : ℕ) → i < sectionEnds → flagAt r i ≡ flagAt q i
-  pub runs : (t : ℕ) → t < r .trains → runOf r t ≡ runOf q t
+  pub roster : (t : ℕ) → t < r .trains → trainOf r t ≡ trainOf q t

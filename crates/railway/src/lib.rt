@@ -6,7 +6,7 @@ ghost use lib.ListN.{set};
 ghost use Rattle.railway.specs.declared.Joined.the-variants.{With};
 ghost use Rattle.railway.specs.Bounds.{fewestSections, fewestTrains, mostSections, mostPoints, mostTrains, sectionEnds, allEnds};
 ghost use Rattle.railway.specs.Ends.{sideIndex, legIndex, endIndex, sideAt, legAt, endAt, portSide};
-ghost use Rattle.railway.specs.Record.{noTrain, emptyRailway, joined, hasSignal, legsOf, runOf, sideOf, withLinks, withJoin, withSignal, withLegs, withTrain};
+ghost use Rattle.railway.specs.Record.{noTrain, emptyRailway, joined, hasSignal, legsOf, trainOf, sideOf, withLinks, withJoin, withSignal, withLegs, withTrain};
 ghost use Rattle.railway.specs.Refusals.{number};
 
 pub enum Side {
@@ -67,7 +67,7 @@ pub enum Refusal {
     PlanFault,
 }
 
-// Legs by point; links by end, in the order of `index_of`; signals by section end; runs by train.
+// Legs by point; links by end, in the order of `index_of`; signals by section end; the roster by train.
 pub struct Railway {
     pub sections: u8,
     pub points: u8,
@@ -75,7 +75,7 @@ pub struct Railway {
     pub legs: [Legs; Railway::POINTS as usize],
     pub links: [Link; Railway::ENDS as usize],
     pub signals: [bool; Railway::SECTION_ENDS as usize],
-    pub runs: [Train; Railway::TRAINS as usize],
+    pub roster: [Train; Railway::TRAINS as usize],
 }
 
 impl Railway {
@@ -109,7 +109,7 @@ impl Railway {
         let t = no_train();
         let legs = [up; Railway::POINTS as usize];
         let links = [none; Railway::ENDS as usize];
-        let runs = [t; Railway::TRAINS as usize];
+        let roster = [t; Railway::TRAINS as usize];
         Railway {
             sections: 0,
             points: 0,
@@ -117,7 +117,7 @@ impl Railway {
             legs: legs,
             links: links,
             signals: [false; Railway::SECTION_ENDS as usize],
-            runs: runs,
+            roster: roster,
         }
     }
 
@@ -166,15 +166,15 @@ impl Railway {
     }
 
     // A train, counted from 0; up from section 1 to 1 for one that is not there.
-    pub fn run_of(self, t: u8) -> Train
-        ensures { λ x. ⌜ x ≡ runOf self t ⌝ }
+    pub fn train_of(self, t: u8) -> Train
+        ensures { λ x. ⌜ x ≡ trainOf self t ⌝ }
     {
         let at = t as usize;
         if self.trains <= t {
             return no_train();
         }
         if t < Railway::TRAINS {
-            self.runs[at]
+            self.roster[at]
         } else {
             no_train()
         }
@@ -247,13 +247,13 @@ impl Railway {
     }
 
     // The record with a train set, counted from 0; unchanged for a train that no railway can have.
-    pub fn with_train(self, t: u8, run: Train) -> Railway
-        ensures { λ r. ⌜ r ≡ withTrain self t run ⌝ }
+    pub fn with_train(self, t: u8, train: Train) -> Railway
+        ensures { λ r. ⌜ r ≡ withTrain self t train ⌝ }
     {
         let at = t as usize;
         let mut next = self;
         if t < Railway::TRAINS {
-            next.runs[at] = run;
+            next.roster[at] = train;
         }
         next
     }

@@ -59,7 +59,7 @@ module _ (s p k : ℕ) where
 
     pub begin-in : x ≡ false → (r : Railway) → r ≡ emptyRailway → (d : Draft)
         → d ≡ record {
-          railway = record { sections = a; points = b; trains = c; legs = r .legs; links = r .links; signals = r .signals; runs = r .runs };
+          railway = record { sections = a; points = b; trains = c; legs = r .legs; links = r .links; signals = r .signals; roster = r .roster };
           unknown = false;
           wrong = false;
           double = false;

@@ -45,8 +45,8 @@ use Rattle.settings.proofs.Ways.{bits-small, one-bit}
 module _ (r : Railway) (ok : Facts r) (p : ℕ) (apart : shared r p ≡ false) (F : ℕ → Option ℕ) (n : ℕ) where
   -- A TRY with some trains open
   module _ (opens : ℕ → Bool) where
-    abbrev runs : ℕ → Bool
-    runs t = free r p t || opens t
+    abbrev moving : ℕ → Bool
+    moving t = free r p t || opens t
 
     -- the points that it puts at plus
     abbrev plusBits : ℕ
@@ -114,7 +114,7 @@ module _ (r : Railway) (ok : Facts r) (p : ℕ) (apart : shared r p ≡ false) (
     needed-lies t l e g m =
         let x : ℕ = pointMet r p t in
         let meets : meetsPoint r p t x ≡ true = meets-is r p t x (omega (arith, ok .few-points)) ∙ eq-eqb x x refl in
-        bits-plain (somePlus r F p n opens) (r .points) x m ∙ any-of (needsPlus r F p n opens x) (r .trains) t l (and-both (runs t) _ e (and-both (meetsPoint r p t x) (not (endsBelow r F p n false t)) meets (rw g)))
+        bits-plain (somePlus r F p n opens) (r .points) x m ∙ any-of (needsPlus r F p n opens x) (r .trains) t l (and-both (moving t) _ e (and-both (meetsPoint r p t x) (not (endsBelow r F p n false t)) meets (rw g)))
 
   -- SOME TRAIN FREE: the try with no signal open decides
   module _ (some-free : anyBelow (free r p) (r .trains) ≡ true) where
@@ -139,8 +139,8 @@ module _ (r : Railway) (ok : Facts r) (p : ℕ) (apart : shared r p ≡ false) (
     closed-entry : metEntry r F p n (λ t. false) ≡ fromBits (somePlus r F p n (λ t. false)) (r .points)
     closed-entry = entry-is (λ t. false) ∙ (let z : 0 ≡ fromBits (λ t. false) (r .trains) = bits-none (r .trains) in rw (← z) (omega arith))
 
-    free-runs : anyBelow (λ t. free r p t || false) (r .trains) ≡ true
-    free-runs = any-same (λ t. free r p t || false) (free r p) (r .trains) (λ t l. off (free r p t)) ∙ some-free
+    free-moving : anyBelow (λ t. free r p t || false) (r .trains) ≡ true
+    free-moving = any-same (λ t. free r p t || false) (free r p) (r .trains) (λ t l. off (free r p t)) ∙ some-free
       where
         off : (b : Bool) → (b || false) ≡ b
         off true = refl
@@ -203,7 +203,7 @@ module _ (r : Railway) (ok : Facts r) (p : ℕ) (apart : shared r p ≡ false) (
         keeps =
             let e : allBelow (goodIf (λ t. false)) (r .trains) ≡ allBelow (goodAtPlus r F p n bits) (r .trains) =
             rw (none-fails .1) (all-same (goodIf (λ t. false)) (goodAtPlus r F p n (plusBits (λ t. false))) (r .trains) (none-fails-good (none-fails .0))) in
-            is ∙ sym e ∙ sym (keeps-is (λ t. false) ∙ rw free-runs)
+            is ∙ sym e ∙ sym (keeps-is (λ t. false) ∙ rw free-moving)
 
         pub guided-found : b ≡ true → some bits ≡ findMet r F p n
         guided-found e = sym (closed-decides ∙ try-found (λ t. false) (sym keeps ∙ e) ∙ ap (λ (v : ℕ). some v) (closed-entry ∙ sym (none-fails .1)))
@@ -273,7 +273,7 @@ module _ (r : Railway) (ok : Facts r) (p : ℕ) (apart : shared r p ≡ false) (
           sym (try-found (eqb u) (one-keeps ∙ g) ∙ ap (λ (v : ℕ). some v) (sym (open-entry 0 z) ∙ (omega arith)))
 
       module _ (bad : endsBelow r F p n false u ≡ false) where
-        -- with no point on its way
+        -- with no point on its route
         pub open-not : r .points ≤ pointMet r p u → none ≡ tryMet r F p n (eqb u)
         open-not l =
             let z : 0 ≡ fromBits (somePlus r F p n (eqb u)) (r .points) = no-points (inr l) in

@@ -1,4 +1,4 @@
-// The first setting that keeps a placement below a figure, or nothing: what one step of a solver asks. It looks at no train's way more than
+// The first setting that keeps a placement below a figure, or nothing: what one step of a solver asks. It looks at no train's route more than
 // twice, so that its time goes with the trains and not with the settings.
 ghost use mathlib.Core.Path.{_≡_};
 ghost use mathlib.Core.Bool.{true, false};

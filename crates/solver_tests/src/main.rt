@@ -86,7 +86,7 @@ fn refused_records(r: Railway) {
     io::write_all(STDOUT_FILENO, b"empty record\t");
     lent(Railway::empty(), ENTRIES, ENTRIES);
     if 1 < r.trains {
-        let first = r.run_of(0);
+        let first = r.train_of(0);
         io::write_all(STDOUT_FILENO, b"two trains in one place\t");
         lent(r.with_train(1, first), ENTRIES, ENTRIES);
     }

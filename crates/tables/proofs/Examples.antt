@@ -16,7 +16,7 @@ use Rattle.railway.specs.declared.Railway.{Railway}
 use Rattle.railway.specs.declared.Refusal.the-variants.{Space}
 use Rattle.railway.specs.Ends.{endAt}
 use Rattle.railway.specs.Refusals.{first, numberOf}
-use Rattle.railway.specs.Record.{joined, hasSignal, legsOf, runOf, withJoin, withSignal, withLegs, withTrain}
+use Rattle.railway.specs.Record.{joined, hasSignal, legsOf, trainOf, withJoin, withSignal, withLegs, withTrain}
 use Rattle.railway.specs.Rows.{unknownRow, joinRow, looseRow, placeRow}
 use Rattle.game.specs.Game.{Outcome, lost, derailment, at as reaches}
 use Rattle.game.specs.Placement.{codeOf, sectionsIn, standsOn}
@@ -48,7 +48,7 @@ refusals :
     × (numberGiven Unsolvable ≡ none)
     × (figureGiven (Figure 2) ≡ some 2)
     × (figureGiven Unsolvable ≡ none)
-unfolding caseRefusal tablesShort first unknownRow joinRow looseRow placeRow endAt joined hasSignal legsOf runOf withJoin withSignal withLegs withTrain anyBelow
+unfolding caseRefusal tablesShort first unknownRow joinRow looseRow placeRow endAt joined hasSignal legsOf trainOf withJoin withSignal withLegs withTrain anyBelow
 refusals = (refl, refl, refl, refl, refl, refl, refl, refl, refl, refl)
 
 -- ENTRIES AND FIGURES. In Yard A's placement of code 1 both trains are held, in that of code 7 train 2 is free.
@@ -80,7 +80,7 @@ entries :
     × (figureIn (4294967295 ∷ []) 0 ≡ none)
     × (upTo 2 (some 3) ≡ none)
     × (upTo 3 (some 3) ≡ some 3)
-unfolding settingAt entryFrom openSignals lowestOpen signalOpen held hasSignal headsFor standsOn sectionsIn runOf withJoin withSignal withLegs withTrain anyBelow countBelow lowest fromBits
+unfolding settingAt entryFrom openSignals lowestOpen signalOpen held hasSignal headsFor standsOn sectionsIn trainOf withJoin withSignal withLegs withTrain anyBelow countBelow lowest fromBits
 entries = (refl, refl, refl, refl, refl, refl, refl, refl, refl, refl, refl, refl, refl, refl, refl, refl)
 
 -- THE PLAN'S ORDER in the placement of code 1: fewer signals before all else, the lowest train before point bits, then the smallest of these
@@ -97,7 +97,7 @@ order :
     × (before 65536 65537 ≡ true)
     × (before 65537 65536 ≡ false)
     × (before 65536 65536 ≡ true)
-unfolding noLater settingAt entryFrom openSignals lowestOpen signalOpen held hasSignal headsFor standsOn sectionsIn runOf withJoin withSignal withLegs withTrain anyBelow countBelow lowest fromBits
+unfolding noLater settingAt entryFrom openSignals lowestOpen signalOpen held hasSignal headsFor standsOn sectionsIn trainOf withJoin withSignal withLegs withTrain anyBelow countBelow lowest fromBits
 order = (refl, refl, refl, refl, refl, refl, refl, refl, refl)
 
 -- SEVERAL POINTS. A ladder of three, all with their legs up: section 1 leads to point 1, whose legs are followed by 2 and 3; section 2
@@ -149,5 +149,5 @@ several-points :
     × (moved 6 0 ≡ reaches 44)
     × (moved 3 1 ≡ reaches 14)
     × (moved 4 1 ≡ lost derailment)
-unfolding settingAt entryFrom signalOpen held headsFor standsOn sectionsIn codeOf moveOf passes occupied caseRefusal tablesShort first unknownRow joinRow looseRow placeRow endAt joined hasSignal legsOf runOf withJoin withSignal withLegs withTrain anyBelow sumBelow listBelow fromBits
+unfolding settingAt entryFrom signalOpen held headsFor standsOn sectionsIn codeOf moveOf passes occupied caseRefusal tablesShort first unknownRow joinRow looseRow placeRow endAt joined hasSignal legsOf trainOf withJoin withSignal withLegs withTrain anyBelow sumBelow listBelow fromBits
 several-points = (refl, refl, refl, refl, refl, refl, refl, refl, refl, refl, refl, refl, refl, refl, refl)

@@ -15,7 +15,7 @@ use Rattle.laws.proofs.Bools.{clash, and-true}
 use Rattle.railway.specs.declared.Railway.{Railway}
 use Rattle.railway.specs.Ends.{endAt}
 use Rattle.railway.specs.Refusals.{first}
-use Rattle.railway.specs.Record.{joined, hasSignal, legsOf, runOf, withJoin, withSignal, withLegs, withTrain}
+use Rattle.railway.specs.Record.{joined, hasSignal, legsOf, trainOf, withJoin, withSignal, withLegs, withTrain}
 use Rattle.railway.specs.Rows.{unknownRow, joinRow, looseRow, placeRow, recordRefusal}
 use Rattle.game.specs.Local.{keepsTest}
 use Rattle.game.specs.Placement.{codeOf, sectionsIn, placements, standsOn, startCode, atHome, shared}
@@ -60,7 +60,7 @@ sure : Sure yardA figsA setsA
     × Sure upTwoOne (0 ∷ N ∷ []) zeros
     × Sure upTwoOneHeld (0 ∷ N ∷ []) zeros
     × Sure headOn (N ∷ 0 ∷ N ∷ N ∷ []) zeros
-unfolding recordRefusal first unknownRow joinRow looseRow placeRow endAt joined hasSignal legsOf runOf withJoin withSignal withLegs withTrain allBelow anyBelow sumBelow lowest fromBits certified keepsTest sectionsIn standsOn codeOf atHome shared headsFor held mayMove passes occupied moveOf settingAt entryFrom tryOpen firstFound find
+unfolding recordRefusal first unknownRow joinRow looseRow placeRow endAt joined hasSignal legsOf trainOf withJoin withSignal withLegs withTrain allBelow anyBelow sumBelow lowest fromBits certified keepsTest sectionsIn standsOn codeOf atHome shared headsFor held mayMove passes occupied moveOf settingAt entryFrom tryOpen firstFound find
 sure = (
   record { accepted = refl; passes = refl },
   record { accepted = refl; passes = refl },
@@ -101,7 +101,7 @@ h also hs = (h, hs)
 
 -- THE KNOWN FIGURES HOLD
 pub known-figures : KnownFiguresHold
-unfolding all codeOf startCode sumBelow listBelow runOf withJoin withSignal withLegs withTrain
+unfolding all codeOf startCode sumBelow listBelow trainOf withJoin withSignal withLegs withTrain
 known-figures =
     known-figure (sure .0) (λ e. clash e refl) refl refl
     also known-figure (sure .0) (λ e. clash e refl) refl refl

@@ -100,16 +100,16 @@ module _ (r : Railway) (ok : Facts r) (p : ℕ) where
     abbrev goes : Setting → ℕ → Bool
     goes s t = isBelow n (figureOf F (moveOf r p s t))
 
-    abbrev runs : ℕ → Bool
-    runs t = free r p t || opens t
+    abbrev moving : ℕ → Bool
+    moving t = free r p t || opens t
 
     -- who may move does not depend on the points
-    runs-of : (plus : ℕ → Bool) (t : ℕ) → may (gameOf r) p (setting plus) t ≡ true → (t < r .trains) × (runs t ≡ true)
-    runs-of plus t m = let l : t < r .trains = may-train (gameOf r) p (setting plus) t m in
+    moving-of : (plus : ℕ → Bool) (t : ℕ) → may (gameOf r) p (setting plus) t ≡ true → (t < r .trains) × (moving t ≡ true)
+    moving-of plus t m = let l : t < r .trains = may-train (gameOf r) p (setting plus) t m in
         (l, sym (setting-may r p apart (ok .few-points) plus opens t l) ∙ may-allowed (gameOf r) p (setting plus) t m)
 
-    of-runs : (plus : ℕ → Bool) (t : ℕ) → t < r .trains → runs t ≡ true → may (gameOf r) p (setting plus) t ≡ true
-    of-runs plus t l e = and-both (ltb t (r .trains)) (mayMove r p (setting plus) t) (lt-ltb t (r .trains) l) (setting-may r p apart (ok .few-points) plus opens t l ∙ e)
+    of-moving : (plus : ℕ → Bool) (t : ℕ) → t < r .trains → moving t ≡ true → may (gameOf r) p (setting plus) t ≡ true
+    of-moving plus t l e = and-both (ltb t (r .trains)) (mayMove r p (setting plus) t) (lt-ltb t (r .trains) l) (setting-may r p apart (ok .few-points) plus opens t l ∙ e)
 
     abbrev needs : ℕ → Bool
     needs = somePlus r F p n opens
@@ -121,9 +121,9 @@ module _ (r : Railway) (ok : Facts r) (p : ℕ) where
       needed q lq e =
           let w = any-at (needsPlus r F p n opens q) (r .trains) e in
           let t : ℕ = w .0 in
-          let a = and-true (runs t) (meetsPoint r p t q && not (goes atMinus t)) (w .2) in
+          let a = and-true (moving t) (meetsPoint r p t q && not (goes atMinus t)) (w .2) in
           let c = and-true (meetsPoint r p t q) (not (goes atMinus t)) (a .1) in
-          let good : goes (setting plus) t ≡ true = below-is n (figureOf F (moveOf r p (setting plus) t)) (kept .all-below t (of-runs plus t (w .1) (a .0))) in
+          let good : goes (setting plus) t ≡ true = below-is n (figureOf F (moveOf r p (setting plus) t)) (kept .all-below t (of-moving plus t (w .1) (a .0))) in
           elim (bool? (plus q)) [
             | inl y ↦ y
             | inr y ↦ clash (ap (λ (o : Outcome). isBelow n (figureOf F o)) (sym (same t q lq (c .0) y)) ∙ good) (not-true (goes atMinus t) (c .1))
@@ -138,7 +138,7 @@ module _ (r : Railway) (ok : Facts r) (p : ℕ) where
           ]
 
       -- with no other point at plus the figure is kept too
-      needed-below : (t : ℕ) → t < r .trains → runs t ≡ true → Below n (figureOf F (moveOf r p (settingAt r p (entryFrom r plus opens)) t))
+      needed-below : (t : ℕ) → t < r .trains → moving t ≡ true → Below n (figureOf F (moveOf r p (settingAt r p (entryFrom r plus opens)) t))
           → Below n (figureOf F (moveOf r p (settingAt r p (entryFrom r (somePlus r F p n opens) opens)) t))
       needed-below t l m below = elim (move-meets t) [
         | inr x ↦ rw (x (setting needs) (setting plus)) below
@@ -156,14 +156,14 @@ module _ (r : Railway) (ok : Facts r) (p : ℕ) where
           at-minus : (q : ℕ) → meetsPoint r p t q ≡ true → somePlus r F p n opens q ≡ false → isBelow n (figureOf F (moveOf r p atMinus t)) ≡ true
           at-minus q meets y = elim (bool? (goes atMinus t)) [
             | inl w ↦ w
-            | inr w ↦ clash (any-of (needsPlus r F p n opens q) (r .trains) t l (and-both (runs t) (meetsPoint r p t q && not (goes atMinus t)) m (and-both (meetsPoint r p t q) (not (goes atMinus t)) meets (rw w)))) y
+            | inr w ↦ clash (any-of (needsPlus r F p n opens q) (r .trains) t l (and-both (moving t) (meetsPoint r p t q && not (goes atMinus t)) m (and-both (meetsPoint r p t q) (not (goes atMinus t)) meets (rw w)))) y
           ]
 
       needed-keeps : Keeps (gameOf r) F p (settingAt r p (entryFrom r (somePlus r F p n opens) opens)) n
       needed-keeps =
           record {
-            one-may = (kept .one-may .0, (let a = runs-of plus (kept .one-may .0) (kept .one-may .1) in of-runs needs (kept .one-may .0) (a .0) (a .1)));
-            all-below = λ t m. let a = runs-of needs t m in needed-below t (a .0) (a .1) (kept .all-below t (of-runs plus t (a .0) (a .1)));
+            one-may = (kept .one-may .0, (let a = moving-of plus (kept .one-may .0) (kept .one-may .1) in of-moving needs (kept .one-may .0) (a .0) (a .1)));
+            all-below = λ t m. let a = moving-of needs t m in needed-below t (a .0) (a .1) (kept .all-below t (of-moving plus t (a .0) (a .1)));
           }
 
     -- their bits, as a number

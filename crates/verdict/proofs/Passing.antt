@@ -23,7 +23,7 @@ use Rattle.plan.specs.declared.LineAnswer.the-variants.{Taken, Refused as LineR
 use Rattle.plan.specs.declared.TestAnswer.{TestAnswer}
 use Rattle.plan.specs.declared.TestAnswer.the-variants.{Pass, Refused as TestRefused}
 use Rattle.plan.specs.Lines.{PlacementLine}
-use Rattle.plan.specs.Checker.{testNumber, Checking, freshChecking, takeLine, nothingTaken, planFails, testRows, testPlan, Run, run, isTaken, takenTexts}
+use Rattle.plan.specs.Checker.{testNumber, Checking, freshChecking, takeLine, nothingTaken, planFails, testRows, testPlan, LineCalls, callLines, isTaken, takenTexts}
 use Rattle.plan.specs.Checked.{Form, PlanWith, Checked, InForm}
 use Rattle.plan.proofs.Checks.{checked-holds}
 use Rattle.plan.proofs.Emits.{none-refused}
@@ -44,20 +44,20 @@ taken-few (LineRefused f ∷ xs) (l ∷ ls) = let h = taken-few xs ls in omega (
 
 -- all lines were taken, or one was refused
 record AllTaken (r : Railway) (ls : List (List ℕ)) (c : Checking) : Type 0 where
-  same : checkLines r ls c ≡ testPlan r (run r ls c .end) .answer
-  taken : takenTexts (run r ls c .answers) ls ≡ ls
-  each : all isTaken (run r ls c .answers) ≡ true
+  same : checkLines r ls c ≡ testPlan r (callLines r ls c .end) .answer
+  taken : takenTexts (callLines r ls c .answers) ls ≡ ls
+  each : all isTaken (callLines r ls c .answers) ≡ true
 
 record OneRefused (r : Railway) (ls : List (List ℕ)) (c : Checking) : Type 0 where
   refusal : Refusal
   answer : checkLines r ls c ≡ TestRefused refusal
-  among : List·Memᴰ (LineRefused refusal) (run r ls c .answers)
-  missing : length (takenTexts (run r ls c .answers) ls) < length ls
-  not-each : all isTaken (run r ls c .answers) ≡ false
+  among : List·Memᴰ (LineRefused refusal) (callLines r ls c .answers)
+  missing : length (takenTexts (callLines r ls c .answers) ls) < length ls
+  not-each : all isTaken (callLines r ls c .answers) ≡ false
 
 one-more : (r : Railway) (l : List ℕ) (ls : List (List ℕ)) (c : Checking) (a : LineAnswer) (c′ : Checking) → takeLine r c l .answer ≡ a → takeLine r c l .checking ≡ c′
     → AllTaken r ls c′ ⊎ OneRefused r ls c′ → AllTaken r (l ∷ ls) c ⊎ OneRefused r (l ∷ ls) c
-unfolding checkLines run takenTexts all
+unfolding checkLines callLines takenTexts all
 one-more r l ls c Taken c′ e₁ e₂ (inl h) =
     inl (record { same = rw (e₁, e₂) (h .same); taken = rw (e₁, e₂) (ap (λ (x : List (List ℕ)). l ∷ x) (h .taken)); each = rw (e₁, e₂) (h .each) })
 one-more r l ls c Taken c′ e₁ e₂ (inr h) =
@@ -73,18 +73,18 @@ one-more r l ls c (LineRefused f) c′ e₁ e₂ h =
       refusal = f;
       answer = rw e₁ refl;
       among = List·Memᴰ·head (sym e₁);
-      missing = rw (e₁, e₂) (let m = taken-few (run r ls c′ .answers) ls in omega (arith, m));
+      missing = rw (e₁, e₂) (let m = taken-few (callLines r ls c′ .answers) ls in omega (arith, m));
       not-each = rw e₁ refl;
     })
 
 either : (r : Railway) (ls : List (List ℕ)) (c : Checking) → AllTaken r ls c ⊎ OneRefused r ls c
-unfolding checkLines run takenTexts all
+unfolding checkLines callLines takenTexts all
 either r [] c = inl (record { same = refl; taken = refl; each = refl })
 either r (l ∷ ls) c = one-more r l ls c _ _ refl refl (either r ls (takeLine r c l .checking))
 
 -- calls for lines make no case refused that was not
-still-none : (r : Railway) (ls : List (List ℕ)) (c : Checking) → caseRefusal r (c .figs) (c .sets) ≡ none → caseRefusal r (run r ls c .end .figs) (run r ls c .end .sets) ≡ none
-unfolding run
+still-none : (r : Railway) (ls : List (List ℕ)) (c : Checking) → caseRefusal r (c .figs) (c .sets) ≡ none → caseRefusal r (callLines r ls c .end .figs) (callLines r ls c .end .sets) ≡ none
+unfolding callLines
 still-none r [] c e = e
 still-none r (l ∷ ls) c e = still-none r ls (takeLine r c l .checking) (still-fine r c l e)
 
@@ -127,7 +127,7 @@ by-line r ls a e n =
       faulty = (λ q. differ testNumbered (sym q ∙ e) (λ z. omega arith), λ w. absurd (n (formed r _ ls w)));
     }
 
-module _ (r : Railway) (ls : List (List ℕ)) (c : Checking) (k : Checked r ls (run r ls c .answers) (takenTexts (run r ls c .answers) ls) (run r ls c .end)) where
+module _ (r : Railway) (ls : List (List ℕ)) (c : Checking) (k : Checked r ls (callLines r ls c .answers) (takenTexts (callLines r ls c .answers) ls) (callLines r ls c .end)) where
   plan-form : (h : OneRefused r ls c) → checkLines r ls c ≡ TestRefused PlanForm
   plan-form h = elim (k .others (LineRefused (h .refusal)) (h .among)) [
     | inl e ↦ let z : _≡_ {A = ℕ} 0 1 = cc in absurd (omega arith)
@@ -137,17 +137,17 @@ module _ (r : Railway) (ls : List (List ℕ)) (c : Checking) (k : Checked r ls (
   not-in-form : OneRefused r ls c → ¬ (InForm r ls)
   not-in-form h w =
       let m = h .missing in
-      let e : length (takenTexts (run r ls c .answers) ls) ≡ length ls = ap length (k .whole w) in
+      let e : length (takenTexts (callLines r ls c .answers) ls) ≡ length ls = ap length (k .whole w) in
       absurd (omega (arith, m, e))
 
   module _ (unrefused : caseRefusal r (c .figs) (c .sets) ≡ none) where
-    end-by-test : ByTest (testPlan r (run r ls c .end) .answer)
-    end-by-test = tested-by r (run r ls c .end) (still-none r ls c unrefused) _ refl
+    end-by-test : ByTest (testPlan r (callLines r ls c .end) .answer)
+    end-by-test = tested-by r (callLines r ls c .end) (still-none r ls c unrefused) _ refl
 
     by-plan : AllTaken r ls c ⊎ OneRefused r ls c → ByPlan r ls (checkLines r ls c)
     by-plan (inl h) =
         subst (ByPlan r ls) (sym (h .same))
-        (by-test r ls (run r ls c .answers) (run r ls c .end) (subst (λ (t : List (List ℕ)). Checked r ls (run r ls c .answers) t (run r ls c .end)) (h .taken) k) end-by-test)
+        (by-test r ls (callLines r ls c .answers) (callLines r ls c .end) (subst (λ (t : List (List ℕ)). Checked r ls (callLines r ls c .answers) t (callLines r ls c .end)) (h .taken) k) end-by-test)
     by-plan (inr h) = by-line r ls (checkLines r ls c) (plan-form h) (not-in-form h)
 
     one-of-three : AllTaken r ls c ⊎ OneRefused r ls c → ByTest (checkLines r ls c)
@@ -155,8 +155,8 @@ module _ (r : Railway) (ls : List (List ℕ)) (c : Checking) (k : Checked r ls (
     one-of-three (inr h) = unformed (plan-form h)
 
     -- the rows: where every line was taken they are those of the test, and where one was refused row 10 applies
-    abbrev after : Run
-    after = run r ls c
+    abbrev after : LineCalls
+    after = callLines r ls c
 
     abbrev fault : Row
     fault = row PlanFault (planFails r (after .end) (after .end .state))
@@ -215,15 +215,15 @@ fresh-by-case r n m ls f other₁ other₂ = (by-case r ls (freshChecking n m) f
 
 -- THE NUMBER is that of the first row: a case that is refused, or one that is not
 refused-rows : (r : Railway) (ls : List (List ℕ)) (c : Checking) (f : Refusal) → caseRefusal r (c .figs) (c .sets) ≡ some f
-    → testNumber (checkLines r ls c) ≡ numberOf (first (rowsBy r c (run r ls c)))
+    → testNumber (checkLines r ls c) ≡ numberOf (first (rowsBy r c (callLines r ls c)))
 refused-rows r ls c f e =
-    let u : Run = run r ls c in
+    let u : LineCalls = callLines r ls c in
     let given : first (rowsBy r c u) ≡ some f =
     case-then r (c .figs) (c .sets) (row PlanForm (planOutOfForm u) ∷ row PlanFault (planFails r (u .end) (u .end .state)) ∷ []) ∙ rw e in
     ap testNumber (refused-case r ls c f e) ∙ ap numberOf (sym given)
 
 fresh-rows : (r : Railway) (n m : ℕ) (ls : List (List ℕ)) (o : Option Refusal) → caseRefusal r (freshChecking n m .figs) (freshChecking n m .sets) ≡ o
-    → testNumber (checkLines r ls (freshChecking n m)) ≡ numberOf (first (rowsBy r (freshChecking n m) (run r ls (freshChecking n m))))
+    → testNumber (checkLines r ls (freshChecking n m)) ≡ numberOf (first (rowsBy r (freshChecking n m) (callLines r ls (freshChecking n m))))
 fresh-rows r n m ls (some f) e = refused-rows r ls (freshChecking n m) f e
 fresh-rows r n m ls none e = let k = fresh-enough r n m e in by-rows r ls (freshChecking n m) (checked-holds r (k .0) n m (k .1) (k .2) ls) e (either r ls (freshChecking n m))
 

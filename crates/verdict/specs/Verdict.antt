@@ -17,7 +17,7 @@ use Rattle.plan.specs.declared.LineAnswer.{LineAnswer}
 use Rattle.plan.specs.declared.LineAnswer.the-variants.{Taken, Refused as LineRefused}
 use Rattle.plan.specs.declared.TestAnswer.{TestAnswer}
 use Rattle.plan.specs.declared.TestAnswer.the-variants.{Refused as TestRefused}
-use Rattle.plan.specs.Checker.{testNumber, Checking, freshChecking, takeLine, nothingTaken, planFails, testPlan, Run, run, isTaken}
+use Rattle.plan.specs.Checker.{testNumber, Checking, freshChecking, takeLine, nothingTaken, planFails, testPlan, LineCalls, callLines, isTaken}
 
 -- THE LINES OF A TEXT, each with its line end; bytes behind the last line end are a line as they stand.
 unfoldable pub linesOf : List ℕ → List (List ℕ)
@@ -35,11 +35,11 @@ checkLines r [] c = testPlan r c .answer
 checkLines r (l ∷ ls) c = afterLine (takeLine r c l .answer) (takeLine r c l .checking) (checkLines r ls)
 
 -- 10, plan form: a line is refused, or none is there.
-abbrev pub planOutOfForm : Run → Bool
+abbrev pub planOutOfForm : LineCalls → Bool
 planOutOfForm u = not (all isTaken (u .answers)) || nothingTaken (u .end .state)
 
 -- The rows of a check, handed c, by what the calls for all lines answer and leave: 3 to 9 for the case, then 10 and 11 for the plan.
-abbrev pub rowsBy : Railway → Checking → Run → List Row
+abbrev pub rowsBy : Railway → Checking → LineCalls → List Row
 rowsBy r c u = caseRows r (c .figs) (c .sets) ++ (row PlanForm (planOutOfForm u) ∷ row PlanFault (planFails r (u .end) (u .end .state)) ∷ [])
 
 -- THE TABLES of a check have so many entries.
@@ -60,7 +60,7 @@ checkText r plan = checkLines r (linesOf plan) fresh
 
 -- The rows for the plan in a text.
 abbrev pub planRows : Railway → List ℕ → List Row
-planRows r plan = rowsBy r fresh (run r (linesOf plan) fresh)
+planRows r plan = rowsBy r fresh (callLines r (linesOf plan) fresh)
 
 -- WHAT THE CHECK OF A PLAN PROMISES, handed a railway and a text: the answer, and its number, that of the first row that applies.
 pub record PlanPost (r : Railway) (plan : List ℕ) (a : TestAnswer) : Type 0 where

@@ -17,7 +17,7 @@ use Rattle.railway.specs.declared.Railway.{Railway}
 use Rattle.railway.specs.Record.{hasSignal, withJoin, withSignal, withLegs, withTrain}
 use Rattle.casefile.specs.Form.{TrainLine}
 use Rattle.casefile.specs.Rows.{within}
-use Rattle.casefile.specs.Recording.{trainOf}
+use Rattle.casefile.specs.Recording.{trainOfLine}
 use Rattle.lines.specs.declared.NamedEnd.{NamedEnd}
 use Rattle.lines.specs.declared.NamedEnd.the-variants.{OfSection, OfPoint}
 use Rattle.lines.specs.Answers.{endNamed, joinNamed}
@@ -25,13 +25,13 @@ use Rattle.drafts.specs.declared.Draft.{Draft}
 use Rattle.drafts.specs.declared.Kind.{Kind}
 use Rattle.drafts.specs.declared.KnownEnd.{KnownEnd}
 use Rattle.drafts.specs.declared.KnownEnd.the-variants.{NotThere, There}
-use Rattle.drafts.specs.Drafting.{Tested, endIn, unknownIn, withRailway, putPoint, faulty, putJoin, putSignal, putTrain, lineInto}
+use Rattle.drafts.specs.Drafting.{WithinCount, endIn, unknownIn, withRailway, putPoint, faulty, putJoin, putSignal, putTrain, lineInto}
 
 -- NUMBERS
-pub within-low : (n count : ℕ) → n < 1 → Tested n count false
+pub within-low : (n count : ℕ) → n < 1 → WithinCount n count false
 within-low n count h = record { is = rw (lt-leb 1 n h); small = λ e. clash e refl }
 
-pub within-by : (n count : ℕ) → 1 ≤ n → count ≤ 255 → Tested n count (leb n count)
+pub within-by : (n count : ℕ) → 1 ≤ n → count ≤ 255 → WithinCount n count (leb n count)
 within-by n count h b = record { is = rw (le-leb 1 n h); small = λ e. let l = leb-true n count e in (h, omega arith) }
 
 -- ENDS
@@ -101,7 +101,7 @@ module _ (d : Draft) (n : ℕ) (t : TrainLine) (a b c x y : Bool) (ha : a ≡ wi
   all-three : y ≡ (within n (d .railway .trains) && (within (t .start) (d .railway .sections) && within (t .destination) (d .railway .sections)))
   all-three = rw (← ha, ← hb, ← hc, ← hx) hy
 
-  pub train-in : y ≡ true → (q : Railway) → q ≡ withTrain (d .railway) (n - 1) (trainOf t) → withRailway d q ≡ putTrain d n t
+  pub train-in : y ≡ true → (q : Railway) → q ≡ withTrain (d .railway) (n - 1) (trainOfLine t) → withRailway d q ≡ putTrain d n t
   unfolding putTrain
   train-in e q h = rw (sym all-three ∙ e, h)
 

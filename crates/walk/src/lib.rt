@@ -6,7 +6,7 @@ ghost use mathlib.Core.Bool.{true, false, _&&_, _||_};
 ghost use Rattle.text.specs.Reading.{then};
 ghost use Rattle.casefile.specs.Reading.{headerAt};
 ghost use Rattle.lines.specs.Answers.{endNamed, joinNamed, countsGot};
-ghost use Rattle.drafts.specs.Drafting.{Tested, endIn, unknownIn, putPoint, faulty, putJoin, putSignal, putTrain, lineInto, linesGot};
+ghost use Rattle.drafts.specs.Drafting.{WithinCount, endIn, unknownIn, putPoint, faulty, putJoin, putSignal, putTrain, lineInto, linesGot};
 ghost use Rattle.walk.specs.Walking.{goesOn, numberDue, LineRead, leftInto, restInto, asLines};
 use drafts::Draft;
 use drafts::Kind;
@@ -219,7 +219,7 @@ fn take_signal(text: &[u8], c: Cursor, d: Draft) -> Lines
 fn take_train(text: &[u8], c: Cursor, n: u64, d: Draft) -> Lines
     ensures { λ r. ⌜ linesGot r ≡ lineInto (now (text .entry)) Kind.T n (c .at) d ⌝ }
 {
-    let TrainRead::RunIs(heading, start, destination, next) = lines::train_line(text, c, n) else {
+    let TrainRead::TrainIs(heading, start, destination, next) = lines::train_line(text, c, n) else {
         return not_in_form(d);
     };
     in_form(put_train(d, n, heading, start, destination), next)
@@ -247,7 +247,7 @@ pub fn not_in_form(d: Draft) -> Lines
 
 // Whether a number lies between 1 and a count.
 fn within(n: u64, count: u8) -> bool
-    ensures { λ b. ⌜ Tested n count b ⌝ }
+    ensures { λ b. ⌜ WithinCount n count b ⌝ }
 {
     if n < 1 {
         return false;
@@ -351,12 +351,12 @@ fn put_train(d: Draft, n: u64, heading: Side, start: u64, destination: u64) -> D
         let t = (n - 1) as u8;
         let from = (start - 1) as u8;
         let to = (destination - 1) as u8;
-        let run = Train {
+        let train = Train {
             heading: heading,
             start: SectionNo(from),
             destination: SectionNo(to),
         };
-        let next = r.with_train(t, run);
+        let next = r.with_train(t, train);
         return Draft {
             railway: next,
             unknown: d.unknown,

@@ -48,7 +48,7 @@ fn port(n: u8, l: Leg) -> End {
     End::Port(PointNo(n), l)
 }
 
-fn run(heading: Side, from: u8, to: u8) -> Train {
+fn train(heading: Side, from: u8, to: u8) -> Train {
     Train {
         heading: heading,
         start: SectionNo(from),
@@ -66,8 +66,8 @@ fn yard() -> Railway {
     joined
         .with_signal(up(1))
         .with_signal(down(0))
-        .with_train(1, run(Side::Down, 2, 0))
-        .with_train(0, run(Side::Up, 1, 2))
+        .with_train(1, train(Side::Down, 2, 0))
+        .with_train(0, train(Side::Up, 1, 2))
 }
 
 // Two digits, a join of two sections, signals at both ends of one.
@@ -77,7 +77,7 @@ fn long_line() -> Railway {
         .with_join(down(1), up(0))
         .with_signal(up(10))
         .with_signal(down(10))
-        .with_train(0, run(Side::Up, 9, 11))
+        .with_train(0, train(Side::Up, 9, 11))
 }
 
 fn room_to_spare() {

@@ -21,10 +21,10 @@ use Rattle.railway.specs.declared.Joined.the-variants.{Nothing, With}
 use Rattle.railway.specs.declared.Train.{Train}
 use Rattle.railway.specs.declared.Railway.{Railway}
 use Rattle.railway.specs.Ends.{endIndex, endAt}
-use Rattle.railway.specs.Record.{joined, hasSignal, legsOf, runOf}
+use Rattle.railway.specs.Record.{joined, hasSignal, legsOf, trainOf}
 use Rattle.casefile.specs.Form.{sideByte, legByte, endField, pointLine, trainLine}
 use Rattle.casefile.specs.Recording.{fieldOf}
-use Rattle.casefile.specs.Writing.{trainFrom}
+use Rattle.casefile.specs.Writing.{lineOfTrain}
 use Rattle.writer.specs.declared.Part.{Part}
 use Rattle.writer.specs.declared.Part.the-variants.{Points, Joins, Signals, Trains}
 use Rattle.writer.specs.Pieces.{headerText, joinPiece, signalPiece, pieceOf}
@@ -57,7 +57,7 @@ module _ {o o₁ o₂ : List ℕ} {a a₁ a₂ : ℕ} where
   pub train-line : {o₃ o₄ o₅ : List ℕ} {a₃ a₄ a₅ : ℕ} (i : ℕ) (t : Train) (b : ℕ) → b ≡ sideByte (t .heading) → Appended o a (byte "T" ∷ tab ∷ []) o₁ a₁
       → Appended o₁ a₁ (decimal (i + 1) ++ (tab ∷ [])) o₂ a₂ → Appended o₂ a₂ (b ∷ tab ∷ []) o₃ a₃
       → Appended o₃ a₃ (decimal (t .start .0 + 1) ++ (tab ∷ [])) o₄ a₄ → Appended o₄ a₄ (decimal (t .destination .0 + 1) ++ (lineEnd ∷ [])) o₅ a₅
-      → Appended o a (trainLine (suc i) (trainFrom t)) o₅ a₅
+      → Appended o a (trainLine (suc i) (lineOfTrain t)) o₅ a₅
   train-line i t b is h x y z w =
       let from = decimal (t .start .0 + 1) in
       let to = decimal (t .destination .0 + 1) in
@@ -102,5 +102,5 @@ module _ (r : Railway) (part : Part) (i : ℕ) {o o₁ : List ℕ} {a a₁ : ℕ
   pub signal-piece : part ≡ Signals → (e : End) (b : Bool) → e ≡ endAt i → b ≡ hasSignal r e → Appended o a (signalPiece i b) o₁ a₁ → Appended o a (pieceOf r part i) o₁ a₁
   signal-piece e x b at is p = let h : b ≡ hasSignal r (endAt i) = rw at at is in rw (e, ← h) p
 
-  pub train-piece : part ≡ Trains → (t : Train) → t ≡ runOf r i → Appended o a (trainLine (suc i) (trainFrom t)) o₁ a₁ → Appended o a (pieceOf r part i) o₁ a₁
+  pub train-piece : part ≡ Trains → (t : Train) → t ≡ trainOf r i → Appended o a (trainLine (suc i) (lineOfTrain t)) o₁ a₁ → Appended o a (pieceOf r part i) o₁ a₁
   train-piece e t is p = rw (e, ← is) p

@@ -15,11 +15,11 @@ use Rattle.railway.specs.declared.Joined.the-variants.{Nothing, With}
 use Rattle.railway.specs.declared.Railway.{Railway}
 use Rattle.railway.specs.Bounds.{sectionEnds}
 use Rattle.railway.specs.Ends.{endIndex, endAt}
-use Rattle.railway.specs.Record.{linkAt, flagAt, legsOf, runOf}
+use Rattle.railway.specs.Record.{linkAt, flagAt, legsOf, trainOf}
 use Rattle.railway.proofs.Ends.{end-section, index-end}
 use Rattle.railway.proofs.Lookups.{joined-there, signal-there}
 use Rattle.casefile.specs.Form.{pointLine, joinLine, signalLine, trainLine, each, rising, spell}
-use Rattle.casefile.specs.Writing.{joinFrom, joinAt, signalAt, trainFrom, descriptionOf, writtenText}
+use Rattle.casefile.specs.Writing.{joinFrom, joinAt, signalAt, lineOfTrain, descriptionOf, writtenText}
 use Rattle.writer.specs.declared.Part.the-variants.{Points, Joins, Signals, Trains}
 use Rattle.writer.specs.Pieces.{headerText, joinPiece, pieceOf}
 
@@ -82,5 +82,5 @@ module _ (r : Railway) where
       let p = rising-pieces pointLine (legsOf r) (r .points) in
       let j = each-pieces joinLine (joinAt r) sectionEnds ∙ gather-same _ (pieceOf r Joins) sectionEnds join-piece in
       let g = each-pieces signalLine (signalAt r) sectionEnds ∙ gather-same _ (pieceOf r Signals) sectionEnds signal-piece in
-      let t = rising-pieces trainLine (λ t. trainFrom (runOf r t)) (r .trains) in
+      let t = rising-pieces trainLine (λ t. lineOfTrain (trainOf r t)) (r .trains) in
       rw (p, j, g, t)

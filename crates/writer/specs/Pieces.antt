@@ -9,10 +9,10 @@ use Rattle.railway.specs.declared.Joined.{Joined}
 use Rattle.railway.specs.declared.Joined.the-variants.{Nothing, With}
 use Rattle.railway.specs.declared.Railway.{Railway}
 use Rattle.railway.specs.Ends.{endIndex, endAt}
-use Rattle.railway.specs.Record.{joined, hasSignal, legsOf, runOf}
+use Rattle.railway.specs.Record.{joined, hasSignal, legsOf, trainOf}
 use Rattle.casefile.specs.Form.{endField, pointLine, joinLine, trainLine}
 use Rattle.casefile.specs.Recording.{fieldOf}
-use Rattle.casefile.specs.Writing.{trainFrom}
+use Rattle.casefile.specs.Writing.{lineOfTrain}
 use Rattle.writer.specs.declared.Part.{Part}
 use Rattle.writer.specs.declared.Part.the-variants.{Points, Joins, Signals, Trains}
 
@@ -34,4 +34,4 @@ abbrev pub pieceOf : Railway → Part → ℕ → List ℕ
 pieceOf r Points i = pointLine (suc i) (legsOf r i)
 pieceOf r Joins i = joinPiece i (joined r (endAt i))
 pieceOf r Signals i = signalPiece i (hasSignal r (endAt i))
-pieceOf r Trains i = trainLine (suc i) (trainFrom (runOf r i))
+pieceOf r Trains i = trainLine (suc i) (lineOfTrain (trainOf r i))

@@ -7,7 +7,7 @@ ghost use Rattle.laws.specs.Below.{gatherBelow};
 ghost use Rattle.text.specs.Appending.{Appended};
 ghost use Rattle.casefile.specs.Form.{sideByte, legByte, endField, pointLine, trainLine};
 ghost use Rattle.casefile.specs.Recording.{fieldOf};
-ghost use Rattle.casefile.specs.Writing.{trainFrom, writtenText, WriterPost};
+ghost use Rattle.casefile.specs.Writing.{lineOfTrain, writtenText, WriterPost};
 ghost use Rattle.writer.specs.Pieces.{headerText, joinPiece, signalPiece, pieceOf};
 use acceptance::Tested;
 use casefile::Written;
@@ -80,7 +80,7 @@ fn put_piece(out: &mut [u8], at: usize, r: Railway, part: Part, i: u8) -> usize
         Part::Points => put_point(out, at, i, r.legs_of(PointNo(i))),
         Part::Joins => put_join(out, at, i, r.joined(railway::end_at(i))),
         Part::Signals => put_signal(out, at, i, r.has_signal(railway::end_at(i))),
-        Part::Trains => put_train(out, at, i, r.run_of(i)),
+        Part::Trains => put_train(out, at, i, r.train_of(i)),
     }
 }
 
@@ -135,7 +135,7 @@ fn put_signal(out: &mut [u8], at: usize, i: u8, stands: bool) -> usize
 
 // A T line; the train counts from 0 here.
 fn put_train(out: &mut [u8], at: usize, i: u8, t: Train) -> usize
-    ensures { λ x. ⌜ Appended (now (out .entry)) at (trainLine (suc i) (trainFrom t)) (now (out .exit)) x ⌝ }
+    ensures { λ x. ⌜ Appended (now (out .entry)) at (trainLine (suc i) (lineOfTrain t)) (now (out .exit)) x ⌝ }
 {
     let heading = t.heading;
     let a = append::two(out, at, b'T', TAB);

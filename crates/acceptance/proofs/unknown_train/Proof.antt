@@ -6,17 +6,17 @@ use Rattle.acceptance.proofs.Testing.{train-unknown, neither, not-secon
 use Rattle.acceptance.proofs.unknown_train.Statement.{statement}
 use Rattle.acceptance.proofs.unknown_train.Tie as tie
 
-run-of-requires : tie.Need-run-of-requires
-run-of-requires c κs = search needs
+train-of-requires : tie.Need-train-of-requires
+train-of-requires c κs = search needs
 
 returns : tie.Need-returns
-returns c = let x = c .before .before .before .before in train-unknown (x .before .args .r) (x .before .args .t) _ (x .run-of .ensures) _ (both-hold _ _ (lt-ltb _ _ (c .before .before .if1 .taken)) (lt-ltb _ _ (c .if2 .taken)))
+returns c = let x = c .before .before .before .before in train-unknown (x .before .args .r) (x .before .args .t) _ (x .train-of .ensures) _ (both-hold _ _ (lt-ltb _ _ (c .before .before .if1 .taken)) (lt-ltb _ _ (c .if2 .taken)))
 
 returns-2 : tie.Need-returns-2
-returns-2 c = let x = c .before .before .before .before in train-unknown (x .before .args .r) (x .before .args .t) _ (x .run-of .ensures) _ (not-second _ _ (lt-ltb _ _ (c .before .before .if1 .taken)) (le-ltb _ _ (c .if2 .left)))
+returns-2 c = let x = c .before .before .before .before in train-unknown (x .before .args .r) (x .before .args .t) _ (x .train-of .ensures) _ (not-second _ _ (lt-ltb _ _ (c .before .before .if1 .taken)) (le-ltb _ _ (c .if2 .left)))
 
 returns-3 : tie.Need-returns-3
-returns-3 c = let x = c .before .before in train-unknown (x .before .args .r) (x .before .args .t) _ (x .run-of .ensures) _ (neither _ _ (le-ltb _ _ (c .if1 .left)))
+returns-3 c = let x = c .before .before in train-unknown (x .before .args .r) (x .before .args .t) _ (x .train-of .ensures) _ (neither _ _ (le-ltb _ _ (c .if1 .left)))
 
 pub unknown-train-spec : {M : Type 1} → statement M
-unknown-train-spec = tie.close (tie.spec run-of-requires returns returns-2 returns-3)
+unknown-train-spec = tie.close (tie.spec train-of-requires returns returns-2 returns-3)

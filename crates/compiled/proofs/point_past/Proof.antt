@@ -1,15 +1,15 @@
--- `compiled::point_past` meets its contract: that is the byte on the way which is asked for.
+-- `compiled::point_past` meets its contract: that is the byte of the route which is asked for.
 -- Assumes nothing.
 use borrow.Author.Needs.{needs}
 use Rattle.compiled.proofs.Table.{point-is}
 use Rattle.compiled.proofs.point_past.Statement.{statement}
 use Rattle.compiled.proofs.point_past.Tie as tie
 
-way-in-requires : tie.Need-way-in-requires
-way-in-requires c κs = search needs
+route-in-requires : tie.Need-route-in-requires
+route-in-requires c κs = search needs
 
 returns : tie.Need-returns
-returns c = λ r h lt lx. point-is r _ _ (c .way-in .ensures r h lt lx)
+returns c = λ r h lt lx. point-is r _ _ (c .route-in .ensures r h lt lx)
 
 pub point-past-spec : {M : Type 1} → statement M
-point-past-spec = tie.close (tie.spec way-in-requires returns)
+point-past-spec = tie.close (tie.spec route-in-requires returns)

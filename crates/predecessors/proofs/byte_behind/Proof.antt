@@ -1,4 +1,4 @@
--- `predecessors::byte_behind` meets its contract: the way of a train that went back.
+-- `predecessors::byte_behind` meets its contract: the route of a train that went back.
 -- Assumes nothing.
 use Rattle.predecessors.proofs.Before.{byte-is}
 use borrow.Author.Needs.{needs}
@@ -11,8 +11,8 @@ cast-t c = search needs
 cast-x : tie.Need-cast-x
 cast-x c = search needs
 
-run-of-requires : tie.Need-run-of-requires
-run-of-requires c κs = search needs
+train-of-requires : tie.Need-train-of-requires
+train-of-requires c κs = search needs
 
 other-side-requires : tie.Need-other-side-requires
 other-side-requires c κs = search needs
@@ -21,9 +21,9 @@ section-from-requires : tie.Need-section-from-requires
 section-from-requires c κs = search needs
 
 returns : tie.Need-returns
-returns c = let o = c .before in let n = o .before in byte-is (n .before .args .r) _ _ _ _ (n .run-of .ensures) (o .other-side .ensures) (c .section-from .ensures)
+returns c = let o = c .before in let n = o .before in byte-is (n .before .args .r) _ _ _ _ (n .train-of .ensures) (o .other-side .ensures) (c .section-from .ensures)
 
 pub byte-behind-spec : {M : Type 1} → statement M
 byte-behind-spec =
     tie.close
-    (tie.spec cast-t cast-x run-of-requires other-side-requires section-from-requires returns)
+    (tie.spec cast-t cast-x train-of-requires other-side-requires section-from-requires returns)

@@ -41,8 +41,8 @@ put-signal-requires c κs = search needs
 enum-told-4 : tie.Need-enum-told-4
 enum-told-4 c = search needs
 
-run-of-requires : tie.Need-run-of-requires
-run-of-requires c κs = search needs
+train-of-requires : tie.Need-train-of-requires
+train-of-requires c κs = search needs
 
 put-train-requires : tie.Need-put-train-requires
 put-train-requires c κs = search needs
@@ -69,7 +69,7 @@ same-length-4 : tie.Need-same-length-4
 same-length-4 c = search needs
 
 returns-4 : tie.Need-returns-4
-returns-4 c = let a = c .before .before .before .before .before .before .before .before .args in train-piece (a .r) (a .part) (a .i) (c .before .before .before .before .before .enum-told4 .given .1) _ (c .before .before .before .run-of .ensures) (c .before .before .put-train .ensures)
+returns-4 c = let a = c .before .before .before .before .before .before .before .before .args in train-piece (a .r) (a .part) (a .i) (c .before .before .before .before .before .enum-told4 .given .1) _ (c .before .before .before .train-of .ensures) (c .before .before .put-train .ensures)
 
 pub put-piece-spec : {M : Type 1} → statement M
 put-piece-spec =
@@ -87,7 +87,7 @@ put-piece-spec =
     has-signal-requires
     put-signal-requires
     enum-told-4
-    run-of-requires
+    train-of-requires
     put-train-requires
     same-length
     returns

@@ -1,9 +1,9 @@
--- `compiled::way_in` meets its contract: the table has it there.
+-- `compiled::route_in` meets its contract: the table has it there.
 -- Assumes nothing.
 use borrow.Author.Needs.{needs}
-use Rattle.compiled.proofs.Table.{way-there}
-use Rattle.compiled.proofs.way_in.Statement.{statement}
-use Rattle.compiled.proofs.way_in.Tie as tie
+use Rattle.compiled.proofs.Table.{route-there}
+use Rattle.compiled.proofs.route_in.Statement.{statement}
+use Rattle.compiled.proofs.route_in.Tie as tie
 
 mul-byte-at : tie.Need-mul-byte-at
 mul-byte-at c = search needs
@@ -21,9 +21,9 @@ byte-at-requires : tie.Need-byte-at-requires
 byte-at-requires c κs = search needs
 
 returns : tie.Need-returns
-returns c = λ r h lt lx. way-there r _ _ _ _ _ h lt lx (c .before .pre) (c .byte-at .ensures)
+returns c = λ r h lt lx. route-there r _ _ _ _ _ h lt lx (c .before .pre) (c .byte-at .ensures)
 
-pub way-in-spec : {M : Type 1} → statement M
-way-in-spec =
+pub route-in-spec : {M : Type 1} → statement M
+route-in-spec =
     tie.close
     (tie.spec mul-byte-at add-byte-at mul-byte-at-2 add-byte-at-2 byte-at-requires returns)

@@ -1,0 +1,25 @@
+-- `compiled::roster_byte` meets its contract, kind by kind.
+-- Assumes nothing.
+use borrow.Author.Needs.{needs}
+use Rattle.compiled.proofs.Table.{roster-heading, roster-start, roster-destination}
+use Rattle.compiled.proofs.roster_byte.Statement.{statement}
+use Rattle.compiled.proofs.roster_byte.Tie as tie
+
+train-of-requires : tie.Need-train-of-requires
+train-of-requires c κs = search needs
+
+heading-byte-requires : tie.Need-heading-byte-requires
+heading-byte-requires c κs = search needs
+
+returns : tie.Need-returns
+returns c = roster-heading (c .before .before .before .args .r) _ _ _ (c .before .before .train-of .ensures) _ (c .before .if1 .taken) (c .heading-byte .ensures)
+
+returns-2 : tie.Need-returns-2
+returns-2 c = roster-start (c .before .before .before .args .r) _ _ _ (c .before .before .train-of .ensures) (c .before .if1 .left) (c .if2 .taken)
+
+returns-3 : tie.Need-returns-3
+returns-3 c = roster-destination (c .before .before .before .args .r) _ _ _ (c .before .before .train-of .ensures) (c .before .if1 .left) (c .if2 .left)
+
+pub roster-byte-spec : {M : Type 1} → statement M
+roster-byte-spec =
+    tie.close (tie.spec train-of-requires heading-byte-requires returns returns-2 returns-3)

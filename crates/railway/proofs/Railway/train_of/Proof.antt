@@ -1,0 +1,42 @@
+-- `railway::Railway::train_of` meets its contract: a train that is there, or what stands for none.
+-- Assumes nothing.
+use borrow.Author.Needs.{needs}
+use native.Mathlib.Omega.{arith}
+use mathlib.Core.Path.{_∙_}
+use Rattle.railway.proofs.Arrays.{roster-length}
+use Rattle.railway.proofs.Lookups.{roster-there, roster-none, roster-past}
+use Rattle.railway.proofs.Railway.train_of.Statement.{statement}
+use Rattle.railway.proofs.Railway.train_of.Tie as tie
+
+no-train-requires : tie.Need-no-train-requires
+no-train-requires c κs = search needs
+
+returns : tie.Need-returns
+returns c = c .no-train .ensures ∙ roster-none (c .before .before .args .t1) _ (c .before .if1 .taken)
+
+mul-result : tie.Need-mul-result
+mul-result c = search needs
+
+element-copy-out-result : tie.Need-element-copy-out-result
+element-copy-out-result c = search needs
+
+no-train-requires-2 : tie.Need-no-train-requires-2
+no-train-requires-2 c κs = search needs
+
+returns-2 : tie.Need-returns-2
+returns-2 c = roster-there (c .before .before .before .args .t1) _ (c .before .before .if1 .left)
+
+returns-3 : tie.Need-returns-3
+returns-3 c = let b = c .before .before .before in c .no-train2 .ensures ∙ roster-past (b .args .t1) _ (omega (arith, roster-length (b .args .t1) _ (b .good .0)))
+
+pub train-of-spec : {M : Type 1} → statement M
+train-of-spec =
+    tie.close
+    (tie.spec
+    no-train-requires
+    returns
+    mul-result
+    element-copy-out-result
+    no-train-requires-2
+    returns-2
+    returns-3)
