@@ -1,13 +1,10 @@
 // The lines that stand for an answer: a refusal, no plan, the answer to the test of a plan. Each is put at the front of a lent buffer; a byte
 // that finds no room is lost, and the function answers how many bytes the line has, whether or not there was room for them.
-ghost use mathlib.Core.List.{[], _∷_};
-ghost use Rattle.text.specs.Text.{line};
 ghost use Rattle.text.specs.Appending.{Appended};
 ghost use Rattle.answerlines.specs.Lines.{refusalLine, noneLine, testLine, Spelled};
 use plan::TestAnswer;
 use railway::Refusal;
 use text::LINE_END;
-use text::TAB;
 use text::append;
 
 // Room enough for every line here.
@@ -26,7 +23,7 @@ pub fn refusal_line(f: Refusal, out: &mut [u8]) -> usize
 pub fn none_line(out: &mut [u8]) -> usize
     ensures { λ n. ⌜ Spelled noneLine (now (out .entry)) (now (out .exit)) n ⌝ }
 {
-    word_line(out, b'n', b'o', b'n', b'e')
+    copy(b"none\n", out)
 }
 
 // The answer to the call for the test.
@@ -34,18 +31,9 @@ pub fn test_line(a: TestAnswer, out: &mut [u8]) -> usize
     ensures { λ n. ⌜ Spelled (testLine a) (now (out .entry)) (now (out .exit)) n ⌝ }
 {
     match a {
-        TestAnswer::Pass => word_line(out, b'p', b'a', b's', b's'),
+        TestAnswer::Pass => copy(b"pass\n", out),
         TestAnswer::Refused(f) => refusal_line(f, out),
     }
-}
-
-// A word of four letters, a line by itself.
-fn word_line(out: &mut [u8], a: u8, b: u8, c: u8, d: u8) -> usize
-    ensures { λ n. ⌜ Spelled (line ((a ∷ b ∷ c ∷ d ∷ []) ∷ [])) (now (out .entry)) (now (out .exit)) n ⌝ }
-{
-    let mut line = [0u8; LINE];
-    let n = put_word(&mut line, a, b, c, d);
-    copy(&line[..n], out)
 }
 
 // A line to the front of a buffer, and its length.
@@ -56,20 +44,10 @@ fn copy(line: &[u8], out: &mut [u8]) -> usize
     line.len()
 }
 
+// A refusal in a buffer with room for it: its length is known when it has been written.
 fn put_refusal(out: &mut [u8], f: Refusal) -> usize
     ensures { λ n. ⌜ Appended (now (out .entry)) 0 (refusalLine f) (now (out .exit)) n ⌝ }
 {
-    let a = append::two(out, 0, b'r', b'e');
-    let b = append::two(out, a, b'f', b'u');
-    let c = append::two(out, b, b's', b'e');
-    let d = append::two(out, c, b'd', TAB);
-    append::number(out, d, f.number() as u32, LINE_END)
-}
-
-fn put_word(out: &mut [u8], a: u8, b: u8, c: u8, d: u8) -> usize
-    ensures { λ n. ⌜ Appended (now (out .entry)) 0 (line ((a ∷ b ∷ c ∷ d ∷ []) ∷ [])) (now (out .exit)) n ⌝ }
-{
-    let half = append::two(out, 0, a, b);
-    let whole = append::two(out, half, c, d);
-    append::byte(out, whole, LINE_END)
+    let behind = append::bytes(out, 0, b"refused\t");
+    append::number(out, behind, f.number() as u32, LINE_END)
 }

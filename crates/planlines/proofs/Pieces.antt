@@ -14,7 +14,7 @@ use Rattle.laws.proofs.Bools.{lt?, either, clash}
 use Rattle.laws.proofs.Below.{any-false, list-length, list-get}
 use Rattle.laws.proofs.Lists.{map-append}
 use Rattle.laws.proofs.Which.{which-map}
-use Rattle.text.specs.Text.{byte, decimal, tab, lineEnd, line, bytes}
+use Rattle.text.specs.Text.{byte, decimal, tab, lineEnd, line}
 use Rattle.text.specs.Appending.{Appended}
 use Rattle.text.proofs.Appending.{append-none, append-then, line-more, line-last}
 use Rattle.tables.specs.Entries.{opensIn}
@@ -125,12 +125,11 @@ module _ (q : Placement) (t x : ℕ) {o o₁ : List ℕ} {a a₁ : ℕ} where
   section-piece is p = rw (← is, ← add-one x) p
 
 -- THE LINES
-module _ {o o₁ o₂ o₃ o₄ : List ℕ} {a a₁ a₂ a₃ a₄ : ℕ} where
-  pub start-spelled : (n : ℕ) → Appended o a (byte "p" ∷ byte "l" ∷ []) o₁ a₁ → Appended o₁ a₁ (byte "a" ∷ byte "n" ∷ []) o₂ a₂ → Appended o₂ a₂ (tab ∷ []) o₃ a₃
-      → Appended o₃ a₃ (decimal n ++ (lineEnd ∷ [])) o₄ a₄ → Appended o a (spell (startLine n)) o₄ a₄
-  unfolding bytes spell
-  start-spelled n p q t d = line-more planWord (decimal n) [] (append-then p (append-then q t)) (line-last (decimal n) d)
+pub start-spelled : {o o₁ o₂ : List ℕ} {a a₁ a₂ : ℕ} (n : ℕ) → Appended o a (planWord ++ (tab ∷ [])) o₁ a₁ → Appended o₁ a₁ (decimal n ++ (lineEnd ∷ [])) o₂ a₂ → Appended o a (spell (startLine n)) o₂ a₂
+unfolding spell
+start-spelled n p d = line-more planWord (decimal n) [] p (line-last (decimal n) d)
 
+module _ {o o₁ o₂ o₃ o₄ : List ℕ} {a a₁ a₂ a₃ a₄ : ℕ} where
   pub placement-spelled : {o₅ o₆ : List ℕ} {a₅ a₆ : ℕ} (k m : ℕ) (q : Placement) (n v : ℕ) → Appended o a (gatherBelow (sectionPiece q) k) o₁ a₁
       → Appended o₁ a₁ (decimal n ++ (tab ∷ [])) o₂ a₂ → Appended o₂ a₂ (openField (listBelow (opensIn v) k)) o₃ a₃ → Appended o₃ a₃ (tab ∷ []) o₄ a₄
       → Appended o₄ a₄ (pointField (listBelow (bit v) m)) o₅ a₅ → Appended o₅ a₅ (lineEnd ∷ []) o₆ a₆ → Appended o a (spell (placementLine (lineOf k m q n v))) o₆ a₆

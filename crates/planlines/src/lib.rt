@@ -20,10 +20,8 @@ pub const MOST_LINE_BYTES: usize = 45;
 pub fn start_line(out: &mut [u8], at: usize, n: u32) -> usize
     ensures { λ x. ⌜ Appended (now (out .entry)) at (spell (startLine n)) (now (out .exit)) x ⌝ }
 {
-    let a = append::two(out, at, b'p', b'l');
-    let b = append::two(out, a, b'a', b'n');
-    let c = append::byte(out, b, TAB);
-    append::number(out, c, n, LINE_END)
+    let behind = append::bytes(out, at, b"plan\t");
+    append::number(out, behind, n, LINE_END)
 }
 
 // The line of a placement of k trains with figure n, and entry v of the setting table over m points.

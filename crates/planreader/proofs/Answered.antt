@@ -22,6 +22,7 @@ use Rattle.text.proofs.Decimal.{digit-is, digits-are, digits-begin}
 use Rattle.text.proofs.Lines.{same-is, same-self}
 use Rattle.text.proofs.Walking.{bad-got}
 use Rattle.railway.specs.declared.Railway.{Railway}
+use Rattle.railway.specs.Bounds.{mostSections}
 use Rattle.railway.specs.Rows.{recordRefusal}
 use Rattle.railway.proofs.Accepted.{Bounded, accepted-facts}
 use Rattle.game.specs.Placement.{codeOf, codeOn}
@@ -56,7 +57,7 @@ first-digit x rest l e =
     let f : b .head ≡ byte "p" = rw (b .is) at e in
     omega arith
 
-first-section : (xs : List ℕ) (d : PlacementLine) (s : ℕ) → s ≤ 48 → 1 ≤ length xs → all (λ x. ltb x s) xs ≡ true → BeginsLikeStart (line (map sectionField xs ++ lastFields d)) → ⊥
+first-section : (xs : List ℕ) (d : PlacementLine) (s : ℕ) → s ≤ mostSections → 1 ≤ length xs → all (λ x. ltb x s) xs ≡ true → BeginsLikeStart (line (map sectionField xs ++ lastFields d)) → ⊥
 unfolding line all
 first-section [] d s l n a e = omega arith
 first-section (x ∷ []) d s l n a e = let h = ltb-true x s (and-true (ltb x s) true a .0) in first-digit x (tab ∷ line (lastFields d)) (omega arith) e
@@ -93,12 +94,15 @@ module _ (r : Railway) (ok : recordRefusal r ≡ none) (text : List ℕ) where
     read-so : b ≡ true → readLine r text ≡ some l
     read-so e = reads-line r few-sections text l .1 (said-true e)
 
-  -- THE FIRST LINE
+  -- THE FIRST LINE: its figure stands behind the word and a tab
+  abbrev behindWord : ℕ
+  behindWord = 5
+
   module _ (first : BeginsLikeStart text) where
-    start-taken : (n : ℕ) → Spells r text (startLine n) → (c : ℕ) × (figureAt text 5 ≡ got n c)
+    start-taken : (n : ℕ) → Spells r text (startLine n) → (c : ℕ) × (figureAt text behindWord ≡ got n c)
     unfolding bytes spell line isDigit fits
     start-taken n p =
-        let x = figure-complete text (lineEnd ∷ []) n 5 refl (ltb-true n noFigure (p .fit)) (record { text = ap (drop 5) (sym (p .spelled)) }) in
+        let x = figure-complete text (lineEnd ∷ []) n behindWord refl (ltb-true n noFigure (p .fit)) (record { text = ap (drop behindWord) (sym (p .spelled)) }) in
         (x .cursor, x .is)
 
     start-only : {A : Type 0} → ((n : ℕ) → Spells r text (startLine n) → A) → (l : PlanLine) → Spells r text l → A
@@ -108,13 +112,13 @@ module _ (r : Railway) (ok : recordRefusal r ≡ none) (text : List ℕ) where
         let f = fits-parts r d (p .fit) in
         absurd (first-section (d .sections) d (r .sections) (bounds .few-sections) (omega (arith, f .each-train, bounds .some-train)) (f .there) (ap (λ (t : List ℕ). getD t 0 0) (p .spelled) ∙ first))
 
-    pub start-none : figureAt text 5 ≡ bad → NoLine ≡ answerFor r (readLine r text)
+    pub start-none : figureAt text behindWord ≡ bad → NoLine ≡ answerFor r (readLine r text)
     start-none e = none-read (start-only (λ n p. bad-got e (start-taken n p .1)))
 
-    module _ (n c : ℕ) (e : figureAt text 5 ≡ got n c) {b : Bool} (said : length (spell (startLine n)) ≤ mostLineBytes → b ≡ sameText (spell (startLine n)) text) where
+    module _ (n c : ℕ) (e : figureAt text behindWord ≡ got n c) {b : Bool} (said : length (spell (startLine n)) ≤ mostLineBytes → b ≡ sameText (spell (startLine n)) text) where
       start-fits : fits r (startLine n) ≡ true
       unfolding fits
-      start-fits = lt-ltb n noFigure (figure-below text 5 n c e)
+      start-fits = lt-ltb n noFigure (figure-below text behindWord n c e)
 
       pub start-there : b ≡ true → Start n ≡ answerFor r (readLine r text)
       start-there y = rw (read-so (startLine n) start-fits said y)

@@ -19,22 +19,23 @@ use Rattle.text.specs.Text.{byte, digits, decimal, tab, lineEnd, line}
 use Rattle.text.specs.Reading.{isDigit, got, then, byteAt}
 use Rattle.text.proofs.Walking.{Lies, Reads, go-on, stop-here, peek, byte-complete, number-complete}
 use Rattle.railway.specs.declared.Railway.{Railway}
+use Rattle.railway.specs.Bounds.{mostSections, mostPoints, mostTrains}
 use Rattle.railway.proofs.Accepted.{Bounded}
-use Rattle.tables.specs.Entries.{entryFrom}
+use Rattle.tables.specs.Entries.{trainBits, entryFrom}
 use Rattle.tables.specs.Tables.{noFigure}
 use Rattle.plan.specs.Lines.{PlacementLine, placementLine, openField, pointField, sectionField, sign, spell, Spells}
 use Rattle.plan.specs.Checker.{lineEntry}
 use Rattle.plan.proofs.Reading.{lastFields, sign-at, fits-parts}
-use Rattle.planreader.specs.Walk.{trainBit, openBits, plusAt, numberTab, sectionOf, sectionAt, sectionsAt, figureOf, figureAt, entryOf, entryAt}
+use Rattle.planreader.specs.Walk.{trainBit, openBits, plusAt, numberTab, toSection, sectionAt, sectionsAt, toFigure, figureAt, toEntry, entryAt}
 
 -- OPEN TRAINS are a number's digits, which give their bits
 record Digits (os : List Bool) : Type 0 where
   number : ℕ
   small : number < 10000000000
   spelled : openField os ≡ decimal number
-  bits : openBits number ≡ 2 ^ 16 * fromBits (λ t. getD os t false) (length os)
+  bits : openBits number ≡ 2 ^ trainBits * fromBits (λ t. getD os t false) (length os)
 
-open-digits : (os : List Bool) → length os ≤ 4 → Digits os
+open-digits : (os : List Bool) → length os ≤ mostTrains → Digits os
 unfolding whichBelow digits openBits trainBit fromBits
 open-digits [] l = record { number = 0; small = omega arith; spelled = refl; bits = refl }
 open-digits (false ∷ []) l = record { number = 0; small = omega arith; spelled = refl; bits = refl }
@@ -78,21 +79,21 @@ module _ (text : List ℕ) where
       (λ c t. go-on (λ b c. got n c) (byte-complete text tab c rest t) (λ c t. stop-here t))
 
   -- A SECTION
-  section-of : (rest : List ℕ) (s x c : ℕ) → x < s → Lies text c rest → Reads text (sectionOf s (suc x) c) x rest
+  section-of : (rest : List ℕ) (s x c : ℕ) → x < s → Lies text c rest → Reads text (toSection s (suc x) c) x rest
   section-of rest s x c l t =
       let z : suc x - 1 ≡ x = omega arith in
       rw (ne-eqb (suc x) 0 (λ e. omega arith), z, lt-ltb x s l) (stop-here t)
 
-  section-complete : (rest : List ℕ) (s k t x c : ℕ) → s ≤ 48 → t < k → x < s → Lies text c (decimal (suc x) ++ (tab ∷ rest)) → Reads text (sectionAt text s k t c) x rest
+  section-complete : (rest : List ℕ) (s k t x c : ℕ) → s ≤ mostSections → t < k → x < s → Lies text c (decimal (suc x) ++ (tab ∷ rest)) → Reads text (sectionAt text s k t c) x rest
   unfolding sectionAt
   section-complete rest s k t x c b h l i =
-      rw (lt-ltb t k h) (go-on (sectionOf s) (number-tab rest 2 (suc x) c (omega arith) (omega arith) i) (λ c i. section-of rest s x c l i))
+      rw (lt-ltb t k h) (go-on (toSection s) (number-tab rest 2 (suc x) c (omega arith) (omega arith) i) (λ c i. section-of rest s x c l i))
 
   -- A FIGURE, with a byte behind it that is no digit
   pub figure-complete : (rest : List ℕ) (n c : ℕ) → isDigit (getD rest 0 0) ≡ false → n < noFigure → Lies text c (decimal n ++ rest) → Reads text (figureAt text c) n rest
   unfolding figureAt
   figure-complete rest n c stop l t =
-      go-on figureOf (number-complete text rest stop 9 n c (omega arith) (omega arith) t) (λ c t. rw (lt-ltb n noFigure l) (stop-here t))
+      go-on toFigure (number-complete text rest stop 9 n c (omega arith) (omega arith) t) (λ c t. rw (lt-ltb n noFigure l) (stop-here t))
 
   -- POINTS
   signs-complete : (ps : List Bool) (rest : List ℕ) (c : ℕ) → Lies text c (pointField ps ++ rest) → fromBits (plusAt text c) (length ps) ≡ fromBits (λ n. getD ps n false) (length ps)
@@ -104,20 +105,20 @@ module _ (text : List ℕ) where
 
   -- THE ENTRY of open trains and points
   entry-of : (ps : List Bool) (rest : List ℕ) (o v m c : ℕ) → length ps ≡ m → openBits o ≡ v → Lies text c (pointField ps ++ rest)
-      → Reads text (entryOf text m o c) (fromBits (λ n. getD ps n false) m + v) (pointField ps ++ rest)
+      → Reads text (toEntry text m o c) (fromBits (λ n. getD ps n false) m + v) (pointField ps ++ rest)
   entry-of ps rest o v m c n e t =
       let w : fromBits (plusAt text c) m ≡ fromBits (λ i. getD ps i false) m = rw n at (signs-complete ps rest c t) in
       rw (e, w) (stop-here t)
 
-  entry-complete : (os ps : List Bool) (rest : List ℕ) (m c : ℕ) → length os ≤ 4 → length ps ≡ m → m ≤ 16 → Lies text c (tab ∷ (openField os ++ (tab ∷ (pointField ps ++ rest))))
-      → Reads text (entryAt text m c) (fromBits (λ n. getD ps n false) m + 2 ^ 16 * fromBits (λ t. getD os t false) (length os)) (pointField ps ++ rest)
+  entry-complete : (os ps : List Bool) (rest : List ℕ) (m c : ℕ) → length os ≤ mostTrains → length ps ≡ m → m ≤ mostPoints → Lies text c (tab ∷ (openField os ++ (tab ∷ (pointField ps ++ rest))))
+      → Reads text (entryAt text m c) (fromBits (λ n. getD ps n false) m + 2 ^ trainBits * fromBits (λ t. getD os t false) (length os)) (pointField ps ++ rest)
   unfolding entryAt
   entry-complete os ps rest m c few n l t =
       let d = open-digits os few in
-      rw (le-ltb 16 m l)
-      (go-on (λ b c. then (numberTab text 9 c) (entryOf text m)) (byte-complete text tab c (openField os ++ (tab ∷ (pointField ps ++ rest))) t)
-      (λ c t. go-on (entryOf text m) (number-tab (pointField ps ++ rest) 9 (d .number) c (omega arith) (omega (arith, d .small)) (rw (d .spelled) at t))
-      (λ c t. entry-of ps rest (d .number) (2 ^ 16 * fromBits (λ t. getD os t false) (length os)) m c n (d .bits) t)))
+      rw (le-ltb mostPoints m l)
+      (go-on (λ b c. then (numberTab text 9 c) (toEntry text m)) (byte-complete text tab c (openField os ++ (tab ∷ (pointField ps ++ rest))) t)
+      (λ c t. go-on (toEntry text m) (number-tab (pointField ps ++ rest) 9 (d .number) c (omega arith) (omega (arith, d .small)) (rw (d .spelled) at t))
+      (λ c t. entry-of ps rest (d .number) (2 ^ trainBits * fromBits (λ t. getD os t false) (length os)) m c n (d .bits) t)))
 
 -- SECTION AFTER SECTION
 line-more : (f : List ℕ) (xs : List ℕ) (d : PlacementLine) → line (f ∷ (map sectionField xs ++ lastFields d)) ≡ f ++ (tab ∷ line (map sectionField xs ++ lastFields d))
@@ -125,7 +126,7 @@ unfolding line
 line-more f [] d = refl
 line-more f (x ∷ xs) d = refl
 
-module _ (text : List ℕ) (s : ℕ) (few : s ≤ 48) (d : PlacementLine) (there : (t : ℕ) → t < length (d .sections) → getD (d .sections) t 0 < s) where
+module _ (text : List ℕ) (s : ℕ) (few : s ≤ mostSections) (d : PlacementLine) (there : (t : ℕ) → t < length (d .sections) → getD (d .sections) t 0 < s) where
   -- the line from the section of train t on
   abbrev from : ℕ → List ℕ
   from t = line (map sectionField (drop t (d .sections)) ++ lastFields d)
@@ -160,8 +161,8 @@ pub record Walked (text : List ℕ) (s k m : ℕ) (d : PlacementLine) (v : ℕ) 
   pub three : ℕ
   pub entry : entryAt text m two ≡ got v three
 
-walked-on : (text : List ℕ) (s k m : ℕ) (d : PlacementLine) (v : ℕ) → length (d .opens) ≤ 4 → length (d .plus) ≡ m → m ≤ 16 → d .figure < noFigure
-    → v ≡ fromBits (λ n. getD (d .plus) n false) m + 2 ^ 16 * fromBits (λ t. getD (d .opens) t false) (length (d .opens))
+walked-on : (text : List ℕ) (s k m : ℕ) (d : PlacementLine) (v : ℕ) → length (d .opens) ≤ mostTrains → length (d .plus) ≡ m → m ≤ mostPoints → d .figure < noFigure
+    → v ≡ fromBits (λ n. getD (d .plus) n false) m + 2 ^ trainBits * fromBits (λ t. getD (d .opens) t false) (length (d .opens))
     → Reads text (sectionsAt text s k) (getD (d .sections) 0 0 ∷ getD (d .sections) 1 0 ∷ getD (d .sections) 2 0 ∷ getD (d .sections) 3 0 ∷ []) (line (lastFields d))
     → Walked text s k m d v
 unfolding line isDigit
@@ -180,7 +181,7 @@ walked r b text d p =
     let there : (t : ℕ) → t < length (d .sections) → getD (d .sections) t 0 < r .sections =
     (λ t h. ltb-true (getD (d .sections) t 0) (r .sections) (all-in (λ x. ltb x (r .sections)) (d .sections) (getD (d .sections) t 0) (f .there) (getD-member (d .sections) t 0 h))) in
     let x = sections-complete text (r .sections) l d there (record { text = sym (p .spelled) }) in
-    let four : length (d .sections) ≤ 4 = omega (arith, f .each-train) in
+    let four : length (d .sections) ≤ mostTrains = omega (arith, f .each-train) in
     let none-left : drop 4 (d .sections) ≡ [] = drop-of-length-le (d .sections) four in
     walked-on text (r .sections) (r .trains) (r .points) d (lineEntry r d) (omega (arith, f .opened)) (f .pointed) (b .few-points) (f .figured) (rw (f .opened))
     (rw (none-left, f .each-train) at x)

@@ -1,11 +1,11 @@
 -- The walk over a line as code makes it, step by step: each test of the code is a test of the definition, and
 -- each loop adds one bit or one byte to what was seen before. Assumes nothing.
-use Prim.Native.Nat.{ℕ, suc, _+_, _-_, _*_, _%_, _/_, _≤_, _<_}
+use Prim.Native.Nat.{ℕ, suc, _+_, _-_, _*_, _/_, _%_, _^_, _≤_, _<_}
 use mathlib.Core.Path.{_≡_, refl, _∙_, ap}
 use mathlib.Core.Bool.{Bool, true, false, cond}
 use mathlib.Core.List.{List, [], _∷_}
 use native.Mathlib.Omega.{arith}
-use native.Mathlib.Nat.{pow-le-pow-right}
+use native.Mathlib.Nat.{pow-le-pow-right, mod-eq-of-lt}
 use lib.Dec.{eqb, ltb}
 use lib.ListN.{length, getD, List·getD-eq-default}
 use borrow.Author.Tests.{lt-ltb, le-ltb, ltb-true, ltb-false, eq-eqb, ne-eqb}
@@ -15,8 +15,10 @@ use Rattle.laws.proofs.Bits.{bits-same, bits-below}
 use Rattle.text.specs.Text.{byte, tab}
 use Rattle.text.specs.Reading.{Got, bad, got, then, byteAt, numberAt}
 use Rattle.text.proofs.Walking.{bad-got, steps, on}
+use Rattle.railway.specs.Bounds.{mostPoints, mostTrains}
+use Rattle.tables.specs.Entries.{trainBits}
 use Rattle.tables.specs.Tables.{noFigure}
-use Rattle.planreader.specs.Walk.{trainBit, openBits, plusAt, numberTab, sectionOf, sectionAt, sectionsAt, figureOf, figureAt, entryOf, entryAt}
+use Rattle.planreader.specs.Walk.{trainBit, openBits, plusAt, numberTab, toSection, sectionAt, sectionsAt, toFigure, figureAt, toEntry, entryAt}
 
 -- SECTIONS
 module _ (text : List ℕ) (s k t c : ℕ) where
@@ -49,8 +51,8 @@ of-below s n c x b true q h e = bad-got refl e
 of-below s n c x b false true h e = let z : n - 1 ≡ x = cc in rw z at (ltb-true (n - 1) s h)
 of-below s n c x b false false h e = bad-got refl e
 
-then-below : (s x b : ℕ) (g : Got ℕ) → then g (sectionOf s) ≡ got x b → x < s
-then-below s x b g e = let w = steps g (sectionOf s) x b e in of-below s (w .value) (w .cursor) x b (eqb (w .value) 0) (ltb (w .value - 1) s) refl (w .second)
+then-below : (s x b : ℕ) (g : Got ℕ) → then g (toSection s) ≡ got x b → x < s
+then-below s x b g e = let w = steps g (toSection s) x b e in of-below s (w .value) (w .cursor) x b (eqb (w .value) 0) (ltb (w .value - 1) s) refl (w .second)
 
 module _ (text : List ℕ) (s k t c x b : ℕ) where
   pub section-below : sectionAt text s k t c ≡ got x b → t < k → x < s
@@ -61,7 +63,7 @@ module _ (text : List ℕ) (s k t c x b : ℕ) where
   unfolding sectionAt
   section-byte e l = go (ltb t k) e
     where
-      go : (p : Bool) → cond p (then (numberTab text 2 c) (sectionOf s)) (got 0 c) ≡ got x b → x < 256
+      go : (p : Bool) → cond p (then (numberTab text 2 c) (toSection s)) (got 0 c) ≡ got x b → x < 256
       go true e = let h = then-below s x b (numberTab text 2 c) e in omega arith
       go false e = let z : 0 ≡ x = cc in omega arith
 
@@ -80,40 +82,39 @@ module _ (text : List ℕ) (c : ℕ) where
     unfolding figureAt
     figure-high l = rw (e, le-ltb n noFigure l)
 
--- OPEN TRAINS
+-- OPEN TRAINS: no bit is above the last train's
+abbrev lastBit : ℕ
+lastBit = 2 ^ (trainBits + (mostTrains - 1))
+
 module _ (d : ℕ) where
-  pub bit-first : d ≡ 1 → 65536 ≡ trainBit d
-  unfolding trainBit
-  bit-first e = rw e
+  power-small : d ≤ mostTrains → 2 ^ (trainBits + (d - 1)) ≤ lastBit
+  power-small l = pow-le-pow-right {n = 2} (omega arith) {i = trainBits + (d - 1)} {j = trainBits + (mostTrains - 1)} (omega arith)
 
-  pub bit-second : d ≡ 2 → 131072 ≡ trainBit d
+  pub bit-small : trainBit d ≤ lastBit
   unfolding trainBit
-  bit-second e = rw e
-
-  pub bit-third : d ≡ 3 → 262144 ≡ trainBit d
-  unfolding trainBit
-  bit-third e = rw e
-
-  pub bit-fourth : d ≡ 4 → 524288 ≡ trainBit d
-  unfolding trainBit
-  bit-fourth e = rw e
-
-  pub bit-other : (d ≡ 1 → ⊥) → (d ≡ 2 → ⊥) → (d ≡ 3 → ⊥) → (d ≡ 4 → ⊥) → 0 ≡ trainBit d
-  unfolding trainBit
-  bit-other a b c e = rw (ne-eqb d 1 a, ne-eqb d 2 b, ne-eqb d 3 c, ne-eqb d 4 e)
-
-  pub bit-small : trainBit d ≤ 524288
-  unfolding trainBit
-  bit-small = go (eqb d 1) (eqb d 2) (eqb d 3) (eqb d 4)
+  bit-small = go (eqb d 0) (ltb mostTrains d) refl
     where
-      go : (p q u v : Bool) → cond p 65536 (cond q 131072 (cond u 262144 (cond v 524288 0))) ≤ 524288
-      go true q u v = omega arith
-      go false true u v = omega arith
-      go false false true v = omega arith
-      go false false false true = omega arith
-      go false false false false = omega arith
+      go : (p q : Bool) → ltb mostTrains d ≡ q → cond p 0 (cond q 0 (2 ^ (trainBits + (d - 1)))) ≤ lastBit
+      go true q e = omega arith
+      go false true e = omega arith
+      go false false e = power-small (ltb-false mostTrains d e)
 
-pub bits-small : (o : ℕ) → openBits o ≤ 2097152
+  pub bit-zero : d ≡ 0 → 0 ≡ trainBit d
+  unfolding trainBit
+  bit-zero e = rw e
+
+  module _ (n : d ≡ 0 → ⊥) where
+    pub bit-past : mostTrains < d → 0 ≡ trainBit d
+    unfolding trainBit
+    bit-past l = rw (ne-eqb d 0 n, lt-ltb mostTrains d l)
+
+    pub bit-there : d ≤ mostTrains → (1 * 2 ^ (trainBits + (d - 1))) % 2 ^ 64 ≡ trainBit d
+    unfolding trainBit
+    bit-there l =
+        let e : 1 * 2 ^ (trainBits + (d - 1)) ≡ 2 ^ (trainBits + (d - 1)) = omega arith in
+        rw (ne-eqb d 0 n, le-ltb mostTrains d l, e) (mod-eq-of-lt (omega (arith, power-small l)))
+
+pub bits-small : (o : ℕ) → openBits o ≤ mostTrains * lastBit
 unfolding openBits
 bits-small o =
     let a = bit-small (o % 10) in
@@ -155,36 +156,36 @@ module _ (f : ℕ → Bool) (m : ℕ) where
         let y : m - i ≡ m = omega arith in
         e ∙ bits-same (λ j. f (i + j)) f (m - i) (λ j l. ap f (omega arith)) ∙ ap (fromBits f) y
 
-    pub plus-fits : m ≤ 16 → v < 65536
-    plus-fits h = let a = bits-below (λ j. f (i + j)) (m - i) in let b = pow-le-pow-right {n = 2} (omega arith) {i = m - i} {j = 16} (omega arith) in omega arith
+    pub plus-fits : m ≤ mostPoints → v < 2 ^ mostPoints
+    plus-fits h = let a = bits-below (λ j. f (i + j)) (m - i) in let b = pow-le-pow-right {n = 2} (omega arith) {i = m - i} {j = mostPoints} (omega arith) in omega arith
 
-    pub plus-room : (b : ℕ) (p : Bool) → b ≡ cond p 1 0 → m ≤ 16 → b + 2 * v < 131072
+    pub plus-room : (b : ℕ) (p : Bool) → b ≡ cond p 1 0 → m ≤ mostPoints → b + 2 * v < 2 * 2 ^ mostPoints
     plus-room b true eb h = omega (arith, plus-fits h)
     plus-room b false eb h = omega (arith, plus-fits h)
 
 -- THE ENTRY
 module _ (text : List ℕ) (m c : ℕ) where
-  pub entry-many : 16 < m → bad ≡ entryAt text m c
+  pub entry-many : mostPoints < m → bad ≡ entryAt text m c
   unfolding entryAt
-  entry-many h = rw (lt-ltb 16 m h)
+  entry-many h = rw (lt-ltb mostPoints m h)
 
-  pub entry-few : m ≤ 16 → {g : Got ℕ} → g ≡ then (byteAt text tab c) (λ b c. then (numberTab text 9 c) (entryOf text m)) → g ≡ entryAt text m c
+  pub entry-few : m ≤ mostPoints → {g : Got ℕ} → g ≡ then (byteAt text tab c) (λ b c. then (numberTab text 9 c) (toEntry text m)) → g ≡ entryAt text m c
   unfolding entryAt
-  entry-few h e = rw (le-ltb 16 m h) e
+  entry-few h e = rw (le-ltb mostPoints m h) e
 
-pub entry-is : (text : List ℕ) (m o c v w : ℕ) → v ≡ fromBits (plusAt text c) m → w ≡ openBits o → got (v + w) c ≡ entryOf text m o c
+pub entry-is : (text : List ℕ) (m o c v w : ℕ) → v ≡ fromBits (plusAt text c) m → w ≡ openBits o → got (v + w) c ≡ toEntry text m o c
 entry-is text m o c v w e d = rw (e, d)
 
-pub entry-room : (f : ℕ → Bool) (m o v w : ℕ) → m ≤ 16 → v ≡ fromBits f m → w ≡ openBits o → v + w < 4294967296
+pub entry-room : (f : ℕ → Bool) (m o v w : ℕ) → m ≤ mostPoints → v ≡ fromBits f m → w ≡ openBits o → v + w < 4294967296
 entry-room f m o v w h e d =
     let a = bits-below f m in
-    let b = pow-le-pow-right {n = 2} (omega arith) {i = m} {j = 16} h in
+    let b = pow-le-pow-right {n = 2} (omega arith) {i = m} {j = mostPoints} h in
     let c = bits-small o in
     omega arith
 
 -- WHAT WAS READ is within its bounds
 module _ (text : List ℕ) (s k c : ℕ) (qs : List ℕ) where
-  pub sections-below : sectionsAt text s k ≡ got qs c → k ≤ 4 → (t : ℕ) → t < k → getD qs t 0 < s
+  pub sections-below : sectionsAt text s k ≡ got qs c → k ≤ mostTrains → (t : ℕ) → t < k → getD qs t 0 < s
   unfolding sectionsAt
   sections-below e l t h =
       on (sectionAt text s k 0 0) _ qs c e (λ x c₁ ex e.
@@ -202,16 +203,16 @@ figure-cases n c x b false h e = bad-got refl e
 module _ (text : List ℕ) (c x b : ℕ) where
   pub figure-below : figureAt text c ≡ got x b → x < noFigure
   unfolding figureAt
-  figure-below e = on (numberAt text 9 c) figureOf x b e (λ n a en e. figure-cases n a x b (ltb n noFigure) refl e)
+  figure-below e = on (numberAt text 9 c) toFigure x b e (λ n a en e. figure-cases n a x b (ltb n noFigure) refl e)
 
   pub entry-below : (m : ℕ) → entryAt text m c ≡ got x b → x < 4294967296
   unfolding entryAt
-  entry-below m e = go (ltb 16 m) refl e
+  entry-below m e = go (ltb mostPoints m) refl e
     where
-      go : (p : Bool) → ltb 16 m ≡ p → cond p bad (then (byteAt text tab c) (λ b c. then (numberTab text 9 c) (entryOf text m))) ≡ got x b → x < 4294967296
+      go : (p : Bool) → ltb mostPoints m ≡ p → cond p bad (then (byteAt text tab c) (λ b c. then (numberTab text 9 c) (toEntry text m))) ≡ got x b → x < 4294967296
       go true h e = bad-got refl e
       go false h e =
-          on (byteAt text tab c) (λ b c. then (numberTab text 9 c) (entryOf text m)) x b e (λ u c₁ eu e.
-          on (numberTab text 9 c₁) (entryOf text m) x b e (λ o c₂ eo e.
+          on (byteAt text tab c) (λ b c. then (numberTab text 9 c) (toEntry text m)) x b e (λ u c₁ eu e.
+          on (numberTab text 9 c₁) (toEntry text m) x b e (λ o c₂ eo e.
           let z : fromBits (plusAt text c₂) m + openBits o ≡ x = cc in
-          rw z at (entry-room (plusAt text c₂) m o (fromBits (plusAt text c₂) m) (openBits o) (ltb-false 16 m h) refl refl)))
+          rw z at (entry-room (plusAt text c₂) m o (fromBits (plusAt text c₂) m) (openBits o) (ltb-false mostPoints m h) refl refl)))

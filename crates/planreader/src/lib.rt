@@ -13,6 +13,7 @@ ghost use Rattle.laws.specs.Bits.{fromBits};
 ghost use Rattle.text.specs.Reading.{sameText};
 ghost use Rattle.text.specs.Answers.{moreDigits, numberGot};
 ghost use Rattle.railway.specs.declared.Railway.{Railway};
+ghost use Rattle.railway.specs.Bounds.{mostPoints};
 ghost use Rattle.railway.specs.Rows.{recordRefusal};
 ghost use Rattle.plan.specs.Lines.{startLine, placementLine, spell, mostLineBytes};
 ghost use Rattle.plan.specs.Reading.{readLine};
@@ -22,6 +23,7 @@ ghost use Rattle.planreader.specs.Answers.{answerFor};
 ghost use Rattle.planreader.specs.Walk.{BeginsLikeStart, sameAt, trainBit, openBits, plusAt, numberTab, sectionAt, sectionsAt, figureAt, entryAt, sectionsGot};
 use compiled::Table;
 use moves::Placement;
+use moves::TRAIN_BITS;
 use planlines::MOST_LINE_BYTES;
 use railway::Railway;
 use text::Byte;
@@ -29,6 +31,9 @@ use text::Cursor;
 use text::Number;
 use text::TAB;
 use text::Width;
+
+// Where the figure of a first line stands: behind the word `plan` and a tab.
+const FIRST_FIGURE: usize = 5;
 
 // What a line says: the start's figure; or a placement's code, its figure and its entry of the setting table.
 pub enum LineRead {
@@ -145,25 +150,22 @@ fn open_bits(o: u64) -> u64
     train_bit(o % 10) + train_bit(o / 10 % 10) + train_bit(o / 100 % 10) + train_bit(o / 1000 % 10)
 }
 
+// The bit of the train with this digit; none for a digit that no case has as a train.
 fn train_bit(d: u64) -> u64
     ensures { λ v. ⌜ v ≡ trainBit d ⌝ }
 {
-    if d == 1 {
-        65536
-    } else if d == 2 {
-        131072
-    } else if d == 3 {
-        262144
-    } else if d == 4 {
-        524288
-    } else {
-        0
+    if d == 0 {
+        return 0;
     }
+    if (Railway::TRAINS as u64) < d {
+        return 0;
+    }
+    1u64 << (TRAIN_BITS as u64 + (d - 1))
 }
 
 // Points at plus, from the last to the first.
 fn plus_bits(text: &[u8], c: Cursor, m: u8) -> u64
-    requires { ⌜ m ≤ 16 ⌝ }
+    requires { ⌜ m ≤ mostPoints ⌝ }
     ensures { λ v. ⌜ v ≡ fromBits (plusAt (now (text .entry)) (c .at)) m ⌝ }
 {
     let mut v: u64 = 0;
@@ -236,7 +238,7 @@ fn is_placement(text: &[u8], k: u8, m: u8, q: Placement, n: u32, v: u32) -> bool
 fn read_start(text: &[u8]) -> LineRead
     ensures { λ a. ⌜ ((r : Railway) → recordRefusal r ≡ none → BeginsLikeStart (now (text .entry)) → a ≡ answerFor r (readLine r (now (text .entry)))) ⌝ }
 {
-    let Number::Value(n, _) = figure_at(text, Cursor { at: 5 }) else {
+    let Number::Value(n, _) = figure_at(text, Cursor { at: FIRST_FIGURE }) else {
         return LineRead::NoLine;
     };
     let figure = n as u32;

@@ -4,12 +4,13 @@ use mathlib.Core.Path.{_≡_, refl, sym, _∙_}
 use mathlib.Core.Bool.{Bool, true, false}
 use mathlib.Core.List.{List}
 use mathlib.Core.Option.{none, some}
-use Prim.Native.Nat.{ℕ, suc, _+_, _*_, _≤_, _<_}
+use Prim.Native.Nat.{ℕ, suc, _+_, _*_, _/_, _^_, _≤_, _<_}
 use native.Mathlib.Omega.{arith}
 use native.Mathlib.Numerals.{add-one}
 use lib.ListN.{length, replicate, length-replicate}
 use Rattle.laws.proofs.Below.{count-le}
 use Rattle.railway.specs.declared.Railway.{Railway}
+use Rattle.railway.specs.Bounds.{mostSections, mostTrains}
 use Rattle.railway.specs.Rows.{recordRefusal}
 use Rattle.game.specs.Placement.{placements}
 use Rattle.tables.specs.Tables.{noFigure, figureIn}
@@ -24,7 +25,7 @@ use Rattle.solver.specs.Visits.{stretchLength, Marked}
 
 -- one mark for each stretch of the largest table
 abbrev pub markCount : ℕ
-markCount = 12288
+markCount = mostSections ^ mostTrains / stretchLength
 
 kept-on : (r : Railway) (a b c : List ℕ) → Kept r a b → Kept r b c → Kept r a c
 kept-on r a b c x y = record { as-long = y .as-long ∙ x .as-long; past = λ p l. y .past p l ∙ x .past p l }

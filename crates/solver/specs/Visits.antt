@@ -8,6 +8,7 @@ use mathlib.Core.Option.{Option, none, some}
 use Prim.Native.Nat.{ℕ, suc, _*_, _/_, _≤_, _<_}
 use lib.ListN.{length, getD}
 use Rattle.railway.specs.declared.Railway.{Railway}
+use Rattle.railway.specs.Bounds.{mostSections}
 use Rattle.game.specs.Game.{home, over, at}
 use Rattle.game.specs.Placement.{placements}
 use Rattle.game.specs.Moves.{codeWith, moveOf, gameOf}
@@ -23,7 +24,7 @@ Homed r figs = (p : ℕ) → p < placements r → home (gameOf r) p ≡ true →
 
 -- How many codes a stretch has.
 abbrev pub stretchLength : ℕ
-stretchLength = 432
+stretchLength = 9 * mostSections
 
 -- The stretch of a code.
 abbrev pub stretchOf : ℕ → ℕ

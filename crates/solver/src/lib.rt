@@ -30,11 +30,18 @@ use settings::Found;
 use tables::NO_FIGURE;
 use tables::SolverAnswer;
 
-// How many codes a stretch has.
-const STRETCH: u32 = 432;
+// The most sections.
+const SECTIONS: usize = Railway::SECTIONS as usize;
+
+// The most codes: a factor for each of four trains.
+const MOST_CODES: usize = SECTIONS * SECTIONS * SECTIONS * SECTIONS;
+
+// How many codes a stretch has. Nine times the most sections is a moderate length: there are few marks, and few codes are looked at where a
+// mark does not rule them out.
+const STRETCH: u32 = 9 * (Railway::SECTIONS as u32);
 
 // How many marks there are: one for each stretch of the largest table.
-const MARKS: usize = 12288;
+const MARKS: usize = MOST_CODES / (STRETCH as usize);
 
 // How many codes are looked at together.
 const BLOCK: u32 = 16;

@@ -1,21 +1,16 @@
 -- `answerlines::put_refusal` meets its contract: the word, a tab, the number.
 -- Assumes nothing.
-use Rattle.answerlines.proofs.Made.{refusal-made}
 use borrow.Author.Needs.{needs}
+use Rattle.text.specs.Text.{bytes}
+use Rattle.answerlines.proofs.Made.{refusal-made}
 use Rattle.answerlines.proofs.put_refusal.Statement.{statement}
 use Rattle.answerlines.proofs.put_refusal.Tie as tie
 
-two-requires : tie.Need-two-requires
-two-requires c κs = search needs
+slice-aggregate-bytes : tie.Need-slice-aggregate-bytes
+slice-aggregate-bytes c = search needs
 
-two-requires-2 : tie.Need-two-requires-2
-two-requires-2 c κs = search needs
-
-two-requires-3 : tie.Need-two-requires-3
-two-requires-3 c κs = search needs
-
-two-requires-4 : tie.Need-two-requires-4
-two-requires-4 c κs = search needs
+bytes-requires : tie.Need-bytes-requires
+bytes-requires c κs = search needs
 
 number-requires : tie.Need-number-requires
 number-requires c κs = search needs
@@ -30,16 +25,18 @@ same-length : tie.Need-same-length
 same-length c = search needs
 
 returns : tie.Need-returns
-returns c = refusal-made (c .before .before .before .before .before .before .before .before .before .before .before .before .before .before .before .before .before .before .before .before .before .before .args .f) _ (c .before .before .before .number .ensures) (c .before .before .before .before .before .before .before .before .before .before .before .before .before .before .before .before .before .before .before .two .ensures) (c .before .before .before .before .before .before .before .before .before .before .before .before .before .before .before .two2 .ensures) (c .before .before .before .before .before .before .before .before .before .before .before .two3 .ensures) (c .before .before .before .before .before .before .before .two4 .ensures) (c .before .before .number2 .ensures)
+unfolding bytes
+returns c =
+    let n = c .before .before in
+    let b = n .before .before .before .before .before in
+    refusal-made (b .before .before .before .before .args .f) _ (n .before .number .ensures) (b .bytes .ensures) (n .number2 .ensures)
 
 pub put-refusal-spec : {M : Type 1} → statement M
 put-refusal-spec =
     tie.close
     (tie.spec
-    two-requires
-    two-requires-2
-    two-requires-3
-    two-requires-4
+    slice-aggregate-bytes
+    bytes-requires
     number-requires
     cast-number
     number-requires-2

@@ -1,6 +1,7 @@
 -- `answerlines::test_line` meets its contract, by the answer.
 -- Assumes nothing.
 use borrow.Author.Needs.{needs}
+use Rattle.text.specs.Text.{line, bytes}
 use Rattle.answerlines.proofs.Made.{passed-line, refused-line}
 use Rattle.answerlines.proofs.test_line.Statement.{statement}
 use Rattle.answerlines.proofs.test_line.Tie as tie
@@ -8,8 +9,11 @@ use Rattle.answerlines.proofs.test_line.Tie as tie
 enum-told : tie.Need-enum-told
 enum-told c = search needs
 
-word-line-requires : tie.Need-word-line-requires
-word-line-requires c κs = search needs
+slice-aggregate-copy : tie.Need-slice-aggregate-copy
+slice-aggregate-copy c = search needs
+
+copy-requires : tie.Need-copy-requires
+copy-requires c κs = search needs
 
 enum-known-a : tie.Need-enum-known-a
 enum-known-a c = search needs
@@ -21,7 +25,8 @@ same-length : tie.Need-same-length
 same-length c = search needs
 
 returns : tie.Need-returns
-returns c = let w = c .before .before in passed-line _ _ _ _ (w .before .before .enum-told .given .1) (w .word-line .ensures)
+unfolding bytes line
+returns c = let w = c .before .before in passed-line _ _ _ _ (w .before .before .before .enum-told .given .1) (w .copy .ensures)
 
 same-length-2 : tie.Need-same-length-2
 same-length-2 c = search needs
@@ -34,7 +39,8 @@ test-line-spec =
     tie.close
     (tie.spec
     enum-told
-    word-line-requires
+    slice-aggregate-copy
+    copy-requires
     enum-known-a
     refusal-line-requires
     same-length

@@ -1,18 +1,16 @@
 -- `planlines::start_line` meets its contract: the word, a tab, the figure.
 -- Assumes nothing.
 use borrow.Author.Needs.{needs}
+use Rattle.text.specs.Text.{bytes}
 use Rattle.planlines.proofs.Pieces.{start-spelled}
 use Rattle.planlines.proofs.start_line.Statement.{statement}
 use Rattle.planlines.proofs.start_line.Tie as tie
 
-two-requires : tie.Need-two-requires
-two-requires c κs = search needs
+slice-aggregate-bytes : tie.Need-slice-aggregate-bytes
+slice-aggregate-bytes c = search needs
 
-two-requires-2 : tie.Need-two-requires-2
-two-requires-2 c κs = search needs
-
-byte-requires : tie.Need-byte-requires
-byte-requires c κs = search needs
+bytes-requires : tie.Need-bytes-requires
+bytes-requires c κs = search needs
 
 number-requires : tie.Need-number-requires
 number-requires c κs = search needs
@@ -21,9 +19,11 @@ same-length : tie.Need-same-length
 same-length c = search needs
 
 returns : tie.Need-returns
-returns c = start-spelled (c .before .before .before .before .before .before .before .before .before .before .before .before .before .before .before .before .before .args .n) (c .before .before .before .before .before .before .before .before .before .before .before .before .before .before .two .ensures) (c .before .before .before .before .before .before .before .before .before .before .two2 .ensures) (c .before .before .before .before .before .before .byte .ensures) (c .before .before .number .ensures)
+unfolding bytes
+returns c =
+    let n = c .before .before in
+    let b = n .before .before .before .before in
+    start-spelled (b .before .before .before .before .args .n) (b .bytes .ensures) (n .number .ensures)
 
 pub start-line-spec : {M : Type 1} → statement M
-start-line-spec =
-    tie.close
-    (tie.spec two-requires two-requires-2 byte-requires number-requires same-length returns)
+start-line-spec = tie.close (tie.spec slice-aggregate-bytes bytes-requires number-requires same-length returns)

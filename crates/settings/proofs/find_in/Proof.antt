@@ -1,7 +1,19 @@
 -- `settings::find_in` meets its contract: the counts of an accepted railway are within their bounds; a lost placement keeps nothing; else it
 -- hangs on whether a train is free. Assumes nothing.
-use mathlib.Core.Path.{sym, _∙_}
+use Prim.Native.Nat.{ℕ}
+use mathlib.Core.Path.{_≡_, sym, _∙_}
+use mathlib.Core.Bool.{Bool}
+use mathlib.Core.Option.{Option}
+use Rattle.laws.specs.Below.{anyBelow}
+use Rattle.railway.specs.declared.Railway.{Railway}
+use Rattle.game.specs.Placement.{codeOn}
+use Rattle.game.specs.Setting.{free}
 use Rattle.game.proofs.Accepted.{facts}
+use Rattle.tables.specs.Tables.{figureIn}
+use Rattle.tables.specs.Find.{findMet}
+use Rattle.moves.specs.Steps.{sectionIn, On}
+use Rattle.settings.specs.Answers.{firstKeeping}
+use Rattle.settings.specs.Ways.{Asked}
 use Rattle.settings.proofs.Trying.{lost-none, found-first, trains-few, points-few, asked}
 use borrow.Author.Needs.{needs}
 use Rattle.settings.proofs.find_in.Statement.{statement}
@@ -34,27 +46,26 @@ guide-free-requires c κs = search needs
 open-one-requires : tie.Need-open-one-requires
 open-one-requires c κs = search needs
 
-returns-4 : tie.Need-returns-4
-returns-4 c =
-    let f = c .before .before in
+-- where the placement is not lost: what is found with the points as the trains need them is the first setting, whether a train is free or not
+abbrev start : tie.After-some-free → tie.Start
+start f = f .before .before .before .before .before .before .before .before
+
+first : (f : tie.After-some-free) {b : Bool} {o : Option ℕ} → f .some-free .result ≡ b
+    → ((r : Railway) (p : ℕ) → Asked r p (start f .args .table .now) (start f .args .q) (start f .args .c) (f .before .before .before .before .before .before .trains-in .result) (f .before .before .before .before .before .points-in .result) → anyBelow (free r p) (r .trains) ≡ b → o ≡ findMet r (figureIn (start f .args .figures .now)) p (start f .args .n))
+    → (r : Railway) (p : ℕ) → On r p (start f .args .table .now) (start f .args .q) → start f .args .c ≡ codeOn r (sectionIn (start f .args .q)) → o ≡ firstKeeping r (figureIn (start f .args .figures .now)) p (start f .args .n)
+first f is found r p on e =
     let i = f .before in
     let m = i .before .before .before .before in
-    λ r p on e.
     let h = on .compiled in
     let lost = i .before .lost-in .ensures r p on in
     let all = asked r _ h _ _ (m .before .trains-in .ensures r h) (m .points-in .ensures r h) p _ _ _ on e lost (i .if3 .left) in
-    found-first r _ _ _ _ lost (facts r (h .accepted)) (i .if3 .left) _ (c .guide-free .ensures r p all (sym (f .some-free .ensures r p on (all .trains)) ∙ c .before .if4 .taken))
+    found-first r _ _ _ _ lost (facts r (h .accepted)) (i .if3 .left) _ (found r p all (sym (f .some-free .ensures r p on (all .trains)) ∙ is))
+
+returns-4 : tie.Need-returns-4
+returns-4 c = first (c .before .before) (c .before .if4 .taken) (c .guide-free .ensures)
 
 returns-5 : tie.Need-returns-5
-returns-5 c =
-    let f = c .before .before in
-    let i = f .before in
-    let m = i .before .before .before .before in
-    λ r p on e.
-    let h = on .compiled in
-    let lost = i .before .lost-in .ensures r p on in
-    let all = asked r _ h _ _ (m .before .trains-in .ensures r h) (m .points-in .ensures r h) p _ _ _ on e lost (i .if3 .left) in
-    found-first r _ _ _ _ lost (facts r (h .accepted)) (i .if3 .left) _ (c .open-one .ensures r p all (sym (f .some-free .ensures r p on (all .trains)) ∙ c .before .if4 .left))
+returns-5 c = first (c .before .before) (c .before .if4 .left) (c .open-one .ensures)
 
 pub find-in-spec : {M : Type 1} → statement M
 find-in-spec =

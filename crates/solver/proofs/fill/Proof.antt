@@ -43,7 +43,6 @@ same-length c =
     let i = o .before .before .before .before in
     let l = i .before in
     let k = l .before .before .before .before .before in
-    let a = k .before .before .before .before .before in
     o .one-round .kept .1 .1 .0 ∙ l .loop .inv .long-figs ∙ k .clear .kept .1 .0
 
 same-length-2 : tie.Need-same-length-2 Inv-loop μ-loop
@@ -52,7 +51,6 @@ same-length-2 c =
     let i = o .before .before .before .before in
     let l = i .before in
     let k = l .before .before .before .before .before in
-    let a = k .before .before .before .before .before in
     o .one-round .kept .1 .1 .1 .0 ∙ l .loop .inv .long-sets ∙ k .clear .kept .1 .1 .0
 
 returns : tie.Need-returns Inv-loop μ-loop
@@ -65,13 +63,7 @@ returns c =
     filling-end (a .args .table .now) (a .args .behind .now) (a .args .m) (a .args .figures .now) (a .args .settings .now) _ _ (k .clear .ensures) (l .loop .figures) (l .loop .settings) (l .loop .marks) (l .loop .n) (l .loop .inv) (a .pre .0) (i .loop-test .taken) _ _ _ _ (o .one-round .ensures) (not-true _ (c .if1 .taken))
 
 loop-less : tie.Need-loop-less Inv-loop μ-loop
-loop-less c =
-    let o = c .before .before .before .before .before .before in
-    let i = o .before .before .before .before in
-    let l = i .before in
-    let k = l .before .before .before .before .before in
-    let a = k .before .before .before .before .before in
-    omega (arith, i .loop-test .taken)
+loop-less c = omega (arith, c .before .before .before .before .before .before .before .before .before .before .loop-test .taken)
 
 loop-again : tie.Need-loop-again Inv-loop μ-loop
 loop-again c =

@@ -34,8 +34,6 @@ loop-less c =
     let v = c .before .before .before .before .before .before in
     let u = v .before .before .before .before in
     let i = u .before in
-    let l = i .before in
-    let a = l .before .before .before .before in
     omega (arith, i .loop-test .taken, u .stretch-end .ensures .0, u .stretch-end .ensures .1)
 
 loop-again : tie.Need-loop-again Inv-loop μ-loop

@@ -33,22 +33,10 @@ visit-train-requires c κs =
     (omega (arith, a .pre .0, l .loop .inv .long-figs), omega (arith, a .pre .1, l .loop .inv .long-sets))
 
 add-t : tie.Need-add-t Inv-loop μ-loop
-add-t c =
-    let v = c .before .before .before .before .before .before in
-    let l = v .before .before .before .before .before in
-    let k = l .before in
-    let q = k .before in
-    let a = q .before .before .before .before in
-    omega (arith, v .before .before .before .before .loop-test .taken)
+add-t c = omega (arith, c .before .before .before .before .before .before .before .before .before .before .loop-test .taken)
 
 loop-less : tie.Need-loop-less Inv-loop μ-loop
-loop-less c =
-    let v = c .before .before .before .before .before .before in
-    let l = v .before .before .before .before .before in
-    let k = l .before in
-    let q = k .before in
-    let a = q .before .before .before .before in
-    omega (arith, v .before .before .before .before .loop-test .taken)
+loop-less c = omega (arith, c .before .before .before .before .before .before .before .before .before .before .loop-test .taken)
 
 loop-again : tie.Need-loop-again Inv-loop μ-loop
 loop-again c =

@@ -56,8 +56,6 @@ loop-less : tie.Need-loop-less Inv-loop μ-loop
 loop-less c =
     let v = c .before .before .before .before .before .before .before .before in
     let i = v .before .before .before .before in
-    let l = i .before in
-    let a = l .before .before .before .before .before .before in
     omega (arith, i .loop-test .taken, c .next-with2 .ensures .0 .onward)
 
 loop-again : tie.Need-loop-again Inv-loop μ-loop
