@@ -1,18 +1,22 @@
--- Codes and placements by value, and back: nothing is lost either way. Home's code is the code of home, and of no other placement. And the
+-- Codes and placements by value, and back: nothing is lost either way. Home's code is the code of home, and of no other placement; no two
+-- trains of an accepted record have one destination, so home is not lost. And the
 -- hypothesis that a placement by value is that of a code can be met. All goes by the lists of sections: a placement's is the code's.
 -- Assumes nothing.
 use mathlib.Core.Path.{_≡_, sym, _∙_, ap}
-use mathlib.Core.Bool.{true}
+use mathlib.Core.Bool.{true, false}
 use mathlib.Core.List.{List}
+use native.Mathlib.Omega.{arith}
 use Prim.Native.Nat.{ℕ, _<_}
 use lib.ListN.{length}
 use borrow.Author.Tests.{eqb-true, eq-eqb}
 use Rattle.laws.specs.Below.{listBelow}
-use Rattle.laws.proofs.Below.{all-at, all-of, list-length, list-get}
+use Rattle.laws.proofs.Bools.{not-true}
+use Rattle.laws.proofs.Below.{all-at, all-of, any-at, list-length, list-get}
 use Rattle.railway.specs.declared.Railway.{Railway}
 use Rattle.railway.specs.Bounds.{mostTrains}
 use Rattle.railway.specs.Record.{trainOf}
-use Rattle.game.specs.Placement.{codeOf, sectionsIn, sectionsOf, placements, standsOn, arrived, atHome, codeOn}
+use Rattle.railway.proofs.Accepted.{Accepted}
+use Rattle.game.specs.Placement.{codeOf, sectionsIn, sectionsOf, placements, standsOn, arrived, atHome, standsWith, sharesLower, shared, codeOn}
 use Rattle.game.proofs.Codes.{AllBelow, code-sections, sections-code}
 use Rattle.game.proofs.Accepted.{Facts}
 use Rattle.compiled.specs.Table.{Compiled}
@@ -34,9 +38,22 @@ module _ (r : Railway) (facts : Facts r) where
       rw same (list-get f (r .trains) t 0 l)
 
   -- HOME has home's code, and only home has.
+  on-destination : (t : ℕ) → t < r .trains → standsOn r (homeCode r) t ≡ trainOf r t .destination .0
+  unfolding homeCode
+  on-destination t l = sections-again (λ t. trainOf r t .destination .0) (facts .destinations) t l
+
   pub home-code-home : atHome r (homeCode r) ≡ true
-  unfolding atHome homeCode
-  home-code-home = all-of (arrived r (homeCode r)) (r .trains) (λ t l. eq-eqb _ _ (sections-again (λ t. trainOf r t .destination .0) (facts .destinations) t l))
+  unfolding atHome
+  home-code-home = all-of (arrived r (homeCode r)) (r .trains) (λ t l. eq-eqb _ _ (on-destination t l))
+
+  pub home-code-apart : Accepted r → shared r (homeCode r) ≡ false
+  unfolding shared
+  home-code-apart w =
+      not-true (shared r (homeCode r)) (λ y.
+      let a = any-at (sharesLower r (homeCode r)) (r .trains) y in
+      let b = any-at (standsWith r (homeCode r) (a .0)) (a .0) (a .2) in
+      let there : b .0 < r .trains = omega (arith, a .1, b .1) in
+      w .destinations (a .0) (b .0) (b .1) (a .1) (sym (on-destination (b .0) there) ∙ eqb-true _ _ (b .2) ∙ on-destination (a .0) (a .1)))
 
   pub home-has-code : (p : ℕ) → p < placements r → atHome r p ≡ true → p ≡ homeCode r
   unfolding atHome homeCode

@@ -12,6 +12,7 @@ use borrow.Author.Tests.{eq-eqb, ne-eqb}
 use Rattle.laws.proofs.Bools.{bool?, some-none, some-one, not-true, or-false, or-none, and-off}
 use Rattle.laws.proofs.Lists.{getD-inside}
 use Rattle.railway.specs.declared.Railway.{Railway}
+use Rattle.railway.proofs.Accepted.{accepted-facts}
 use Rattle.game.specs.Game.{home, over}
 use Rattle.railway.specs.Rows.{recordRefusal}
 use Rattle.game.specs.Placement.{placements, atHome, shared}
@@ -21,7 +22,7 @@ use Rattle.tables.specs.Tables.{noFigure, figureEntry, figureIn}
 use Rattle.tables.specs.Find.{find}
 use Rattle.tables.specs.Rounds.{firstFigure}
 use Rattle.moves.specs.Answers.{homeCode}
-use Rattle.moves.proofs.Round.{home-has-code}
+use Rattle.moves.proofs.Round.{home-code-home, home-code-apart, home-has-code}
 use Rattle.settings.specs.Answers.{firstKeeping}
 use Rattle.settings.proofs.Exactly.{keeping-lost}
 
@@ -41,16 +42,11 @@ pub entry-empty : (x : ℕ) → figureEntry x ≡ none → eqb x noFigure ≡ tr
 entry-empty x e = elim (bool? (eqb x noFigure)) [ inl y ↦ y | inr y ↦ let s : figureEntry x ≡ some x = rw y in some-none s e ]
 
 -- BEFORE THE FIRST ROUND
-module _ (r : Railway) (p : ℕ) (lost at-home : Bool) (el : lost ≡ shared r p) where
-  pub first-lost : lost ≡ true → noFigure ≡ firstFigure r p
-  first-lost e = let s : shared r p ≡ true = sym el ∙ e in rw s
-
-  module _ (eh : at-home ≡ atHome r p) (apart : lost ≡ false) where
-    pub first-home : at-home ≡ true → 0 ≡ firstFigure r p
-    first-home e = let s : shared r p ≡ false = sym el ∙ apart in let h : atHome r p ≡ true = sym eh ∙ e in rw (s, h)
-
-    pub first-away : at-home ≡ false → noFigure ≡ firstFigure r p
-    first-away e = let s : shared r p ≡ false = sym el ∙ apart in let h : atHome r p ≡ false = sym eh ∙ e in rw (s, h)
+pub first-home : (r : Railway) (home p : ℕ) → recordRefusal r ≡ none → home ≡ homeCode r → p ≡ home → 0 ≡ firstFigure r p
+first-home r home p accepted e same =
+    let at : p ≡ homeCode r = same ∙ e in
+    let ok = facts r accepted in
+    rw (at, home-code-apart r ok (accepted-facts r accepted), home-code-home r ok)
 
 pub first-other : (r : Railway) (home p : ℕ) → recordRefusal r ≡ none → home ≡ homeCode r → p < placements r → (p ≡ home → ⊥) → noFigure ≡ firstFigure r p
 first-other r home p accepted e l other =

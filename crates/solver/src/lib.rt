@@ -10,6 +10,7 @@ ghost use mathlib.Core.Option.{none};
 ghost use Prim.Native.Nat.{ℕ, suc, _+_, _≤_, _<_};
 ghost use lib.ListN.{length, getD};
 ghost use Rattle.railway.specs.declared.Railway.{Railway};
+ghost use Rattle.railway.specs.Rows.{recordRefusal};
 ghost use Rattle.game.specs.Placement.{placements, startCode};
 ghost use Rattle.tables.specs.Tables.{noFigure, figureIn};
 ghost use Rattle.tables.specs.Solver.{figureGiven, refusalGiven, SolverTables, SolverPost};
@@ -91,34 +92,17 @@ fn clear(table: &Table, figures: &mut [u32], settings: &mut [u32], m: u32)
     let mut p: u32 = 0;
     while p < m {
         let at = p as usize;
-        figures[at] = first_entry(table, home, p);
+        figures[at] = first_figure(home, p);
         settings[at] = 0;
         p += 1;
     }
 }
 
-// The figure of a placement before the first round. Only the placement of home's code is looked at.
-fn first_entry(table: &Table, home: u32, p: u32) -> u32
-    ensures { λ f. ⌜ ((r : Railway) → Compiled r (now (table .entry)) → home ≡ homeCode r → p < placements r → f ≡ firstFigure r p) ⌝ }
+// The figure of a placement before the first round: 0 at home, which no two trains share, and none elsewhere.
+fn first_figure(home: u32, p: u32) -> u32
+    ensures { λ f. ⌜ ((r : Railway) → recordRefusal r ≡ none → home ≡ homeCode r → p < placements r → f ≡ firstFigure r p) ⌝ }
 {
-    if p == home {
-        first_figure(table, p)
-    } else {
-        NO_FIGURE
-    }
-}
-
-// The figure of any placement before the first round: 0 at home, and none elsewhere.
-fn first_figure(table: &Table, p: u32) -> u32
-    ensures { λ f. ⌜ ((r : Railway) → Compiled r (now (table .entry)) → f ≡ firstFigure r p) ⌝ }
-{
-    if moves::is_lost(table, p) {
-        return NO_FIGURE;
-    }
-    if moves::is_home(table, p) {
-        return 0;
-    }
-    NO_FIGURE
+    if p == home { 0 } else { NO_FIGURE }
 }
 
 // Round n, in place, stretch after stretch. Whether it gave a figure to any placement.

@@ -23,8 +23,8 @@ loop-holds c = let a = c .before .before .before in clearing-start (a .args .tab
 cast-at : tie.Need-cast-at Inv-loop μ-loop
 cast-at c = omega arith
 
-first-entry-requires : tie.Need-first-entry-requires Inv-loop μ-loop
-first-entry-requires c κs = search needs
+first-figure-requires : tie.Need-first-figure-requires Inv-loop μ-loop
+first-figure-requires c κs = search needs
 
 mul-figures : tie.Need-mul-figures Inv-loop μ-loop
 mul-figures c = search needs
@@ -49,7 +49,7 @@ loop-again c =
     let l = c .before .before in
     let k = l .before in
     let a = k .before .before .before in
-    clearing-next (a .args .table .now) (a .args .m) (a .args .figures .now) (a .args .settings .now) _ _ (l .loop .p) (l .loop .inv) _ _ (omega arith) (a .pre .0) (a .pre .1) (λ r h lp. c .first-entry .ensures r h (k .home-code .ensures r h) lp) refl
+    clearing-next (a .args .table .now) (a .args .m) (a .args .figures .now) (a .args .settings .now) _ _ (l .loop .p) (l .loop .inv) _ _ (omega arith) (a .pre .0) (a .pre .1) (λ r h lp. c .first-figure .ensures r (h .accepted) (k .home-code .ensures r h) lp) refl
 
 same-length : tie.Need-same-length Inv-loop μ-loop
 same-length c = c .before .loop .inv .long-figs
@@ -72,7 +72,7 @@ clear-spec =
     home-code-requires
     loop-holds
     cast-at
-    first-entry-requires
+    first-figure-requires
     mul-figures
     slice-write-figures
     mul-settings
