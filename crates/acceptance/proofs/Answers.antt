@@ -1,11 +1,17 @@
--- The number that a test answers is that of the refusal that it answers, variant by variant.
--- Assumes nothing.
-use mathlib.Core.Path.{_≡_, refl}
-use Rattle.railway.specs.Refusals.{numberOf}
+-- What is known of a record by the answer of its test, for numbers tell refusals apart. Assumes nothing.
+use mathlib.Core.Path.{_≡_, sym, _∙_, ap}
+use mathlib.Core.Option.{none, some}
+use Rattle.railway.specs.declared.Railway.{Railway}
+use Rattle.railway.specs.declared.Refusal.{Refusal}
+use Rattle.railway.specs.Rows.{recordRefusal}
+use Rattle.railway.proofs.Refusals.{number-tells}
 use Rattle.acceptance.specs.declared.Tested.{Tested}
 use Rattle.acceptance.specs.declared.Tested.the-variants.{Accepted, Refused}
-use Rattle.acceptance.specs.Answers.{refusalGiven, numberGiven}
+use Rattle.acceptance.specs.Answers.{numberGiven, Judged}
 
-pub numbers-agree : (t : Tested) → numberGiven t ≡ numberOf (refusalGiven t)
-numbers-agree Accepted = refl
-numbers-agree (Refused f) = refl
+module _ (r : Railway) {t : Tested} (judged : Judged r t) where
+  pub judged-refused : {f : Refusal} → t ≡ Refused f → recordRefusal r ≡ some f
+  judged-refused {f} e = number-tells (recordRefusal r) (some f) (sym judged ∙ ap numberGiven e)
+
+  pub judged-accepted : t ≡ Accepted → recordRefusal r ≡ none
+  judged-accepted e = number-tells (recordRefusal r) none (sym judged ∙ ap numberGiven e)

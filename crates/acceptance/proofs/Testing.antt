@@ -1,7 +1,7 @@
 -- The test of a record as code makes it: each function's answer is the definition's, by what it looked up and what it found.
 -- Assumes nothing.
 use Prim.Native.Nat.{ℕ}
-use mathlib.Core.Path.{_≡_, _∙_, ap}
+use mathlib.Core.Path.{_≡_}
 use mathlib.Core.Bool.{Bool, true, false, not, _&&_, _||_}
 use lib.Dec.{ltb}
 use Rattle.railway.specs.declared.End.{End}
@@ -12,12 +12,10 @@ use Rattle.railway.specs.declared.Railway.{Railway}
 use Rattle.railway.specs.Ends.{endAt}
 use Rattle.railway.specs.Record.{linkAt, joined, trainOf}
 use Rattle.railway.specs.declared.Refusal.the-variants.{Count, Unknown, Join, Loose, Place}
-use Rattle.acceptance.specs.declared.Tested.{Tested}
 use Rattle.acceptance.specs.declared.Tested.the-variants.{Accepted, Refused}
-use Rattle.railway.specs.Refusals.{numberOf, first}
+use Rattle.railway.specs.Refusals.{first}
 use Rattle.railway.specs.Rows.{known, unknownLinkAt, unknownTrainAt, tied, wrongPair, wrongLinkAt, leadsTo, unreturnedAt, countRow, unknownRow, joinRow, looseRow, placeRow, recordRefusal}
-use Rattle.acceptance.specs.Answers.{refusalGiven, Judged}
-use Rattle.acceptance.proofs.Answers.{numbers-agree}
+use Rattle.acceptance.specs.Answers.{Judged}
 
 -- what a row makes of the link at a place
 module _ (r : Railway) (i : ℕ) (j : Joined) (is : j ≡ linkAt r i) where
@@ -69,34 +67,31 @@ pub fails-not : (a : Bool) → a ≡ false → true ≡ not a
 fails-not a p = rw p
 
 -- the rows, one after the other
-pub judged : (r : Railway) (t : Tested) → refusalGiven t ≡ recordRefusal r → Judged r t
-judged r t h = record { refusal = h; numbered = numbers-agree t ∙ ap numberOf h }
-
 module _ (r : Railway) where
   pub refused-count : countRow r ≡ true → Judged r (Refused Count)
   unfolding recordRefusal first
-  refused-count h = judged r (Refused Count) (rw h)
+  refused-count h = rw h
 
   module _ (h3 : countRow r ≡ false) where
     pub refused-unknown : unknownRow r ≡ true → Judged r (Refused Unknown)
     unfolding recordRefusal first
-    refused-unknown h = judged r (Refused Unknown) (rw (h3, h))
+    refused-unknown h = rw (h3, h)
 
     module _ (h4 : unknownRow r ≡ false) where
       pub refused-join : joinRow r ≡ true → Judged r (Refused Join)
       unfolding recordRefusal first
-      refused-join h = judged r (Refused Join) (rw (h3, h4, h))
+      refused-join h = rw (h3, h4, h)
 
       module _ (h5 : joinRow r ≡ false) where
         pub refused-loose : looseRow r ≡ true → Judged r (Refused Loose)
         unfolding recordRefusal first
-        refused-loose h = judged r (Refused Loose) (rw (h3, h4, h5, h))
+        refused-loose h = rw (h3, h4, h5, h)
 
         module _ (h6 : looseRow r ≡ false) where
           pub refused-place : placeRow r ≡ true → Judged r (Refused Place)
           unfolding recordRefusal first
-          refused-place h = judged r (Refused Place) (rw (h3, h4, h5, h6, h))
+          refused-place h = rw (h3, h4, h5, h6, h)
 
           pub all-passed : placeRow r ≡ false → Judged r Accepted
           unfolding recordRefusal first
-          all-passed h = judged r Accepted (rw (h3, h4, h5, h6, h))
+          all-passed h = rw (h3, h4, h5, h6, h)

@@ -4,7 +4,6 @@ use mathlib.Core.Path.{_≡_}
 use mathlib.Core.Bool.{Bool}
 use mathlib.Core.Option.{Option, none, some}
 use Prim.Native.Nat.{ℕ}
-use Rattle.railway.specs.declared.Refusal.{Refusal}
 use Rattle.railway.specs.declared.Railway.{Railway}
 use Rattle.acceptance.specs.declared.Tested.{Tested}
 use Rattle.acceptance.specs.declared.Tested.the-variants.{Accepted, Refused}
@@ -13,20 +12,14 @@ use Rattle.acceptance.specs.declared.Flaw.the-variants.{UnknownLink, Unk
 use Rattle.railway.specs.Refusals.{number, numberOf}
 use Rattle.railway.specs.Rows.{recordRefusal, unknownLinkAt, unknownSignalAt, unknownTrainAt, wrongLinkAt, unreturnedAt, looseAt, sharesWith}
 
--- The refusal that a test answers, if it does.
-abbrev pub refusalGiven : Tested → Option Refusal
-refusalGiven Accepted = none
-refusalGiven (Refused f) = some f
-
 -- The number, in the table, of the refusal that a test answers, if it does.
 abbrev pub numberGiven : Tested → Option ℕ
 numberGiven Accepted = none
 numberGiven (Refused f) = some (number f)
 
 -- What the test of a record answers: the first of rows 3 to 8 that applies, by its number; accepted where none does.
-pub record Judged (r : Railway) (t : Tested) : Type 0 where
-  pub refusal : refusalGiven t ≡ recordRefusal r
-  pub numbered : numberGiven t ≡ numberOf (recordRefusal r)
+abbrev pub Judged : Railway → Tested → Type 0
+Judged r t = numberGiven t ≡ numberOf (recordRefusal r)
 
 -- What the test looks for, place by place.
 abbrev pub flawAt : Railway → Flaw → ℕ → Bool

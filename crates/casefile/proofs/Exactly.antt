@@ -1,7 +1,7 @@
 -- A case text gets the refusal of the earliest row that applies to it, and is accepted if there is none.
 -- The rows that the reading computes apply exactly where those of the table do, since what is read is what the text says, and it says one thing
--- at most. Of two rows that are first in one table, neither stands before the other, so they are one. An answer is made up of its refusal and its
--- railway, so these two tell it.
+-- at most. Of two rows that are first in one table, neither stands before the other, so they are one. An answer is made up of its refusal, which its
+-- number tells, and its railway.
 -- Assumes nothing.
 use Prim.Native.Nat.{ℕ}
 use mathlib.Core.Path.{_≡_, refl, sym, _∙_, ap}
@@ -19,18 +19,18 @@ use Rattle.laws.proofs.Lists.{every-none, every-more, map-in, map-append, parte
 use Rattle.railway.specs.declared.Railway.{Railway}
 use Rattle.railway.specs.declared.Refusal.{Refusal}
 use Rattle.railway.specs.declared.Refusal.the-variants.{Length, Form, Count, Unknown, Join, Loose, Double, Place}
-use Rattle.railway.specs.Refusals.{Row, row, first, FirstOf}
+use Rattle.railway.specs.Refusals.{number, Row, row, first, FirstOf}
 use Rattle.railway.specs.Record.{emptyRailway}
-use Rattle.railway.proofs.Refusals.{FirstRow, first-is, first-none, none-first}
+use Rattle.railway.proofs.Refusals.{FirstRow, first-is, first-none, none-first, number-one}
 use Rattle.casefile.specs.declared.CaseRead.{CaseRead}
 use Rattle.casefile.specs.declared.CaseAnswer.{CaseAnswer}
 use Rattle.casefile.specs.declared.CaseAnswer.the-variants.{Accepted, Refused}
 use Rattle.casefile.specs.Form.{Description, Describes}
 use Rattle.casefile.specs.Rows.{mostBytes, countRow, unknownRow, joinRow, looseRow, doubleRow, placeRow, descriptionRows}
 use Rattle.casefile.specs.Recording.{railwayOf}
-use Rattle.casefile.specs.Given.{accepted, refused, refusalOf, railwayUnless, readRefusal, readNumber, readRailway, Says, Applies, caseTable, RefusedWith, NumberedWith, AcceptedWith, ReaderPost}
+use Rattle.casefile.specs.Given.{accepted, refused, numberGiven, railwayGiven, Says, Applies, caseTable, RefusedWith, AcceptedWith, ReaderPost}
 use Rattle.casefile.specs.Reading.{read, caseRows, judged, caseAnswer}
-use Rattle.casefile.specs.Claims.{RefusedExactly, AcceptedExactly, NumberedExactly, ReaderAnswers, AlwaysAnswered}
+use Rattle.casefile.specs.Claims.{RefusedExactly, AcceptedExactly, ReaderAnswers, AlwaysAnswered}
 use Rattle.casefile.proofs.Whole.{read-sound, read-complete, describes-one, form-decided}
 
 -- a row that does not apply
@@ -180,55 +180,44 @@ pub always-answered : AlwaysAnswered
 always-answered text = elim (answered text) [ refusing f a w ↦ inr (f, a) | accepting d a e h ↦ inl (railwayOf d, a) ]
 
 -- THE ANSWER READ OFF
-refusal-in : (x : CaseAnswer) (f : Refusal) → refusalOf x ≡ some f → x ≡ Refused f
-refusal-in Accepted f e = some-none e refl
-refusal-in (Refused g) f e = let z : g ≡ f = cc in rw z
+number-in : (x : CaseAnswer) (f : Refusal) → numberGiven x ≡ some (number f) → x ≡ Refused f
+number-in Accepted f e = some-none e refl
+number-in (Refused g) f e = ap (λ (h : Refusal). Refused h) (number-one g f (some-one e))
 
-railway-in : (x : CaseAnswer) (q r : Railway) → railwayUnless q (refusalOf x) ≡ some r → (x ≡ Accepted) × (q ≡ r)
+railway-in : (x : CaseAnswer) (q r : Railway) → railwayGiven x q ≡ some r → (x ≡ Accepted) × (q ≡ r)
 railway-in Accepted q r e = (refl, cc)
 railway-in (Refused f) q r e = some-none e refl
 
 built : (a : CaseRead) (x : CaseAnswer) (r : Railway) → a .answer ≡ x → a .railway ≡ r → a ≡ record { answer = x; railway = r }
 built a x r p q = rw (← p, ← q)
 
+abbrev numberRead : CaseRead → Option ℕ
+numberRead a = numberGiven (a .answer)
+
+abbrev railwayRead : CaseRead → Option Railway
+railwayRead a = railwayGiven (a .answer) (a .railway)
+
 module _ (text : List ℕ) where
-  number-is : (n : ℕ) → Answered text → readNumber (caseAnswer text) ≡ some n → NumberedWith text n
-  number-is n (refusing f a w) e = record { refusal = f; given = w; numbered = some-one (sym (ap readNumber a) ∙ e) }
-  number-is n (accepting d a e′ h) e = some-none e (ap readNumber a)
+  number-is : (f : Refusal) → Answered text → numberRead (caseAnswer text) ≡ some (number f) → RefusedWith text f
+  number-is f (refusing g a w) e = rw (number-one f g (some-one (sym e ∙ ap numberRead a))) w
+  number-is f (accepting d a e′ h) e = some-none e (ap numberRead a)
 
-  is-number : (n : ℕ) → NumberedWith text n → readNumber (caseAnswer text) ≡ some n
-  is-number n w = ap readNumber (is-refused text (w .refusal) (answered text) (w .given)) ∙ ap (λ (m : ℕ). some m) (w .numbered)
-
-  read-refused : (a : CaseRead) (f : Refusal) → readRefusal a ≡ some f → a .railway ≡ emptyRailway → a ≡ refused f
-  read-refused a f e h = built a (Refused f) emptyRailway (refusal-in (a .answer) f e) h
-
-  read-accepted : (a : CaseRead) (r : Railway) → readRailway a ≡ some r → a ≡ accepted r
+  read-accepted : (a : CaseRead) (r : Railway) → railwayRead a ≡ some r → a ≡ accepted r
   read-accepted a r e = let z = railway-in (a .answer) (a .railway) r e in built a Accepted r (z .0) (z .1)
-
-  empty-beside : (f : Refusal) → Answered text → readRefusal (caseAnswer text) ≡ some f → caseAnswer text .railway ≡ emptyRailway
-  empty-beside f (refusing g a w) e = ap (λ (x : CaseRead). x .railway) a
-  empty-beside f (accepting d a e′ h) e = some-none e (ap readRefusal a)
 
   -- the answer keeps a reader's promise, and what keeps it is the answer
   promised : ReaderPost text (caseAnswer text)
   promised =
       record {
-        refusal = λ f. (
-          λ e. refused-is text f (answered text) (read-refused (caseAnswer text) f e (empty-beside f (answered text) e)),
-          λ w. ap readRefusal (is-refused text f (answered text) w),
-        );
-        numbered = λ n. (number-is n (answered text), is-number n);
+        numbered = λ f. (number-is f (answered text), λ w. ap numberRead (is-refused text f (answered text) w));
         railway = λ r.
-            (λ e. accepted-is text r (answered text) (read-accepted (caseAnswer text) r e), λ w. ap readRailway (is-accepted text r w));
-        nothing-beside = λ f. empty-beside f (answered text);
+            (λ e. accepted-is text r (answered text) (read-accepted (caseAnswer text) r e), λ w. ap railwayRead (is-accepted text r w));
+        nothing-beside = λ f w. ap (λ (x : CaseRead). x .railway) (is-refused text f (answered text) w);
       }
 
   kept : (a : CaseRead) → Answered text → ReaderPost text a → a ≡ caseAnswer text
-  kept a (refusing f e w) p = let z = p .refusal f .1 w in read-refused a f z (p .nothing-beside f z) ∙ sym e
+  kept a (refusing f e w) p = built a (Refused f) emptyRailway (number-in (a .answer) f (p .numbered f .1 w)) (p .nothing-beside f w) ∙ sym e
   kept a (accepting d e e′ h) p = read-accepted a (railwayOf d) (p .railway (railwayOf d) .1 (accepted-is text (railwayOf d) (answered text) e)) ∙ sym e
-
-pub numbered-exactly : NumberedExactly
-numbered-exactly text n = (number-is text n (answered text), is-number text n)
 
 pub reader-answers : ReaderAnswers
 reader-answers text a = (λ e. rw e (promised text), kept text a (answered text))

@@ -4,7 +4,7 @@
 use Prim.Native.Nat.{ℕ, zero, suc, _+_, _*_, _<_, _≤_}
 use mathlib.Core.Path.{_≡_, refl}
 use mathlib.Core.Bool.{Bool, true, false, cond}
-use mathlib.Core.List.{List, [], _∷_, List·Memᴰ·head, List·Memᴰ·tail}
+use mathlib.Core.List.{List, [], _∷_, flatMap, List·Memᴰ·head, List·Memᴰ·tail}
 use native.Mathlib.Omega.{arith}
 use lib.Dec.{ltb}
 use lib.ListN.{length, length-append}
@@ -20,7 +20,7 @@ use Rattle.railway.specs.Bounds.{sectionEnds}
 use Rattle.railway.specs.Ends.{endIndex, endAt}
 use Rattle.railway.specs.Record.{linkAt, flagAt}
 use Rattle.railway.proofs.Accepted.{Accepted, accepted-facts}
-use Rattle.casefile.specs.Form.{EndField, section, port, JoinLine, SignalLine, TrainLine, endField, pointLine, joinLine, signalLine, trainLine, each, rising, spell, WritableEnd, WritableJoin, WritableSignal, WritableTrain}
+use Rattle.casefile.specs.Form.{EndField, section, port, JoinLine, SignalLine, TrainLine, endField, pointLine, joinLine, signalLine, trainLine, rising, spell, WritableEnd, WritableJoin, WritableSignal, WritableTrain}
 use Rattle.casefile.specs.Rows.{mostBytes}
 use Rattle.casefile.specs.Recording.{fieldOf, signalOf}
 use Rattle.casefile.specs.Writing.{joinFrom, joinAt, signalAt, descriptionOf, writtenText}
@@ -51,8 +51,8 @@ unfolding line
 train-short n t b h = simp length-append (omega (arith, decimal-short n b, decimal-short (t .start) (h .0), decimal-short (t .destination) (h .1)))
 
 module _ {A : Type 0} (good : A → Type 0) where
-  each-short : (f : A → List ℕ) → ((x : A) → good x → length (f x) ≤ 16) → (xs : List A) → Every good xs → length (each f xs) ≤ length xs * 16
-  unfolding each
+  each-short : (f : A → List ℕ) → ((x : A) → good x → length (f x) ≤ 16) → (xs : List A) → Every good xs → length (flatMap f xs) ≤ length xs * 16
+  unfolding flatMap
   each-short f h [] g = omega arith
   each-short f h (x ∷ xs) g = simp length-append (omega (arith, h x (g x (List·Memᴰ·head refl)), each-short f h xs (λ y m. g y (List·Memᴰ·tail m))))
 

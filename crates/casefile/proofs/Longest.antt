@@ -1,7 +1,7 @@
 -- The longest case texts. A text is made of a description, so what it says is known without reading it, and its length and rows are computed.
 -- Assumes nothing.
 use mathlib.Core.Path.{_≡_, refl}
-use mathlib.Core.List.{List, [], _∷_}
+use mathlib.Core.List.{List, [], _∷_, flatMap}
 use Prim.Native.Nat.{ℕ, zero, suc}
 use native.Mathlib.Omega.{arith}
 use lib.ListN.{length, replicate}
@@ -13,7 +13,7 @@ use Rattle.text.specs.Reading.{isDigit, byteAt, digitsAt, numberAt}
 use Rattle.railway.specs.declared.Side.the-variants.{Up}
 use Rattle.railway.specs.declared.Refusal.the-variants.{Length, Form, Double}
 use Rattle.railway.specs.Refusals.{first}
-use Rattle.casefile.specs.Form.{Description, each, rising, spell, WritableJoin, WritableSignal, WritableTrain, Describes}
+use Rattle.casefile.specs.Form.{Description, rising, spell, WritableJoin, WritableSignal, WritableTrain, Describes}
 use Rattle.casefile.specs.Rows.{joinEnds, unknownRow, joinRow, looseRow, doubleRow, placeRow}
 use Rattle.casefile.specs.Given.{refused}
 use Rattle.casefile.specs.Reading.{headerAt, walk, read, caseAnswer}
@@ -63,5 +63,5 @@ long-described a b =
 lengths : (length (spell (long 813 2)) ≡ 4096) × (caseAnswer (spell (long 813 2)) ≡ refused Double)
     × (length (spell (long 812 3)) ≡ 4097) × (caseAnswer (spell (long 812 3)) ≡ refused Length)
     × (caseAnswer (replicate 4096 0) ≡ refused Form) × (caseAnswer (replicate 4097 0) ≡ refused Length)
-unfolding long copies spell each rising first digits line isDigit byteAt digitsAt numberAt headerAt walk read caseAnswer anyBelow any repeats joinEnds unknownRow joinRow looseRow doubleRow placeRow
+unfolding long copies spell flatMap rising first digits line isDigit byteAt digitsAt numberAt headerAt walk read caseAnswer anyBelow any repeats joinEnds unknownRow joinRow looseRow doubleRow placeRow
 lengths = (refl, answer-of (spell (long 813 2)) (long 813 2) (long-described 813 2), refl, answer-of (spell (long 812 3)) (long 812 3) (long-described 812 3), refl, refl)

@@ -4,7 +4,7 @@
 use Prim.Native.Nat.{ℕ, zero, suc, _+_, _<_, _≤_}
 use mathlib.Core.Path.{_≡_, refl, sym, _∙_, ap}
 use mathlib.Core.Bool.{Bool, true, false, cond}
-use mathlib.Core.List.{List, [], _∷_, _++_, append-assoc, append-nil, List·Memᴰ·head, List·Memᴰ·tail}
+use mathlib.Core.List.{List, [], _∷_, _++_, flatMap, append-assoc, append-nil, List·Memᴰ·head, List·Memᴰ·tail}
 use mathlib.Core.Option.{Option, none, some}
 use native.Mathlib.Omega.{arith}
 use lib.Dec.{ltb, eqb}
@@ -16,7 +16,7 @@ use Rattle.text.specs.Text.{byte, line}
 use Rattle.text.specs.Reading.{Got, bad, got, then, value}
 use Rattle.text.proofs.Walking.{bad-got, carry, Lies, Reads, steps, on, go-on, stop-here, here}
 use Rattle.railway.specs.declared.Side.{Side}
-use Rattle.casefile.specs.Form.{JoinLine, SignalLine, TrainLine, Description, pointLine, joinLine, signalLine, trainLine, each, rising, spell, WritableJoin, WritableSignal, WritableTrain, Describes}
+use Rattle.casefile.specs.Form.{JoinLine, SignalLine, TrainLine, Description, pointLine, joinLine, signalLine, trainLine, rising, spell, WritableJoin, WritableSignal, WritableTrain, Describes}
 use Rattle.casefile.specs.Rows.{FormRow}
 use Rattle.casefile.specs.Reading.{counted, while, headerAt, pointLineAt, joinLineAt, signalLineAt, trainLineAt, walk, read}
 use Rattle.casefile.specs.Claims.{ReadIsSpelling, DescribesOne, FormDecided}
@@ -58,13 +58,13 @@ module _ {A : Type 0} (good : A → Type 0) (spelling : ℕ → A → List ℕ) 
 module _ {A : Type 0} (good : A → Type 0) (spelling : A → List ℕ) (s : List ℕ) (begins : ℕ → Bool) (line : ℕ → Got A) where
   pub record WrittenEach (at : ℕ) (xs : List A) (c : ℕ) : Type 0 where
     pub small : Every good xs
-    pub text : drop at s ≡ each spelling xs ++ drop c s
+    pub text : drop at s ≡ flatMap spelling xs ++ drop c s
 
   module _ (sound : (at : ℕ) (x : A) (c : ℕ) → line at ≡ got x c → WrittenLine good spelling s at x c) where
     while-step : (most at : ℕ) (xs : List A) (c : ℕ) (p : Bool)
         → ((at : ℕ) (xs : List A) (c : ℕ) → while begins line most at ≡ got xs c → WrittenEach at xs c)
         → elim p [ true ↦ then (line at) (λ x c. then (while begins line most c) (λ xs c. got (x ∷ xs) c)) | false ↦ got [] at ] ≡ got xs c → WrittenEach at xs c
-    unfolding each
+    unfolding flatMap
     while-step most at xs c false ih e = carry (WrittenEach at) e (record { small = every-none good; text = refl })
     while-step most at xs c true ih e =
         let t = steps (line at) _ xs c e in
@@ -74,15 +74,15 @@ module _ {A : Type 0} (good : A → Type 0) (spelling : A → List ℕ) (s : Lis
         carry (WrittenEach at) (u .second) (record { small = every-more good _ _ (w .small) (v .small); text = simp (w .text, v .text, append-assoc) })
 
     pub while-sound : (most at : ℕ) (xs : List A) (c : ℕ) → while begins line most at ≡ got xs c → WrittenEach at xs c
-    unfolding while each
+    unfolding while flatMap
     while-sound zero at xs c e = carry (WrittenEach at) e (record { small = every-none good; text = refl })
     while-sound (suc most) at xs c e = while-step most at xs c (begins at) (λ at xs c h. while-sound most at xs c h) e
 
   module _ (complete : (at : ℕ) (x : A) (rest : List ℕ) → good x → Lies s at (spelling x ++ rest) → Reads s (line at) x rest)
       (starts : (at : ℕ) (x : A) (rest : List ℕ) → Lies s at (spelling x ++ rest) → begins at ≡ true)
       (rest : List ℕ) (ends : (at : ℕ) → Lies s at rest → begins at ≡ false) where
-    pub while-complete : (most at : ℕ) (xs : List A) → length xs ≤ most → Every good xs → Lies s at (each spelling xs ++ rest) → Reads s (while begins line most at) xs rest
-    unfolding while each
+    pub while-complete : (most at : ℕ) (xs : List A) → length xs ≤ most → Every good xs → Lies s at (flatMap spelling xs ++ rest) → Reads s (while begins line most at) xs rest
+    unfolding while flatMap
     while-complete zero at [] h a t = stop-here t
     while-complete zero at (x ∷ xs) h a t = absurd (omega arith)
     while-complete (suc most) at [] h a t = rw (ends at t, while) (stop-here t)
@@ -153,8 +153,8 @@ module _ (s : List ℕ) where
       (counted-complete WritableTrain trainLine s (trainLineAt s) (λ n at x rest b u. train-complete s at n x rest b u) 1 c roster [] (omega arith) a (rw append-nil t))
 
   -- as many lines as there are fit into the text
-  each-long : {A : Type 0} (spelling : A → List ℕ) → ((x : A) → 1 ≤ length (spelling x)) → (xs : List A) → length xs ≤ length (each spelling xs)
-  unfolding each
+  each-long : {A : Type 0} (spelling : A → List ℕ) → ((x : A) → 1 ≤ length (spelling x)) → (xs : List A) → length xs ≤ length (flatMap spelling xs)
+  unfolding flatMap
   each-long spelling h [] = omega arith
   each-long spelling h (x ∷ xs) = simp length-append (omega (arith, h x, each-long spelling h xs))
 
@@ -162,8 +162,8 @@ module _ (s : List ℕ) where
   fits c l rest t = omega (arith, length-drop c s, simp length-append at (ap length (t .text)))
 
   -- no J line begins where the signals do, no G line where the trains do
-  no-join : (gs : List SignalLine) (ts : List TrainLine) (at : ℕ) → Lies s at (each signalLine gs ++ rising trainLine 1 ts) → eqb (getD s at 0) (byte "J") ≡ false
-  unfolding each rising line
+  no-join : (gs : List SignalLine) (ts : List TrainLine) (at : ℕ) → Lies s at (flatMap signalLine gs ++ rising trainLine 1 ts) → eqb (getD s at 0) (byte "J") ≡ false
+  unfolding flatMap rising line
   no-join [] [] at t = rw (here t)
   no-join [] (x ∷ ts) at t = rw (here t)
   no-join (g ∷ gs) ts at t = rw (here t)
@@ -174,20 +174,20 @@ module _ (s : List ℕ) where
   no-signal (x ∷ ts) at t = rw (here t)
 
   joins-complete : (c : ℕ) (js : List JoinLine) (gs : List SignalLine) (ts : List TrainLine) → Every WritableJoin js
-      → Lies s c (each joinLine js ++ (each signalLine gs ++ rising trainLine 1 ts))
-      → Reads s (while (λ c. eqb (getD s c 0) (byte "J")) (joinLineAt s) (length s) c) js (each signalLine gs ++ rising trainLine 1 ts)
+      → Lies s c (flatMap joinLine js ++ (flatMap signalLine gs ++ rising trainLine 1 ts))
+      → Reads s (while (λ c. eqb (getD s c 0) (byte "J")) (joinLineAt s) (length s) c) js (flatMap signalLine gs ++ rising trainLine 1 ts)
   unfolding line
   joins-complete c js gs ts a t =
       while-complete WritableJoin joinLine s (λ c. eqb (getD s c 0) (byte "J")) (joinLineAt s) (join-complete s) (λ at x rest t. rw (here t)) _ (no-join gs ts) (length s) c js
-      (omega (arith, each-long joinLine (λ x. omega arith) js, fits c (each joinLine js) _ t)) a t
+      (omega (arith, each-long joinLine (λ x. omega arith) js, fits c (flatMap joinLine js) _ t)) a t
 
   signals-complete : (c : ℕ) (gs : List SignalLine) (ts : List TrainLine) → Every WritableSignal gs
-      → Lies s c (each signalLine gs ++ rising trainLine 1 ts)
+      → Lies s c (flatMap signalLine gs ++ rising trainLine 1 ts)
       → Reads s (while (λ c. eqb (getD s c 0) (byte "G")) (signalLineAt s) (length s) c) gs (rising trainLine 1 ts)
   unfolding line
   signals-complete c gs ts a t =
       while-complete WritableSignal signalLine s (λ c. eqb (getD s c 0) (byte "G")) (signalLineAt s) (signal-complete s) (λ at x rest t. rw (here t)) _ (no-signal ts) (length s) c gs
-      (omega (arith, each-long signalLine (λ x. omega arith) gs, fits c (each signalLine gs) _ t)) a t
+      (omega (arith, each-long signalLine (λ x. omega arith) gs, fits c (flatMap signalLine gs) _ t)) a t
 
   at-end : (c : ℕ) → Lies s c [] → ltb c (length s) ≡ false
   at-end c t = le-ltb c (length s) (omega (arith, length-drop c s, ap length (t .text)))

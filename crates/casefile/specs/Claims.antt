@@ -23,7 +23,7 @@ use Rattle.casefile.specs.Form.{EndField, section, port, JoinLine, Signa
 use Rattle.casefile.specs.Rows.{mostBytes, FormRow}
 use Rattle.casefile.specs.Recording.{noTrainLine}
 use Rattle.casefile.specs.Writing.{writtenText}
-use Rattle.casefile.specs.Given.{accepted, refused, readNumber, RefusedWith, NumberedWith, AcceptedWith, ReaderPost}
+use Rattle.casefile.specs.Given.{accepted, refused, RefusedWith, AcceptedWith, ReaderPost}
 use Rattle.casefile.specs.Reading.{read, caseAnswer}
 
 -- READING IS SPELLING. Reading gives a description exactly where it is well formed and spells the text.
@@ -45,10 +45,6 @@ RefusedExactly = (text : List ℕ) (f : Refusal) → (caseAnswer text ≡ refuse
 -- A railway is answered exactly where no row applies and it is the text's.
 abbrev pub AcceptedExactly : Type 0
 AcceptedExactly = (text : List ℕ) (r : Railway) → (caseAnswer text ≡ accepted r) ↔ AcceptedWith text r
-
--- A number is answered exactly where it is that of the refusal given.
-abbrev pub NumberedExactly : Type 0
-NumberedExactly = (text : List ℕ) (n : ℕ) → (readNumber (caseAnswer text) ≡ some n) ↔ NumberedWith text n
 
 -- The answer is the only one that keeps a reader's promise, which any program that answers so keeps.
 abbrev pub ReaderAnswers : Type 0

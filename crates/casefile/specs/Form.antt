@@ -1,7 +1,7 @@
 -- The form of a case text (document 01, "The case file"): what such a text says, and how it is spelled. A text is in form if some well-formed
 -- description spells it. Sections, points and trains count from 1 here, as in the text, and 0 can be written. Assumes nothing.
 use mathlib.Core.Path.{_≡_}
-use mathlib.Core.List.{List, [], _∷_, _++_}
+use mathlib.Core.List.{List, [], _∷_, _++_, flatMap}
 use Prim.Native.Nat.{ℕ, suc, _<_}
 use lib.ListN.{length}
 use Rattle.laws.specs.Lists.{Every}
@@ -82,25 +82,18 @@ signalLine g = line ((byte "G" ∷ []) ∷ sectionField (g .number) (g .side) �
 abbrev pub trainLine : ℕ → TrainLine → List ℕ
 trainLine n t = line ((byte "T" ∷ []) ∷ decimal n ∷ (sideByte (t .heading) ∷ []) ∷ decimal (t .start) ∷ decimal (t .destination) ∷ [])
 
--- THE TEXT. Lines one after the other.
-module _ {A : Type 0} where
-  -- One line for each element, as J and G lines are.
-  unfoldable pub each : (A → List ℕ) → List A → List ℕ
-  each f [] = []
-  each f (x ∷ xs) = f x ++ each f xs
+-- THE TEXT. Lines numbered from n upwards, as P and T lines are.
+unfoldable pub rising : {A : Type 0} → (ℕ → A → List ℕ) → ℕ → List A → List ℕ
+rising f n [] = []
+rising f n (x ∷ xs) = f n x ++ rising f (suc n) xs
 
-  -- Lines numbered from n upwards, as P and T lines are.
-  unfoldable pub rising : (ℕ → A → List ℕ) → ℕ → List A → List ℕ
-  rising f n [] = []
-  rising f n (x ∷ xs) = f n x ++ rising f (suc n) xs
-
--- The lines in their order.
+-- The lines in their order; J and G lines as they come.
 unfoldable pub spell : Description → List ℕ
 spell d =
     headerLine d
     ++ (rising pointLine 1 (d .legs)
-    ++ (each joinLine (d .joins)
-    ++ (each signalLine (d .signals)
+    ++ (flatMap joinLine (d .joins)
+    ++ (flatMap signalLine (d .signals)
     ++ rising trainLine 1 (d .roster))))
 
 -- WELL FORMED. A number that one to three digits can write.

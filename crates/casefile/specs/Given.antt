@@ -29,32 +29,15 @@ accepted r = record { answer = Accepted; railway = r }
 abbrev pub refused : Refusal → CaseRead
 refused f = record { answer = Refused f; railway = emptyRailway }
 
--- The refusal that is answered, if one is.
-abbrev pub refusalOf : CaseAnswer → Option Refusal
-refusalOf Accepted = none
-refusalOf (Refused f) = some f
-
 -- The number of the refusal that is answered, if one is.
 abbrev pub numberGiven : CaseAnswer → Option ℕ
 numberGiven Accepted = none
 numberGiven (Refused f) = some (number f)
 
--- The refusal in an answer that has a record beside it.
-abbrev pub readRefusal : CaseRead → Option Refusal
-readRefusal a = refusalOf (a .answer)
-
--- The number in an answer that has a record beside it.
-abbrev pub readNumber : CaseRead → Option ℕ
-readNumber a = numberGiven (a .answer)
-
--- A record that stands beside a refusal is no railway read.
-abbrev pub railwayUnless : Railway → Option Refusal → Option Railway
-railwayUnless r none = some r
-railwayUnless r (some f) = none
-
--- The railway read, if one is.
-abbrev pub readRailway : CaseRead → Option Railway
-readRailway a = railwayUnless (a .railway) (readRefusal a)
+-- The railway that is answered, if one is: a record beside a refusal is none.
+abbrev pub railwayGiven : CaseAnswer → Railway → Option Railway
+railwayGiven Accepted r = some r
+railwayGiven (Refused f) r = none
 
 -- What the text says passes a test.
 pub record Says (text : List ℕ) (test : Description → Bool) : Type 0 where
@@ -84,12 +67,6 @@ caseTable = Length ∷ Form ∷ Count ∷ Unknown ∷ Join ∷ Loose ∷ Double 
 abbrev pub RefusedWith : List ℕ → Refusal → Type 0
 RefusedWith text f = FirstOf (Applies text) caseTable f
 
--- A number is given: it is that of a refusal that is.
-pub record NumberedWith (text : List ℕ) (n : ℕ) : Type 0 where
-  pub refusal : Refusal
-  pub given : RefusedWith text refusal
-  pub numbered : number refusal ≡ n
-
 -- The text is not too long, says something to which none of rows 3 to 8 applies, and the railway is that of what it says.
 pub record AcceptedWith (text : List ℕ) (r : Railway) : Type 0 where
   pub short : length text ≤ mostBytes
@@ -98,9 +75,8 @@ pub record AcceptedWith (text : List ℕ) (r : Railway) : Type 0 where
   pub no-row : Every (λ x. x .applies ≡ false) (descriptionRows description)
   pub railway : r ≡ railwayOf description
 
--- WHAT A READER PROMISES of its answer: refusal, number and railway exactly as above, and the empty record beside a refusal.
+-- WHAT A READER PROMISES of its answer: number and railway exactly as above, and the empty record beside a refusal.
 pub record ReaderPost (text : List ℕ) (a : CaseRead) : Type 0 where
-  pub refusal : (f : Refusal) → (readRefusal a ≡ some f) ↔ RefusedWith text f
-  pub numbered : (n : ℕ) → (readNumber a ≡ some n) ↔ NumberedWith text n
-  pub railway : (r : Railway) → (readRailway a ≡ some r) ↔ AcceptedWith text r
-  pub nothing-beside : (f : Refusal) → readRefusal a ≡ some f → a .railway ≡ emptyRailway
+  pub numbered : (f : Refusal) → (numberGiven (a .answer) ≡ some (number f)) ↔ RefusedWith text f
+  pub railway : (r : Railway) → (railwayGiven (a .answer) (a .railway) ≡ some r) ↔ AcceptedWith text r
+  pub nothing-beside : (f : Refusal) → RefusedWith text f → a .railway ≡ emptyRailway

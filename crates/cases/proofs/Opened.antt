@@ -5,8 +5,9 @@ use mathlib.Core.Option.{none, some}
 use Prim.Native.Nat.{ℕ}
 use Rattle.railway.specs.declared.Railway.{Railway}
 use Rattle.railway.specs.declared.Refusal.{Refusal}
+use Rattle.railway.proofs.Refusals.{number-tells}
 use Rattle.acceptance.specs.declared.Tested.the-variants.{Accepted, Refused}
-use Rattle.acceptance.specs.Answers.{refusalGiven}
+use Rattle.acceptance.specs.Answers.{numberGiven}
 use Rattle.tables.specs.Tables.{caseRefusal}
 use Rattle.compiled.specs.declared.Compilation.{Compilation}
 use Rattle.compiled.specs.Table.{Compiled}
@@ -14,10 +15,10 @@ use Rattle.cases.specs.Cases.{CasePost}
 
 module _ {r : Railway} {figs sets : List ℕ} {c : Compilation} (p : CasePost r figs sets c) where
   pub opened-refused : {f : Refusal} → c .tested ≡ Refused f → caseRefusal r figs sets ≡ some f
-  opened-refused e = sym (p .refusal) ∙ ap refusalGiven e
+  opened-refused {f} e = number-tells (caseRefusal r figs sets) (some f) (sym (p .numbered) ∙ ap numberGiven e)
 
   pub opened-none : c .tested ≡ Accepted → caseRefusal r figs sets ≡ none
-  opened-none e = sym (p .refusal) ∙ ap refusalGiven e
+  opened-none e = number-tells (caseRefusal r figs sets) none (sym (p .numbered) ∙ ap numberGiven e)
 
   pub opened-table : c .tested ≡ Accepted → Compiled r (c .table)
   opened-table e = p .compiled (opened-none e)

@@ -4,22 +4,18 @@
 use mathlib.Core.Path.{_≡_}
 use mathlib.Core.List.{List}
 use mathlib.Core.Option.{none, some}
-use Prim.Native.Nat.{ℕ, _≤_}
-use lib.ListN.{length, replicate}
+use Prim.Native.Nat.{ℕ}
+use lib.ListN.{replicate}
 use Rattle.railway.specs.declared.Railway.{Railway}
 use Rattle.railway.specs.declared.Refusal.{Refusal}
 use Rattle.railway.specs.Refusals.{numberOf}
-use Rattle.acceptance.specs.Answers.{refusalGiven, numberGiven}
-use Rattle.game.specs.Placement.{placements}
+use Rattle.acceptance.specs.Answers.{numberGiven}
 use Rattle.tables.specs.Tables.{caseRefusal}
 use Rattle.compiled.specs.declared.Compilation.{Compilation}
 use Rattle.compiled.specs.Table.{Compiled, tableBytes}
 
--- The first of rows 3 to 9 is given, by its number, with a table that is all zero; where none applies, the railway's table, and room for
--- every placement.
+-- The first of rows 3 to 9 is given, by its number, with a table that is all zero; where none applies, the railway's table.
 pub record CasePost (r : Railway) (figs sets : List ℕ) (c : Compilation) : Type 0 where
-  pub refusal : refusalGiven (c .tested) ≡ caseRefusal r figs sets
   pub numbered : numberGiven (c .tested) ≡ numberOf (caseRefusal r figs sets)
   pub compiled : caseRefusal r figs sets ≡ none → Compiled r (c .table)
-  pub room : caseRefusal r figs sets ≡ none → (placements r ≤ length figs) × (placements r ≤ length sets)
   pub zero : (f : Refusal) → caseRefusal r figs sets ≡ some f → c .table ≡ replicate tableBytes 0

@@ -1,6 +1,6 @@
 -- The table of a railway: each byte is what the record gives, as code writes it and as code reads it again. Writing goes test by test;
 -- reading finds the byte of a train, a section and a kind by its index, which determines them. Assumes nothing.
-use mathlib.Core.Path.{_≡_, refl, sym, _∙_, ap}
+use mathlib.Core.Path.{_≡_, refl, sym, _∙_}
 use mathlib.Core.Bool.{Bool, true, false, cond}
 use mathlib.Core.List.{List}
 use mathlib.Core.Option.{Option, none, some}
@@ -26,10 +26,10 @@ use Rattle.railway.specs.declared.Refusal.{Refusal}
 use Rattle.railway.specs.Bounds.{mostTrains}
 use Rattle.railway.specs.Ends.{sideIndex}
 use Rattle.railway.specs.Record.{noTrain, joined, hasSignal, trainOf}
-use Rattle.railway.specs.Rows.{recordRefusal}
 use Rattle.acceptance.specs.declared.Tested.{Tested}
 use Rattle.acceptance.specs.declared.Tested.the-variants.{Accepted, Refused}
-use Rattle.acceptance.specs.Answers.{refusalGiven, Judged}
+use Rattle.acceptance.specs.Answers.{Judged}
+use Rattle.acceptance.proofs.Answers.{judged-refused, judged-accepted}
 use Rattle.game.specs.Moves.{through, behindPort, pastPoint, pastJoin, passes}
 use Rattle.game.proofs.Accepted.{facts}
 use Rattle.compiled.specs.Table.{routeBytes, countBytes, tableBytes, flagByte, pointByte, sectionByte, endOn, routeByte, countByte, rosterByte, compiledByte, byteIn, Compiled, CompilePost}
@@ -220,13 +220,12 @@ module _ (r : Railway) (t x : ℕ) where
 module _ (r : Railway) where
   module _ (t : Tested) (judged : Judged r t) where
     pub post-refused : (f : Refusal) → t ≡ Refused f → CompilePost r (record { tested = t; table = replicate tableBytes 0 })
-    post-refused f e = record { judged = judged; accepted = λ a. some-none (sym (judged .refusal) ∙ ap refusalGiven e) a; refused = λ g x. refl }
+    post-refused f e = record { judged = judged; accepted = λ a. some-none (judged-refused r judged e) a; refused = λ g x. refl }
 
     pub post-accepted : (table : List ℕ) (i : ℕ) → t ≡ Accepted → FilledTo (compiledByte r) tableBytes table i → tableBytes ≤ i → CompilePost r (record { tested = t; table = table })
     post-accepted table i e h l =
-        let a : recordRefusal r ≡ none = sym (judged .refusal) ∙ ap refusalGiven e in
         record {
           judged = judged;
           accepted = λ x. record { accepted = x; bytes = λ j m. h .below j (omega arith) };
-          refused = λ f x. some-none x a;
+          refused = λ f x. some-none x (judged-accepted r judged e);
         }

@@ -12,6 +12,7 @@ use borrow.Author.Tests.{le-leb, leb-true}
 use Rattle.laws.specs.Lists.{all}
 use Rattle.laws.proofs.Bools.{clash, and-true, and-both}
 use Rattle.railway.specs.declared.Railway.{Railway}
+use Rattle.railway.specs.Refusals.{numberOf}
 use Rattle.railway.specs.Rows.{recordRefusal}
 use Rattle.game.specs.Placement.{placements}
 use Rattle.tables.specs.Tables.{caseRefusal}
@@ -127,7 +128,7 @@ demand3-holds r a figs sets figs′ sets′ accepted lf ls post =
     let filled = leaves .0 .filled in
     let still : caseRefusal r figs′ sets′ ≡ none = none-refused r figs′ sets′ accepted (rw (leaves .0 .kept-figs .as-long) lf) (rw (leaves .0 .kept-sets .as-long) ls) in
     record {
-      solved = post .refusal ∙ unrefused;
+      solved = post .numbered ∙ ap numberOf unrefused;
       answer = leaves .1;
       settings = filled .settings;
       plays = filled-whole r accepted figs′ sets′ filled;

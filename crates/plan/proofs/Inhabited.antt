@@ -63,7 +63,7 @@ kept new e = record { as-long = e; past = λ p l. List·getD-eq-default new 0 {n
 -- a solver that keeps its promise
 post : SolverPost yardA (Figure 2) lent lent figsA setsA
 unfolding caseRefusal tablesShort first unknownRow joinRow looseRow placeRow endAt joined hasSignal legsOf trainOf withJoin withSignal withLegs withTrain anyBelow startCode codeOf sumBelow listBelow
-post = record { refusal = refl; numbered = refl; leaves = (record { filled = yardA-filled; kept-figs = kept figsA refl; kept-sets = kept setsA refl }, refl) }
+post = record { numbered = refl; leaves = (record { filled = yardA-filled; kept-figs = kept figsA refl; kept-sets = kept setsA refl }, refl) }
 
 demand : Demand3 yardA (Figure 2) figsA setsA
 demand = demand3-holds yardA (Figure 2) lent lent figsA setsA yardA-accepted (omega (arith, nine)) (omega (arith, nine)) post

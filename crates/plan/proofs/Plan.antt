@@ -29,6 +29,7 @@ use Rattle.tables.specs.Entries.{opensIn, settingAt}
 use Rattle.tables.specs.Tables.{noFigure, figureEntry, figureIn, IsPlanEntry, Filled}
 use Rattle.tables.proofs.Entries.{entry-opens}
 use Rattle.tables.proofs.Certify.{entry-is, figure-small}
+use Rattle.tables.proofs.Exists.{filled-most}
 use Rattle.tables.proofs.Plays.{filled-solved, filled-apart}
 use Rattle.tables.proofs.Unique.{figs-one, sets-one}
 use Rattle.plan.specs.Lines.{PlacementLine, placementLine, fits, lineCode}
@@ -219,14 +220,14 @@ module _ (r : Railway) (accepted : recordRefusal r ≡ none) (figs sets : List �
     -- THE PLAN is in form and passes
     module _ (n : ℕ) (start : figureIn figs (startCode r) ≡ some n) where
       start-fits : getD figs (startCode r) noFigure < noFigure
-      start-fits = entry-below (getD figs (startCode r) noFigure) n (filled .entries (startCode r) (start-below r ok)) start
+      start-fits = entry-below (getD figs (startCode r) noFigure) n (filled-most r accepted figs sets filled (startCode r) (start-below r ok)) start
 
       pub plan-fits : all (fits r) (planLines r figs sets) ≡ true
       unfolding planLines all fits
       plan-fits =
           and-both (ltb (getD figs (startCode r) noFigure) noFigure) (all (fits r) (map placementLine planPlacements)) (lt-ltb (getD figs (startCode r) noFigure) noFigure start-fits)
           (ap (all (fits r)) (map-twice placementLine (lineFor r figs sets) (listedCodes (placements r)))
-          ∙ all-which (fits r) (λ p. placementLine (lineFor r figs sets p)) (hasFigure figs) (placements r) (λ p l. line-fits p (filled .entries p l)))
+          ∙ all-which (fits r) (λ p. placementLine (lineFor r figs sets p)) (hasFigure figs) (placements r) (λ p l. line-fits p (filled-most r accepted figs sets filled p l)))
 
       plan-form : Form r (planTexts r figs sets) (getD figs (startCode r) noFigure) planPlacements
       unfolding planTexts planLines

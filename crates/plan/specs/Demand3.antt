@@ -15,7 +15,7 @@ use Rattle.game.specs.Placement.{placements, startCode}
 use Rattle.game.specs.Moves.{gameOf}
 use Rattle.tables.specs.declared.SolverAnswer.{SolverAnswer}
 use Rattle.tables.specs.Tables.{figureIn, settingIn, IsPlanEntry}
-use Rattle.tables.specs.Solver.{refusalGiven, figureGiven, SolverPost}
+use Rattle.tables.specs.Solver.{numberGiven, figureGiven, SolverPost}
 use Rattle.plan.specs.declared.PlanPlace.{PlanPlace}
 use Rattle.plan.specs.declared.PlanPlace.the-variants.{Top}
 use Rattle.plan.specs.declared.Emitted.{Emitted}
@@ -54,7 +54,7 @@ pub record Passed (hs : List Handed) (answers : List LineAnswer) (test : TestAns
 -- What holds in an accepted case of the solver's answer, of the two tables that it left, and of all calls that are made with them.
 pub record Demand3 (r : Railway) (a : SolverAnswer) (figs sets : List ℕ) : Type 0 where
   -- the solver refused nothing, and answered the start's figure or that there is none
-  pub solved : refusalGiven a ≡ none
+  pub solved : numberGiven a ≡ none
   pub answer : figureGiven a ≡ figureIn figs (startCode r)
   -- code by code, the setting table has the plan's setting for the placement
   pub settings : (p : ℕ) → p < placements r → IsPlanEntry r (figureIn figs) p (figureIn figs p) (getD sets p 0)

@@ -9,6 +9,7 @@ use Rattle.tables.specs.declared.SolverAnswer.{SolverAnswer}
 use Rattle.tables.specs.declared.SolverAnswer.the-variants.{Figure}
 use Rattle.tables.specs.Solver.{SolverLeaves, SolverPost}
 use Rattle.tables.proofs.Refusals.{case-none}
+use Rattle.tables.proofs.Promise.{solver-accepted}
 use Rattle.plan.proofs.Emits.{none-refused}
 use Rattle.answerlines.specs.Lines.{Spelled}
 use Rattle.planwriter.specs.Written.{outputText, PlanTextPost}
@@ -28,8 +29,9 @@ nothing-put buffer = record { front = refl; bytes = refl }
 -- what a solver leaves that answered a figure can be made a plan of
 pub solved-by : (r : Railway) (n : ℕ) (figs sets figs′ sets′ : List ℕ) → SolverPost r (Figure n) figs sets figs′ sets′ → Solved r figs′ sets′
 solved-by r n figs sets figs′ sets′ post =
-    let k = case-none r figs sets .0 (sym (post .refusal)) in
-    let leaves : SolverLeaves r (Figure n) figs sets figs′ sets′ none = subst (SolverLeaves r (Figure n) figs sets figs′ sets′) (sym (post .refusal)) (post .leaves) in
+    let fine = solver-accepted post refl in
+    let k = case-none r figs sets .0 fine in
+    let leaves : SolverLeaves r (Figure n) figs sets figs′ sets′ none = subst (SolverLeaves r (Figure n) figs sets figs′ sets′) fine (post .leaves) in
     record {
       unrefused = none-refused r figs′ sets′ (k .0) (rw (leaves .0 .kept-figs .as-long) (k .1 .figures)) (rw (leaves .0 .kept-sets .as-long) (k .1 .settings));
       filled = leaves .0 .filled;

@@ -1,6 +1,6 @@
 -- The text's length is that of a line or of the plan, so a buffer with a line for each entry of the figure table and one more has room for it, and
 -- what is put there stands whole. Assumes nothing.
-use mathlib.Core.Path.{_≡_, refl, sym}
+use mathlib.Core.Path.{_≡_, refl}
 use mathlib.Core.List.{List, _++_}
 use Prim.Native.Nat.{ℕ, suc, _*_, _≤_}
 use native.Mathlib.Omega.{arith}
@@ -14,6 +14,7 @@ use Rattle.tables.specs.declared.SolverAnswer.{SolverAnswer}
 use Rattle.tables.specs.declared.SolverAnswer.the-variants.{Refused, Unsolvable, Figure}
 use Rattle.tables.specs.Solver.{SolverPost}
 use Rattle.tables.proofs.Refusals.{case-none}
+use Rattle.tables.proofs.Promise.{solver-accepted}
 use Rattle.plan.specs.Lines.{mostLineBytes}
 use Rattle.answerlines.specs.Lines.{noneLine, Spelled}
 use Rattle.planwriter.specs.Written.{outputText}
@@ -35,7 +36,7 @@ by-entries : (r : Railway) (a : SolverAnswer) (figs sets figs′ sets′ : List 
 by-entries r (Refused f) figs sets figs′ sets′ post = omega arith
 by-entries r Unsolvable figs sets figs′ sets′ post = omega (arith, none-short)
 by-entries r (Figure n) figs sets figs′ sets′ post =
-    omega (arith, text-short r (Figure n) figs sets figs′ sets′ post, case-none r figs sets .0 (sym (post .refusal)) .1 .figures)
+    omega (arith, text-short r (Figure n) figs sets figs′ sets′ post, case-none r figs sets .0 (solver-accepted post refl) .1 .figures)
 
 -- where there is room, the first bytes are the text
 module _ (text old new : List ℕ) (n : ℕ) (s : Spelled text old new n) (room : length text ≤ length old) where

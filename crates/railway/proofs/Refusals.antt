@@ -1,5 +1,5 @@
 -- Which row of several is given: the first that applies, and none exactly where no row applies. Of two lists of rows, one behind the other, the first
--- of the one or else of the other is given. And a number is one refusal's alone.
+-- of the one or else of the other is given. And a number is one refusal's alone, so what is given is known by its number.
 -- Assumes nothing.
 use mathlib.Core.Path.{_≡_, refl, sym, _∙_, ap}
 use mathlib.Core.Logic.{_↔_}
@@ -10,11 +10,11 @@ use mathlib.Core.Option.{Option, none, some}
 use Prim.Native.Nat.{ℕ}
 use Rattle.laws.specs.Below.{orElse}
 use Rattle.laws.specs.Lists.{Every}
-use Rattle.laws.proofs.Bools.{clash, some-none, not-true}
+use Rattle.laws.proofs.Bools.{clash, some-none, some-one, not-true}
 use Rattle.laws.proofs.Lists.{every-none, every-more}
 use Rattle.railway.specs.declared.Refusal.{Refusal}
 use Rattle.railway.specs.declared.Refusal.the-variants.{Length, Form, Count, Unknown, Join, Loose, Double, Place, Space, PlanForm, PlanFault}
-use Rattle.railway.specs.Refusals.{number, Row, row, refuseIf, first, FirstOf}
+use Rattle.railway.specs.Refusals.{number, Row, row, refuseIf, first, numberOf, FirstOf}
 
 -- a row applies; the row of f applies, and none before it in the list
 abbrev pub On : Row → Type 0
@@ -122,3 +122,9 @@ number-back PlanFault = refl
 
 pub number-one : (f g : Refusal) → number f ≡ number g → f ≡ g
 number-one f g e = sym (number-back f) ∙ (let z : byNumber (number f) ≡ byNumber (number g) = rw e in z) ∙ number-back g
+
+pub number-tells : (a b : Option Refusal) → numberOf a ≡ numberOf b → a ≡ b
+number-tells none none e = refl
+number-tells none (some g) e = some-none e refl
+number-tells (some f) none e = some-none refl e
+number-tells (some f) (some g) e = ap (λ (h : Refusal). some h) (number-one f g (some-one e))

@@ -9,17 +9,17 @@ use Rattle.railway.specs.declared.Railway.{Railway}
 use Rattle.railway.specs.declared.Refusal.{Refusal}
 use Rattle.railway.specs.Refusals.{numberOf}
 use Rattle.acceptance.specs.declared.Tested.the-variants.{Accepted, Refused}
-use Rattle.acceptance.specs.Answers.{refusalGiven as refusalTested}
 use Rattle.game.specs.Placement.{placements, startCode}
 use Rattle.tables.specs.declared.SolverAnswer.{SolverAnswer}
 use Rattle.tables.specs.declared.SolverAnswer.the-variants.{Refused as Refuses}
 use Rattle.tables.specs.Tables.{noFigure, figureIn, caseRefusal}
-use Rattle.tables.specs.Solver.{refusalGiven, figureGiven, SolverTables, SolverPost}
+use Rattle.tables.specs.Solver.{numberGiven, figureGiven, SolverTables, SolverPost}
 use Rattle.tables.proofs.Exists.{few-placements}
-use Rattle.tables.proofs.Promise.{numbers-agree}
+use Rattle.tables.proofs.Refusals.{case-none}
 use Rattle.compiled.specs.declared.Compilation.{Compilation}
 use Rattle.compiled.specs.Table.{Compiled}
 use Rattle.cases.specs.Cases.{CasePost}
+use Rattle.cases.proofs.Opened.{opened-refused, opened-none, opened-table}
 use Rattle.solver.proofs.Entries.{entry-some, entry-none}
 
 -- THE START'S FIGURE
@@ -34,26 +34,26 @@ module _ (r : Railway) (figs : List ℕ) (at f : ℕ) (start : at ≡ startCode 
 module _ (r : Railway) (figs sets : List ℕ) (c : Compilation) (p : CasePost r figs sets c) where
   pub answer-refused : (f : Refusal) → c .tested ≡ Refused f → SolverPost r (Refuses f) figs sets figs sets
   answer-refused f e =
-      let due : caseRefusal r figs sets ≡ some f = sym (p .refusal) ∙ ap refusalTested e in
-      record { refusal = sym due; numbered = ap numberOf (sym due); leaves = rw due (refl, refl) }
+      let due : caseRefusal r figs sets ≡ some f = opened-refused p e in
+      record { numbered = ap numberOf (sym due); leaves = rw due (refl, refl) }
 
   module _ (e : c .tested ≡ Accepted) (m : ℕ) (counts : (q : Railway) → Compiled q (c .table) → m ≡ placements q) where
     fine : caseRefusal r figs sets ≡ none
-    fine = sym (p .refusal) ∙ ap refusalTested e
+    fine = opened-none p e
 
     its-table : Compiled r (c .table)
-    its-table = p .compiled fine
+    its-table = opened-table p e
 
     -- few enough placements for every round to have a number, and an entry for each
     pub room : (m + 1 < noFigure) × ((m ≤ length figs) × (m ≤ length sets))
     room =
         let n : m ≡ placements r = counts r its-table in
         let few = few-placements r (its-table .accepted) in
-        (omega arith, (omega (arith, p .room fine .0), omega (arith, p .room fine .1)))
+        let enough = case-none r figs sets .0 fine .1 in
+        (omega arith, (omega (arith, enough .figures), omega (arith, enough .settings)))
 
     pub answer-solved : (a : SolverAnswer) (figs′ sets′ : List ℕ) → (Compiled r (c .table) → m ≡ placements r → SolverTables r figs sets figs′ sets′)
-        → ((q : Railway) → Compiled q (c .table) → (refusalGiven a ≡ none) × (figureGiven a ≡ figureIn figs′ (startCode q))) → SolverPost r a figs sets figs′ sets′
+        → ((q : Railway) → Compiled q (c .table) → (numberGiven a ≡ none) × (figureGiven a ≡ figureIn figs′ (startCode q))) → SolverPost r a figs sets figs′ sets′
     answer-solved a figs′ sets′ fills starts =
         let s = starts r its-table in
-        let given : refusalGiven a ≡ caseRefusal r figs sets = s .0 ∙ sym fine in
-        record { refusal = given; numbered = numbers-agree a ∙ ap numberOf given; leaves = rw fine (fills its-table (counts r its-table), s .1) }
+        record { numbered = s .0 ∙ ap numberOf (sym fine); leaves = rw fine (fills its-table (counts r its-table), s .1) }

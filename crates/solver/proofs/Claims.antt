@@ -13,14 +13,15 @@ use Rattle.game.proofs.Accepted.{facts}
 use Rattle.game.proofs.Moves.{start-below}
 use Rattle.tables.specs.declared.SolverAnswer.{SolverAnswer}
 use Rattle.tables.specs.Tables.{figureIn, caseRefusal}
-use Rattle.tables.specs.Solver.{refusalGiven, figureGiven, SolverTables, SolverPost}
+use Rattle.tables.specs.Solver.{numberGiven, figureGiven, SolverTables, SolverPost}
 use Rattle.tables.proofs.Refusals.{case-none}
+use Rattle.tables.proofs.Promise.{solver-refused, solver-accepted}
 use Rattle.tables.proofs.Plays.{filled-whole}
 use Rattle.solver.specs.Claims.{RightForPlays, FigureIsStarts, UnsolvableIsNone, RefusedKeeps}
 
-module _ (r : Railway) (a : SolverAnswer) (figs sets figs′ sets′ : List ℕ) (p : SolverPost r a figs sets figs′ sets′) (given : refusalGiven a ≡ none) where
+module _ (r : Railway) (a : SolverAnswer) (figs sets figs′ sets′ : List ℕ) (p : SolverPost r a figs sets figs′ sets′) (given : numberGiven a ≡ none) where
   fine : caseRefusal r figs sets ≡ none
-  fine = sym (p .refusal) ∙ given
+  fine = solver-accepted p given
 
   accepted : recordRefusal r ≡ none
   accepted = case-none r figs sets .0 fine .0
@@ -37,10 +38,10 @@ pub right-for-plays : RightForPlays
 right-for-plays r a figs sets figs′ sets′ p given = filled-whole r (accepted r a figs sets figs′ sets′ p given) figs′ sets′ (left r a figs sets figs′ sets′ p given .0 .filled)
 
 pub figure-is-starts : FigureIsStarts
-figure-is-starts r a figs sets figs′ sets′ p n e = start-figure r a figs sets figs′ sets′ p (ap refusalGiven e) (some n) (ap figureGiven e)
+figure-is-starts r a figs sets figs′ sets′ p n e = start-figure r a figs sets figs′ sets′ p (ap numberGiven e) (some n) (ap figureGiven e)
 
 pub unsolvable-is-none : UnsolvableIsNone
-unsolvable-is-none r a figs sets figs′ sets′ p e = start-figure r a figs sets figs′ sets′ p (ap refusalGiven e) none (ap figureGiven e)
+unsolvable-is-none r a figs sets figs′ sets′ p e = start-figure r a figs sets figs′ sets′ p (ap numberGiven e) none (ap figureGiven e)
 
 pub refused-keeps : RefusedKeeps
-refused-keeps r a figs sets figs′ sets′ p f e = let due : caseRefusal r figs sets ≡ some f = sym (p .refusal) ∙ ap refusalGiven e in rw due at (p .leaves)
+refused-keeps r a figs sets figs′ sets′ p f e = rw (solver-refused p e) at (p .leaves)

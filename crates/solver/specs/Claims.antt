@@ -13,12 +13,12 @@ use Rattle.game.specs.Moves.{gameOf}
 use Rattle.tables.specs.declared.SolverAnswer.{SolverAnswer}
 use Rattle.tables.specs.declared.SolverAnswer.the-variants.{Refused, Unsolvable, Figure}
 use Rattle.tables.specs.Tables.{figureIn, settingIn}
-use Rattle.tables.specs.Solver.{refusalGiven, SolverPost}
+use Rattle.tables.specs.Solver.{numberGiven, SolverPost}
 
 -- WHOLE PLAYS. Unless it refuses, the tables have the figures of whole plays, and who follows the setting table is home within them.
 abbrev pub RightForPlays : Type 0
 RightForPlays =
-    (r : Railway) (a : SolverAnswer) (figs sets figs′ sets′ : List ℕ) → SolverPost r a figs sets figs′ sets′ → refusalGiven a ≡ none
+    (r : Railway) (a : SolverAnswer) (figs sets figs′ sets′ : List ℕ) → SolverPost r a figs sets figs′ sets′ → numberGiven a ≡ none
     → Whole (gameOf r) (figureIn figs′) (settingIn r sets′)
 
 -- THE ANSWER with a figure: it is the start's in whole plays.

@@ -13,7 +13,7 @@ ghost use Rattle.railway.specs.declared.Railway.{Railway};
 ghost use Rattle.railway.specs.Rows.{recordRefusal};
 ghost use Rattle.game.specs.Placement.{placements, startCode};
 ghost use Rattle.tables.specs.Tables.{noFigure, figureIn};
-ghost use Rattle.tables.specs.Solver.{figureGiven, refusalGiven, SolverTables, SolverPost};
+ghost use Rattle.tables.specs.Solver.{numberGiven, figureGiven, SolverTables, SolverPost};
 ghost use Rattle.tables.specs.Rounds.{firstFigure, RoundTables};
 ghost use Rattle.compiled.specs.Table.{Compiled};
 ghost use Rattle.moves.specs.Answers.{homeCode};
@@ -398,7 +398,7 @@ fn visit(
 
 // The start's figure, as the tables have it.
 fn start_answer(table: &Table, figures: &[u32]) -> SolverAnswer
-    ensures { λ a. ⌜ ((r : Railway) → Compiled r (now (table .entry)) → (refusalGiven a ≡ none) × (figureGiven a ≡ figureIn (now (figures .entry)) (startCode r))) ⌝ }
+    ensures { λ a. ⌜ ((r : Railway) → Compiled r (now (table .entry)) → (numberGiven a ≡ none) × (figureGiven a ≡ figureIn (now (figures .entry)) (startCode r))) ⌝ }
 {
     let f = tables::entry_at(figures, moves::start_code(table), NO_FIGURE);
     if f == NO_FIGURE {

@@ -2,28 +2,23 @@
 -- and the first that applies is given by its number. Assumes nothing.
 use mathlib.Core.Path.{_≡_}
 use mathlib.Core.List.{List}
-use mathlib.Core.Option.{Option, none, some}
+use mathlib.Core.Option.{Option, none, some, Option·getD}
 use Prim.Native.Nat.{ℕ}
 use Rattle.railway.specs.declared.Railway.{Railway}
 use Rattle.railway.specs.declared.Refusal.{Refusal}
-use Rattle.railway.specs.Refusals.{number}
+use Rattle.railway.specs.Refusals.{number, numberOf}
 use Rattle.casefile.specs.Given.{RefusedWith, AcceptedWith}
 use Rattle.tables.specs.Tables.{caseRefusal}
 use Rattle.tables.specs.Solver.{SolverTables}
-
--- The number answered: a refusal's, or 0.
-abbrev pub answered : Option Refusal → ℕ
-answered none = 0
-answered (some f) = number f
 
 -- What is left in the tables: what was there, or the case's figures and settings.
 abbrev pub Leaves : Railway → List ℕ → List ℕ → List ℕ → List ℕ → Option Refusal → Type 0
 Leaves r figs sets figs′ sets′ (some f) = (figs′ ≡ figs) × (sets′ ≡ sets)
 Leaves r figs sets figs′ sets′ none = SolverTables r figs sets figs′ sets′
 
--- A railway and two tables are answered with n.
+-- A railway and two tables are answered with n: the number that is given, or 0.
 pub record SolvedRailway (r : Railway) (figs sets : List ℕ) (n : ℕ) (figs′ sets′ : List ℕ) : Type 0 where
-  pub numbered : n ≡ answered (caseRefusal r figs sets)
+  pub numbered : n ≡ Option·getD (numberOf (caseRefusal r figs sets)) 0
   pub leaves : Leaves r figs sets figs′ sets′ (caseRefusal r figs sets)
 
 -- A case text and two tables are answered with n: every text is refused with one refusal or accepted with one railway.

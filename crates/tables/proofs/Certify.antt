@@ -168,7 +168,6 @@ module _ (r : Railway) (accepted : recordRefusal r ≡ none) (figs sets : List �
   pub certify : Filled r figs sets
   certify =
       record {
-        entries = λ p l. at p l .0;
         figures = whole (gameOf r) (figureIn figs) (settingIn r sets) (inside r ok) certified-solved .figures;
         settings = λ p l. entry p l (F p) (getD sets p 0) (at p l .1);
       }

@@ -12,7 +12,7 @@ use native.Mathlib.Nat.{pow-le-pow-left, pow-le-pow-right}
 use lib.ListN.{length, getD}
 use lib.Dec.{eqb}
 use borrow.Author.Tests.{ne-eqb}
-use Rattle.laws.proofs.Bools.{option?, some-none, not-true}
+use Rattle.laws.proofs.Bools.{option?, lt?, some-none, not-true}
 use Rattle.laws.proofs.Below.{overwritten, overwritten-length, overwritten-below, overwritten-past}
 use Rattle.railway.specs.declared.Railway.{Railway}
 use Rattle.railway.specs.Bounds.{mostSections, mostTrains}
@@ -24,10 +24,11 @@ use Rattle.game.specs.Moves.{gameOf}
 use Rattle.game.proofs.Turns.{no-keeps-zero}
 use Rattle.game.proofs.Accepted.{Facts, facts}
 use Rattle.game.proofs.Moves.{inside}
+use Rattle.game.proofs.Figures.{figure-one}
 use Rattle.game.proofs.Whole.{whole}
 use Rattle.game.proofs.Settle.{Searches, figures, settings, rounds, settled, range, rounds-solved}
 use Rattle.tables.specs.Entries.{settingAt}
-use Rattle.tables.specs.Tables.{noFigure, figureEntry, figureIn, IsPlanEntry}
+use Rattle.tables.specs.Tables.{noFigure, figureEntry, figureIn, IsPlanEntry, Filled}
 use Rattle.tables.specs.Solver.{Kept, SolverTables}
 use Rattle.tables.specs.Find.{find}
 use Rattle.tables.proofs.Find.{find-sound, find-complete}
@@ -101,10 +102,6 @@ pub number-back : (f : Option ℕ) → ((j : ℕ) → f ≡ some j → j < noFig
 number-back none h = refl
 number-back (some n) h = let l : n < noFigure = h n refl in let e : eqb n noFigure ≡ false = ne-eqb n noFigure (λ q. omega arith) in rw e
 
-pub number-most : (f : Option ℕ) → ((j : ℕ) → f ≡ some j → j < noFigure) → numberFor f ≤ noFigure
-number-most none h = omega arith
-number-most (some n) h = omega (arith, h n refl)
-
 -- TABLES written with figures that they can hold, and with entries
 module _ (r : Railway) (F : ℕ → Option ℕ) (E : ℕ → ℕ) (small : (p j : ℕ) → p < placements r → F p ≡ some j → j < noFigure)
     (figs sets : List ℕ) (lf : placements r ≤ length figs) (ls : placements r ≤ length sets) where
@@ -122,9 +119,6 @@ module _ (r : Railway) (F : ℕ → Option ℕ) (E : ℕ → ℕ) (small : (p j 
 
   pub entry-at : (p : ℕ) → p < placements r → getD entries-written p 0 ≡ E p
   entry-at p l = overwritten-below E (placements r) sets ls p 0 l
-
-  pub in-range : (p : ℕ) → p < placements r → getD figures-written p noFigure ≤ noFigure
-  in-range p l = rw (number-at p l) (number-most (F p) (λ j. small p j l))
 
   pub figures-kept : Kept r figs figures-written
   figures-kept = record { as-long = overwritten-length (λ p. numberFor (F p)) (placements r) figs lf; past = λ p l. overwritten-past (λ p. numberFor (F p)) (placements r) figs lf p 0 l }
@@ -153,7 +147,6 @@ tables-exist r accepted figs sets lf ls =
           record {
             filled =
                 record {
-                  entries = in-range r (x .figure) (x .entry) (x .small) figs sets lf ls;
                   figures = λ p l. rw (figure-at r (x .figure) (x .entry) (x .small) figs sets lf ls p l) (x .figures p l);
                   settings = settings-written r (x .figure) (x .entry) (x .small) figs sets lf ls (facts r accepted) (x .entries);
                 };
@@ -161,3 +154,14 @@ tables-exist r accepted figs sets lf ls =
             kept-sets = entries-kept r (x .figure) (x .entry) (x .small) figs sets lf ls;
           };
     }
+
+-- NO ENTRY of a filled table is larger than the number for none, for figures are smaller
+pub filled-most : (r : Railway) → recordRefusal r ≡ none → (figs sets : List ℕ) → Filled r figs sets → (p : ℕ) → p < placements r → getD figs p noFigure ≤ noFigure
+filled-most r accepted figs sets filled p l = elim (lt? noFigure (getD figs p noFigure)) [
+  | inr b ↦ b
+  | inl b ↦
+      let x : Solution r = solution r accepted in
+      let e : eqb (getD figs p noFigure) noFigure ≡ false = ne-eqb (getD figs p noFigure) noFigure (λ q. omega arith) in
+      let f : figureIn figs p ≡ some (getD figs p noFigure) = rw e in
+      omega (arith, x .small p (getD figs p noFigure) l (figure-one (gameOf r) p (x .figure p) (figureIn figs p) (x .figures p l) (filled .figures p l) ∙ f))
+]

@@ -22,7 +22,7 @@ use Rattle.game.proofs.Figures.{figure-one}
 use Rattle.tables.specs.Tables.{noFigure, figureIn, IsPlanEntry, Filled}
 use Rattle.tables.specs.Rounds.{upTo, RoundTables}
 use Rattle.tables.proofs.Carry.{entry-carry}
-use Rattle.tables.proofs.Exists.{Solution, solution, figures-written, entries-written, figure-at, in-range, settings-written}
+use Rattle.tables.proofs.Exists.{Solution, solution, figures-written, entries-written, figure-at, settings-written}
 
 -- figures up to n
 pub up-to : (n : ℕ) (f : Option ℕ) (j : ℕ) → f ≡ some j → j ≤ n → upTo n f ≡ some j
@@ -68,7 +68,6 @@ module _ (r : Railway) (accepted : recordRefusal r ≡ none) (n : ℕ) where
       pub round-written : RoundTables r n (figures-written r F E small figs sets lf ls) (entries-written r F E small figs sets lf ls)
       round-written =
           record {
-            entries = in-range r F E small figs sets lf ls;
             figures = λ p l f i. figure-at r F E small figs sets lf ls p l ∙ ap (upTo n) (figure-one (gameOf r) p (x .figure p) f (x .figures p l) i);
             settings = settings-written r F E small figs sets lf ls (facts r accepted) (λ p l. plan-at p l (x .figure p) refl);
           }
@@ -85,7 +84,6 @@ module _ (r : Railway) (accepted : recordRefusal r ≡ none) (n : ℕ) where
     pub round-filled : (figs sets : List ℕ) → RoundTables r n figs sets → Filled r figs sets
     round-filled figs sets t =
         record {
-          entries = t .entries;
           figures = λ p l.
               let i : IsFigure (gameOf r) p (solution r accepted .figure p) = solution r accepted .figures p l in
               let e : figureIn figs p ≡ solution r accepted .figure p = t .figures p l (solution r accepted .figure p) i ∙ all p l (solution r accepted .figure p) i in

@@ -131,15 +131,10 @@ module _ (r : Railway) (accepted : recordRefusal r ≡ none) where
   pub cleared-round : (figs sets : List ℕ) → Cleared r figs sets → RoundTables r 0 figs sets
   cleared-round figs sets c =
       record {
-        entries = λ p l. rw (c .first p l) (most (home (gameOf r) p));
         figures = λ p l f i. value p l ∙ ap (upTo 0) (figure-one (gameOf r) p (G p) f (has p l) i);
         settings = λ p l. settled p l (home (gameOf r) p) (shown p l);
       }
     where
-      most : (b : Bool) → cond b 0 noFigure ≤ noFigure
-      most true = omega arith
-      most false = omega arith
-
       shown : (p : ℕ) → p < placements r → figureIn figs p ≡ figureEntry (firstFigure r p)
       shown p l = ap figureEntry (c .first p l)
 
@@ -192,14 +187,9 @@ module _ (r : Railway) (accepted : recordRefusal r ≡ none) where
         let y : IsPlanEntry r (figureIn figs) p (some (suc n)) v′ = (best .plans, best .itself (or-false (shared r p) (atHome r p) o .0)) in
         rw (ef, new-figure) (entry-carry r ok (figureIn figs) (figureIn figs′) p l (some (suc n)) v′ (λ m em. onward m) (λ m em. backward m (let z : suc n ≡ m = cc in omega arith)) y)
 
-    fits-step : (p f v f′ v′ : ℕ) (b : Bool) → f ≤ noFigure → Step r (figureIn figs) (suc n) p f v f′ v′ b → f′ ≤ noFigure
-    fits-step p f v f′ v′ b l (stays ef ev h) = omega arith
-    fits-step p f v f′ v′ b l (gains none-there o ef h) = omega arith
-
     pub next-round : RoundTables r (suc n) figs′ sets′
     next-round =
         record {
-          entries = λ p l. fits-step p (getD figs p noFigure) (getD sets p 0) (getD figs′ p noFigure) (getD sets′ p 0) (stepped p l .0) (t .entries p l) (stepped p l .1);
           figures = λ p l f i. after p l ∙ ap (upTo (suc n)) (figure-one (gameOf r) p (G p) f (has p l) i);
           settings = λ p l. plan-step p (getD figs p noFigure) (getD sets p 0) (getD figs′ p noFigure) (getD sets′ p 0) (stepped p l .0) l refl (t .settings p l) (stepped p l .1);
         }

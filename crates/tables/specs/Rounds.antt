@@ -4,7 +4,7 @@ use mathlib.Core.Path.{_≡_}
 use mathlib.Core.Bool.{Bool, true, false, cond}
 use mathlib.Core.List.{List}
 use mathlib.Core.Option.{Option, none, some}
-use Prim.Native.Nat.{ℕ, _≤_, _<_}
+use Prim.Native.Nat.{ℕ, _<_}
 use lib.ListN.{getD}
 use lib.Dec.{leb}
 use Rattle.railway.specs.declared.Railway.{Railway}
@@ -41,6 +41,5 @@ upTo n (some j) = cond (leb j n) (some j) none
 -- After round n the tables have each placement's figure and the plan's setting if the figure is at most n, else none and zero.
 -- Where no figure is larger than n this is `Filled`.
 pub record RoundTables (r : Railway) (n : ℕ) (figs sets : List ℕ) : Type 0 where
-  pub entries : (p : ℕ) → p < placements r → getD figs p noFigure ≤ noFigure
   pub figures : (p : ℕ) → p < placements r → (f : Option ℕ) → IsFigure (gameOf r) p f → figureIn figs p ≡ upTo n f
   pub settings : (p : ℕ) → p < placements r → IsPlanEntry r (figureIn figs) p (figureIn figs p) (getD sets p 0)

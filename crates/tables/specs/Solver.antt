@@ -13,13 +13,7 @@ use Rattle.tables.specs.declared.SolverAnswer.{SolverAnswer}
 use Rattle.tables.specs.declared.SolverAnswer.the-variants.{Refused, Unsolvable, Figure}
 use Rattle.tables.specs.Tables.{figureIn, caseRefusal, Filled}
 
--- The refusal that an answer gives, if it does.
-abbrev pub refusalGiven : SolverAnswer → Option Refusal
-refusalGiven (Refused f) = some f
-refusalGiven Unsolvable = none
-refusalGiven (Figure n) = none
-
--- The number of that refusal in the table.
+-- The number, in the table, of the refusal that an answer gives, if it does.
 abbrev pub numberGiven : SolverAnswer → Option ℕ
 numberGiven (Refused f) = some (number f)
 numberGiven Unsolvable = none
@@ -49,6 +43,5 @@ SolverLeaves r a figs sets figs′ sets′ none = SolverTables r figs sets figs�
 
 -- The solver's promise: it refuses with the first of rows 3 to 9 that applies, by its number, and only then.
 pub record SolverPost (r : Railway) (a : SolverAnswer) (figs sets figs′ sets′ : List ℕ) : Type 0 where
-  pub refusal : refusalGiven a ≡ caseRefusal r figs sets
   pub numbered : numberGiven a ≡ numberOf (caseRefusal r figs sets)
   pub leaves : SolverLeaves r a figs sets figs′ sets′ (caseRefusal r figs sets)

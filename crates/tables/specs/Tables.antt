@@ -5,7 +5,7 @@ use mathlib.Core.Logic.{_↔_}
 use mathlib.Core.Bool.{Bool, true, cond, _&&_, _||_}
 use mathlib.Core.List.{List, [], _∷_, _++_}
 use mathlib.Core.Option.{Option, none, some, Option·getD}
-use Prim.Native.Nat.{ℕ, zero, suc, _≤_, _<_}
+use Prim.Native.Nat.{ℕ, zero, suc, _<_}
 use lib.ListN.{length, getD}
 use lib.Dec.{eqb, ltb, leb}
 use Rattle.laws.specs.Below.{countBelow, lowest}
@@ -97,9 +97,7 @@ IsPlanEntry r F p none v = v ≡ 0
 IsPlanEntry r F p (some zero) v = v ≡ 0
 IsPlanEntry r F p (some (suc n)) v = Planned r F p (suc n) v
 
--- At every code the two tables have the placement's figure and the plan's setting. That no entry is larger than the number for none
--- follows, for figures are smaller; it is stated for the plan's lines, whose figures have to be.
+-- At every code the two tables have the placement's figure and the plan's setting.
 pub record Filled (r : Railway) (figs sets : List ℕ) : Type 0 where
-  pub entries : (p : ℕ) → p < placements r → getD figs p noFigure ≤ noFigure
   pub figures : (p : ℕ) → p < placements r → IsFigure (gameOf r) p (figureIn figs p)
   pub settings : (p : ℕ) → p < placements r → IsPlanEntry r (figureIn figs) p (figureIn figs p) (getD sets p 0)

@@ -4,7 +4,7 @@
 use Prim.Native.Nat.{ℕ, zero, suc, _+_, _<_}
 use mathlib.Core.Path.{_≡_, refl, sym, _∙_}
 use mathlib.Core.Bool.{Bool, true, false, cond}
-use mathlib.Core.List.{List, [], _∷_, _++_, append-assoc, append-nil}
+use mathlib.Core.List.{List, [], _∷_, _++_, flatMap, append-assoc, append-nil}
 use native.Mathlib.Omega.{arith}
 use lib.Dec.{ltb}
 use lib.ListN.{length}
@@ -18,7 +18,7 @@ use Rattle.railway.specs.Ends.{endIndex, endAt}
 use Rattle.railway.specs.Record.{linkAt, flagAt, legsOf, trainOf}
 use Rattle.railway.proofs.Ends.{end-section, index-end}
 use Rattle.railway.proofs.Lookups.{joined-there, signal-there}
-use Rattle.casefile.specs.Form.{pointLine, joinLine, signalLine, trainLine, each, rising, spell}
+use Rattle.casefile.specs.Form.{pointLine, joinLine, signalLine, trainLine, rising, spell}
 use Rattle.casefile.specs.Writing.{joinFrom, joinAt, signalAt, lineOfTrain, descriptionOf, writtenText}
 use Rattle.writer.specs.declared.Part.the-variants.{Points, Joins, Signals, Trains}
 use Rattle.writer.specs.Pieces.{headerText, joinPiece, pieceOf}
@@ -40,33 +40,33 @@ module _ {A : Type 0} (f : ℕ → A → List ℕ) where
       rising-more 1 (listBelow g k) (g k) ∙ rw (e, rising-pieces g k)
 
 module _ {A : Type 0} (f : A → List ℕ) where
-  each-then : (xs ys : List A) → each f (xs ++ ys) ≡ each f xs ++ each f ys
-  unfolding each
+  each-then : (xs ys : List A) → flatMap f (xs ++ ys) ≡ flatMap f xs ++ flatMap f ys
+  unfolding flatMap
   each-then [] ys = refl
   each-then (x ∷ xs) ys = rw (each-then xs ys, append-assoc)
 
-  each-pieces : (g : ℕ → List A) (k : ℕ) → each f (gatherBelow g k) ≡ gatherBelow (λ i. each f (g i)) k
-  unfolding each gatherBelow
+  each-pieces : (g : ℕ → List A) (k : ℕ) → flatMap f (gatherBelow g k) ≡ gatherBelow (λ i. flatMap f (g i)) k
+  unfolding flatMap gatherBelow
   each-pieces g zero = refl
   each-pieces g (suc k) = rw (each-then (gatherBelow g k) (g k), each-pieces g k)
 
-  each-one : (b : Bool) (x : A) → each f (cond b (x ∷ []) []) ≡ cond b (f x) []
-  unfolding each
+  each-one : (b : Bool) (x : A) → flatMap f (cond b (x ∷ []) []) ≡ cond b (f x) []
+  unfolding flatMap
   each-one true x = append-nil (f x)
   each-one false x = refl
 
 -- A SECTION END'S pieces
-join-from : (i : ℕ) (j : Joined) → each joinLine (joinFrom i j) ≡ joinPiece i j
-unfolding each
+join-from : (i : ℕ) (j : Joined) → flatMap joinLine (joinFrom i j) ≡ joinPiece i j
+unfolding flatMap
 join-from i Nothing = refl
 join-from i (With f) = each-one joinLine (ltb i (endIndex f)) _
 
 module _ (r : Railway) where
-  join-piece : (i : ℕ) → i < sectionEnds → each joinLine (joinAt r i) ≡ pieceOf r Joins i
+  join-piece : (i : ℕ) → i < sectionEnds → flatMap joinLine (joinAt r i) ≡ pieceOf r Joins i
   join-piece i h =
       rw (← joined-there r (endAt i) i (sym (index-end i (omega arith))) (omega arith)) (join-from i (linkAt r i))
 
-  signal-piece : (i : ℕ) → i < sectionEnds → each signalLine (signalAt r i) ≡ pieceOf r Signals i
+  signal-piece : (i : ℕ) → i < sectionEnds → flatMap signalLine (signalAt r i) ≡ pieceOf r Signals i
   signal-piece i h =
       rw (← signal-there r (endAt i) i (sym (index-end i (omega arith))) h, end-section i h) (each-one signalLine (flagAt r i) _)
 

@@ -2,7 +2,7 @@
 -- record's own buffer always holds, is copied to the front of the lent one.
 -- Assumes nothing.
 use Prim.Native.Nat.{ℕ, _<_, _≤_}
-use mathlib.Core.Path.{_≡_, sym, _∙_, ap}
+use mathlib.Core.Path.{_≡_, _∙_, ap}
 use mathlib.Core.List.{List}
 use mathlib.Core.Option.{none, some}
 use native.Mathlib.Omega.{arith}
@@ -15,7 +15,8 @@ use Rattle.railway.specs.declared.Railway.{Railway}
 use Rattle.railway.specs.Rows.{recordRefusal}
 use Rattle.acceptance.specs.declared.Tested.{Tested}
 use Rattle.acceptance.specs.declared.Tested.the-variants as tested
-use Rattle.acceptance.specs.Answers.{Judged, refusalGiven}
+use Rattle.acceptance.specs.Answers.{Judged}
+use Rattle.acceptance.proofs.Answers.{judged-refused, judged-accepted}
 use Rattle.casefile.specs.declared.Written.the-variants.{Bytes, Refused}
 use Rattle.casefile.specs.Rows.{mostBytes}
 use Rattle.casefile.specs.Writing.{writtenText, writerRefusal, written, bufferAfter, WriterPost}
@@ -29,12 +30,12 @@ module _ (r : Railway) (buffer : List ℕ) where
   refused-so f h = promised r buffer (rw h) (rw h)
 
   pub record-refused : {t : Tested} (f : Refusal) → Judged r t → t ≡ tested.Refused f → WriterPost r buffer (Refused f) buffer
-  record-refused f j e = refused-so f (by-record r buffer f (sym (j .refusal) ∙ ap refusalGiven e))
+  record-refused f j e = refused-so f (by-record r buffer f (judged-refused r j e))
 
 -- THE TEXT, in a buffer of its own
-module _ {r : Railway} {t : Tested} (judged : Judged r t) (passed : t ≡ tested.Accepted) where
+module _ (r : Railway) {t : Tested} (judged : Judged r t) (passed : t ≡ tested.Accepted) where
   accepted-record : recordRefusal r ≡ none
-  accepted-record = sym (judged .refusal) ∙ ap refusalGiven passed
+  accepted-record = judged-accepted r judged passed
 
   module _ {own text : List ℕ} {n : ℕ} (blank : own ≡ replicate mostBytes 0) (made : Appended own 0 (writtenText r) text n) where
     own-long : length own ≡ mostBytes

@@ -25,7 +25,7 @@ put-text-requires : tie.Need-put-text-requires
 put-text-requires c κs = search needs
 
 returns : tie.Need-returns
-returns c = space-refused (c .before .before .before .before .before .before .test-record .ensures) (c .before .before .before .before .enum-told .given .1) refl (c .before .before .put-text .ensures) (now (c .before .before .before .before .before .before .before .before .args .buffer)) (c .if1 .taken)
+returns c = space-refused (c .before .before .before .before .before .before .before .before .args .r) (c .before .before .before .before .before .before .test-record .ensures) (c .before .before .before .before .enum-told .given .1) refl (c .before .before .put-text .ensures) (now (c .before .before .before .before .before .before .before .before .args .buffer)) (c .if1 .taken)
 
 array-share-prefix-text : tie.Need-array-share-prefix-text
 array-share-prefix-text c = front-fits (c .before .before .before .put-text .ensures) (c .before .before .before .put-text .kept .0)
@@ -43,7 +43,7 @@ same-length : tie.Need-same-length
 same-length c = search needs
 
 returns-3 : tie.Need-returns-3
-returns-3 c = case-written (c .before .before .before .before .before .before .before .before .before .before .before .test-record .ensures) (c .before .before .before .before .before .before .before .before .before .enum-told .given .1) refl (c .before .before .before .before .before .before .before .put-text .ensures) (now (c .before .before .before .before .before .before .before .before .before .before .before .before .before .args .buffer)) _ _ (c .before .before .before .before .before .if1 .left) (c .before .before .bytes .ensures)
+returns-3 c = case-written (c .before .before .before .before .before .before .before .before .before .before .before .before .before .args .r) (c .before .before .before .before .before .before .before .before .before .before .before .test-record .ensures) (c .before .before .before .before .before .before .before .before .before .enum-told .given .1) refl (c .before .before .before .before .before .before .before .put-text .ensures) (now (c .before .before .before .before .before .before .before .before .before .before .before .before .before .args .buffer)) _ _ (c .before .before .before .before .before .if1 .left) (c .before .before .bytes .ensures)
 
 pub write-case-spec : {M : Type 1} → statement M
 write-case-spec =
