@@ -1,7 +1,5 @@
 // Pairs of texts, a case and a plan, and what program plancheck writes for each pair. Standard input is records (crate framed).
-use casefile::CaseAnswer;
 use libc::STDOUT_FILENO;
-use railway::Railway;
 
 fn main() {
     let mut turns: u64 = 0;
@@ -41,19 +39,7 @@ fn plan_of(case: &[u8]) -> bool {
 }
 
 fn show(case: &[u8], plan: &[u8]) {
-    let read = reader::read_case(case);
-    let answer = read.answer;
-    match answer {
-        CaseAnswer::Refused(f) => {
-            let mut line = [0u8; output::LINE];
-            output::refusal(f, &mut line);
-        }
-        CaseAnswer::Accepted => check(read.railway, plan),
-    }
-}
-
-fn check(r: Railway, plan: &[u8]) {
-    let answer = verdict::check_plan(r, plan);
+    let answer = verdict::check_case(case, plan);
     let mut line = [0u8; output::LINE];
     output::test_answer(answer, &mut line);
 }

@@ -2,9 +2,7 @@
 ghost use mathlib.Core.Path.{_≡_};
 ghost use Rattle.io.specs.Counts.{Counts};
 ghost use Rattle.verdict.specs.Claims.{readBytes};
-use casefile::CaseAnswer;
 use libc::STDIN_FILENO;
-use railway::Railway;
 
 // One byte more than a case text may have: whatever follows, such a text is refused for its length.
 const CASE: usize = casefile::MOST_BYTES + 1;
@@ -16,15 +14,7 @@ const PLAN: usize = (verdict::ENTRIES + 1) * planlines::MOST_LINE_BYTES + 1;
 fn main() {
     let mut case = [0u8; CASE];
     let n = read_file(&mut case);
-    let read = reader::read_case(&case[..n]);
-    let answer = read.answer;
-    match answer {
-        CaseAnswer::Refused(f) => {
-            let mut line = [0u8; output::LINE];
-            output::refusal(f, &mut line);
-        }
-        CaseAnswer::Accepted => check(read.railway),
-    }
+    check(&case[..n]);
 }
 
 // A file that is not there is an empty text.
@@ -41,12 +31,12 @@ fn read_file(case: &mut [u8]) -> usize
 }
 
 // Reads the plan into a buffer of as many bytes as decide its check. The promise ties the buffer's length to the definition.
-fn check(r: Railway)
+fn check(case: &[u8])
     ensures { λ u. do ⌜ (← ⟦PLAN⟧ .entry) ≡ readBytes ⌝ }
 {
     let mut plan = [0u8; PLAN];
     let n = io::read_full(STDIN_FILENO, &mut plan);
-    let answer = verdict::check_plan(r, &plan[..n]);
+    let answer = verdict::check_case(case, &plan[..n]);
     let mut line = [0u8; output::LINE];
     output::test_answer(answer, &mut line);
 }

@@ -2,3 +2,4 @@ pub mod Answers
 pub mod Sizes
 pub mod Lines
 pub mod Whole
+pub mod Printing

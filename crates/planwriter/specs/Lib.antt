@@ -1,3 +1,4 @@
 pub mod Written
 pub mod Solved
 pub mod Claims
+pub mod Printed

@@ -7,7 +7,7 @@ use Prim.Native.Nat.{ℕ}
 use Rattle.railway.specs.declared.Railway.{Railway}
 use Rattle.railway.specs.declared.Refusal.{Refusal}
 use Rattle.railway.specs.Refusals.{number, numberOf}
-use Rattle.casefile.specs.Given.{RefusedWith, AcceptedWith}
+use Rattle.reader.specs.Answers.{ByCase}
 use Rattle.tables.specs.Tables.{caseRefusal}
 use Rattle.tables.specs.Solver.{SolverTables}
 
@@ -21,7 +21,6 @@ pub record SolvedRailway (r : Railway) (figs sets : List ℕ) (n : ℕ) (figs′
   pub numbered : n ≡ Option·getD (numberOf (caseRefusal r figs sets)) 0
   pub leaves : Leaves r figs sets figs′ sets′ (caseRefusal r figs sets)
 
--- A case text and two tables are answered with n: every text is refused with one refusal or accepted with one railway.
-pub record SolvedText (text figs sets : List ℕ) (n : ℕ) (figs′ sets′ : List ℕ) : Type 0 where
-  pub refused : (f : Refusal) → RefusedWith text f → (n ≡ number f) × ((figs′ ≡ figs) × (sets′ ≡ sets))
-  pub accepted : (r : Railway) → AcceptedWith text r → SolvedRailway r figs sets n figs′ sets′
+-- A case text and two tables are answered with n: a refused text by its number, both tables as they were; else as its railway.
+abbrev pub SolvedText : List ℕ → List ℕ → List ℕ → ℕ → List ℕ → List ℕ → Type 0
+SolvedText text figs sets n figs′ sets′ = ByCase text (λ f. (n ≡ number f) × (figs′ ≡ figs) × (sets′ ≡ sets)) (λ r. SolvedRailway r figs sets n figs′ sets′)

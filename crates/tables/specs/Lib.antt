@@ -5,3 +5,4 @@ pub mod Choice
 pub mod KnownYards
 pub mod Find
 pub mod Rounds
+pub mod Lengths

@@ -7,6 +7,7 @@ use Prim.Native.Nat.{ℕ, _-_, _≤_}
 use lib.ListN.{length, take, drop, drop-of-length-le}
 use Rattle.railway.specs.declared.Railway.{Railway}
 use Rattle.railway.specs.declared.Refusal.{Refusal}
+use Rattle.tables.specs.Lengths.{entries}
 use Rattle.tables.specs.Tables.{caseRefusal}
 use Rattle.tables.proofs.Refusals.{case-none}
 use Rattle.plan.specs.declared.LineAnswer.{LineAnswer}
@@ -17,7 +18,7 @@ use Rattle.plan.specs.Checker.{Checking, freshChecking, takeLine, testPlan}
 use Rattle.plan.specs.Promises.{FreshPost, LinePost, TestPost}
 use Rattle.plan.proofs.Emits.{none-refused}
 use Rattle.plan.proofs.Rules.{check-rule}
-use Rattle.verdict.specs.Verdict.{linesOf, afterLine, checkLines, entries, checkText}
+use Rattle.verdict.specs.Verdict.{linesOf, afterLine, checkLines, checkText}
 use Rattle.verdict.proofs.Lines.{LineAt}
 
 -- what is done from a place on, with c, is answered by x

@@ -20,6 +20,7 @@ use Rattle.railway.specs.declared.Refusal.the-variants.{PlanForm}
 use Rattle.railway.specs.Rows.{recordRefusal}
 use Rattle.game.specs.Placement.{placements}
 use Rattle.game.proofs.Accepted.{facts}
+use Rattle.tables.specs.Lengths.{entries}
 use Rattle.tables.specs.Tables.{noFigure, caseRefusal}
 use Rattle.tables.proofs.Refusals.{case-none}
 use Rattle.plan.specs.declared.CheckerState.{CheckerState}
@@ -33,7 +34,7 @@ use Rattle.plan.specs.Checker.{Checking, Left, left, freshChecking, enter, refu
 use Rattle.plan.proofs.Checks.{code-in}
 use Rattle.plan.proofs.Lengths.{lines-short}
 use Rattle.plan.proofs.Reading.{reads-line}
-use Rattle.verdict.specs.Verdict.{linesOf, checkLines, entries}
+use Rattle.verdict.specs.Verdict.{linesOf, checkLines}
 use Rattle.verdict.specs.Lengths.{lineBytes}
 use Rattle.verdict.specs.Claims.{CutDecides}
 use Rattle.verdict.proofs.Lines.{first-line, line-within}

@@ -16,6 +16,7 @@ use Rattle.railway.specs.declared.Refusal.the-variants.{PlanForm, PlanFault}
 use Rattle.railway.specs.Refusals.{Row, row, first, numberOf}
 use Rattle.railway.specs.Rows.{recordRefusal}
 use Rattle.game.specs.Placement.{placements}
+use Rattle.tables.specs.Lengths.{entries}
 use Rattle.tables.specs.Tables.{noFigure, caseRows, caseRefusal}
 use Rattle.tables.proofs.Refusals.{case-then, case-none}
 use Rattle.plan.specs.declared.LineAnswer.{LineAnswer}
@@ -30,7 +31,7 @@ use Rattle.plan.proofs.Emits.{none-refused}
 use Rattle.plan.proofs.Forms.{no-form}
 use Rattle.plan.proofs.Numbers.{test-numbered}
 use Rattle.plan.proofs.Rules.{differ, testNumbered, check-rule}
-use Rattle.verdict.specs.Verdict.{linesOf, checkLines, planOutOfForm, rowsBy, entries, checkText, PlanPost}
+use Rattle.verdict.specs.Verdict.{linesOf, checkLines, planOutOfForm, rowsBy, checkText, PlanPost}
 use Rattle.verdict.specs.Claims.{ByPlan, VerdictHolds, CaseHolds}
 use Rattle.verdict.proofs.Calls.{refused-case, still-fine}
 

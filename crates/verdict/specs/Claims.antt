@@ -12,11 +12,12 @@ use Rattle.railway.specs.declared.Refusal.{Refusal}
 use Rattle.railway.specs.declared.Refusal.the-variants.{PlanForm, PlanFault}
 use Rattle.railway.specs.Rows.{recordRefusal}
 use Rattle.game.specs.Placement.{placements}
+use Rattle.tables.specs.Lengths.{entries}
 use Rattle.plan.specs.declared.TestAnswer.{TestAnswer}
 use Rattle.plan.specs.declared.TestAnswer.the-variants.{Pass, Refused}
 use Rattle.plan.specs.Lines.{mostLineBytes}
 use Rattle.plan.specs.Checked.{InForm, Passing, Failing}
-use Rattle.verdict.specs.Verdict.{linesOf, entries, checkRefusal, checkText, PlanPost}
+use Rattle.verdict.specs.Verdict.{linesOf, checkRefusal, checkText, PlanPost}
 
 -- The answer to lines by their form and the test of the plan in them.
 pub record ByPlan (r : Railway) (ls : List (List ℕ)) (a : TestAnswer) : Type 0 where

@@ -12,6 +12,8 @@ use Rattle.railway.specs.declared.Railway.{Railway}
 use Rattle.railway.specs.declared.Refusal.{Refusal}
 use Rattle.railway.specs.declared.Refusal.the-variants.{PlanForm, PlanFault}
 use Rattle.railway.specs.Refusals.{Row, row, first, numberOf}
+use Rattle.reader.specs.Answers.{ByCase}
+use Rattle.tables.specs.Lengths.{entries}
 use Rattle.tables.specs.Tables.{caseRows, caseRefusal}
 use Rattle.plan.specs.declared.LineAnswer.{LineAnswer}
 use Rattle.plan.specs.declared.LineAnswer.the-variants.{Taken, Refused as LineRefused}
@@ -42,11 +44,7 @@ planOutOfForm u = not (all isTaken (u .answers)) || nothingTaken (u .end .state)
 abbrev pub rowsBy : Railway → Checking → LineCalls → List Row
 rowsBy r c u = caseRows r (c .figs) (c .sets) ++ (row PlanForm (planOutOfForm u) ∷ row PlanFault (planFails r (u .end) (u .end .state)) ∷ [])
 
--- THE TABLES of a check have so many entries.
-abbrev pub entries : ℕ
-entries = 8192
-
--- Where a check begins: no line yet, and both tables fresh.
+-- Where a check begins: no line yet, and both tables fresh, of as many entries as the programs' have.
 abbrev pub fresh : Checking
 fresh = freshChecking entries entries
 
@@ -66,3 +64,7 @@ planRows r plan = rowsBy r fresh (callLines r (linesOf plan) fresh)
 pub record PlanPost (r : Railway) (plan : List ℕ) (a : TestAnswer) : Type 0 where
   pub answer : a ≡ checkText r plan
   pub numbered : testNumber a ≡ numberOf (first (planRows r plan))
+
+-- A CASE TEXT AND A PLAN'S: the reader's refusal, or what the plan is answered for the railway of the case.
+abbrev pub CasePlanPost : List ℕ → List ℕ → TestAnswer → Type 0
+CasePlanPost case plan a = ByCase case (λ f. a ≡ TestRefused f) (λ r. PlanPost r plan a)

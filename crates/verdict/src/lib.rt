@@ -2,8 +2,9 @@
 ghost use mathlib.Core.Path.{_≡_};
 ghost use Prim.Native.Nat.{_+_};
 ghost use lib.ListN.{drop};
-ghost use Rattle.verdict.specs.Verdict.{PlanPost};
+ghost use Rattle.verdict.specs.Verdict.{PlanPost, CasePlanPost};
 ghost use Rattle.verdict.specs.Lengths.{lineBytes};
+use casefile::CaseAnswer;
 use checker::Checker;
 use plan::LineAnswer;
 use plan::TestAnswer;
@@ -11,6 +12,18 @@ use railway::Railway;
 
 // As many entries has each of the two tables that a plan is entered into.
 pub const ENTRIES: usize = tables::ENTRIES;
+
+// WHAT PROGRAM PLANCHECK ANSWERS to a case text and a plan's: a refusal of the case, or what comes of the plan.
+pub fn check_case(case: &[u8], plan: &[u8]) -> TestAnswer
+    ensures { λ a. ⌜ CasePlanPost (now (case .entry)) (now (plan .entry)) a ⌝ }
+{
+    let read = reader::read_case(case);
+    let answer = read.answer;
+    match answer {
+        CaseAnswer::Refused(f) => TestAnswer::Refused(f),
+        CaseAnswer::Accepted => check_plan(read.railway, plan),
+    }
+}
 
 // A railway and a plan's text. The tables are the call's own.
 pub fn check_plan(r: Railway, plan: &[u8]) -> TestAnswer

@@ -7,8 +7,9 @@ use mathlib.Core.Path.{_≡_, refl, sym, _∙_}
 use Prim.Native.Nat.{_-_}
 use denote.Ref.{now}
 use lib.ListN.{length}
+use Rattle.tables.specs.Lengths.{entries}
 use Rattle.checker.specs.Answers.{checking}
-use Rattle.verdict.specs.Verdict.{entries, checkText}
+use Rattle.verdict.specs.Verdict.{checkText}
 use Rattle.verdict.proofs.Lines.{LineAt, line-at}
 use Rattle.verdict.proofs.Calls.{Onward, fresh-start, taken-on, refused-so, tested-so}
 use Rattle.verdict.proofs.Passing.{promised}
