@@ -143,13 +143,7 @@ fn unknown_link(r: Railway, i: u8) -> bool
 {
     match r.link_at(i) {
         Joined::Nothing => false,
-        Joined::With(f) => {
-            if both_known(r, railway::end_at(i), f) {
-                false
-            } else {
-                true
-            }
-        }
+        Joined::With(f) => !both_known(r, railway::end_at(i), f),
     }
 }
 
@@ -157,11 +151,7 @@ fn unknown_signal(r: Railway, i: u8) -> bool
     ensures { λ b. ⌜ b ≡ unknownSignalAt r i ⌝ }
 {
     if r.flag_at(i) {
-        if is_known(r, railway::end_at(i)) {
-            false
-        } else {
-            true
-        }
+        !is_known(r, railway::end_at(i))
     } else {
         false
     }
@@ -172,11 +162,7 @@ fn unknown_train(r: Railway, t: u8) -> bool
 {
     let x = r.train_of(t);
     let s = r.sections;
-    if x.start.0 < s {
-        if x.destination.0 < s { false } else { true }
-    } else {
-        true
-    }
+    !((x.start.0 < s) & (x.destination.0 < s))
 }
 
 fn wrong_link(r: Railway, i: u8) -> bool
@@ -193,13 +179,7 @@ fn unreturned(r: Railway, i: u8) -> bool
 {
     match r.link_at(i) {
         Joined::Nothing => false,
-        Joined::With(f) => {
-            if leads_to(r.joined(f), railway::end_at(i)) {
-                false
-            } else {
-                true
-            }
-        }
+        Joined::With(f) => !leads_to(r.joined(f), railway::end_at(i)),
     }
 }
 
