@@ -4,7 +4,7 @@ use Prim.Native.Nat.{ℕ}
 use mathlib.Core.Path.{_≡_, refl, _∙_, ap}
 use mathlib.Core.Bool.{Bool, true, false, not, _&&_, _||_}
 use mathlib.Core.List.{List, [], _∷_}
-use mathlib.Core.Option.{some}
+use mathlib.Core.Option.{Option, none, some}
 use lib.Dec.{ltb}
 use lib.ListN.{drop}
 use Rattle.railway.specs.declared.End.{End}
@@ -12,10 +12,10 @@ use Rattle.railway.specs.declared.Joined.{Joined}
 use Rattle.railway.specs.declared.Joined.the-variants.{Nothing, With}
 use Rattle.railway.specs.declared.Train.{Train}
 use Rattle.railway.specs.declared.Railway.{Railway}
+use Rattle.railway.specs.declared.Refusal.{Refusal}
 use Rattle.railway.specs.Ends.{endAt}
 use Rattle.railway.specs.Record.{linkAt, joined, trainOf}
 use Rattle.acceptance.specs.declared.Tested.{Tested}
-use Rattle.acceptance.specs.declared.Tested.the-variants.{Accepted, Refused}
 use Rattle.railway.specs.Refusals.{numberOf, Row, first}
 use Rattle.railway.specs.Rows.{known, unknownLinkAt, unknownTrainAt, tied, wrongPair, wrongLinkAt, leadsTo, unreturnedAt, recordRows, recordRefusal}
 use Rattle.acceptance.specs.Answers.{refusalGiven, Judged}
@@ -55,31 +55,30 @@ first-holds a b p = rw p
 pub then-second : (a b x : Bool) → a ≡ false → x ≡ b → x ≡ (a || b)
 then-second a b x p h = rw p h
 
--- the rows, one after the other
-pub judged : (r : Railway) (t : Tested) → refusalGiven t ≡ recordRefusal r → Judged r t
-judged r t h = record { refusal = h; numbered = numbers-agree t ∙ ap numberOf h }
+-- the rows, one after the other: those before these have been asked and do not apply, so what is given is given by these
+pub record Left (given : Option Refusal) (rows : List Row) : Type 0 where
+  pub gives : first rows ≡ given
 
--- those before these have been asked and do not apply
-pub record Left (r : Railway) (rows : List Row) : Type 0 where
-  pub gives : first rows ≡ recordRefusal r
+module _ {given : Option Refusal} {x : Row} {rows : List Row} (left : Left given (x ∷ rows)) where
+  pub passed : x .applies ≡ false → Left given rows
+  unfolding first
+  passed p = let e : first rows ≡ first (x ∷ rows) = rw p in record { gives = e ∙ left .gives }
 
--- the first n have been asked
+  pub given-by : x .applies ≡ true → some (x .refusal) ≡ given
+  unfolding first
+  given-by p = let e : some (x .refusal) ≡ first (x ∷ rows) = rw p in e ∙ left .gives
+
+pub all-passed : {given : Option Refusal} → Left given [] → none ≡ given
+unfolding first
+all-passed left = left .gives
+
+-- of a record's rows the first n have been asked
 abbrev pub Asked : Railway → ℕ → Type 0
-Asked r n = Left r (drop n (recordRows r))
+Asked r n = Left (recordRefusal r) (drop n (recordRows r))
 
 pub none-asked : (r : Railway) → Asked r 0
 unfolding recordRefusal
 none-asked r = record { gives = refl }
 
-module _ {r : Railway} {x : Row} {rows : List Row} (left : Left r (x ∷ rows)) where
-  pub passed : x .applies ≡ false → Left r rows
-  unfolding first
-  passed p = let e : first rows ≡ first (x ∷ rows) = rw p in record { gives = e ∙ left .gives }
-
-  pub refused-by : x .applies ≡ true → Judged r (Refused (x .refusal))
-  unfolding first
-  refused-by p = let e : some (x .refusal) ≡ first (x ∷ rows) = rw p in judged r (Refused (x .refusal)) (e ∙ left .gives)
-
-pub all-passed : {r : Railway} → Left r [] → Judged r Accepted
-unfolding first
-all-passed {r} left = judged r Accepted (left .gives)
+pub judged : (r : Railway) (t : Tested) → refusalGiven t ≡ recordRefusal r → Judged r t
+judged r t h = record { refusal = h; numbered = numbers-agree t ∙ ap numberOf h }

@@ -4,7 +4,7 @@ use borrow.Author.Needs.{needs}
 use mathlib.Core.Path.{refl, sym, _∙_}
 use Rattle.railway.specs.Rows.{looseRow}
 use Rattle.railway.specs.declared.Railway.{Railway}
-use Rattle.acceptance.proofs.Testing.{Asked, none-asked, passed, refused-by, all-passed}
+use Rattle.acceptance.proofs.Testing.{passed, given-by, all-passed, Asked, none-asked, judged}
 use Rattle.acceptance.proofs.test_record.Statement.{statement}
 use Rattle.acceptance.proofs.test_record.Tie as tie
 
@@ -36,35 +36,35 @@ counts-outside-requires : tie.Need-counts-outside-requires
 counts-outside-requires c κs = search needs
 
 returns : tie.Need-returns
-returns c = refused-by (none-asked _) (sym (c .before .counts-outside .ensures) ∙ c .if1 .taken)
+returns c = judged _ _ (given-by (none-asked _) (sym (c .before .counts-outside .ensures) ∙ c .if1 .taken))
 
 unknown-named-requires : tie.Need-unknown-named-requires
 unknown-named-requires c κs = search needs
 
 returns-2 : tie.Need-returns-2
-returns-2 c = refused-by (asked1 (c .before .before)) (sym (c .before .unknown-named .ensures) ∙ c .if2 .taken)
+returns-2 c = judged _ _ (given-by (asked1 (c .before .before)) (sym (c .before .unknown-named .ensures) ∙ c .if2 .taken))
 
 joined-wrongly-requires : tie.Need-joined-wrongly-requires
 joined-wrongly-requires c κs = search needs
 
 returns-3 : tie.Need-returns-3
-returns-3 c = refused-by (asked2 (c .before .before)) (sym (c .before .joined-wrongly .ensures) ∙ c .if3 .taken)
+returns-3 c = judged _ _ (given-by (asked2 (c .before .before)) (sym (c .before .joined-wrongly .ensures) ∙ c .if3 .taken))
 
 any-flaw-requires : tie.Need-any-flaw-requires
 any-flaw-requires c κs = search needs
 
 returns-4 : tie.Need-returns-4
 unfolding looseRow
-returns-4 c = refused-by (asked3 (c .before .before)) (sym (c .before .any-flaw .ensures) ∙ c .if4 .taken)
+returns-4 c = judged _ _ (given-by (asked3 (c .before .before)) (sym (c .before .any-flaw .ensures) ∙ c .if4 .taken))
 
 places-shared-requires : tie.Need-places-shared-requires
 places-shared-requires c κs = search needs
 
 returns-5 : tie.Need-returns-5
-returns-5 c = refused-by (asked5 (c .before .before)) (sym (c .before .places-shared .ensures) ∙ c .if5 .taken)
+returns-5 c = judged _ _ (given-by (asked5 (c .before .before)) (sym (c .before .places-shared .ensures) ∙ c .if5 .taken))
 
 returns-6 : tie.Need-returns-6
-returns-6 c = all-passed (passed (asked5 (c .before .before)) (sym (c .before .places-shared .ensures) ∙ c .if5 .left))
+returns-6 c = judged _ _ (all-passed (passed (asked5 (c .before .before)) (sym (c .before .places-shared .ensures) ∙ c .if5 .left)))
 
 pub test-record-spec : {M : Type 1} → statement M
 test-record-spec =
