@@ -5,7 +5,6 @@ ghost use mathlib.Core.Path.{_≡_};
 ghost use mathlib.Core.Bool.{_||_, _&&_};
 ghost use Rattle.laws.specs.Below.{anyBelow};
 ghost use Rattle.railway.specs.Ends.{sameSide};
-ghost use Rattle.railway.specs.Record.{linkAt, flagAt};
 ghost use Rattle.railway.specs.Rows.{outside, known, unknownLinkAt, unknownSignalAt, unknownTrainAt, unknownRow, sectionOf, bothPorts, oneSection, tied, wrongPair, wrongLinkAt, leadsTo, unreturnedAt, joinRow, unjoined, looseAt, sharesWith, placeRow};
 ghost use Rattle.acceptance.specs.Answers.{Judged, flawAt};
 use railway::End;
@@ -142,27 +141,17 @@ fn has_flaw(r: Railway, f: Flaw, i: u8) -> bool
 fn unknown_link(r: Railway, i: u8) -> bool
     ensures { λ b. ⌜ b ≡ unknownLinkAt r i ⌝ }
 {
-    match link_at(r, i) {
+    match r.link_at(i) {
         Joined::Nothing => false,
-        Joined::With(f) => {
-            if both_known(r, railway::end_at(i), f) {
-                false
-            } else {
-                true
-            }
-        }
+        Joined::With(f) => !both_known(r, railway::end_at(i), f),
     }
 }
 
 fn unknown_signal(r: Railway, i: u8) -> bool
     ensures { λ b. ⌜ b ≡ unknownSignalAt r i ⌝ }
 {
-    if flag_at(r, i) {
-        if is_known(r, railway::end_at(i)) {
-            false
-        } else {
-            true
-        }
+    if r.flag_at(i) {
+        !is_known(r, railway::end_at(i))
     } else {
         false
     }
@@ -173,17 +162,13 @@ fn unknown_train(r: Railway, t: u8) -> bool
 {
     let x = r.train_of(t);
     let s = r.sections;
-    if x.start.0 < s {
-        if x.destination.0 < s { false } else { true }
-    } else {
-        true
-    }
+    !((x.start.0 < s) & (x.destination.0 < s))
 }
 
 fn wrong_link(r: Railway, i: u8) -> bool
     ensures { λ b. ⌜ b ≡ wrongLinkAt r i ⌝ }
 {
-    match link_at(r, i) {
+    match r.link_at(i) {
         Joined::Nothing => false,
         Joined::With(f) => wrong_pair(r, railway::end_at(i), f),
     }
@@ -192,15 +177,9 @@ fn wrong_link(r: Railway, i: u8) -> bool
 fn unreturned(r: Railway, i: u8) -> bool
     ensures { λ b. ⌜ b ≡ unreturnedAt r i ⌝ }
 {
-    match link_at(r, i) {
+    match r.link_at(i) {
         Joined::Nothing => false,
-        Joined::With(f) => {
-            if leads_to(r.joined(f), railway::end_at(i)) {
-                false
-            } else {
-                true
-            }
-        }
+        Joined::With(f) => !leads_to(r.joined(f), railway::end_at(i)),
     }
 }
 
@@ -298,36 +277,12 @@ fn leads_to(j: Joined, e: End) -> bool
     }
 }
 
+// Whether nothing is joined there.
 pub fn is_unjoined(j: Joined) -> bool
     ensures { λ b. ⌜ b ≡ unjoined j ⌝ }
 {
     match j {
         Joined::Nothing => true,
         Joined::With(_) => false,
-    }
-}
-
-// The join of the end with this index; nothing past the last.
-fn link_at(r: Railway, i: u8) -> Joined
-    ensures { λ j. ⌜ j ≡ linkAt r i ⌝ }
-{
-    let at = i as usize;
-    if i < Railway::ENDS {
-        let l = r.links[at];
-        l.to
-    } else {
-        Joined::Nothing
-    }
-}
-
-// Whether a signal stands at the section end with this index; none past the last.
-fn flag_at(r: Railway, i: u8) -> bool
-    ensures { λ b. ⌜ b ≡ flagAt r i ⌝ }
-{
-    let at = i as usize;
-    if i < Railway::SECTION_ENDS {
-        r.signals[at]
-    } else {
-        false
     }
 }

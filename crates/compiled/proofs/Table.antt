@@ -24,7 +24,7 @@ use Rattle.railway.specs.declared.Train.{Train}
 use Rattle.railway.specs.declared.Railway.{Railway}
 use Rattle.railway.specs.declared.Refusal.{Refusal}
 use Rattle.railway.specs.Bounds.{mostTrains}
-use Rattle.railway.specs.Ends.{sideIndex}
+use Rattle.railway.specs.Ends.{sideIndex, sideAt}
 use Rattle.railway.specs.Record.{noTrain, joined, hasSignal, trainOf}
 use Rattle.acceptance.specs.declared.Tested.{Tested}
 use Rattle.acceptance.specs.declared.Tested.the-variants.{Accepted, Refused}
@@ -199,22 +199,13 @@ module _ (r : Railway) (table : List ℕ) (i t : ℕ) (h : Compiled r table) (pa
       go false = refl
 
 -- the side of a number
-module _ (r : Railway) (t x : ℕ) where
-  pub heading-down : x ≡ rosterByte r 0 t → x ≡ 0 → Down ≡ trainOf r t .heading
-  unfolding rosterByte
-  heading-down h e = go (trainOf r t .heading) (sym h ∙ e)
-    where
-      go : (s : Side) → sideIndex s ≡ 0 → Down ≡ s
-      go Down z = refl
-      go Up z = absurd (omega arith)
-
-  pub heading-up : x ≡ rosterByte r 0 t → (x ≡ 0 → ⊥) → Up ≡ trainOf r t .heading
-  unfolding rosterByte
-  heading-up h e = go (trainOf r t .heading) (λ z. e (h ∙ z))
-    where
-      go : (s : Side) → (sideIndex s ≡ 0 → ⊥) → Up ≡ s
-      go Down z = absurd (z refl)
-      go Up z = refl
+pub heading-is : (r : Railway) (t x : ℕ) → x ≡ rosterByte r 0 t → sideAt x ≡ trainOf r t .heading
+unfolding rosterByte
+heading-is r t x h = rw h (go (trainOf r t .heading))
+  where
+    go : (s : Side) → sideAt (sideIndex s) ≡ s
+    go Down = refl
+    go Up = refl
 
 -- THE ANSWER, the table filled byte after byte
 module _ (r : Railway) where

@@ -7,7 +7,6 @@ ghost use mathlib.Core.Bool.{false};
 ghost use Prim.Native.Nat.{_<_};
 ghost use Rattle.railway.specs.declared.Railway.{Railway};
 ghost use Rattle.railway.specs.Bounds.{mostSections, mostTrains};
-ghost use Rattle.railway.specs.Ends.{sideIndex};
 ghost use Rattle.railway.specs.Record.{hasSignal, trainOf};
 ghost use Rattle.game.specs.Moves.{through, behindPort, pastPoint, pastJoin, passes};
 ghost use Rattle.compiled.specs.Table.{tableBytes, pointByte, sectionByte, endOn, routeByte, countByte, rosterByte, compiledByte, byteIn, Compiled, CompilePost};
@@ -128,20 +127,11 @@ fn roster_byte(r: Railway, i: u8, t: u8) -> u8
     let train = r.train_of(t);
     if i == 0 {
         let h = train.heading;
-        heading_byte(h)
+        railway::side_index(h)
     } else if i == 1 {
         train.start.0
     } else {
         train.destination.0
-    }
-}
-
-fn heading_byte(s: Side) -> u8
-    ensures { λ b. ⌜ b ≡ sideIndex s ⌝ }
-{
-    match s {
-        Side::Down => 0,
-        Side::Up => 1,
     }
 }
 
@@ -244,11 +234,7 @@ pub fn trains_in(table: &Table) -> u8
 pub fn heading_in(table: &Table, t: u8) -> Side
     ensures { λ h. ⌜ ((r : Railway) → Compiled r (now (table .entry)) → h ≡ trainOf r t .heading) ⌝ }
 {
-    if roster_in(table, 0, t) == 0 {
-        Side::Down
-    } else {
-        Side::Up
-    }
+    railway::side_at(roster_in(table, 0, t))
 }
 
 // The section where a train starts.

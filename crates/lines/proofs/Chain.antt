@@ -1,7 +1,7 @@
 -- A line as code reads it: a field behind a tab is one step, read or not; sides, legs and ends are read by looking for one byte after the other.
 -- Assumes nothing.
 use Prim.Native.Nat.{ℕ, _+_}
-use mathlib.Core.Path.{_≡_, refl}
+use mathlib.Core.Path.{_≡_, refl, _∙_}
 use mathlib.Core.Bool.{true, false, cond}
 use mathlib.Core.List.{List}
 use lib.Dec.{eqb}
@@ -17,6 +17,19 @@ use Rattle.railway.specs.declared.Leg.the-variants.{Stem, Plus, Minus}
 use Rattle.casefile.specs.Form.{section, port, sideByte, legByte}
 use Rattle.casefile.specs.Reading.{sideFieldAt, legFieldAt, markAt}
 use Rattle.lines.specs.Answers.{behindTab}
+
+-- A LINE WHOSE FIRST FIELDS HAVE BEEN READ: it gives what its rest gives
+pub record Left (A : Type 0) : Type 0 where
+  pub line : Got A
+  pub rest : Got A
+  pub gives : rest ≡ line
+
+module _ {A : Type 0} where
+  abbrev pub whole : Got A → Left A
+  whole g = record { line = g; rest = g; gives = refl }
+
+  abbrev pub onward : (l : Left A) {y : Got A} → y ≡ l .rest → Left A
+  onward l {y} h = record { line = l .line; rest = y; gives = h ∙ l .gives }
 
 -- A FIELD BEHIND A TAB
 module _ {A B : Type 0} (s : List ℕ) (field : ℕ → Got A) (at : ℕ) where

@@ -5,13 +5,11 @@ ghost use mathlib.Core.Path.{_≡_};
 ghost use Prim.Native.Nat.{_<_};
 ghost use Rattle.railway.specs.declared.Railway.{Railway};
 ghost use Rattle.railway.specs.Bounds.{mostSections, mostTrains};
-ghost use Rattle.railway.specs.Ends.{opposite};
 ghost use Rattle.predecessors.specs.Behind.{behindBytes, sectionBehind, behindByte, Behind};
 use compiled::NO_BYTE;
 use railway::End;
 use railway::Railway;
 use railway::SectionNo;
-use railway::Side;
 
 const SECTIONS: usize = Railway::SECTIONS as usize;
 
@@ -47,16 +45,8 @@ fn byte_behind(r: Railway, i: usize) -> u8
     let x = (i / 2 % SECTIONS) as u8;
     let train = r.train_of(t);
     let h = train.heading;
-    compiled::section_from(r, End::Section(SectionNo(x), other_side(h)), i % 2 == 1)
-}
-
-fn other_side(s: Side) -> Side
-    ensures { λ o. ⌜ o ≡ opposite s ⌝ }
-{
-    match s {
-        Side::Up => Side::Down,
-        Side::Down => Side::Up,
-    }
+    let back = railway::opposite(h);
+    compiled::section_from(r, End::Section(SectionNo(x), back), i % 2 == 1)
 }
 
 // THE SECTION BEHIND section x for train t, the point between them lying at plus or not; `NO_BYTE`: none.

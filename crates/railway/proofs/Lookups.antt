@@ -1,12 +1,14 @@
 -- The lookups of a record as code makes them: a table read where the place is within it, and what stands for nothing elsewhere.
 -- Assumes nothing.
 use Prim.Native.Nat.{ℕ, _<_, _≤_}
-use mathlib.Core.Path.{_≡_, refl, sym, ap}
+use mathlib.Core.Path.{_≡_, refl, sym, _∙_, ap}
+use native.Mathlib.Omega.{arith}
+use mathlib.Core.Logic.{_⊎_, inl, inr}
 use mathlib.Core.Bool.{Bool, true, false, cond}
 use lib.Dec.{ltb}
 use lib.ListN.{length, getD, List·getD-eq-default}
 use borrow.Author.Tests.{ltb-true, lt-ltb, le-ltb}
-use Rattle.laws.proofs.Bools.{clash}
+use Rattle.laws.proofs.Bools.{clash, lt?}
 use Rattle.railway.specs.declared.Side.the-variants.{Up}
 use Rattle.railway.specs.declared.End.{End}
 use Rattle.railway.specs.declared.Legs.{Legs}
@@ -17,7 +19,7 @@ use Rattle.railway.specs.Bounds.{sectionEnds, allEnds}
 use Rattle.railway.specs.Ends.{endIndex}
 use Rattle.railway.specs.Record.{noLegs, noLink, noTrain, linkAt, flagAt, joined, hasSignal, legsOf, trainOf}
 
--- within a count, beyond it, and where what would be read is what stands for nothing
+-- within a count, beyond it, where what would be read is what stands for nothing, and where it is so beyond the count
 module _ {A : Type 0} (n k : ℕ) (x d : A) where
   pub within : n < k → x ≡ cond (ltb n k) x d
   within h = rw (lt-ltb n k h)
@@ -32,22 +34,33 @@ module _ {A : Type 0} (n k : ℕ) (x d : A) where
       cases true = sym h
       cases false = refl
 
+  pub unasked : (k ≤ n → d ≡ x) → x ≡ cond (ltb n k) x d
+  unasked h = elim (lt? n k) [ inl l ↦ within l | inr l ↦ sym (h l) ∙ beyond l ]
+
+-- past its table an index has nothing
+module _ (r : Railway) (n : ℕ) where
+  pub link-past : length (r .links) ≤ n → Nothing ≡ linkAt r n
+  link-past h = sym (ap (λ (l : Link). l .to) (List·getD-eq-default (r .links) noLink h))
+
+  pub flag-past : length (r .signals) ≤ n → false ≡ flagAt r n
+  flag-past h = sym (List·getD-eq-default (r .signals) false h)
+
 module _ (r : Railway) (e : End) (i : ℕ) (is : i ≡ endIndex e) where
   pub joined-there : i < allEnds → linkAt r i ≡ joined r e
   unfolding joined
   joined-there h = rw (← is) (within i allEnds (linkAt r i) Nothing h)
 
-  pub joined-nothing : allEnds ≤ i → Nothing ≡ joined r e
+  pub joined-read : length (r .links) ≡ allEnds → linkAt r i ≡ joined r e
   unfolding joined
-  joined-nothing h = rw (← is) (beyond i allEnds (linkAt r i) Nothing h)
+  joined-read n = rw (← is) (unasked i allEnds (linkAt r i) Nothing (λ h. link-past r i (omega arith)))
 
   pub signal-there : i < sectionEnds → flagAt r i ≡ hasSignal r e
   unfolding hasSignal
   signal-there h = rw (← is) (within i sectionEnds (flagAt r i) false h)
 
-  pub signal-none : sectionEnds ≤ i → false ≡ hasSignal r e
+  pub signal-read : length (r .signals) ≡ sectionEnds → flagAt r i ≡ hasSignal r e
   unfolding hasSignal
-  signal-none h = rw (← is) (beyond i sectionEnds (flagAt r i) false h)
+  signal-read n = rw (← is) (unasked i sectionEnds (flagAt r i) false (λ h. flag-past r i (omega arith)))
 
 -- a signal that stands has its flag
 pub record Flagged (r : Railway) (e : End) : Type 0 where
@@ -86,9 +99,3 @@ module _ (r : Railway) (n : ℕ) where
   pub roster-past : length (r .roster) ≤ n → noTrain ≡ trainOf r n
   unfolding trainOf
   roster-past h = either-way n (r .trains) (getD (r .roster) n noTrain) noTrain (List·getD-eq-default (r .roster) noTrain h)
-
-  pub link-past : length (r .links) ≤ n → Nothing ≡ linkAt r n
-  link-past h = sym (ap (λ (l : Link). l .to) (List·getD-eq-default (r .links) noLink h))
-
-  pub flag-past : length (r .signals) ≤ n → false ≡ flagAt r n
-  flag-past h = sym (List·getD-eq-default (r .signals) false h)

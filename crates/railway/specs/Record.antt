@@ -19,15 +19,15 @@ use Rattle.railway.specs.declared.Railway.{Railway}
 use Rattle.railway.specs.Bounds.{mostPoints, mostTrains, sectionEnds, allEnds}
 use Rattle.railway.specs.Ends.{portSide, endIndex}
 
--- What stands for legs, a link and a train that are not there.
+-- WHAT STANDS FOR SOMETHING THAT IS NOT THERE. Legs: up.
 abbrev pub noLegs : Legs
 noLegs = record { side = Up }
 
--- Joined to nothing.
+-- A link: joined to nothing.
 abbrev pub noLink : Link
 noLink = record { to = Nothing }
 
--- Up, from section 1 to 1.
+-- A train: up, from section 1 to 1.
 abbrev pub noTrain : Train
 noTrain = record { heading = Up; start = record { 0 = 0 }; destination = record { 0 = 0 } }
 

@@ -32,12 +32,12 @@ pub record Row : Type 0 where
 abbrev pub row : Refusal → Bool → Row
 row f b = record { refusal = f; applies = b }
 
--- Of several rows, in the table's order, the first that applies is given; none: nothing is refused.
+-- The refusal of a row that applies, else that of the later ones.
 abbrev pub refuseIf : Bool → Refusal → Option Refusal → Option Refusal
 refuseIf true f later = some f
 refuseIf false f later = later
 
--- The first that applies.
+-- Of several rows, in the table's order, the first that applies is given; none: nothing is refused.
 unfoldable pub first : List Row → Option Refusal
 first [] = none
 first (x ∷ xs) = refuseIf (x .applies) (x .refusal) (first xs)

@@ -20,11 +20,11 @@ use Rattle.railway.specs.Ends.{sameSide, endIndex, endAt}
 use Rattle.railway.specs.Refusals.{Row, row, first}
 use Rattle.railway.specs.Record.{linkAt, flagAt, joined, trainOf, sideOf}
 
--- 3, count: too few or too many sections, points or trains.
+-- Too few or too many sections, points or trains.
 abbrev pub outside : ℕ → ℕ → ℕ → Bool
 outside s p k = ltb s fewestSections || ltb mostSections s || ltb mostPoints p || ltb k fewestTrains || ltb mostTrains k
 
--- Row 3.
+-- 3, count: a count lies outside its bounds.
 abbrev pub countRow : Railway → Bool
 countRow r = outside (r .sections) (r .points) (r .trains)
 
@@ -33,9 +33,7 @@ abbrev pub known : Railway → End → Bool
 known r (Section n s) = ltb (n .0) (r .sections)
 known r (Port n l) = ltb (n .0) (r .points)
 
--- 4, unknown: something in the record refers to a section or a point beyond the counts.
--- A link at an end beyond the counts, and a link to one, is a join that names it; a flag beyond the sections is a signal that does.
--- Legs of points and trains beyond the counts name nothing, and are not looked at.
+-- A link at an end that is not there, or to one.
 abbrev pub unknownLink : Railway → End → Joined → Bool
 unknownLink r e Nothing = false
 unknownLink r e (With f) = not (known r e && known r f)
@@ -52,15 +50,16 @@ unknownSignalAt r i = flagAt r i && not (known r (endAt i))
 abbrev pub unknownTrainAt : Railway → ℕ → Bool
 unknownTrainAt r t = not (ltb (trainOf r t .start .0) (r .sections) && ltb (trainOf r t .destination .0) (r .sections))
 
--- Row 4.
+-- 4, unknown: something in the record refers to a section or a point beyond the counts.
+-- A link at an end beyond the counts, and a link to one, is a join that names it; a flag beyond the sections is a signal that does.
+-- Legs of points and trains beyond the counts name nothing, and are not looked at.
 unfoldable pub unknownRow : Railway → Bool
 unknownRow r =
     anyBelow (unknownLinkAt r) allEnds
     || anyBelow (unknownSignalAt r) sectionEnds
     || anyBelow (unknownTrainAt r) (r .trains)
 
--- 5, join: a pair of ends that no join may tie, or a second join at one end.
--- The pair is judged by what is asked of each end: the section it belongs to (none for a port) and its side. Records and case texts share this.
+-- What is asked of each end of a pair: the section it belongs to (none for a port) and its side. Records and case texts share this.
 pub record Tied : Type 0 where
   pub section : Option ℕ
   pub side : Side
@@ -99,12 +98,12 @@ wrongLink r e (With f) = wrongPair (tied r e) (tied r f)
 abbrev pub wrongLinkAt : Railway → ℕ → Bool
 wrongLinkAt r i = wrongLink r (endAt i) (linkAt r i)
 
--- An end in two joins: in a record that is a link that its other end does not return, for that end is then in another join, or in half of one.
+-- What is joined is this end.
 abbrev pub leadsTo : Joined → End → Bool
 leadsTo Nothing e = false
 leadsTo (With f) e = eqb (endIndex f) (endIndex e)
 
--- The other end is joined to something else, or to nothing.
+-- An end in two joins: in a record that is a link that its other end does not return, for that end is then in another join, or in half of one.
 abbrev pub unreturned : Railway → End → Joined → Bool
 unreturned r e Nothing = false
 unreturned r e (With f) = not (leadsTo (joined r f) e)
@@ -113,23 +112,23 @@ unreturned r e (With f) = not (leadsTo (joined r f) e)
 abbrev pub unreturnedAt : Railway → ℕ → Bool
 unreturnedAt r i = unreturned r (endAt i) (linkAt r i)
 
--- Row 5.
+-- 5, join: a pair of ends that no join may tie, or a second join at one end.
 unfoldable pub joinRow : Railway → Bool
 joinRow r = anyBelow (wrongLinkAt r) allEnds || anyBelow (unreturnedAt r) allEnds
 
--- 6, loose: some port of a point has nothing joined to it.
+-- Nothing is joined.
 abbrev pub unjoined : Joined → Bool
 unjoined Nothing = true
 unjoined (With e) = false
 
--- One of a point's three ports.
+-- One of a point's three ports is in no join.
 abbrev pub looseAt : Railway → ℕ → Bool
 looseAt r n =
     unjoined (joined r (Port (record { 0 = n }) Stem))
     || unjoined (joined r (Port (record { 0 = n }) Plus))
     || unjoined (joined r (Port (record { 0 = n }) Minus))
 
--- Row 6.
+-- 6, loose: some port of a point has nothing joined to it.
 unfoldable pub looseRow : Railway → Bool
 looseRow r = anyBelow (looseAt r) (r .points)
 
@@ -137,7 +136,7 @@ looseRow r = anyBelow (looseAt r) (r .points)
 abbrev pub doubleRow : Railway → Bool
 doubleRow r = false
 
--- 8, place: two trains would begin, or would end, on one section.
+-- Two trains have one start, or one destination.
 abbrev pub sharesWith : Railway → ℕ → ℕ → Bool
 sharesWith r t u = eqb (trainOf r u .start .0) (trainOf r t .start .0) || eqb (trainOf r u .destination .0) (trainOf r t .destination .0)
 
@@ -145,11 +144,11 @@ sharesWith r t u = eqb (trainOf r u .start .0) (trainOf r t .start .0) || eqb (t
 abbrev pub sharesAt : Railway → ℕ → Bool
 sharesAt r t = anyBelow (sharesWith r t) t
 
--- Row 8.
+-- 8, place: two trains would begin, or would end, on one section.
 unfoldable pub placeRow : Railway → Bool
 placeRow r = anyBelow (sharesAt r) (r .trains)
 
--- The rows in the table's order, and the first that applies; none: the record is accepted.
+-- The rows in the table's order.
 abbrev pub recordRows : Railway → List Row
 recordRows r =
     row Count (countRow r)
@@ -160,6 +159,6 @@ recordRows r =
     ∷ row Place (placeRow r)
     ∷ []
 
--- What the test of a record gives.
+-- What the test of a record gives: the first row that applies; none: the record is accepted.
 unfoldable pub recordRefusal : Railway → Option Refusal
 recordRefusal r = first (recordRows r)

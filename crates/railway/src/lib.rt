@@ -5,8 +5,8 @@ ghost use mathlib.Core.Path.{_≡_};
 ghost use lib.ListN.{set};
 ghost use Rattle.railway.specs.declared.Joined.the-variants.{With};
 ghost use Rattle.railway.specs.Bounds.{fewestSections, fewestTrains, mostSections, mostPoints, mostTrains, sectionEnds, allEnds};
-ghost use Rattle.railway.specs.Ends.{sideIndex, legIndex, endIndex, sideAt, legAt, endAt, portSide};
-ghost use Rattle.railway.specs.Record.{noTrain, emptyRailway, joined, hasSignal, legsOf, trainOf, sideOf, withLinks, withJoin, withSignal, withLegs, withTrain};
+ghost use Rattle.railway.specs.Ends.{opposite, sideIndex, legIndex, endIndex, sideAt, legAt, endAt, portSide};
+ghost use Rattle.railway.specs.Record.{noTrain, emptyRailway, linkAt, flagAt, joined, hasSignal, legsOf, trainOf, sideOf, withLinks, withJoin, withSignal, withLegs, withTrain};
 ghost use Rattle.railway.specs.Refusals.{number};
 
 pub enum Side {
@@ -125,7 +125,13 @@ impl Railway {
     pub fn joined(self, e: End) -> Joined
         ensures { λ j. ⌜ j ≡ joined self e ⌝ }
     {
-        let i = index_of(e);
+        self.link_at(index_of(e))
+    }
+
+    // What the end with this index is joined to; nothing past the last.
+    pub fn link_at(self, i: u8) -> Joined
+        ensures { λ j. ⌜ j ≡ linkAt self i ⌝ }
+    {
         let at = i as usize;
         if i < Railway::ENDS {
             let l = self.links[at];
@@ -139,7 +145,13 @@ impl Railway {
     pub fn has_signal(self, e: End) -> bool
         ensures { λ b. ⌜ b ≡ hasSignal self e ⌝ }
     {
-        let i = index_of(e);
+        self.flag_at(index_of(e))
+    }
+
+    // Whether a signal stands at the section end with this index; none past the last.
+    pub fn flag_at(self, i: u8) -> bool
+        ensures { λ b. ⌜ b ≡ flagAt self i ⌝ }
+    {
         let at = i as usize;
         if i < Railway::SECTION_ENDS {
             self.signals[at]
@@ -280,15 +292,22 @@ impl Refusal {
     }
 }
 
+// The other side.
+pub fn opposite(s: Side) -> Side
+    ensures { λ o. ⌜ o ≡ opposite s ⌝ }
+{
+    match s {
+        Side::Up => Side::Down,
+        Side::Down => Side::Up,
+    }
+}
+
 // The side that a port lies on, given the side of its point's legs.
 fn port_side(legs: Side, l: Leg) -> Side
     ensures { λ s. ⌜ s ≡ portSide legs l ⌝ }
 {
     match l {
-        Leg::Stem => match legs {
-            Side::Up => Side::Down,
-            Side::Down => Side::Up,
-        },
+        Leg::Stem => opposite(legs),
         Leg::Plus => legs,
         Leg::Minus => legs,
     }
@@ -329,7 +348,8 @@ pub fn index_of(e: End) -> u8
     }
 }
 
-fn side_index(s: Side) -> u8
+// The index of a section's end among its two.
+pub fn side_index(s: Side) -> u8
     ensures { λ i. ⌜ i ≡ sideIndex s ⌝ }
 {
     match s {
@@ -360,7 +380,8 @@ pub fn end_at(i: u8) -> End
     }
 }
 
-fn side_at(i: u8) -> Side
+// The side of such an index; up for any other number.
+pub fn side_at(i: u8) -> Side
     ensures { λ s. ⌜ s ≡ sideAt i ⌝ }
 {
     if i == 0 { Side::Down } else { Side::Up }

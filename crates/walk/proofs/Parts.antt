@@ -81,43 +81,34 @@ module _ (d : Draft) (one other : NamedEnd) (x : KnownEnd) (hx : x ≡ endIn (d 
     unfolding putJoin
     join-second-not q = rw (← hx, ← hy, p, q)
 
-    pub join-in : (f : End) → y ≡ There f → (r : Railway) → r ≡ withJoin (d .railway) e f → (w v : Bool) → v ≡ faulty (d .railway) e f → w ≡ (d .wrong || v)
-        → record { railway = r; unknown = d .unknown; wrong = w; double = d .double } ≡ putJoin d (joinNamed one other)
+    pub join-in : (f : End) → y ≡ There f → (r : Railway) → r ≡ withJoin (d .railway) e f → (v : Bool) → v ≡ faulty (d .railway) e f
+        → record { railway = r; unknown = d .unknown; wrong = d .wrong || v; double = d .double } ≡ putJoin d (joinNamed one other)
     unfolding putJoin
-    join-in f q r hr w v hv hw = rw (← hx, ← hy, p, q, hr, hw, hv)
+    join-in f q r hr v hv = rw (← hx, ← hy, p, q, hr, hv)
 
 module _ (d : Draft) (n : ℕ) (side : Side) (x : KnownEnd) (hx : x ≡ endIn (d .railway) (endNamed (OfSection n side))) where
   pub signal-not : x ≡ NotThere → unknownIn d ≡ putSignal d (record { number = n; side = side })
   unfolding putSignal
   signal-not p = rw (← hx, p)
 
-  pub signal-in : (e : End) → x ≡ There e → (r : Railway) → r ≡ withSignal (d .railway) e → (w v : Bool) → v ≡ hasSignal (d .railway) e → w ≡ (d .double || v)
-      → record { railway = r; unknown = d .unknown; wrong = d .wrong; double = w } ≡ putSignal d (record { number = n; side = side })
+  pub signal-in : (e : End) → x ≡ There e → (r : Railway) → r ≡ withSignal (d .railway) e → (v : Bool) → v ≡ hasSignal (d .railway) e
+      → record { railway = r; unknown = d .unknown; wrong = d .wrong; double = d .double || v } ≡ putSignal d (record { number = n; side = side })
   unfolding putSignal
-  signal-in e p r hr w v hv hw = rw (← hx, p, hr, hw, hv)
+  signal-in e p r hr v hv = rw (← hx, p, hr, hv)
 
-module _ (d : Draft) (n : ℕ) (t : TrainLine) (a b c x y : Bool) (ha : a ≡ within n (d .railway .trains)) (hb : b ≡ within (t .start) (d .railway .sections))
-    (hc : c ≡ within (t .destination) (d .railway .sections)) (hx : x ≡ (b && c)) (hy : y ≡ (a && x)) where
-  all-three : y ≡ (within n (d .railway .trains) && (within (t .start) (d .railway .sections) && within (t .destination) (d .railway .sections)))
-  all-three = rw (← ha, ← hb, ← hc, ← hx) hy
-
-  pub train-in : y ≡ true → (q : Railway) → q ≡ withTrain (d .railway) (n - 1) (trainOfLine t) → withRailway d q ≡ putTrain d n t
+module _ (d : Draft) (n : ℕ) (t : TrainLine) (a b c : Bool) (ha : a ≡ within n (d .railway .trains)) (hb : b ≡ within (t .start) (d .railway .sections))
+    (hc : c ≡ within (t .destination) (d .railway .sections)) where
+  pub train-in : (a && (b && c)) ≡ true → (q : Railway) → q ≡ withTrain (d .railway) (n - 1) (trainOfLine t) → withRailway d q ≡ putTrain d n t
   unfolding putTrain
-  train-in e q h = rw (sym all-three ∙ e, h)
+  train-in e q h = rw (← ha, ← hb, ← hc, e, h)
 
-  pub train-not : y ≡ false → unknownIn d ≡ putTrain d n t
+  pub train-not : (a && (b && c)) ≡ false → unknownIn d ≡ putTrain d n t
   unfolding putTrain
-  train-not e = rw (sym all-three ∙ e)
+  train-not e = rw (← ha, ← hb, ← hc, e)
 
 -- three tests at once
-pub first-of : (a x y : Bool) → y ≡ (a && x) → y ≡ true → a ≡ true
-first-of a x y h t = and-true a x (sym h ∙ t) .0
-
-pub second-of : (a b c x y : Bool) → x ≡ (b && c) → y ≡ (a && x) → y ≡ true → b ≡ true
-second-of a b c x y g h t = and-true b c (sym g ∙ and-true a x (sym h ∙ t) .1) .0
-
-pub third-of : (a b c x y : Bool) → x ≡ (b && c) → y ≡ (a && x) → y ≡ true → c ≡ true
-third-of a b c x y g h t = and-true b c (sym g ∙ and-true a x (sym h ∙ t) .1) .1
+pub all-three : (a b c : Bool) → (a && (b && c)) ≡ true → (a ≡ true) × (b ≡ true) × (c ≡ true)
+all-three a b c e = let r = and-true a (b && c) e in let q = and-true b c (r .1) in (r .0, q .0, q .1)
 
 -- A LINE OF A KIND
 pub by-kind : (s : List ℕ) (kind k : Kind) (n c : ℕ) (d : Draft) {x : Got Draft} → kind ≡ k → x ≡ lineInto s k n c d → x ≡ lineInto s kind n c d

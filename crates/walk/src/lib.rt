@@ -2,7 +2,7 @@
 // behind each. A struct that holds a slice is taken apart by few functions, and each calls one that has the slice and the place as parameters;
 // other crates call `first_line` and `lines_of`. Any bytes may come in, and any place.
 ghost use mathlib.Core.Path.{_≡_};
-ghost use mathlib.Core.Bool.{true, false, _&&_, _||_};
+ghost use mathlib.Core.Bool.{true, false};
 ghost use Rattle.text.specs.Reading.{then};
 ghost use Rattle.casefile.specs.Reading.{headerAt};
 ghost use Rattle.lines.specs.Answers.{endNamed, joinNamed, countsGot};
@@ -225,6 +225,7 @@ fn take_train(text: &[u8], c: Cursor, n: u64, d: Draft) -> Lines
     in_form(put_train(d, n, heading, start, destination), next)
 }
 
+// Lines in form: the draft that they gave, and the place behind them.
 pub fn in_form(d: Draft, next: Cursor) -> Lines
     ensures { λ r. ⌜ r ≡ record { good = true; draft = d; next = next } ⌝ }
 {
@@ -235,6 +236,7 @@ pub fn in_form(d: Draft, next: Cursor) -> Lines
     }
 }
 
+// Lines that are not in form: the draft before them, and no place.
 pub fn not_in_form(d: Draft) -> Lines
     ensures { λ r. ⌜ r ≡ record { good = false; draft = d; next = record { at = 0 } } ⌝ }
 {
@@ -298,7 +300,7 @@ fn put_join(d: Draft, one: NamedEnd, other: NamedEnd) -> Draft
     Draft {
         railway: r.with_join(e, f),
         unknown: d.unknown,
-        wrong: either(d.wrong, bad),
+        wrong: d.wrong | bad,
         double: d.double,
     }
 }
@@ -318,12 +320,6 @@ fn is_faulty(r: Railway, e: End, f: End) -> bool
     true
 }
 
-fn either(a: bool, b: bool) -> bool
-    ensures { λ x. ⌜ x ≡ (a || b) ⌝ }
-{
-    if a { true } else { b }
-}
-
 fn put_signal(d: Draft, n: u64, side: Side) -> Draft
     ensures { λ e. ⌜ e ≡ putSignal d (record { number = n; side = side }) ⌝ }
 {
@@ -336,7 +332,7 @@ fn put_signal(d: Draft, n: u64, side: Side) -> Draft
         railway: r.with_signal(e),
         unknown: d.unknown,
         wrong: d.wrong,
-        double: either(d.double, twice),
+        double: d.double | twice,
     }
 }
 
@@ -347,7 +343,7 @@ fn put_train(d: Draft, n: u64, heading: Side, start: u64, destination: u64) -> D
     let numbered = within(n, r.trains);
     let starts = within(start, r.sections);
     let ends = within(destination, r.sections);
-    if both(numbered, both(starts, ends)) {
+    if numbered & (starts & ends) {
         let t = (n - 1) as u8;
         let from = (start - 1) as u8;
         let to = (destination - 1) as u8;
@@ -365,12 +361,6 @@ fn put_train(d: Draft, n: u64, heading: Side, start: u64, destination: u64) -> D
         };
     }
     noted(d)
-}
-
-fn both(a: bool, b: bool) -> bool
-    ensures { λ x. ⌜ x ≡ (a && b) ⌝ }
-{
-    if a { b } else { false }
 }
 
 // The end that a line names, counted from 0, if it is there by the record's counts.

@@ -14,15 +14,11 @@ is-known-requires : tie.Need-is-known-requires
 is-known-requires c κs = search needs
 
 returns : tie.Need-returns
-returns c = rw (← c .before .before .before .before .flag-at .ensures, c .before .before .before .if1 .taken, ← c .before .before .end-at .ensures, ← c .before .is-known .ensures, c .if2 .taken)
+returns c = rw (← c .before .before .before .flag-at .ensures, c .before .before .if1 .taken, ← c .before .end-at .ensures, c .is-known .ensures)
 
 returns-2 : tie.Need-returns-2
-returns-2 c = rw (← c .before .before .before .before .flag-at .ensures, c .before .before .before .if1 .taken, ← c .before .before .end-at .ensures, ← c .before .is-known .ensures, c .if2 .left)
-
-returns-3 : tie.Need-returns-3
-returns-3 c = rw (← c .before .flag-at .ensures, c .if1 .left)
+returns-2 c = rw (← c .before .flag-at .ensures, c .if1 .left)
 
 pub unknown-signal-spec : {M : Type 1} → statement M
 unknown-signal-spec =
-    tie.close
-    (tie.spec flag-at-requires end-at-requires is-known-requires returns returns-2 returns-3)
+    tie.close (tie.spec flag-at-requires end-at-requires is-known-requires returns returns-2)

@@ -1,8 +1,7 @@
 -- `acceptance::unreturned` meets its contract: no link, or one whose other end is asked where it leads.
 -- Assumes nothing.
 use borrow.Author.Needs.{needs}
-use mathlib.Core.Path.{sym, _∙_}
-use Rattle.acceptance.proofs.Testing.{nothing-unreturned, link-unreturned, holds-not, fails-not}
+use Rattle.acceptance.proofs.Testing.{nothing-unreturned, link-unreturned}
 use Rattle.acceptance.proofs.unreturned.Statement.{statement}
 use Rattle.acceptance.proofs.unreturned.Tie as tie
 
@@ -28,10 +27,7 @@ returns : tie.Need-returns
 returns c = let d = c .before .before in nothing-unreturned (d .before .args .r) _ _ (d .link-at .ensures) (c .enum-told .given .1)
 
 returns-2 : tie.Need-returns-2
-returns-2 c = link-unreturned (c .before .before .before .before .before .before .before .before .args .r) _ _ (c .before .before .before .before .before .before .before .link-at .ensures) (c .before .before .before .before .before .f .given .0 .0) _ (c .before .before .before .before .before .f .given .1) (c .before .before .end-at .ensures) _ _ (c .before .before .before .joined .ensures) (holds-not _ (sym (c .before .leads-to .ensures) ∙ c .if1 .taken))
-
-returns-3 : tie.Need-returns-3
-returns-3 c = link-unreturned (c .before .before .before .before .before .before .before .before .args .r) _ _ (c .before .before .before .before .before .before .before .link-at .ensures) (c .before .before .before .before .before .f .given .0 .0) _ (c .before .before .before .before .before .f .given .1) (c .before .before .end-at .ensures) _ _ (c .before .before .before .joined .ensures) (fails-not _ (sym (c .before .leads-to .ensures) ∙ c .if1 .left))
+returns-2 c = let k = c .before in let g = k .before in let d = g .before .before .before .before in link-unreturned (d .before .args .r) _ _ (d .link-at .ensures) (g .before .before .f .given .0 .0) _ (g .before .before .f .given .1) (k .end-at .ensures) _ _ (g .joined .ensures) (c .leads-to .ensures)
 
 pub unreturned-spec : {M : Type 1} → statement M
 unreturned-spec =
@@ -44,5 +40,4 @@ unreturned-spec =
     end-at-requires
     leads-to-requires
     returns
-    returns-2
-    returns-3)
+    returns-2)

@@ -1,18 +1,19 @@
 -- `compiled::heading_in` meets its contract, by the number of the side.
 -- Assumes nothing.
 use borrow.Author.Needs.{needs}
-use Rattle.compiled.proofs.Table.{heading-down, heading-up}
+use mathlib.Core.Path.{_∙_}
+use Rattle.compiled.proofs.Table.{heading-is}
 use Rattle.compiled.proofs.heading_in.Statement.{statement}
 use Rattle.compiled.proofs.heading_in.Tie as tie
 
 roster-in-requires : tie.Need-roster-in-requires
 roster-in-requires c κs = search needs
 
-returns : tie.Need-returns
-returns c = λ r h. heading-down r _ _ (c .before .roster-in .ensures r h) (c .if1 .taken)
+side-at-requires : tie.Need-side-at-requires
+side-at-requires c κs = search needs
 
-returns-2 : tie.Need-returns-2
-returns-2 c = λ r h. heading-up r _ _ (c .before .roster-in .ensures r h) (c .if1 .left)
+returns : tie.Need-returns
+returns c = λ r h. c .side-at .ensures ∙ heading-is r _ _ (c .before .roster-in .ensures r h)
 
 pub heading-in-spec : {M : Type 1} → statement M
-heading-in-spec = tie.close (tie.spec roster-in-requires returns returns-2)
+heading-in-spec = tie.close (tie.spec roster-in-requires side-at-requires returns)

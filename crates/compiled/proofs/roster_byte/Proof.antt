@@ -8,11 +8,11 @@ use Rattle.compiled.proofs.roster_byte.Tie as tie
 train-of-requires : tie.Need-train-of-requires
 train-of-requires c κs = search needs
 
-heading-byte-requires : tie.Need-heading-byte-requires
-heading-byte-requires c κs = search needs
+side-index-requires : tie.Need-side-index-requires
+side-index-requires c κs = search needs
 
 returns : tie.Need-returns
-returns c = roster-heading (c .before .before .before .args .r) _ _ _ (c .before .before .train-of .ensures) _ (c .before .if1 .taken) (c .heading-byte .ensures)
+returns c = roster-heading (c .before .before .before .args .r) _ _ _ (c .before .before .train-of .ensures) _ (c .before .if1 .taken) (c .side-index .ensures)
 
 returns-2 : tie.Need-returns-2
 returns-2 c = roster-start (c .before .before .before .args .r) _ _ _ (c .before .before .train-of .ensures) (c .before .if1 .left) (c .if2 .taken)
@@ -22,4 +22,4 @@ returns-3 c = roster-destination (c .before .before .before .args .r) _ _ _ (c .
 
 pub roster-byte-spec : {M : Type 1} → statement M
 roster-byte-spec =
-    tie.close (tie.spec train-of-requires heading-byte-requires returns returns-2 returns-3)
+    tie.close (tie.spec train-of-requires side-index-requires returns returns-2 returns-3)

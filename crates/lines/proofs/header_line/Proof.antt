@@ -5,11 +5,34 @@ use native.Mathlib.Omega.{arith}
 use denote.Ref.{now}
 use mathlib.Core.Path.{refl, sym, _∙_, ap}
 use Rattle.text.specs.Answers.{numberGot}
-use Rattle.casefile.specs.Reading.{headerAt}
+use Rattle.casefile.specs.Reading.{Counts, headerAt}
 use Rattle.text.proofs.Chain.{byte-fails, byte-goes}
-use Rattle.lines.proofs.Chain.{tab-fails, tab-goes}
+use Rattle.lines.proofs.Chain.{Left, whole, onward, tab-fails, tab-goes}
 use Rattle.lines.proofs.header_line.Statement.{statement}
 use Rattle.lines.proofs.header_line.Tie as tie
+
+-- the line behind each of its fields
+abbrev past-letter : tie.After-c1 → Left Counts
+unfolding headerAt
+past-letter k =
+    let a = k .before .before .before .before .args in
+    onward (whole (headerAt (now (a .text)) (a .c .at))) (byte-goes _ 72 _ (omega arith) _ (k .before .before .byte-at .ensures) _ (k .c1 .given .1) _ refl)
+
+abbrev past-sections : tie.After-sections → Left Counts
+unfolding headerAt
+past-sections k = onward (past-letter (k .before .before .before .before)) (tab-goes _ _ _ _ (sym (k .before .before .tab-number .ensures) ∙ ap numberGot (k .sections .given .1)) refl)
+
+abbrev past-points : tie.After-points → Left Counts
+unfolding headerAt
+past-points k = onward (past-sections (k .before .before .before .before)) (tab-goes _ _ _ _ (sym (k .before .before .tab-number2 .ensures) ∙ ap numberGot (k .points .given .1)) refl)
+
+abbrev past-trains : tie.After-trains → Left Counts
+unfolding headerAt
+past-trains k = onward (past-points (k .before .before .before .before)) (tab-goes _ _ _ _ (sym (k .before .before .tab-number3 .ensures) ∙ ap numberGot (k .trains .given .1)) refl)
+
+abbrev past-end : tie.After-c5 → Left Counts
+unfolding headerAt
+past-end k = onward (past-trains (k .before .before .before .before)) (byte-goes _ 10 _ (omega arith) _ (k .before .before .byte-at2 .ensures) _ (k .c5 .given .1) _ refl)
 
 byte-at-requires : tie.Need-byte-at-requires
 byte-at-requires c κs = search needs
@@ -35,7 +58,7 @@ enum-told-2 c = search needs
 
 returns-2 : tie.Need-returns-2
 unfolding headerAt
-returns-2 c = let k1 = c .before .before .before in let s = now (k1 .before .before .before .before .before .args .text) in byte-goes s 72 _ (omega arith) _ (k1 .before .before .before .byte-at .ensures) _ (k1 .before .c1 .given .1) _ (tab-fails s _ _ _ (sym (c .before .before .tab-number .ensures) ∙ ap numberGot (c .enum-told2 .given .1)))
+returns-2 c = tab-fails _ _ _ _ (sym (c .before .before .tab-number .ensures) ∙ ap numberGot (c .enum-told2 .given .1)) ∙ past-letter (c .before .before .before .before) .gives
 
 tab-number-requires-2 : tie.Need-tab-number-requires-2
 tab-number-requires-2 c κs = search needs
@@ -48,7 +71,7 @@ enum-told-3 c = search needs
 
 returns-3 : tie.Need-returns-3
 unfolding headerAt
-returns-3 c = let k2 = c .before .before .before in let k1 = k2 .before .before .before .before in let s = now (k1 .before .before .before .before .before .args .text) in byte-goes s 72 _ (omega arith) _ (k1 .before .before .before .byte-at .ensures) _ (k1 .before .c1 .given .1) _ (tab-goes s _ _ _ (sym (k2 .before .before .before .tab-number .ensures) ∙ ap numberGot (k2 .before .sections .given .1)) (tab-fails s _ _ _ (sym (c .before .before .tab-number2 .ensures) ∙ ap numberGot (c .enum-told3 .given .1))))
+returns-3 c = tab-fails _ _ _ _ (sym (c .before .before .tab-number2 .ensures) ∙ ap numberGot (c .enum-told3 .given .1)) ∙ past-sections (c .before .before .before .before) .gives
 
 tab-number-requires-3 : tie.Need-tab-number-requires-3
 tab-number-requires-3 c κs = search needs
@@ -61,7 +84,7 @@ enum-told-4 c = search needs
 
 returns-4 : tie.Need-returns-4
 unfolding headerAt
-returns-4 c = let k3 = c .before .before .before in let k2 = k3 .before .before .before .before in let k1 = k2 .before .before .before .before in let s = now (k1 .before .before .before .before .before .args .text) in byte-goes s 72 _ (omega arith) _ (k1 .before .before .before .byte-at .ensures) _ (k1 .before .c1 .given .1) _ (tab-goes s _ _ _ (sym (k2 .before .before .before .tab-number .ensures) ∙ ap numberGot (k2 .before .sections .given .1)) (tab-goes s _ _ _ (sym (k3 .before .before .before .tab-number2 .ensures) ∙ ap numberGot (k3 .before .points .given .1)) (tab-fails s _ _ _ (sym (c .before .before .tab-number3 .ensures) ∙ ap numberGot (c .enum-told4 .given .1)))))
+returns-4 c = tab-fails _ _ _ _ (sym (c .before .before .tab-number3 .ensures) ∙ ap numberGot (c .enum-told4 .given .1)) ∙ past-points (c .before .before .before .before) .gives
 
 byte-at-requires-2 : tie.Need-byte-at-requires-2
 byte-at-requires-2 c κs = search needs
@@ -74,11 +97,11 @@ enum-told-5 c = search needs
 
 returns-5 : tie.Need-returns-5
 unfolding headerAt
-returns-5 c = let k4 = c .before .before .before in let k3 = k4 .before .before .before .before in let k2 = k3 .before .before .before .before in let k1 = k2 .before .before .before .before in let s = now (k1 .before .before .before .before .before .args .text) in byte-goes s 72 _ (omega arith) _ (k1 .before .before .before .byte-at .ensures) _ (k1 .before .c1 .given .1) _ (tab-goes s _ _ _ (sym (k2 .before .before .before .tab-number .ensures) ∙ ap numberGot (k2 .before .sections .given .1)) (tab-goes s _ _ _ (sym (k3 .before .before .before .tab-number2 .ensures) ∙ ap numberGot (k3 .before .points .given .1)) (tab-goes s _ _ _ (sym (k4 .before .before .before .tab-number3 .ensures) ∙ ap numberGot (k4 .before .trains .given .1)) (byte-fails s 10 _ (omega arith) _ (c .before .before .byte-at2 .ensures) (c .enum-told5 .given .1) _))))
+returns-5 c = byte-fails _ 10 _ (omega arith) _ (c .before .before .byte-at2 .ensures) (c .enum-told5 .given .1) _ ∙ past-trains (c .before .before .before .before) .gives
 
 returns-6 : tie.Need-returns-6
 unfolding headerAt
-returns-6 c = let k5 = c in let k4 = k5 .before .before .before .before in let k3 = k4 .before .before .before .before in let k2 = k3 .before .before .before .before in let k1 = k2 .before .before .before .before in let s = now (k1 .before .before .before .before .before .args .text) in byte-goes s 72 _ (omega arith) _ (k1 .before .before .before .byte-at .ensures) _ (k1 .before .c1 .given .1) _ (tab-goes s _ _ _ (sym (k2 .before .before .before .tab-number .ensures) ∙ ap numberGot (k2 .before .sections .given .1)) (tab-goes s _ _ _ (sym (k3 .before .before .before .tab-number2 .ensures) ∙ ap numberGot (k3 .before .points .given .1)) (tab-goes s _ _ _ (sym (k4 .before .before .before .tab-number3 .ensures) ∙ ap numberGot (k4 .before .trains .given .1)) (byte-goes s 10 _ (omega arith) _ (k5 .before .before .before .byte-at2 .ensures) _ (k5 .before .c5 .given .1) _ (refl)))))
+returns-6 c = past-end (c .before) .gives
 
 pub header-line-spec : {M : Type 1} → statement M
 header-line-spec =

@@ -4,12 +4,32 @@ use borrow.Author.Needs.{needs}
 use native.Mathlib.Omega.{arith}
 use denote.Ref.{now}
 use mathlib.Core.Path.{refl, sym, _∙_, ap}
+use Rattle.casefile.specs.Form.{JoinLine}
 use Rattle.casefile.specs.Reading.{joinLineAt}
 use Rattle.lines.specs.Answers.{endGot}
 use Rattle.text.proofs.Chain.{byte-fails, byte-goes}
-use Rattle.lines.proofs.Chain.{tab-fails, tab-goes}
+use Rattle.lines.proofs.Chain.{Left, whole, onward, tab-fails, tab-goes}
 use Rattle.lines.proofs.join_line.Statement.{statement}
 use Rattle.lines.proofs.join_line.Tie as tie
+
+-- the line behind each of its fields
+abbrev past-letter : tie.After-c1 → Left JoinLine
+unfolding joinLineAt
+past-letter k =
+    let a = k .before .before .before .before .args in
+    onward (whole (joinLineAt (now (a .text)) (a .c .at))) (byte-goes _ 74 _ (omega arith) _ (k .before .before .byte-at .ensures) _ (k .c1 .given .1) _ refl)
+
+abbrev past-one : tie.After-one → Left JoinLine
+unfolding joinLineAt
+past-one k = onward (past-letter (k .before .before .before .before)) (tab-goes _ _ _ _ (sym (k .before .before .tab-end .ensures) ∙ ap endGot (k .one .given .1)) refl)
+
+abbrev past-other : tie.After-other → Left JoinLine
+unfolding joinLineAt
+past-other k = onward (past-one (k .before .before .before .before)) (tab-goes _ _ _ _ (sym (k .before .before .tab-end2 .ensures) ∙ ap endGot (k .other .given .1)) refl)
+
+abbrev past-end : tie.After-c4 → Left JoinLine
+unfolding joinLineAt
+past-end k = onward (past-other (k .before .before .before .before)) (byte-goes _ 10 _ (omega arith) _ (k .before .before .byte-at2 .ensures) _ (k .c4 .given .1) _ refl)
 
 byte-at-requires : tie.Need-byte-at-requires
 byte-at-requires c κs = search needs
@@ -35,7 +55,7 @@ enum-told-2 c = search needs
 
 returns-2 : tie.Need-returns-2
 unfolding joinLineAt
-returns-2 c = let k1 = c .before .before .before in let s = now (k1 .before .before .before .before .before .args .text) in byte-goes s 74 _ (omega arith) _ (k1 .before .before .before .byte-at .ensures) _ (k1 .before .c1 .given .1) _ (tab-fails s _ _ _ (sym (c .before .before .tab-end .ensures) ∙ ap endGot (c .enum-told2 .given .1)))
+returns-2 c = tab-fails _ _ _ _ (sym (c .before .before .tab-end .ensures) ∙ ap endGot (c .enum-told2 .given .1)) ∙ past-letter (c .before .before .before .before) .gives
 
 tab-end-requires-2 : tie.Need-tab-end-requires-2
 tab-end-requires-2 c κs = search needs
@@ -48,7 +68,7 @@ enum-told-3 c = search needs
 
 returns-3 : tie.Need-returns-3
 unfolding joinLineAt
-returns-3 c = let k2 = c .before .before .before in let k1 = k2 .before .before .before .before in let s = now (k1 .before .before .before .before .before .args .text) in byte-goes s 74 _ (omega arith) _ (k1 .before .before .before .byte-at .ensures) _ (k1 .before .c1 .given .1) _ (tab-goes s _ _ _ (sym (k2 .before .before .before .tab-end .ensures) ∙ ap endGot (k2 .before .one .given .1)) (tab-fails s _ _ _ (sym (c .before .before .tab-end2 .ensures) ∙ ap endGot (c .enum-told3 .given .1))))
+returns-3 c = tab-fails _ _ _ _ (sym (c .before .before .tab-end2 .ensures) ∙ ap endGot (c .enum-told3 .given .1)) ∙ past-one (c .before .before .before .before) .gives
 
 byte-at-requires-2 : tie.Need-byte-at-requires-2
 byte-at-requires-2 c κs = search needs
@@ -61,11 +81,11 @@ enum-told-4 c = search needs
 
 returns-4 : tie.Need-returns-4
 unfolding joinLineAt
-returns-4 c = let k3 = c .before .before .before in let k2 = k3 .before .before .before .before in let k1 = k2 .before .before .before .before in let s = now (k1 .before .before .before .before .before .args .text) in byte-goes s 74 _ (omega arith) _ (k1 .before .before .before .byte-at .ensures) _ (k1 .before .c1 .given .1) _ (tab-goes s _ _ _ (sym (k2 .before .before .before .tab-end .ensures) ∙ ap endGot (k2 .before .one .given .1)) (tab-goes s _ _ _ (sym (k3 .before .before .before .tab-end2 .ensures) ∙ ap endGot (k3 .before .other .given .1)) (byte-fails s 10 _ (omega arith) _ (c .before .before .byte-at2 .ensures) (c .enum-told4 .given .1) _)))
+returns-4 c = byte-fails _ 10 _ (omega arith) _ (c .before .before .byte-at2 .ensures) (c .enum-told4 .given .1) _ ∙ past-other (c .before .before .before .before) .gives
 
 returns-5 : tie.Need-returns-5
 unfolding joinLineAt
-returns-5 c = let k4 = c in let k3 = k4 .before .before .before .before in let k2 = k3 .before .before .before .before in let k1 = k2 .before .before .before .before in let s = now (k1 .before .before .before .before .before .args .text) in byte-goes s 74 _ (omega arith) _ (k1 .before .before .before .byte-at .ensures) _ (k1 .before .c1 .given .1) _ (tab-goes s _ _ _ (sym (k2 .before .before .before .tab-end .ensures) ∙ ap endGot (k2 .before .one .given .1)) (tab-goes s _ _ _ (sym (k3 .before .before .before .tab-end2 .ensures) ∙ ap endGot (k3 .before .other .given .1)) (byte-goes s 10 _ (omega arith) _ (k4 .before .before .before .byte-at2 .ensures) _ (k4 .before .c4 .given .1) _ (refl))))
+returns-5 c = past-end (c .before) .gives
 
 pub join-line-spec : {M : Type 1} → statement M
 join-line-spec =

@@ -3,14 +3,34 @@
 use borrow.Author.Needs.{needs}
 use native.Mathlib.Omega.{arith}
 use denote.Ref.{now}
-use mathlib.Core.Path.{sym, _∙_, ap}
+use mathlib.Core.Path.{refl, sym, _∙_, ap}
 use Rattle.text.specs.Answers.{numberGot}
+use Rattle.railway.specs.declared.Side.{Side}
 use Rattle.casefile.specs.Reading.{pointLineAt}
 use Rattle.lines.specs.Answers.{sideGot}
 use Rattle.text.proofs.Chain.{byte-fails, byte-goes}
-use Rattle.lines.proofs.Chain.{tab-fails, tab-goes, number-due, number-other}
+use Rattle.lines.proofs.Chain.{Left, whole, onward, tab-fails, tab-goes, number-due, number-other}
 use Rattle.lines.proofs.point_line.Statement.{statement}
 use Rattle.lines.proofs.point_line.Tie as tie
+
+-- the line behind each of its fields
+abbrev past-letter : tie.After-c1 → Left Side
+unfolding pointLineAt
+past-letter k =
+    let a = k .before .before .before .before .args in
+    onward (whole (pointLineAt (now (a .text)) (a .n) (a .c .at))) (byte-goes _ 80 _ (omega arith) _ (k .before .before .byte-at .ensures) _ (k .c1 .given .1) _ refl)
+
+abbrev past-number : tie.After-m → Left Side
+unfolding pointLineAt
+past-number k = onward (past-letter (k .before .before .before .before)) (tab-goes _ _ _ _ (sym (k .before .before .tab-number .ensures) ∙ ap numberGot (k .m .given .1)) refl)
+
+abbrev past-side : tie.After-side → Left Side
+unfolding pointLineAt
+past-side k = onward (past-number (k .before .before .before .before)) (tab-goes _ _ _ _ (sym (k .before .before .tab-side .ensures) ∙ ap sideGot (k .side .given .1)) refl)
+
+abbrev past-end : tie.After-c4 → Left Side
+unfolding pointLineAt
+past-end k = onward (past-side (k .before .before .before .before)) (byte-goes _ 10 _ (omega arith) _ (k .before .before .byte-at2 .ensures) _ (k .c4 .given .1) _ refl)
 
 byte-at-requires : tie.Need-byte-at-requires
 byte-at-requires c κs = search needs
@@ -36,7 +56,7 @@ enum-told-2 c = search needs
 
 returns-2 : tie.Need-returns-2
 unfolding pointLineAt
-returns-2 c = let k1 = c .before .before .before in let s = now (k1 .before .before .before .before .before .args .text) in byte-goes s 80 _ (omega arith) _ (k1 .before .before .before .byte-at .ensures) _ (k1 .before .c1 .given .1) _ (tab-fails s _ _ _ (sym (c .before .before .tab-number .ensures) ∙ ap numberGot (c .enum-told2 .given .1)))
+returns-2 c = tab-fails _ _ _ _ (sym (c .before .before .tab-number .ensures) ∙ ap numberGot (c .enum-told2 .given .1)) ∙ past-letter (c .before .before .before .before) .gives
 
 tab-side-requires : tie.Need-tab-side-requires
 tab-side-requires c κs = search needs
@@ -49,7 +69,7 @@ enum-told-3 c = search needs
 
 returns-3 : tie.Need-returns-3
 unfolding pointLineAt
-returns-3 c = let k2 = c .before .before .before in let k1 = k2 .before .before .before .before in let s = now (k1 .before .before .before .before .before .args .text) in byte-goes s 80 _ (omega arith) _ (k1 .before .before .before .byte-at .ensures) _ (k1 .before .c1 .given .1) _ (tab-goes s _ _ _ (sym (k2 .before .before .before .tab-number .ensures) ∙ ap numberGot (k2 .before .m .given .1)) (tab-fails s _ _ _ (sym (c .before .before .tab-side .ensures) ∙ ap sideGot (c .enum-told3 .given .1))))
+returns-3 c = tab-fails _ _ _ _ (sym (c .before .before .tab-side .ensures) ∙ ap sideGot (c .enum-told3 .given .1)) ∙ past-number (c .before .before .before .before) .gives
 
 byte-at-requires-2 : tie.Need-byte-at-requires-2
 byte-at-requires-2 c κs = search needs
@@ -62,15 +82,15 @@ enum-told-4 c = search needs
 
 returns-4 : tie.Need-returns-4
 unfolding pointLineAt
-returns-4 c = let k3 = c .before .before .before in let k2 = k3 .before .before .before .before in let k1 = k2 .before .before .before .before in let s = now (k1 .before .before .before .before .before .args .text) in byte-goes s 80 _ (omega arith) _ (k1 .before .before .before .byte-at .ensures) _ (k1 .before .c1 .given .1) _ (tab-goes s _ _ _ (sym (k2 .before .before .before .tab-number .ensures) ∙ ap numberGot (k2 .before .m .given .1)) (tab-goes s _ _ _ (sym (k3 .before .before .before .tab-side .ensures) ∙ ap sideGot (k3 .before .side .given .1)) (byte-fails s 10 _ (omega arith) _ (c .before .before .byte-at2 .ensures) (c .enum-told4 .given .1) _)))
+returns-4 c = byte-fails _ 10 _ (omega arith) _ (c .before .before .byte-at2 .ensures) (c .enum-told4 .given .1) _ ∙ past-side (c .before .before .before .before) .gives
 
 returns-5 : tie.Need-returns-5
 unfolding pointLineAt
-returns-5 c = let k4 = c .before in let k3 = k4 .before .before .before .before in let k2 = k3 .before .before .before .before in let k1 = k2 .before .before .before .before in let s = now (k1 .before .before .before .before .before .args .text) in byte-goes s 80 _ (omega arith) _ (k1 .before .before .before .byte-at .ensures) _ (k1 .before .c1 .given .1) _ (tab-goes s _ _ _ (sym (k2 .before .before .before .tab-number .ensures) ∙ ap numberGot (k2 .before .m .given .1)) (tab-goes s _ _ _ (sym (k3 .before .before .before .tab-side .ensures) ∙ ap sideGot (k3 .before .side .given .1)) (byte-goes s 10 _ (omega arith) _ (k4 .before .before .before .byte-at2 .ensures) _ (k4 .before .c4 .given .1) _ (number-due _ _ (c .if1 .taken)))))
+returns-5 c = number-due _ _ (c .if1 .taken) ∙ past-end (c .before .before) .gives
 
 returns-6 : tie.Need-returns-6
 unfolding pointLineAt
-returns-6 c = let k4 = c .before in let k3 = k4 .before .before .before .before in let k2 = k3 .before .before .before .before in let k1 = k2 .before .before .before .before in let s = now (k1 .before .before .before .before .before .args .text) in byte-goes s 80 _ (omega arith) _ (k1 .before .before .before .byte-at .ensures) _ (k1 .before .c1 .given .1) _ (tab-goes s _ _ _ (sym (k2 .before .before .before .tab-number .ensures) ∙ ap numberGot (k2 .before .m .given .1)) (tab-goes s _ _ _ (sym (k3 .before .before .before .tab-side .ensures) ∙ ap sideGot (k3 .before .side .given .1)) (byte-goes s 10 _ (omega arith) _ (k4 .before .before .before .byte-at2 .ensures) _ (k4 .before .c4 .given .1) _ (number-other _ _ _ (c .if1 .left)))))
+returns-6 c = number-other _ _ _ (c .if1 .left) ∙ past-end (c .before .before) .gives
 
 pub point-line-spec : {M : Type 1} → statement M
 point-line-spec =

@@ -5,12 +5,32 @@ use native.Mathlib.Omega.{arith}
 use denote.Ref.{now}
 use mathlib.Core.Path.{refl, sym, _∙_, ap}
 use Rattle.text.specs.Answers.{numberGot}
+use Rattle.casefile.specs.Form.{SignalLine}
 use Rattle.casefile.specs.Reading.{signalLineAt}
 use Rattle.lines.specs.Answers.{sideGot}
 use Rattle.text.proofs.Chain.{fails, goes, byte-fails, byte-goes}
-use Rattle.lines.proofs.Chain.{tab-fails, tab-goes}
+use Rattle.lines.proofs.Chain.{Left, whole, onward, tab-fails, tab-goes}
 use Rattle.lines.proofs.signal_line.Statement.{statement}
 use Rattle.lines.proofs.signal_line.Tie as tie
+
+-- the line behind each of its fields
+abbrev past-letter : tie.After-c1 → Left SignalLine
+unfolding signalLineAt
+past-letter k =
+    let a = k .before .before .before .before .args in
+    onward (whole (signalLineAt (now (a .text)) (a .c .at))) (byte-goes _ 71 _ (omega arith) _ (k .before .before .byte-at .ensures) _ (k .c1 .given .1) _ refl)
+
+abbrev past-number : tie.After-n → Left SignalLine
+unfolding signalLineAt
+past-number k = onward (past-letter (k .before .before .before .before)) (tab-goes _ _ _ _ (sym (k .before .before .tab-number .ensures) ∙ ap numberGot (k .n .given .1)) refl)
+
+abbrev past-side : tie.After-side → Left SignalLine
+unfolding signalLineAt
+past-side k = onward (past-number (k .before .before .before .before)) (goes _ (sym (k .before .before .side-field .ensures) ∙ ap sideGot (k .side .given .1)) refl)
+
+abbrev past-end : tie.After-c4 → Left SignalLine
+unfolding signalLineAt
+past-end k = onward (past-side (k .before .before .before .before)) (byte-goes _ 10 _ (omega arith) _ (k .before .before .byte-at2 .ensures) _ (k .c4 .given .1) _ refl)
 
 byte-at-requires : tie.Need-byte-at-requires
 byte-at-requires c κs = search needs
@@ -36,7 +56,7 @@ enum-told-2 c = search needs
 
 returns-2 : tie.Need-returns-2
 unfolding signalLineAt
-returns-2 c = let k1 = c .before .before .before in let s = now (k1 .before .before .before .before .before .args .text) in byte-goes s 71 _ (omega arith) _ (k1 .before .before .before .byte-at .ensures) _ (k1 .before .c1 .given .1) _ (tab-fails s _ _ _ (sym (c .before .before .tab-number .ensures) ∙ ap numberGot (c .enum-told2 .given .1)))
+returns-2 c = tab-fails _ _ _ _ (sym (c .before .before .tab-number .ensures) ∙ ap numberGot (c .enum-told2 .given .1)) ∙ past-letter (c .before .before .before .before) .gives
 
 side-field-requires : tie.Need-side-field-requires
 side-field-requires c κs = search needs
@@ -49,7 +69,7 @@ enum-told-3 c = search needs
 
 returns-3 : tie.Need-returns-3
 unfolding signalLineAt
-returns-3 c = let k2 = c .before .before .before in let k1 = k2 .before .before .before .before in let s = now (k1 .before .before .before .before .before .args .text) in byte-goes s 71 _ (omega arith) _ (k1 .before .before .before .byte-at .ensures) _ (k1 .before .c1 .given .1) _ (tab-goes s _ _ _ (sym (k2 .before .before .before .tab-number .ensures) ∙ ap numberGot (k2 .before .n .given .1)) (fails _ (sym (c .before .before .side-field .ensures) ∙ ap sideGot (c .enum-told3 .given .1))))
+returns-3 c = fails _ (sym (c .before .before .side-field .ensures) ∙ ap sideGot (c .enum-told3 .given .1)) ∙ past-number (c .before .before .before .before) .gives
 
 byte-at-requires-2 : tie.Need-byte-at-requires-2
 byte-at-requires-2 c κs = search needs
@@ -62,11 +82,11 @@ enum-told-4 c = search needs
 
 returns-4 : tie.Need-returns-4
 unfolding signalLineAt
-returns-4 c = let k3 = c .before .before .before in let k2 = k3 .before .before .before .before in let k1 = k2 .before .before .before .before in let s = now (k1 .before .before .before .before .before .args .text) in byte-goes s 71 _ (omega arith) _ (k1 .before .before .before .byte-at .ensures) _ (k1 .before .c1 .given .1) _ (tab-goes s _ _ _ (sym (k2 .before .before .before .tab-number .ensures) ∙ ap numberGot (k2 .before .n .given .1)) (goes _ (sym (k3 .before .before .before .side-field .ensures) ∙ ap sideGot (k3 .before .side .given .1)) (byte-fails s 10 _ (omega arith) _ (c .before .before .byte-at2 .ensures) (c .enum-told4 .given .1) _)))
+returns-4 c = byte-fails _ 10 _ (omega arith) _ (c .before .before .byte-at2 .ensures) (c .enum-told4 .given .1) _ ∙ past-side (c .before .before .before .before) .gives
 
 returns-5 : tie.Need-returns-5
 unfolding signalLineAt
-returns-5 c = let k4 = c in let k3 = k4 .before .before .before .before in let k2 = k3 .before .before .before .before in let k1 = k2 .before .before .before .before in let s = now (k1 .before .before .before .before .before .args .text) in byte-goes s 71 _ (omega arith) _ (k1 .before .before .before .byte-at .ensures) _ (k1 .before .c1 .given .1) _ (tab-goes s _ _ _ (sym (k2 .before .before .before .tab-number .ensures) ∙ ap numberGot (k2 .before .n .given .1)) (goes _ (sym (k3 .before .before .before .side-field .ensures) ∙ ap sideGot (k3 .before .side .given .1)) (byte-goes s 10 _ (omega arith) _ (k4 .before .before .before .byte-at2 .ensures) _ (k4 .before .c4 .given .1) _ (refl))))
+returns-5 c = past-end (c .before) .gives
 
 pub signal-line-spec : {M : Type 1} → statement M
 signal-line-spec =

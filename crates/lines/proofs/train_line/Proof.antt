@@ -3,14 +3,42 @@
 use borrow.Author.Needs.{needs}
 use native.Mathlib.Omega.{arith}
 use denote.Ref.{now}
-use mathlib.Core.Path.{sym, _∙_, ap}
+use mathlib.Core.Path.{refl, sym, _∙_, ap}
 use Rattle.text.specs.Answers.{numberGot}
+use Rattle.casefile.specs.Form.{TrainLine}
 use Rattle.casefile.specs.Reading.{trainLineAt}
 use Rattle.lines.specs.Answers.{sideGot}
 use Rattle.text.proofs.Chain.{byte-fails, byte-goes}
-use Rattle.lines.proofs.Chain.{tab-fails, tab-goes, number-due, number-other}
+use Rattle.lines.proofs.Chain.{Left, whole, onward, tab-fails, tab-goes, number-due, number-other}
 use Rattle.lines.proofs.train_line.Statement.{statement}
 use Rattle.lines.proofs.train_line.Tie as tie
+
+-- the line behind each of its fields
+abbrev past-letter : tie.After-c1 → Left TrainLine
+unfolding trainLineAt
+past-letter k =
+    let a = k .before .before .before .before .args in
+    onward (whole (trainLineAt (now (a .text)) (a .n) (a .c .at))) (byte-goes _ 84 _ (omega arith) _ (k .before .before .byte-at .ensures) _ (k .c1 .given .1) _ refl)
+
+abbrev past-number : tie.After-m → Left TrainLine
+unfolding trainLineAt
+past-number k = onward (past-letter (k .before .before .before .before)) (tab-goes _ _ _ _ (sym (k .before .before .tab-number .ensures) ∙ ap numberGot (k .m .given .1)) refl)
+
+abbrev past-heading : tie.After-heading → Left TrainLine
+unfolding trainLineAt
+past-heading k = onward (past-number (k .before .before .before .before)) (tab-goes _ _ _ _ (sym (k .before .before .tab-side .ensures) ∙ ap sideGot (k .heading .given .1)) refl)
+
+abbrev past-start : tie.After-start → Left TrainLine
+unfolding trainLineAt
+past-start k = onward (past-heading (k .before .before .before .before)) (tab-goes _ _ _ _ (sym (k .before .before .tab-number2 .ensures) ∙ ap numberGot (k .start .given .1)) refl)
+
+abbrev past-destination : tie.After-destination → Left TrainLine
+unfolding trainLineAt
+past-destination k = onward (past-start (k .before .before .before .before)) (tab-goes _ _ _ _ (sym (k .before .before .tab-number3 .ensures) ∙ ap numberGot (k .destination .given .1)) refl)
+
+abbrev past-end : tie.After-c6 → Left TrainLine
+unfolding trainLineAt
+past-end k = onward (past-destination (k .before .before .before .before)) (byte-goes _ 10 _ (omega arith) _ (k .before .before .byte-at2 .ensures) _ (k .c6 .given .1) _ refl)
 
 byte-at-requires : tie.Need-byte-at-requires
 byte-at-requires c κs = search needs
@@ -36,7 +64,7 @@ enum-told-2 c = search needs
 
 returns-2 : tie.Need-returns-2
 unfolding trainLineAt
-returns-2 c = let k1 = c .before .before .before in let s = now (k1 .before .before .before .before .before .args .text) in byte-goes s 84 _ (omega arith) _ (k1 .before .before .before .byte-at .ensures) _ (k1 .before .c1 .given .1) _ (tab-fails s _ _ _ (sym (c .before .before .tab-number .ensures) ∙ ap numberGot (c .enum-told2 .given .1)))
+returns-2 c = tab-fails _ _ _ _ (sym (c .before .before .tab-number .ensures) ∙ ap numberGot (c .enum-told2 .given .1)) ∙ past-letter (c .before .before .before .before) .gives
 
 tab-side-requires : tie.Need-tab-side-requires
 tab-side-requires c κs = search needs
@@ -49,7 +77,7 @@ enum-told-3 c = search needs
 
 returns-3 : tie.Need-returns-3
 unfolding trainLineAt
-returns-3 c = let k2 = c .before .before .before in let k1 = k2 .before .before .before .before in let s = now (k1 .before .before .before .before .before .args .text) in byte-goes s 84 _ (omega arith) _ (k1 .before .before .before .byte-at .ensures) _ (k1 .before .c1 .given .1) _ (tab-goes s _ _ _ (sym (k2 .before .before .before .tab-number .ensures) ∙ ap numberGot (k2 .before .m .given .1)) (tab-fails s _ _ _ (sym (c .before .before .tab-side .ensures) ∙ ap sideGot (c .enum-told3 .given .1))))
+returns-3 c = tab-fails _ _ _ _ (sym (c .before .before .tab-side .ensures) ∙ ap sideGot (c .enum-told3 .given .1)) ∙ past-number (c .before .before .before .before) .gives
 
 tab-number-requires-2 : tie.Need-tab-number-requires-2
 tab-number-requires-2 c κs = search needs
@@ -62,7 +90,7 @@ enum-told-4 c = search needs
 
 returns-4 : tie.Need-returns-4
 unfolding trainLineAt
-returns-4 c = let k3 = c .before .before .before in let k2 = k3 .before .before .before .before in let k1 = k2 .before .before .before .before in let s = now (k1 .before .before .before .before .before .args .text) in byte-goes s 84 _ (omega arith) _ (k1 .before .before .before .byte-at .ensures) _ (k1 .before .c1 .given .1) _ (tab-goes s _ _ _ (sym (k2 .before .before .before .tab-number .ensures) ∙ ap numberGot (k2 .before .m .given .1)) (tab-goes s _ _ _ (sym (k3 .before .before .before .tab-side .ensures) ∙ ap sideGot (k3 .before .heading .given .1)) (tab-fails s _ _ _ (sym (c .before .before .tab-number2 .ensures) ∙ ap numberGot (c .enum-told4 .given .1)))))
+returns-4 c = tab-fails _ _ _ _ (sym (c .before .before .tab-number2 .ensures) ∙ ap numberGot (c .enum-told4 .given .1)) ∙ past-heading (c .before .before .before .before) .gives
 
 tab-number-requires-3 : tie.Need-tab-number-requires-3
 tab-number-requires-3 c κs = search needs
@@ -75,7 +103,7 @@ enum-told-5 c = search needs
 
 returns-5 : tie.Need-returns-5
 unfolding trainLineAt
-returns-5 c = let k4 = c .before .before .before in let k3 = k4 .before .before .before .before in let k2 = k3 .before .before .before .before in let k1 = k2 .before .before .before .before in let s = now (k1 .before .before .before .before .before .args .text) in byte-goes s 84 _ (omega arith) _ (k1 .before .before .before .byte-at .ensures) _ (k1 .before .c1 .given .1) _ (tab-goes s _ _ _ (sym (k2 .before .before .before .tab-number .ensures) ∙ ap numberGot (k2 .before .m .given .1)) (tab-goes s _ _ _ (sym (k3 .before .before .before .tab-side .ensures) ∙ ap sideGot (k3 .before .heading .given .1)) (tab-goes s _ _ _ (sym (k4 .before .before .before .tab-number2 .ensures) ∙ ap numberGot (k4 .before .start .given .1)) (tab-fails s _ _ _ (sym (c .before .before .tab-number3 .ensures) ∙ ap numberGot (c .enum-told5 .given .1))))))
+returns-5 c = tab-fails _ _ _ _ (sym (c .before .before .tab-number3 .ensures) ∙ ap numberGot (c .enum-told5 .given .1)) ∙ past-start (c .before .before .before .before) .gives
 
 byte-at-requires-2 : tie.Need-byte-at-requires-2
 byte-at-requires-2 c κs = search needs
@@ -88,15 +116,15 @@ enum-told-6 c = search needs
 
 returns-6 : tie.Need-returns-6
 unfolding trainLineAt
-returns-6 c = let k5 = c .before .before .before in let k4 = k5 .before .before .before .before in let k3 = k4 .before .before .before .before in let k2 = k3 .before .before .before .before in let k1 = k2 .before .before .before .before in let s = now (k1 .before .before .before .before .before .args .text) in byte-goes s 84 _ (omega arith) _ (k1 .before .before .before .byte-at .ensures) _ (k1 .before .c1 .given .1) _ (tab-goes s _ _ _ (sym (k2 .before .before .before .tab-number .ensures) ∙ ap numberGot (k2 .before .m .given .1)) (tab-goes s _ _ _ (sym (k3 .before .before .before .tab-side .ensures) ∙ ap sideGot (k3 .before .heading .given .1)) (tab-goes s _ _ _ (sym (k4 .before .before .before .tab-number2 .ensures) ∙ ap numberGot (k4 .before .start .given .1)) (tab-goes s _ _ _ (sym (k5 .before .before .before .tab-number3 .ensures) ∙ ap numberGot (k5 .before .destination .given .1)) (byte-fails s 10 _ (omega arith) _ (c .before .before .byte-at2 .ensures) (c .enum-told6 .given .1) _)))))
+returns-6 c = byte-fails _ 10 _ (omega arith) _ (c .before .before .byte-at2 .ensures) (c .enum-told6 .given .1) _ ∙ past-destination (c .before .before .before .before) .gives
 
 returns-7 : tie.Need-returns-7
 unfolding trainLineAt
-returns-7 c = let k6 = c .before in let k5 = k6 .before .before .before .before in let k4 = k5 .before .before .before .before in let k3 = k4 .before .before .before .before in let k2 = k3 .before .before .before .before in let k1 = k2 .before .before .before .before in let s = now (k1 .before .before .before .before .before .args .text) in byte-goes s 84 _ (omega arith) _ (k1 .before .before .before .byte-at .ensures) _ (k1 .before .c1 .given .1) _ (tab-goes s _ _ _ (sym (k2 .before .before .before .tab-number .ensures) ∙ ap numberGot (k2 .before .m .given .1)) (tab-goes s _ _ _ (sym (k3 .before .before .before .tab-side .ensures) ∙ ap sideGot (k3 .before .heading .given .1)) (tab-goes s _ _ _ (sym (k4 .before .before .before .tab-number2 .ensures) ∙ ap numberGot (k4 .before .start .given .1)) (tab-goes s _ _ _ (sym (k5 .before .before .before .tab-number3 .ensures) ∙ ap numberGot (k5 .before .destination .given .1)) (byte-goes s 10 _ (omega arith) _ (k6 .before .before .before .byte-at2 .ensures) _ (k6 .before .c6 .given .1) _ (number-due _ _ (c .if1 .taken)))))))
+returns-7 c = number-due _ _ (c .if1 .taken) ∙ past-end (c .before .before) .gives
 
 returns-8 : tie.Need-returns-8
 unfolding trainLineAt
-returns-8 c = let k6 = c .before in let k5 = k6 .before .before .before .before in let k4 = k5 .before .before .before .before in let k3 = k4 .before .before .before .before in let k2 = k3 .before .before .before .before in let k1 = k2 .before .before .before .before in let s = now (k1 .before .before .before .before .before .args .text) in byte-goes s 84 _ (omega arith) _ (k1 .before .before .before .byte-at .ensures) _ (k1 .before .c1 .given .1) _ (tab-goes s _ _ _ (sym (k2 .before .before .before .tab-number .ensures) ∙ ap numberGot (k2 .before .m .given .1)) (tab-goes s _ _ _ (sym (k3 .before .before .before .tab-side .ensures) ∙ ap sideGot (k3 .before .heading .given .1)) (tab-goes s _ _ _ (sym (k4 .before .before .before .tab-number2 .ensures) ∙ ap numberGot (k4 .before .start .given .1)) (tab-goes s _ _ _ (sym (k5 .before .before .before .tab-number3 .ensures) ∙ ap numberGot (k5 .before .destination .given .1)) (byte-goes s 10 _ (omega arith) _ (k6 .before .before .before .byte-at2 .ensures) _ (k6 .before .c6 .given .1) _ (number-other _ _ _ (c .if1 .left)))))))
+returns-8 c = number-other _ _ _ (c .if1 .left) ∙ past-end (c .before .before) .gives
 
 pub train-line-spec : {M : Type 1} → statement M
 train-line-spec =

@@ -14,16 +14,16 @@ cast-x c = search needs
 train-of-requires : tie.Need-train-of-requires
 train-of-requires c κs = search needs
 
-other-side-requires : tie.Need-other-side-requires
-other-side-requires c κs = search needs
+opposite-requires : tie.Need-opposite-requires
+opposite-requires c κs = search needs
 
 section-from-requires : tie.Need-section-from-requires
 section-from-requires c κs = search needs
 
 returns : tie.Need-returns
-returns c = let o = c .before in let n = o .before in byte-is (n .before .args .r) _ _ _ _ (n .train-of .ensures) (o .other-side .ensures) (c .section-from .ensures)
+returns c = let o = c .before in let n = o .before in byte-is (n .before .args .r) _ _ _ _ (n .train-of .ensures) (o .opposite .ensures) (c .section-from .ensures)
 
 pub byte-behind-spec : {M : Type 1} → statement M
 byte-behind-spec =
     tie.close
-    (tie.spec cast-t cast-x train-of-requires other-side-requires section-from-requires returns)
+    (tie.spec cast-t cast-x train-of-requires opposite-requires section-from-requires returns)

@@ -42,11 +42,8 @@ is-faulty-requires c κs = search needs
 with-join-requires : tie.Need-with-join-requires
 with-join-requires c κs = search needs
 
-either-requires : tie.Need-either-requires
-either-requires c κs = search needs
-
 returns-3 : tie.Need-returns-3
-returns-3 c = let j = c .before in let f = j .before in let q = f .before in let y = q .before .before .before in let k = y .before in let x = k .before .before .before in let a = x .before .before .args in join-in (a .d) (a .one) (a .other) _ (x .end-in .ensures) _ (k .before .e .given .1) _ (y .end-in2 .ensures) _ (q .before .f .given .1) _ (j .with-join .ensures) _ _ (f .is-faulty .ensures) (c .either .ensures)
+returns-3 c = let j = c .before in let f = j .before in let q = f .before in let y = q .before .before .before in let k = y .before in let x = k .before .before .before in let a = x .before .before .args in join-in (a .d) (a .one) (a .other) _ (x .end-in .ensures) _ (k .before .e .given .1) _ (y .end-in2 .ensures) _ (q .before .f .given .1) _ (j .with-join .ensures) _ (f .is-faulty .ensures)
 
 pub put-join-spec : {M : Type 1} → statement M
-put-join-spec = tie.close (tie.spec end-in-requires enum-known-e enum-told noted-requires returns end-in-requires-2 enum-known-f enum-told-2 noted-requires-2 returns-2 is-faulty-requires with-join-requires either-requires returns-3)
+put-join-spec = tie.close (tie.spec end-in-requires enum-known-e enum-told noted-requires returns end-in-requires-2 enum-known-f enum-told-2 noted-requires-2 returns-2 is-faulty-requires with-join-requires returns-3)

@@ -27,11 +27,8 @@ has-signal-requires c κs = search needs
 with-signal-requires : tie.Need-with-signal-requires
 with-signal-requires c κs = search needs
 
-either-requires : tie.Need-either-requires
-either-requires c κs = search needs
-
 returns-2 : tie.Need-returns-2
-returns-2 c = let j = c .before in let f = j .before in let k = f .before in let x = k .before .before .before in let a = x .before .before .args in signal-in (a .d) (a .n) (a .side) _ (x .end-in .ensures) _ (k .before .e .given .1) _ (j .with-signal .ensures) _ _ (f .has-signal .ensures) (c .either .ensures)
+returns-2 c = let j = c .before in let f = j .before in let k = f .before in let x = k .before .before .before in let a = x .before .before .args in signal-in (a .d) (a .n) (a .side) _ (x .end-in .ensures) _ (k .before .e .given .1) _ (j .with-signal .ensures) _ (f .has-signal .ensures)
 
 pub put-signal-spec : {M : Type 1} → statement M
-put-signal-spec = tie.close (tie.spec end-in-requires enum-known-e enum-told noted-requires returns has-signal-requires with-signal-requires either-requires returns-2)
+put-signal-spec = tie.close (tie.spec end-in-requires enum-known-e enum-told noted-requires returns has-signal-requires with-signal-requires returns-2)

@@ -1,28 +1,20 @@
--- `railway::Railway::joined` meets its contract: an end within the bounds has its link, any other nothing.
+-- `railway::Railway::joined` meets its contract: it is read by the end's index, and past the table nothing is joined.
 -- Assumes nothing.
 use borrow.Author.Needs.{needs}
-use Rattle.railway.proofs.Lookups.{joined-there, joined-nothing}
+use mathlib.Core.Path.{_∙_}
+use Rattle.railway.proofs.Arrays.{links-length}
+use Rattle.railway.proofs.Lookups.{joined-read}
 use Rattle.railway.proofs.Railway.joined.Statement.{statement}
 use Rattle.railway.proofs.Railway.joined.Tie as tie
 
 index-of-requires : tie.Need-index-of-requires
 index-of-requires c κs = search needs
 
-cast-at : tie.Need-cast-at
-cast-at c = search needs
-
-mul-l : tie.Need-mul-l
-mul-l c = search needs
-
-element-copy-out-l : tie.Need-element-copy-out-l
-element-copy-out-l c = search needs
+link-at-requires : tie.Need-link-at-requires
+link-at-requires c κs = search needs
 
 returns : tie.Need-returns
-returns c = let a = c .before .before in joined-there (a .before .args .t1) (a .before .args .e) _ (a .index-of .ensures) (c .before .if1 .taken)
-
-returns-2 : tie.Need-returns-2
-returns-2 c = let a = c .before in joined-nothing (a .before .args .t1) (a .before .args .e) _ (a .index-of .ensures) (c .if1 .left)
+returns c = let i = c .before in let a = i .before in c .link-at .ensures ∙ joined-read (a .args .self) (a .args .e) _ (i .index-of .ensures) (links-length (a .args .self) _ (a .good .0))
 
 pub joined-spec : {M : Type 1} → statement M
-joined-spec =
-    tie.close (tie.spec index-of-requires cast-at mul-l element-copy-out-l returns returns-2)
+joined-spec = tie.close (tie.spec index-of-requires link-at-requires returns)

@@ -1,11 +1,11 @@
--- `acceptance::link_at` meets its contract: past the table nothing is joined.
+-- `railway::Railway::link_at` meets its contract: past the table nothing is joined.
 -- Assumes nothing.
 use borrow.Author.Needs.{needs}
 use native.Mathlib.Omega.{arith}
 use Rattle.railway.proofs.Arrays.{links-length}
 use Rattle.railway.proofs.Lookups.{link-past}
-use Rattle.acceptance.proofs.link_at.Statement.{statement}
-use Rattle.acceptance.proofs.link_at.Tie as tie
+use Rattle.railway.proofs.Railway.link_at.Statement.{statement}
+use Rattle.railway.proofs.Railway.link_at.Tie as tie
 
 mul-l : tie.Need-mul-l
 mul-l c = search needs

@@ -1,11 +1,11 @@
--- `acceptance::flag_at` meets its contract: past the table stands no signal.
+-- `railway::Railway::flag_at` meets its contract: past the table stands no signal.
 -- Assumes nothing.
 use borrow.Author.Needs.{needs}
 use native.Mathlib.Omega.{arith}
 use Rattle.railway.proofs.Arrays.{signals-length}
 use Rattle.railway.proofs.Lookups.{flag-past}
-use Rattle.acceptance.proofs.flag_at.Statement.{statement}
-use Rattle.acceptance.proofs.flag_at.Tie as tie
+use Rattle.railway.proofs.Railway.flag_at.Statement.{statement}
+use Rattle.railway.proofs.Railway.flag_at.Tie as tie
 
 element-copy-out-result : tie.Need-element-copy-out-result
 element-copy-out-result c = search needs
