@@ -5,25 +5,26 @@ use mathlib.Core.Path.{_≡_, refl, sym, _∙_}
 use mathlib.Core.Logic.{inl, inr}
 use mathlib.Core.Bool.{Bool, true, false}
 use mathlib.Core.List.{List}
+use mathlib.Core.Option.{Option}
 use native.Mathlib.Omega.{arith}
 use lib.Dec.{ltb}
-use lib.ListN.{length}
+use lib.ListN.{length, drop}
 use borrow.Author.Tests.{lt-ltb, le-ltb, le-leb, lt-leb}
 use Rattle.text.specs.Reading.{Got, bad, got, then}
 use Rattle.laws.proofs.Bools.{bool?, lt?}
 use Rattle.railway.specs.declared.Railway.{Railway}
-use Rattle.railway.specs.declared.Refusal.the-variants.{Count, Unknown, Join, Loose, Double, Place}
+use Rattle.railway.specs.declared.Refusal.{Refusal}
 use Rattle.railway.specs.Refusals.{first}
 use Rattle.railway.specs.Record.{emptyRailway}
-use Rattle.railway.specs.Rows.{outside, countRow, looseRow, placeRow}
+use Rattle.railway.specs.Rows.{outside}
 use Rattle.railway.proofs.Accepted.{bounded}
-use Rattle.casefile.specs.Given.{accepted, refused}
+use Rattle.acceptance.proofs.Testing.{Left}
 use Rattle.casefile.specs.Reading.{Counts, headerAt}
 use Rattle.drafts.specs.declared.Draft.{Draft}
 use Rattle.drafts.specs.declared.Kind.the-variants.{P, J, G, T}
 use Rattle.drafts.specs.declared.Lines.{Lines}
 use Rattle.walk.specs.Walking.{leftInto}
-use Rattle.drafts.specs.Drafting.{cap, opened, countedInto, manyInto, endAt, draftOf, linesGot, draftAnswer}
+use Rattle.drafts.specs.Drafting.{cap, opened, countedInto, manyInto, endAt, draftOf, linesGot, draftRows, answerOf, draftAnswer}
 
 -- NUMBERS
 pub cap-low : (n : ℕ) → n ≤ 255 → n ≡ cap n
@@ -130,37 +131,13 @@ module _ (s : List ℕ) where
     unfolding draftOf
     whole = from-joins ∙ rw (eh, from-points)
 
--- THE ANSWER
-module _ (d : Draft) where
-  pub answer-count : countRow (d .railway) ≡ true → refused Count ≡ draftAnswer d
-  unfolding draftAnswer first
-  answer-count h = rw h
+-- THE ANSWER: of a draft's rows the first n have been asked
+abbrev pub Asked : Draft → ℕ → Type 0
+Asked d n = Left (first (draftRows d)) (drop n (draftRows d))
 
-  module _ (h3 : countRow (d .railway) ≡ false) where
-    pub answer-unknown : d .unknown ≡ true → refused Unknown ≡ draftAnswer d
-    unfolding draftAnswer first
-    answer-unknown h = rw (h3, h)
+pub none-asked : (d : Draft) → Asked d 0
+none-asked d = record { gives = refl }
 
-    module _ (h4 : d .unknown ≡ false) where
-      pub answer-join : d .wrong ≡ true → refused Join ≡ draftAnswer d
-      unfolding draftAnswer first
-      answer-join h = rw (h3, h4, h)
-
-      module _ (h5 : d .wrong ≡ false) where
-        pub answer-loose : looseRow (d .railway) ≡ true → refused Loose ≡ draftAnswer d
-        unfolding draftAnswer first
-        answer-loose h = rw (h3, h4, h5, h)
-
-        module _ (h6 : looseRow (d .railway) ≡ false) where
-          pub answer-double : d .double ≡ true → refused Double ≡ draftAnswer d
-          unfolding draftAnswer first
-          answer-double h = rw (h3, h4, h5, h6, h)
-
-          module _ (h7 : d .double ≡ false) where
-            pub answer-place : placeRow (d .railway) ≡ true → refused Place ≡ draftAnswer d
-            unfolding draftAnswer first
-            answer-place h = rw (h3, h4, h5, h6, h7, h)
-
-            pub answer-accepted : placeRow (d .railway) ≡ false → accepted (d .railway) ≡ draftAnswer d
-            unfolding draftAnswer first
-            answer-accepted h = rw (h3, h4, h5, h6, h7, h)
+pub answered : (d : Draft) {given : Option Refusal} → given ≡ first (draftRows d) → answerOf (d .railway) given ≡ draftAnswer d
+unfolding draftAnswer
+answered d e = rw e

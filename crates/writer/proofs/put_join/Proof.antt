@@ -33,7 +33,16 @@ same-length : tie.Need-same-length
 same-length c = search needs
 
 returns-2 : tie.Need-returns-2
-returns-2 c = let a = c .before .before .before .before .before .before .before .before .before .before .before .before .before .before .before .before .before .before .before .args in let g = c .before .before .before .before .before .before .before .before .before .before .before .before .before .before .before .before .j .given in join-line (a .i) (a .j) (g .0 .0) _ (g .1) (c .before .before .before .before .before .before .before .before .before .before .before .before .before .before .index-of .ensures) _ (c .before .before .before .before .before .before .before .end-at .ensures) (c .before .before .before .before .before .before .before .before .before .before .before .before .before .if1 .taken) (c .before .before .before .before .before .before .before .before .before .before .before .two .ensures) (c .before .before .before .before .before .before .put-end .ensures) (c .before .before .put-end2 .ensures)
+returns-2 c =
+    let other = c .before .before in
+    let one = other .before .before .before .before in
+    let e = one .before in
+    let letter = e .before .before .before .before in
+    let t = letter .before .before in
+    let x = t .before in
+    let g = x .before .before in
+    let a = g .before .before .before .args in
+    join-line (a .i) (a .j) (g .j .given .0 .0) _ (g .j .given .1) (x .index-of .ensures) _ (e .end-at .ensures) (t .if1 .taken) (letter .two .ensures) (one .put-end .ensures) (other .put-end2 .ensures)
 
 returns-3 : tie.Need-returns-3
 returns-3 c = let a = c .before .before .before .before .before .before .args in let g = c .before .before .before .j .given in join-earlier (a .i) (a .j) (g .0 .0) _ (g .1) (c .before .index-of .ensures) (c .if1 .left)

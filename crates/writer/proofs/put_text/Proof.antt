@@ -25,7 +25,13 @@ same-length : tie.Need-same-length
 same-length c = search needs
 
 returns : tie.Need-returns
-returns c = rw (text-pieces (c .before .before .before .before .before .before .before .before .before .before .before .before .before .before .before .before .before .before .before .before .before .args .r)) (append-then (c .before .before .before .before .before .before .before .before .before .before .before .before .before .before .before .before .before .before .put-header .ensures) (append-then (c .before .before .before .before .before .before .before .before .before .before .before .before .before .before .put-part .ensures) (append-then (c .before .before .before .before .before .before .before .before .before .before .put-part2 .ensures) (append-then (c .before .before .before .before .before .before .put-part3 .ensures) (c .before .before .put-part4 .ensures)))))
+returns c =
+    let trains = c .before .before in
+    let signals = trains .before .before .before .before in
+    let joins = signals .before .before .before .before in
+    let points = joins .before .before .before .before in
+    let header = points .before .before .before .before in
+    rw (text-pieces (header .before .before .before .args .r)) (append-then (header .put-header .ensures) (append-then (points .put-part .ensures) (append-then (joins .put-part2 .ensures) (append-then (signals .put-part3 .ensures) (trains .put-part4 .ensures)))))
 
 pub put-text-spec : {M : Type 1} → statement M
 put-text-spec =

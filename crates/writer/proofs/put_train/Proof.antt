@@ -42,7 +42,15 @@ same-length : tie.Need-same-length
 same-length c = search needs
 
 returns : tie.Need-returns
-returns c = let a = c .before .before .before .before .before .before .before .before .before .before .before .before .before .before .before .before .before .before .before .before .before .before .before .before .args in train-line (a .i) (a .t) _ (c .before .before .before .before .before .before .before .before .before .before .before .before .before .side-byte .ensures) (c .before .before .before .before .before .before .before .before .before .before .before .before .before .before .before .before .before .before .before .before .before .two .ensures) (c .before .before .before .before .before .before .before .before .before .before .before .before .before .before .before .before .before .number .ensures) (c .before .before .before .before .before .before .before .before .before .before .before .before .two2 .ensures) (c .before .before .before .before .before .before .before .number2 .ensures) (c .before .before .number3 .ensures)
+returns c =
+    let destination = c .before .before in
+    let start = destination .before .before .before .before .before in
+    let heading = start .before .before .before .before .before in
+    let side = heading .before in
+    let number = side .before .before .before .before in
+    let letter = number .before .before .before .before in
+    let a = letter .before .before .before .args in
+    train-line (a .i) (a .t) _ (side .side-byte .ensures) (letter .two .ensures) (number .number .ensures) (heading .two2 .ensures) (start .number2 .ensures) (destination .number3 .ensures)
 
 pub put-train-spec : {M : Type 1} → statement M
 put-train-spec =
