@@ -8,7 +8,7 @@ use mathlib.Core.List.{[], _∷_}
 use mathlib.Core.Logic.{inl, inr}
 use Prim.Native.Nat.{ℕ, _-_, _≤_}
 use lib.ListN.{length, replicate, length-take}
-use types.LineCalls.{OneOf}
+use types.Run.{OneOf}
 use denote.Enum.Declared.{declared, tagOf}
 use denote.Ref.{now}
 use Rattle.plan.proofs.Emitted.{enum}
