@@ -13,7 +13,6 @@ use Rattle.railway.specs.declared.Refusal.the-variants.{PlanForm, PlanFault}
 use Rattle.railway.specs.Rows.{recordRefusal}
 use Rattle.acceptance.specs.declared.Tested.the-variants.{Accepted, Refused}
 use Rattle.game.proofs.Accepted.{Facts, facts}
-use Rattle.tables.specs.Tables.{caseRefusal}
 use Rattle.tables.proofs.Exists.{few-placements}
 use Rattle.plan.specs.declared.CheckerState.{CheckerState}
 use Rattle.plan.specs.declared.CheckerState.the-variants.{Fresh, Begun}
@@ -24,10 +23,12 @@ use Rattle.plan.specs.Lines.{PlanLine, startLine, placementLine, lineCode}
 use Rattle.plan.specs.Reading.{readLine}
 use Rattle.plan.specs.Test.{byTables}
 use Rattle.plan.specs.Computed.{testHolds}
-use Rattle.plan.specs.Checker.{Checking, Left, refuse, takes, takesIf, takeLine, tests, testPlan}
+use Rattle.plan.specs.Checker.{Checking, Left}
+use Rattle.plan.specs.Steps.{refuse, takes, tests}
 use Rattle.plan.specs.Promises.{LinePost, TestPost}
 use Rattle.plan.proofs.Reading.{reads-line}
 use Rattle.plan.proofs.Checks.{code-in}
+use Rattle.plan.proofs.Steps.{line-steps, test-steps}
 use Rattle.plan.proofs.Promises.{takes-so, tests-so}
 use Rattle.compiled.specs.declared.Compilation.{Compilation}
 use Rattle.cases.specs.Cases.{CasePost}
@@ -60,27 +61,21 @@ module _ (r : Railway) (accepted : recordRefusal r ≡ none) where
 module _ (r : Railway) (c : Checking) (k : Compilation) (case : CasePost r (c .figs) (c .sets) k) where
   module _ (text : List ℕ) where
     pub line-refused : (f : Refusal) → k .tested ≡ Refused f → (w : Left LineAnswer) → w ≡ refuse c f → LinePost r c text (w .answer) (w .checking)
-    unfolding takeLine
-    line-refused f e w h = takes-so r c text w (h ∙ sym (ap (takesIf r c text) (opened-refused case e)))
+    line-refused f e w h = takes-so r c text w (h ∙ sym (line-steps r c text (opened-refused case e)))
 
     module _ (e : k .tested ≡ Accepted) (line : LineRead) (is : line ≡ answerFor r (readLine r text)) where
       pub line-small : CodeSmall line
       line-small = rw is (code-small r (opened-table case e .accepted) text (readLine r text) refl)
 
       pub line-entered : (w : Left LineAnswer) → w ≡ takesRead c (c .state) line → LinePost r c text (w .answer) (w .checking)
-      unfolding takeLine
-      line-entered w h = takes-so r c text w (h ∙ ap (takesRead c (c .state)) is ∙ answer-takes r c (c .state) (readLine r text) ∙ sym (ap (takesIf r c text) (opened-none case e)))
+      line-entered w h = takes-so r c text w (h ∙ ap (takesRead c (c .state)) is ∙ answer-takes r c (c .state) (readLine r text) ∙ sym (line-steps r c text (opened-none case e)))
 
   -- THE CALL FOR THE TEST
-  tested-as : (a : TestAnswer) → a ≡ tests r c (caseRefusal r (c .figs) (c .sets)) (c .state) → TestPost r c a c
-  unfolding testPlan
-  tested-as a h = tests-so r c a h
-
   pub test-refused : (f : Refusal) → k .tested ≡ Refused f → TestPost r c (TestRefused f) c
-  test-refused f e = tested-as (TestRefused f) (ap (λ (o : Option Refusal). tests r c o (c .state)) (sym (opened-refused case e)))
+  test-refused f e = tests-so r c (TestRefused f) (sym (test-steps r c (opened-refused case e)))
 
   pub test-judged : k .tested ≡ Accepted → (a : TestAnswer) → a ≡ tests r c none (c .state) → TestPost r c a c
-  test-judged e a h = tested-as a (h ∙ ap (λ (o : Option Refusal). tests r c o (c .state)) (sym (opened-none case e)))
+  test-judged e a h = tests-so r c a (h ∙ sym (test-steps r c (opened-none case e)))
 
 -- what is handed back is an equal answer and checker
 pub test-handed : (r : Railway) (k : Checker) (figs sets : List ℕ) (a b : TestAnswer) (j : Checker) → b ≡ a → j .state ≡ k .state

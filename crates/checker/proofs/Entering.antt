@@ -9,7 +9,8 @@ use Rattle.railway.specs.declared.Refusal.the-variants.{PlanForm}
 use Rattle.plan.specs.declared.CheckerState.{CheckerState}
 use Rattle.plan.specs.declared.CheckerState.the-variants.{Fresh, Begun}
 use Rattle.plan.specs.declared.LineAnswer.{LineAnswer}
-use Rattle.plan.specs.Checker.{Checking, Left, refuse}
+use Rattle.plan.specs.Checker.{Checking, Left}
+use Rattle.plan.specs.Steps.{refuse}
 use Rattle.planreader.specs.declared.LineRead.{LineRead}
 use Rattle.planreader.specs.declared.LineRead.the-variants.{NoLine, Start, Placed}
 use Rattle.checker.specs.Steps.{takenWith, takesStart, takesPlacement, takesRead, CodeSmall}

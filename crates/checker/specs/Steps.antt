@@ -1,5 +1,5 @@
 -- What the contracts of a call's steps say: a line that has been read as numbers is taken or refused. Nothing of document 01 rests on this file:
--- the laws in proofs/Calling say that it is `takes` (plan/Checker) of the line read. Assumes nothing.
+-- the laws in proofs/Calling say that it is `takes` (plan/Steps) of the line read. Assumes nothing.
 use mathlib.Core.Bool.{cond}
 use mathlib.Core.List.{List}
 use Prim.Native.Nat.{ℕ, _+_, _<_}
@@ -11,7 +11,8 @@ use Rattle.plan.specs.declared.CheckerState.{CheckerState}
 use Rattle.plan.specs.declared.CheckerState.the-variants.{Fresh, Begun}
 use Rattle.plan.specs.declared.LineAnswer.{LineAnswer}
 use Rattle.plan.specs.declared.LineAnswer.the-variants.{Taken}
-use Rattle.plan.specs.Checker.{Checking, Left, left, refuse}
+use Rattle.plan.specs.Checker.{Checking, Left, left}
+use Rattle.plan.specs.Steps.{refuse}
 use Rattle.planreader.specs.declared.LineRead.{LineRead}
 use Rattle.planreader.specs.declared.LineRead.the-variants.{NoLine, Start, Placed}
 

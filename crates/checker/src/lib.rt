@@ -8,7 +8,7 @@ ghost use mathlib.Core.Option.{none};
 ghost use Rattle.railway.specs.declared.Railway.{Railway};
 ghost use Rattle.compiled.specs.Table.{Compiled};
 ghost use Rattle.moves.specs.Steps.{noCode};
-ghost use Rattle.plan.specs.Checker.{refuse, tests};
+ghost use Rattle.plan.specs.Steps.{refuse, tests};
 ghost use Rattle.plan.specs.Promises.{LinePost, TestPost, FreshPost};
 ghost use Rattle.checker.specs.declared.Checker.{Checker};
 ghost use Rattle.checker.specs.Answers.{checking, took};

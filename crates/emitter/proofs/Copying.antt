@@ -14,7 +14,8 @@ use Rattle.railway.specs.declared.Refusal.the-variants.{Space}
 use Rattle.plan.specs.declared.PlanPlace.{PlanPlace}
 use Rattle.plan.specs.declared.Emitted.the-variants.{Line, Refused}
 use Rattle.plan.specs.Lines.{startLine, spell, mostLineBytes}
-use Rattle.plan.specs.Emitter.{Wrote, lineWritten, leaves}
+use Rattle.plan.specs.Emitter.{Wrote, leaves}
+use Rattle.plan.specs.Steps.{lineWritten}
 
 -- THE LENT BUFFER: too short, or with the line in front
 module _ (l : List ℕ) (place : PlanPlace) (old : List ℕ) where

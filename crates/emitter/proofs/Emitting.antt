@@ -1,7 +1,7 @@
 -- What a call of the emitter answers and leaves, by what it has found: a refusal, no plan, the end, or the line that is due.
 -- Assumes nothing.
 use Prim.Native.Nat.{ℕ, suc, _+_, _<_, _≤_}
-use mathlib.Core.Path.{_≡_, sym, _∙_}
+use mathlib.Core.Path.{_≡_, refl, sym, _∙_}
 use mathlib.Core.Bool.{true}
 use mathlib.Core.List.{List}
 use mathlib.Core.Option.{none, some, Option·getD}
@@ -23,11 +23,13 @@ use Rattle.plan.specs.declared.Emitted.{Emitted}
 use Rattle.plan.specs.declared.Emitted.the-variants.{End, NoPlan, Refused}
 use Rattle.plan.specs.Lines.{startLine, placementLine, spell, mostLineBytes}
 use Rattle.plan.specs.Text.{hasFigure, lineFor}
-use Rattle.plan.specs.Emitter.{Wrote, lineWritten, figureFrom, nextCode, dueFor, dueWritten, emitted, emitLine, leaves}
+use Rattle.plan.specs.Emitter.{Wrote, figureFrom, nextCode, dueFor, emitLine, leaves}
+use Rattle.plan.specs.Steps.{lineWritten, dueWritten, emitted}
 use Rattle.plan.specs.Promises.{EmitterPost}
 use Rattle.plan.proofs.Reading.{list-is}
 use Rattle.plan.proofs.Lengths.{lines-short}
 use Rattle.plan.proofs.Plan.{line-fits}
+use Rattle.plan.proofs.Steps.{emit-steps}
 use Rattle.plan.proofs.Promises.{emits-so}
 use Rattle.compiled.specs.declared.Compilation.{Compilation}
 use Rattle.compiled.specs.Table.{Compiled}
@@ -100,11 +102,9 @@ module _ (r : Railway) (figs sets : List ℕ) (place : PlanPlace) (old : List �
 
   module _ {o : Compilation} (opened : CasePost r figs sets o) where
     pub case-refused : (f : Refusal) → o .tested ≡ tested.Refused f → EmitterPost r figs sets place old (Refused f) old
-    unfolding emitLine
-    case-refused f e = post (Refused f) old (rw (opened-refused opened e))
+    case-refused f e = post (Refused f) old (sym (emit-steps r figs sets place old (opened-refused opened e) refl))
 
     pub case-emitted : {a : Emitted} {new : List ℕ} → o .tested ≡ tested.Accepted
         → ((r : Railway) → Compiled r (o .table) → leaves a new ≡ emitted r figs sets place old none (figureIn figs (startCode r)))
         → EmitterPost r figs sets place old a new
-    unfolding emitLine
-    case-emitted {a} {new} e line = post a new (rw (opened-none opened e) (line r (opened-table opened e)))
+    case-emitted {a} {new} e line = post a new (line r (opened-table opened e) ∙ sym (emit-steps r figs sets place old (opened-none opened e) refl))

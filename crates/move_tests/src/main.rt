@@ -182,7 +182,7 @@ fn firsts_of_a() {
     show_first(b"(2,3) below 1", &t, &figures, 7, 1);
     show_first(b"(2,1) below 1: one opened", &t, &figures, 1, 1);
     show_first(
-        b"(2,1) below 1 without 1d: train 2 roster off",
+        b"(2,1) below 1 without 1d: train 2 runs off",
         &less,
         &figures,
         1,

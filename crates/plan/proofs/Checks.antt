@@ -18,7 +18,6 @@ use Rattle.laws.proofs.Bools.{eq?, clash, some-none, and-true}
 use Rattle.laws.proofs.Lists.{all-in, getD-member}
 use Rattle.laws.proofs.Bits.{bit-none}
 use Rattle.railway.specs.declared.Railway.{Railway}
-use Rattle.railway.specs.declared.Refusal.{Refusal}
 use Rattle.railway.specs.declared.Refusal.the-variants.{PlanForm, PlanFault}
 use Rattle.railway.specs.Rows.{recordRefusal}
 use Rattle.game.specs.Placement.{placements}
@@ -37,9 +36,11 @@ use Rattle.plan.specs.Lines.{PlacementLine, PlanLine, startLine, placeme
 use Rattle.plan.specs.Reading.{readLine}
 use Rattle.plan.specs.Test.{Test, lineOn, figureOn, opensOn, plusOn, byLines, byTables}
 use Rattle.plan.specs.Computed.{testHolds}
-use Rattle.plan.specs.Checker.{Checking, Left, left, freshChecking, lineEntry, enter, refuse, takes, takesIf, takeLine, tests, testPlan, LineCalls, onward, callLines, isTaken, takenTexts}
+use Rattle.plan.specs.Checker.{Checking, Left, left, freshChecking, lineEntry, enter, takeLine, testPlan, LineCalls, onward, callLines, isTaken, takenTexts}
+use Rattle.plan.specs.Steps.{refuse, takes, tests}
 use Rattle.plan.specs.Checked.{Form, InForm, Passing, Failing, Checked, CheckedHolds}
 use Rattle.plan.proofs.Reading.{fits-parts, reads-line, reads}
+use Rattle.plan.proofs.Steps.{line-steps, test-steps}
 use Rattle.plan.proofs.Emits.{none-refused}
 use Rattle.plan.proofs.Tested.{SameListing, listing-back, test-same, tested}
 use Rattle.plan.proofs.Forms.{codeAfter, code-after, code-after-snoc, codes, form-start, form-snoc, Last, only, more, form-last, form-front, no-form, form-one}
@@ -186,13 +187,12 @@ module _ (r : Railway) (a : recordRefusal r ≡ none) where
           (begun m (ds ++ (d ∷ [])) g (ap (Begun m) (sym (ap (codeAfter 0) (map-append (lineCode r) ds (d ∷ [])) ∙ code-after-snoc 0 (codes r ds) (lineCode r d))))
           (record { figs = cells-more r noFigure (λ d. d .figure) ds d (c .figs) (t .figs) (f .rising) l (code-in d (s .fit)); sets = cells-more r 0 (lineEntry r) ds d (c .sets) (t .sets) (f .rising) l (code-in d (s .fit)) }))
 
-  reads-on : {taken : List (List ℕ)} {text : List ℕ} {c : Checking} {state : CheckerState} {o : Option Refusal} → o ≡ none → c .state ≡ state
-      → Call taken text c (takes r c state (readLine r text)) → Call taken text c (takesIf r c text o)
+  reads-on : {taken : List (List ℕ)} {text : List ℕ} {c : Checking} {state : CheckerState} → caseRefusal r (c .figs) (c .sets) ≡ none → c .state ≡ state
+      → Call taken text c (takes r c state (readLine r text)) → Call taken text c (takeLine r c text)
   reads-on {taken} {text} {c} e s x =
-      subst (λ (o : Option Refusal). Call taken text c (takesIf r c text o)) (sym e) (subst (λ (state : CheckerState). Call taken text c (takes r c state (readLine r text))) (sym s) x)
+      subst (Call taken text c) (sym (line-steps r c text e)) (subst (λ (state : CheckerState). Call taken text c (takes r c state (readLine r text))) (sym s) x)
 
   pub call : (taken : List (List ℕ)) (text : List ℕ) (c : Checking) → Holds taken c → Call taken text c (takeLine r c text)
-  unfolding takeLine
   call taken text c (unbegun e s t) = reads-on (unrefused [] c t) s (fresh-takes taken text c e t (readLine r text) refl)
   call taken text c (begun m ds f s t) = reads-on (unrefused ds c t) s (begun-takes taken text c m ds f t (readLine r text) refl)
 
@@ -270,8 +270,8 @@ module _ (r : Railway) (a : recordRefusal r ≡ none) where
       let h = tested r (byTables (c .figs) (c .sets)) m in
       (λ e. test-same r ok (byTables (c .figs) (c .sets)) (byLines r ds) s m (h .0 e), λ e. h .1 (test-same r ok (byLines r ds) (byTables (c .figs) (c .sets)) (listing-back r (byTables (c .figs) (c .sets)) (byLines r ds) s) m e))
 
-  tests-at : (c : Checking) {state : CheckerState} {o : Option Refusal} → o ≡ none → c .state ≡ state → tests r c o (c .state) ≡ tests r c none state
-  tests-at c e s = ap (λ (o : Option Refusal). tests r c o (c .state)) e ∙ ap (tests r c none) s
+  tests-at : (c : Checking) {state : CheckerState} → caseRefusal r (c .figs) (c .sets) ≡ none → c .state ≡ state → testPlan r c .answer ≡ tests r c none state
+  tests-at c e s = test-steps r c e ∙ ap (tests r c none) s
 
   one-more : (taken : List (List ℕ)) (text : List ℕ) (c : Checking) → Holds taken c → (isTaken (takeLine r c text .answer) ≡ true) ↔ InForm r (taken ++ (text ∷ []))
   one-more taken text c h = go (takeLine r c text) (call taken text c h)
@@ -306,7 +306,6 @@ module _ (r : Railway) (a : recordRefusal r ≡ none) where
       }
 
   pub answers : (taken : List (List ℕ)) (c : Checking) → Holds taken c → Answers taken (testPlan r c .answer)
-  unfolding testPlan
   answers taken c (unbegun e s t) = subst (Answers taken) (sym (tests-at c (unrefused [] c t) s)) (answers-unbegun taken e)
   answers taken c (begun m ds f s t) = subst (Answers taken) (sym (tests-at c (unrefused ds c t) s)) (answers-begun taken m ds f (testHolds r m (byTables (c .figs) (c .sets))) (over-lines m ds c f t))
 

@@ -26,8 +26,10 @@ use Rattle.plan.specs.declared.PlanPlace.the-variants.{Top, From}
 use Rattle.plan.specs.declared.Emitted.the-variants.{Line, End, NoPlan}
 use Rattle.plan.specs.Lines.{startLine, placementLine, spell}
 use Rattle.plan.specs.Text.{hasFigure, lineFor, planLines, planTexts}
-use Rattle.plan.specs.Emitter.{isLine, Wrote, leaves, lineWritten, nextCode, due, dueWritten, emitLine}
+use Rattle.plan.specs.Emitter.{isLine, Wrote, leaves, nextCode, due, emitLine}
+use Rattle.plan.specs.Steps.{lineWritten, dueWritten}
 use Rattle.plan.specs.Calls.{Emission, EmittingInto, wrote, stopped, longEnough}
+use Rattle.plan.proofs.Steps.{emit-steps}
 use Rattle.plan.proofs.Promises.{emits-so}
 use Rattle.plan.proofs.Calls.{goOn, emission}
 
@@ -47,13 +49,11 @@ put-line l next b h = rw (le-ltb (length b) (length l) h)
 module _ (r : Railway) (figs sets : List ℕ) (unrefused : caseRefusal r figs sets ≡ none) where
   -- none is answered where the start has no figure
   pub emits-none : figureIn figs (startCode r) ≡ none → (place : PlanPlace) (buffer : List ℕ) → emitLine r figs sets place buffer ≡ leaves NoPlan buffer
-  unfolding emitLine
-  emits-none e place buffer = rw (unrefused, e)
+  emits-none e place buffer = emit-steps r figs sets place buffer unrefused e
 
   module _ (n : ℕ) (start : figureIn figs (startCode r) ≡ some n) where
     emit-at : (place : PlanPlace) (buffer : List ℕ) → emitLine r figs sets place buffer ≡ dueWritten buffer (due r figs sets place)
-    unfolding emitLine
-    emit-at place buffer = rw (unrefused, start)
+    emit-at place buffer = emit-steps r figs sets place buffer unrefused start
 
     abbrev textFor : ℕ → List ℕ
     textFor p = spell (placementLine (lineFor r figs sets p))

@@ -1,5 +1,6 @@
 pub mod Reading
 pub mod Lengths
+pub mod Steps
 pub mod Numbers
 pub mod Promises
 pub mod Calls

@@ -16,6 +16,7 @@ use Rattle.plan.specs.declared.TestAnswer.the-variants.{Refused as TestR
 use Rattle.plan.specs.Emitter.{numberGiven, Wrote, emitLine}
 use Rattle.plan.specs.Checker.{lineNumber, testNumber, Checking, Left, takeLine, testPlan}
 use Rattle.plan.specs.Promises.{EmitterPost, LinePost, TestPost}
+use Rattle.plan.proofs.Steps.{line-steps, test-steps}
 use Rattle.plan.proofs.Numbers.{emit-numbered, line-numbered, test-numbered}
 
 module _ (r : Railway) (figs sets : List ℕ) (place : PlanPlace) (old : List ℕ) where
@@ -29,8 +30,7 @@ module _ (r : Railway) (figs sets : List ℕ) (place : PlanPlace) (old : List �
 
 module _ (r : Railway) (c : Checking) where
   pub line-refused : (text : List ℕ) (f : Refusal) → caseRefusal r (c .figs) (c .sets) ≡ some f → takeLine r c text .answer ≡ LineRefused f
-  unfolding takeLine
-  line-refused text f e = rw e refl
+  line-refused text f e = ap (λ (x : Left LineAnswer). x .answer) (line-steps r c text e)
 
   pub takes-so : (text : List ℕ) (x : Left LineAnswer) → x ≡ takeLine r c text → LinePost r c text (x .answer) (x .checking)
   takes-so text x e =
@@ -41,8 +41,7 @@ module _ (r : Railway) (c : Checking) where
       }
 
   pub test-refused : (f : Refusal) → caseRefusal r (c .figs) (c .sets) ≡ some f → testPlan r c .answer ≡ TestRefused f
-  unfolding testPlan
-  test-refused f e = rw e refl
+  test-refused f e = test-steps r c e
 
   pub tests-so : (a : TestAnswer) → a ≡ testPlan r c .answer → TestPost r c a c
   unfolding testPlan

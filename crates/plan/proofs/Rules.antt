@@ -33,12 +33,14 @@ use Rattle.plan.specs.declared.TestAnswer.{TestAnswer}
 use Rattle.plan.specs.declared.TestAnswer.the-variants.{Pass, Refused as TestRefused}
 use Rattle.plan.specs.Lines.{PlacementLine, PlanLine, startLine, placementLine, Spells, lineCode}
 use Rattle.plan.specs.Text.{isSome, hasFigure}
-use Rattle.plan.specs.Emitter.{isLine, leaves, lineWritten, Due, due, dueWritten, emitted, emitLine}
+use Rattle.plan.specs.Emitter.{isLine, leaves, Due, due}
 use Rattle.plan.specs.Test.{byTables}
 use Rattle.plan.specs.Computed.{testHolds}
-use Rattle.plan.specs.Checker.{Checking, Left, left, lineEntry, begin, enter, refuse, takes, takesIf, takeLine, tests, testPlan}
+use Rattle.plan.specs.Checker.{Checking, Left, left, lineEntry, begin, enter, takeLine, testPlan}
+use Rattle.plan.specs.Steps.{lineWritten, dueWritten, emitted, refuse, takes, tests}
 use Rattle.plan.specs.Reading.{readLine}
 use Rattle.plan.specs.Rules.{TooShort, EmitRule, EmitRuleHolds, LineChanges, CheckRuleHolds}
+use Rattle.plan.proofs.Steps.{emit-steps, line-steps, test-steps}
 use Rattle.plan.proofs.Promises.{line-refused, test-refused}
 use Rattle.plan.proofs.Reading.{reads-line}
 use Rattle.plan.proofs.Checks.{code-in}
@@ -113,8 +115,8 @@ module _ (r : Railway) (figs sets : List ℕ) (place : PlanPlace) (buffer : List
     place-rule h (some d) u = due-rule h d u
 
 pub emit-rule : EmitRuleHolds
-unfolding emitLine
-emit-rule r figs sets place buffer = go (caseRefusal r figs sets) (figureIn figs (startCode r)) refl refl
+emit-rule r figs sets place buffer =
+    subst (EmitRule r figs sets place buffer) (sym (emit-steps r figs sets place buffer refl refl)) (go (caseRefusal r figs sets) (figureIn figs (startCode r)) refl refl)
   where
     go : (o : Option Refusal) (start : Option ℕ) → caseRefusal r figs sets ≡ o → figureIn figs (startCode r) ≡ start → EmitRule r figs sets place buffer (emitted r figs sets place buffer o start)
     go (some f) start e s = refused-rule r figs sets place buffer f e
@@ -227,26 +229,31 @@ tests-rule r c (Begun m from) = go (testHolds r m (byTables (c .figs) (c .sets))
     go false = record { early = (λ e. differ testNumbered e (λ z. omega arith), λ e. differ isFresh e (λ z. omega arith)); others = λ f e. inr cc }
 
 pub check-rule : CheckRuleHolds
-unfolding takeLine testPlan
+unfolding testPlan
 check-rule r c =
     record {
       line-first = line-refused r c;
-      line-others = λ text f e q. behind text e .others f (rw e at q);
+      line-others = λ text f e q. behind text e .others f q;
       line-leaves = λ text f q. kept text (caseRefusal r (c .figs) (c .sets)) refl f q;
       line-changes = λ text. changed text (caseRefusal r (c .figs) (c .sets)) refl;
       test-first = test-refused r c;
-      test-early = λ e. rw e (tests-rule r c (c .state) .early);
-      test-others = λ f e q. tests-rule r c (c .state) .others f (rw e at q);
+      test-early = λ e. judged e .early;
+      test-others = λ f e q. judged e .others f q;
       test-leaves = refl;
     }
   where
-    behind : (text : List ℕ) → caseRefusal r (c .figs) (c .sets) ≡ none → LineRule r c text (takes r c (c .state) (readLine r text))
-    behind text e = let k = case-none r (c .figs) (c .sets) .0 e in takes-rule r c text (k .0) (k .1) (c .state) (readLine r text) refl
+    behind : (text : List ℕ) → caseRefusal r (c .figs) (c .sets) ≡ none → LineRule r c text (takeLine r c text)
+    behind text e =
+        let k = case-none r (c .figs) (c .sets) .0 e in
+        subst (LineRule r c text) (sym (line-steps r c text e)) (takes-rule r c text (k .0) (k .1) (c .state) (readLine r text) refl)
 
-    kept : (text : List ℕ) (o : Option Refusal) → caseRefusal r (c .figs) (c .sets) ≡ o → (f : Refusal) → takesIf r c text o .answer ≡ LineRefused f → takesIf r c text o .checking ≡ c
+    kept : (text : List ℕ) (o : Option Refusal) → caseRefusal r (c .figs) (c .sets) ≡ o → (f : Refusal) → takeLine r c text .answer ≡ LineRefused f → takeLine r c text .checking ≡ c
     kept text none e f q = behind text e .leaves f q
-    kept text (some g) e f q = refl
+    kept text (some g) e f q = ap (λ (x : Left LineAnswer). x .checking) (line-steps r c text e)
 
-    changed : (text : List ℕ) (o : Option Refusal) → caseRefusal r (c .figs) (c .sets) ≡ o → LineChanges r c text (takesIf r c text o)
+    changed : (text : List ℕ) (o : Option Refusal) → caseRefusal r (c .figs) (c .sets) ≡ o → LineChanges r c text (takeLine r c text)
     changed text none e = behind text e .changes
-    changed text (some g) e = refused-changes r c text g
+    changed text (some g) e = subst (LineChanges r c text) (sym (line-steps r c text e)) (refused-changes r c text g)
+
+    judged : caseRefusal r (c .figs) (c .sets) ≡ none → TestRule (c .state) (testPlan r c .answer)
+    judged e = subst (TestRule (c .state)) (sym (test-steps r c e)) (tests-rule r c (c .state))

@@ -1,7 +1,7 @@
 -- The checker: a call for each line, into two lent tables, and a call for the test (document 01, "The two tables and the plan": the checker).
 -- Each call is total: any record, state, tables and text. `readLine` gives the line that a text spells, and `testHolds` whether what the tables
 -- list passes the test of a plan; both are said in Checked, and that the tables list what the lines taken do. Assumes nothing.
-use mathlib.Core.Bool.{Bool, true, false, cond, not}
+use mathlib.Core.Bool.{Bool, true, false, not}
 use mathlib.Core.List.{List, [], _∷_, _++_}
 use mathlib.Core.Option.{Option, none, some}
 use Prim.Native.Nat.{ℕ, suc}
@@ -10,9 +10,9 @@ use lib.Dec.{ltb}
 use Rattle.railway.specs.declared.Railway.{Railway}
 use Rattle.railway.specs.declared.Refusal.{Refusal}
 use Rattle.railway.specs.declared.Refusal.the-variants.{PlanForm, PlanFault}
-use Rattle.railway.specs.Refusals.{number, Row, row}
+use Rattle.railway.specs.Refusals.{number, Row, row, first}
 use Rattle.tables.specs.Entries.{entryFrom}
-use Rattle.tables.specs.Tables.{noFigure, caseRows, caseRefusal}
+use Rattle.tables.specs.Tables.{noFigure, caseRows}
 use Rattle.plan.specs.declared.CheckerState.{CheckerState}
 use Rattle.plan.specs.declared.CheckerState.the-variants.{Fresh, Begun}
 use Rattle.plan.specs.declared.LineAnswer.{LineAnswer}
@@ -70,18 +70,6 @@ enter r c m d =
       sets = set (c .sets) (lineCode r d) (lineEntry r d);
     }
 
--- A refused line leaves all as it was.
-abbrev pub refuse : Checking → Refusal → Left LineAnswer
-refuse c f = left (LineRefused f) c
-
--- The first line comes once and before the others, whose codes strictly rise; every other text is refused as plan form (10).
-abbrev pub takes : Railway → Checking → CheckerState → Option PlanLine → Left LineAnswer
-takes r c state none = refuse c PlanForm
-takes r c Fresh (some (startLine n)) = left Taken (begin c n)
-takes r c Fresh (some (placementLine d)) = refuse c PlanForm
-takes r c (Begun m from) (some (startLine n)) = refuse c PlanForm
-takes r c (Begun m from) (some (placementLine d)) = cond (ltb (lineCode r d) from) (refuse c PlanForm) (left Taken (enter r c m d))
-
 -- 10, plan form, for a line: the text spells none, a first line that is not the first, another one that is, or a code that does not rise.
 abbrev pub outOfForm : Railway → CheckerState → Option PlanLine → Bool
 outOfForm r state none = true
@@ -94,14 +82,21 @@ outOfForm r (Begun m from) (some (placementLine d)) = ltb (lineCode r d) from
 abbrev pub lineRows : Railway → Checking → List ℕ → List Row
 lineRows r c text = caseRows r (c .figs) (c .sets) ++ (row PlanForm (outOfForm r (c .state) (readLine r text)) ∷ [])
 
--- Rows 3 to 9 come first.
-abbrev pub takesIf : Railway → Checking → List ℕ → Option Refusal → Left LineAnswer
-takesIf r c text (some f) = refuse c f
-takesIf r c text none = takes r c (c .state) (readLine r text)
+-- State and tables after a line that is taken. (Without a line, and for a placement before the first one, row 10 applies and nothing is taken.)
+abbrev pub entered : Railway → Checking → CheckerState → Option PlanLine → Checking
+entered r c state none = c
+entered r c state (some (startLine n)) = begin c n
+entered r c Fresh (some (placementLine d)) = c
+entered r c (Begun m from) (some (placementLine d)) = enter r c m d
 
--- A CALL for a line.
+-- By the refusal: a refused line leaves all as it was.
+abbrev pub lineLeaves : Checking → Checking → Option Refusal → Left LineAnswer
+lineLeaves c after (some f) = left (LineRefused f) c
+lineLeaves c after none = left Taken after
+
+-- A CALL for a line: it is refused by the first row that applies, else taken.
 unfoldable pub takeLine : Railway → Checking → List ℕ → Left LineAnswer
-takeLine r c text = takesIf r c text (caseRefusal r (c .figs) (c .sets))
+takeLine r c text = lineLeaves c (entered r c (c .state) (readLine r text)) (first (lineRows r c text))
 
 -- THE TEST. 10, plan form, for the test: no line was taken.
 abbrev pub nothingTaken : CheckerState → Bool
@@ -117,15 +112,14 @@ planFails r c (Begun m from) = not (testHolds r m (byTables (c .figs) (c .sets))
 abbrev pub testRows : Railway → Checking → List Row
 testRows r c = caseRows r (c .figs) (c .sets) ++ (row PlanForm (nothingTaken (c .state)) ∷ row PlanFault (planFails r c (c .state)) ∷ [])
 
--- The answer: rows 3 to 9; then plan form (10) before the first line; then plan fault (11) where the lines taken fail.
-abbrev pub tests : Railway → Checking → Option Refusal → CheckerState → TestAnswer
-tests r c (some f) state = TestRefused f
-tests r c none Fresh = TestRefused PlanForm
-tests r c none (Begun m from) = cond (testHolds r m (byTables (c .figs) (c .sets))) Pass (TestRefused PlanFault)
+-- The answer, by the refusal.
+abbrev pub testAnswer : Option Refusal → TestAnswer
+testAnswer (some f) = TestRefused f
+testAnswer none = Pass
 
--- Whatever it answers, it leaves state and tables as they were.
+-- A CALL for the test: it is refused by the first row that applies, else passed. State and tables are left as they were in any case.
 unfoldable pub testPlan : Railway → Checking → Left TestAnswer
-testPlan r c = left (tests r c (caseRefusal r (c .figs) (c .sets)) (c .state)) c
+testPlan r c = left (testAnswer (first (testRows r c))) c
 
 -- CALLS FOR LINES, one after the other, each with what the last one left: the answers, and what is left in the end.
 pub record LineCalls : Type 0 where

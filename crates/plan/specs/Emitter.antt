@@ -1,6 +1,6 @@
 -- The emitter: a line of the plan a call, from two tables into a lent text buffer (document 01, "The two tables and the plan": plan text; rows 3
 -- to 9 and what stands under the table of numbers). Each call is total: any record, tables, place and buffer. Assumes nothing.
-use mathlib.Core.Bool.{Bool, true, false, cond, _&&_, _||_}
+use mathlib.Core.Bool.{Bool, true, false, _&&_, _||_}
 use mathlib.Core.List.{List, [], _∷_, _++_}
 use mathlib.Core.Option.{Option, none, some}
 use Prim.Native.Nat.{ℕ, suc}
@@ -10,10 +10,10 @@ use Rattle.laws.specs.Below.{lowest}
 use Rattle.railway.specs.declared.Railway.{Railway}
 use Rattle.railway.specs.declared.Refusal.{Refusal}
 use Rattle.railway.specs.declared.Refusal.the-variants.{Space}
-use Rattle.railway.specs.Refusals.{number, Row, row}
+use Rattle.railway.specs.Refusals.{number, Row, row, first}
 use Rattle.railway.specs.Rows.{recordRows}
 use Rattle.game.specs.Placement.{placements, startCode}
-use Rattle.tables.specs.Tables.{noFigure, figureIn, tablesShort, caseRefusal}
+use Rattle.tables.specs.Tables.{noFigure, figureIn, tablesShort}
 use Rattle.plan.specs.declared.PlanPlace.{PlanPlace}
 use Rattle.plan.specs.declared.PlanPlace.the-variants.{Top, From}
 use Rattle.plan.specs.declared.Emitted.{Emitted}
@@ -55,13 +55,6 @@ pub record Wrote : Type 0 where
 abbrev pub leaves : Emitted → List ℕ → Wrote
 leaves a buffer = record { answer = a; buffer = buffer }
 
--- A line goes to the front of the buffer, and what stands behind it stays; a buffer shorter than the line gives space (9).
-abbrev pub lineWritten : List ℕ → PlanPlace → List ℕ → Wrote
-lineWritten l next buffer =
-    cond (ltb (length buffer) (length l))
-    (leaves (Refused Space) buffer)
-    (record { answer = Line (length l) next; buffer = l ++ drop (length l) buffer })
-
 -- A code from c on whose placement has a figure.
 abbrev pub figureFrom : List ℕ → ℕ → ℕ → Bool
 figureFrom figs c p = leb c p && hasFigure figs p
@@ -85,11 +78,6 @@ abbrev pub due : Railway → List ℕ → List ℕ → PlanPlace → Option Due
 due r figs sets Top = some (record { text = spell (startLine (getD figs (startCode r) noFigure)); next = From 0 })
 due r figs sets (From c) = dueFor r figs sets (nextCode r figs c)
 
--- It is written; the end where none is due.
-abbrev pub dueWritten : List ℕ → Option Due → Wrote
-dueWritten buffer none = leaves End buffer
-dueWritten buffer (some d) = lineWritten (d .text) (d .next) buffer
-
 -- THE ROWS of a call. A line is due that is longer than the buffer.
 abbrev pub dueTooLong : List ℕ → Option Due → Bool
 dueTooLong buffer none = false
@@ -103,12 +91,17 @@ bufferShort r figs sets place buffer = hasFigure figs (startCode r) && dueTooLon
 abbrev pub emitterRows : Railway → List ℕ → List ℕ → PlanPlace → List ℕ → List Row
 emitterRows r figs sets place buffer = recordRows r ++ (row Space (tablesShort r figs sets || bufferShort r figs sets place buffer) ∷ [])
 
--- THE CALL. A refusal by the record or the tables comes first, then that there is no plan (the start lacks a figure), then the line.
-abbrev pub emitted : Railway → List ℕ → List ℕ → PlanPlace → List ℕ → Option Refusal → Option ℕ → Wrote
-emitted r figs sets place buffer (some f) start = leaves (Refused f) buffer
-emitted r figs sets place buffer none none = leaves NoPlan buffer
-emitted r figs sets place buffer none (some n) = dueWritten buffer (due r figs sets place)
+-- THE CALL. The line that is due goes to the front of the buffer, and what stands behind it stays; the end where none is due.
+abbrev pub lineOrEnd : List ℕ → Option Due → Wrote
+lineOrEnd buffer none = leaves End buffer
+lineOrEnd buffer (some d) = record { answer = Line (length (d .text)) (d .next); buffer = d .text ++ drop (length (d .text)) buffer }
 
--- All of it, for any record, tables, place and buffer.
+-- By the refusal and the start's figure: without one there is no plan.
+abbrev pub emitterLeaves : List ℕ → Option Due → Option Refusal → Option ℕ → Wrote
+emitterLeaves buffer d (some f) start = leaves (Refused f) buffer
+emitterLeaves buffer d none none = leaves NoPlan buffer
+emitterLeaves buffer d none (some n) = lineOrEnd buffer d
+
+-- All of it, for any record, tables, place and buffer: refused by the first row that applies.
 unfoldable pub emitLine : Railway → List ℕ → List ℕ → PlanPlace → List ℕ → Wrote
-emitLine r figs sets place buffer = emitted r figs sets place buffer (caseRefusal r figs sets) (figureIn figs (startCode r))
+emitLine r figs sets place buffer = emitterLeaves buffer (due r figs sets place) (first (emitterRows r figs sets place buffer)) (figureIn figs (startCode r))

@@ -11,3 +11,4 @@ pub mod Demand3
 pub mod Outputs
 pub mod Reading
 pub mod Computed
+pub mod Steps

@@ -1,7 +1,7 @@
 -- The first bytes of a text decide its check. A line that is taken has 45 bytes at most and leaves fewer that can still be taken, for codes
 -- rise and stay below the number of placements. A line that the cut falls into is longer than all that could still be taken, and so is what
 -- the cut leaves of it: both are refused, and the lines before it are the same. Assumes nothing.
-use mathlib.Core.Path.{_≡_, refl, sym, _∙_, ap}
+use mathlib.Core.Path.{_≡_, refl, sym, _∙_, ap, subst}
 use mathlib.Core.Logic.{inl, inr}
 use mathlib.Core.Bool.{Bool, true, false, cond}
 use mathlib.Core.List.{List, [], _∷_}
@@ -30,10 +30,12 @@ use Rattle.plan.specs.declared.LineAnswer.the-variants.{Taken, Refused as LineR
 use Rattle.plan.specs.declared.TestAnswer.the-variants.{Refused as TestRefused}
 use Rattle.plan.specs.Lines.{PlanLine, startLine, placementLine, mostLineBytes, Spells, lineCode}
 use Rattle.plan.specs.Reading.{readLine}
-use Rattle.plan.specs.Checker.{Checking, Left, left, freshChecking, enter, refuse, takes, takeLine}
+use Rattle.plan.specs.Checker.{Checking, Left, left, freshChecking, enter, takeLine}
+use Rattle.plan.specs.Steps.{refuse, takes}
 use Rattle.plan.proofs.Checks.{code-in}
 use Rattle.plan.proofs.Lengths.{lines-short}
 use Rattle.plan.proofs.Reading.{reads-line}
+use Rattle.plan.proofs.Steps.{line-steps}
 use Rattle.verdict.specs.Verdict.{linesOf, checkLines}
 use Rattle.verdict.specs.Lengths.{lineBytes}
 use Rattle.verdict.specs.Claims.{CutDecides}
@@ -119,8 +121,7 @@ too-long r s l x more (taken e few less) = absurd (omega (arith, more, few, less
 -- THE CALLS for the lines of a text, in a case that is not refused
 module _ (r : Railway) (c : Checking) (fine : caseRefusal r (c .figs) (c .sets) ≡ none) where
   step : (l : List ℕ) → Step r (c .state) l (takeLine r c l)
-  unfolding takeLine
-  step l = rw fine (takes-step r (case-none r (c .figs) (c .sets) .0 fine .0) c l (c .state) (readLine r l) refl)
+  step l = subst (Step r (c .state) l) (sym (line-steps r c l fine)) (takes-step r (case-none r (c .figs) (c .sets) .0 fine .0) c l (c .state) (readLine r l) refl)
 
   -- the first line is too long
   refused-first : (b : ℕ) (bs : List ℕ) → budget r (c .state) * mostLineBytes < lineBytes (b ∷ bs) → checkLines r (linesOf (b ∷ bs)) c ≡ TestRefused PlanForm

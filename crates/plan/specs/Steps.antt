@@ -1,0 +1,66 @@
+-- The calls of Emitter and Checker one test after the other, as code makes them. Nothing of document 01 rests on this file: contracts of inner
+-- functions cite it, and the laws in proofs/Steps say that these are the calls that the rows define. Assumes nothing.
+use mathlib.Core.Bool.{cond}
+use mathlib.Core.List.{List, _++_}
+use mathlib.Core.Option.{Option, none, some}
+use Prim.Native.Nat.{ℕ}
+use lib.ListN.{length, drop}
+use lib.Dec.{ltb}
+use Rattle.railway.specs.declared.Railway.{Railway}
+use Rattle.railway.specs.declared.Refusal.{Refusal}
+use Rattle.railway.specs.declared.Refusal.the-variants.{Space, PlanForm, PlanFault}
+use Rattle.plan.specs.declared.PlanPlace.{PlanPlace}
+use Rattle.plan.specs.declared.Emitted.the-variants.{Line, End, NoPlan, Refused}
+use Rattle.plan.specs.declared.CheckerState.{CheckerState}
+use Rattle.plan.specs.declared.CheckerState.the-variants.{Fresh, Begun}
+use Rattle.plan.specs.declared.LineAnswer.{LineAnswer}
+use Rattle.plan.specs.declared.LineAnswer.the-variants.{Taken, Refused as LineRefused}
+use Rattle.plan.specs.declared.TestAnswer.{TestAnswer}
+use Rattle.plan.specs.declared.TestAnswer.the-variants.{Pass, Refused as TestRefused}
+use Rattle.plan.specs.Lines.{PlanLine, startLine, placementLine, lineCode}
+use Rattle.plan.specs.Test.{byTables}
+use Rattle.plan.specs.Reading.{readLine}
+use Rattle.plan.specs.Computed.{testHolds}
+use Rattle.plan.specs.Emitter.{Wrote, leaves, Due, due}
+use Rattle.plan.specs.Checker.{Checking, Left, left, begin, enter}
+
+-- THE EMITTER. A line into the buffer, if it has room.
+abbrev pub lineWritten : List ℕ → PlanPlace → List ℕ → Wrote
+lineWritten l next buffer =
+    cond (ltb (length buffer) (length l))
+    (leaves (Refused Space) buffer)
+    (record { answer = Line (length l) next; buffer = l ++ drop (length l) buffer })
+
+-- The line that is due, or the end.
+abbrev pub dueWritten : List ℕ → Option Due → Wrote
+dueWritten buffer none = leaves End buffer
+dueWritten buffer (some d) = lineWritten (d .text) (d .next) buffer
+
+-- Rows 3 to 9 for record and tables, then the start's figure, then the line.
+abbrev pub emitted : Railway → List ℕ → List ℕ → PlanPlace → List ℕ → Option Refusal → Option ℕ → Wrote
+emitted r figs sets place buffer (some f) start = leaves (Refused f) buffer
+emitted r figs sets place buffer none none = leaves NoPlan buffer
+emitted r figs sets place buffer none (some n) = dueWritten buffer (due r figs sets place)
+
+-- THE CHECKER. A line that is refused.
+abbrev pub refuse : Checking → Refusal → Left LineAnswer
+refuse c f = left (LineRefused f) c
+
+-- A line that was read, by the state.
+abbrev pub takes : Railway → Checking → CheckerState → Option PlanLine → Left LineAnswer
+takes r c state none = refuse c PlanForm
+takes r c Fresh (some (startLine n)) = left Taken (begin c n)
+takes r c Fresh (some (placementLine d)) = refuse c PlanForm
+takes r c (Begun m from) (some (startLine n)) = refuse c PlanForm
+takes r c (Begun m from) (some (placementLine d)) = cond (ltb (lineCode r d) from) (refuse c PlanForm) (left Taken (enter r c m d))
+
+-- Rows 3 to 9, then the line.
+abbrev pub takesIf : Railway → Checking → List ℕ → Option Refusal → Left LineAnswer
+takesIf r c text (some f) = refuse c f
+takesIf r c text none = takes r c (c .state) (readLine r text)
+
+-- Rows 3 to 9, then the state, then the test.
+abbrev pub tests : Railway → Checking → Option Refusal → CheckerState → TestAnswer
+tests r c (some f) state = TestRefused f
+tests r c none Fresh = TestRefused PlanForm
+tests r c none (Begun m from) = cond (testHolds r m (byTables (c .figs) (c .sets))) Pass (TestRefused PlanFault)
