@@ -1,8 +1,8 @@
 -- The lines that programs write for an answer (document 01, end of "The two tables and the plan": what the two programs write). Assumes nothing.
 use mathlib.Core.Path.{_≡_}
 use mathlib.Core.List.{List, [], _∷_}
-use Prim.Native.Nat.{ℕ}
-use lib.ListN.{length}
+use Prim.Native.Nat.{ℕ, _≤_}
+use lib.ListN.{length, take}
 use Rattle.text.specs.Text.{decimal, line, bytes}
 use Rattle.text.specs.Appending.{bytesAfter}
 use Rattle.railway.specs.declared.Refusal.{Refusal}
@@ -39,3 +39,21 @@ Fronted old text new = new ≡ bytesAfter old 0 text
 pub record Spelled (text old new : List ℕ) (n : ℕ) : Type 0 where
   pub front : Fronted old text new
   pub bytes : n ≡ length text
+
+-- So many bytes has the longest of these lines at most.
+abbrev pub mostAnswerBytes : ℕ
+mostAnswerBytes = 16
+
+-- WHAT THE CALLS PROMISE that put all that a program writes at the front of a buffer: one of the texts that it may write, none of which is longer
+-- than so many bytes.
+pub record Puts (Output : List ℕ → Type 0) (most : ℕ) (old new : List ℕ) (n : ℕ) : Type 0 where
+  pub text : List ℕ
+  pub output : Output text
+  pub short : length text ≤ most
+  pub spelled : Spelled text old new n
+
+-- In a buffer of so many bytes it stands whole: the first n bytes are such a text.
+abbrev pub PutsWhole : Type 1
+PutsWhole =
+    (Output : List ℕ → Type 0) (most n : ℕ) (old new : List ℕ) → Puts Output most old new n → most ≤ length old
+    → (n ≤ length new) × Output (take n new)

@@ -1,9 +1,8 @@
--- What follows from the solver's answer: which text was put, and that a plan can be made. Assumes nothing.
+-- A plan can be made of what a solver leaves that answered a figure. Assumes nothing.
 use mathlib.Core.Path.{_≡_, refl, sym, subst}
-use mathlib.Core.List.{List, []}
+use mathlib.Core.List.{List}
 use mathlib.Core.Option.{none}
 use Prim.Native.Nat.{ℕ}
-use Rattle.text.specs.Appending.{bytesAfter}
 use Rattle.railway.specs.declared.Railway.{Railway}
 use Rattle.tables.specs.declared.SolverAnswer.{SolverAnswer}
 use Rattle.tables.specs.declared.SolverAnswer.the-variants.{Figure}
@@ -11,20 +10,7 @@ use Rattle.tables.specs.Solver.{SolverLeaves, SolverPost}
 use Rattle.tables.proofs.Refusals.{case-none}
 use Rattle.tables.proofs.Promise.{solver-accepted}
 use Rattle.plan.proofs.Emits.{none-refused}
-use Rattle.answerlines.specs.Lines.{Spelled}
-use Rattle.planwriter.specs.Written.{outputText, PlanTextPost}
 use Rattle.planwriter.specs.Solved.{Solved}
-
--- with the answer known, the text put is that for it
-pub answered : (r : Railway) (a : SolverAnswer) (figs sets figs′ sets′ buffer buffer′ : List ℕ) (n : ℕ) → SolverPost r a figs sets figs′ sets′
-    → (x : SolverAnswer) → a ≡ x → Spelled (outputText r x figs′ sets′) buffer buffer′ n → PlanTextPost r figs sets buffer (record { answer = a; bytes = n }) figs′ sets′ buffer′
-answered r a figs sets figs′ sets′ buffer buffer′ n post x e s =
-    record { solved = post; spelled = subst (λ (y : SolverAnswer). Spelled (outputText r y figs′ sets′) buffer buffer′ n) (sym e) s }
-
--- no text leaves every byte as it was
-pub nothing-put : (buffer : List ℕ) → Spelled [] buffer buffer 0
-unfolding bytesAfter
-nothing-put buffer = record { front = refl; bytes = refl }
 
 -- what a solver leaves that answered a figure can be made a plan of
 pub solved-by : (r : Railway) (n : ℕ) (figs sets figs′ sets′ : List ℕ) → SolverPost r (Figure n) figs sets figs′ sets′ → Solved r figs′ sets′

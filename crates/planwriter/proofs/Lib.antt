@@ -1,5 +1,5 @@
 pub mod Answers
 pub mod Sizes
 pub mod Lines
-pub mod Whole
-pub mod Printing
+pub mod Short
+pub mod Cases

@@ -1,4 +1,2 @@
 pub mod Written
 pub mod Solved
-pub mod Claims
-pub mod Printed

@@ -1,23 +1,45 @@
--- What program `signalplan` writes for a railway, and the promise of the call that makes this text (document 01, end of "The two tables and the
--- plan": what `signalplan` writes). Assumes nothing.
-use mathlib.Core.List.{List, []}
-use Prim.Native.Nat.{ℕ}
+-- What program `signalplan` writes for a case text, refused or not (document 01, end of "The two tables and the plan": what `signalplan` writes).
+-- Assumes nothing.
+use mathlib.Core.Path.{_≡_}
+use mathlib.Core.List.{List}
+use Prim.Native.Nat.{ℕ, suc, _*_}
+use lib.ListN.{replicate}
 use Rattle.railway.specs.declared.Railway.{Railway}
 use Rattle.tables.specs.declared.SolverAnswer.{SolverAnswer}
 use Rattle.tables.specs.declared.SolverAnswer.the-variants.{Refused, Unsolvable, Figure}
+use Rattle.tables.specs.Lengths.{entries}
 use Rattle.tables.specs.Solver.{SolverPost}
+use Rattle.plan.specs.Lines.{mostLineBytes}
 use Rattle.plan.specs.Text.{planText}
-use Rattle.answerlines.specs.Lines.{noneLine, Spelled}
-use Rattle.planwriter.specs.declared.PlanText.{PlanText}
+use Rattle.answerlines.specs.Lines.{refusalLine, noneLine}
+use Rattle.reader.specs.Answers.{ByCase}
 
--- THE WHOLE TEXT, by the solver's answer and the two tables that it left: the plan, or `none`. For a refusal there is none, and the buffer keeps its bytes.
+-- The text for a solver's answer and the two tables that it left: the plan, `none`, or the refusal's line.
 abbrev pub outputText : Railway → SolverAnswer → List ℕ → List ℕ → List ℕ
-outputText r (Refused f) figs sets = []
+outputText r (Refused f) figs sets = refusalLine f
 outputText r Unsolvable figs sets = noneLine
 outputText r (Figure n) figs sets = planText r figs sets
 
--- THE PROMISE: answer and tables are a solver's, and the text for them stands at the front of the buffer, as far as there is room for it; how many
--- bytes it has stands beside the answer.
-pub record PlanTextPost (r : Railway) (figs sets buffer : List ℕ) (t : PlanText) (figs′ sets′ buffer′ : List ℕ) : Type 0 where
-  pub solved : SolverPost r (t .answer) figs sets figs′ sets′
-  pub spelled : Spelled (outputText r (t .answer) figs′ sets′) buffer buffer′ (t .bytes)
+-- The text for what a solver answers that is lent two tables.
+pub record SolvedOutput (r : Railway) (figs sets figs′ sets′ text : List ℕ) : Type 0 where
+  pub answer : SolverAnswer
+  pub solved : SolverPost r answer figs sets figs′ sets′
+  pub written : text ≡ outputText r answer figs′ sets′
+
+-- A table of the program's own, as the solver is lent it.
+abbrev pub blank : List ℕ
+blank = replicate entries 0
+
+-- A RAILWAY: the text for what a solver answers that is lent two of these.
+pub record RailwayOutput (r : Railway) (text : List ℕ) : Type 0 where
+  pub figs : List ℕ
+  pub sets : List ℕ
+  pub output : SolvedOutput r blank blank figs sets text
+
+-- A CASE TEXT: the line of the reader's refusal, or the text for its railway.
+abbrev pub CaseOutput : List ℕ → List ℕ → Type 0
+CaseOutput case text = ByCase case (λ f. text ≡ refusalLine f) (λ r. RailwayOutput r text)
+
+-- No such text has more bytes than a first line, and one for each entry of a table.
+abbrev pub textBytes : ℕ
+textBytes = suc entries * mostLineBytes

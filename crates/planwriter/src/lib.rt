@@ -1,90 +1,53 @@
-// A railway's plan as a text, in a lent buffer: its lines, or `none`. It is what program signalplan writes; where the solver refuses, the buffer is left as
-// it was. A byte that finds no room is lost; the answer says how many bytes the text has, whether or not there was room for them.
-ghost use mathlib.Core.Path.{_≡_};
+// All that program signalplan writes for a case text, put at the front of a lent buffer: the plan's lines, or `none`, or the line of a refusal. A byte that
+// finds no room is lost; the answer says how many bytes the text has, whether or not there was room for them.
+ghost use Prim.Native.Nat.{suc, _*_};
+ghost use lib.ListN.{length};
+ghost use Rattle.plan.specs.Lines.{mostLineBytes};
 ghost use Rattle.plan.specs.Text.{planText};
-ghost use Rattle.answerlines.specs.Lines.{Spelled};
-ghost use Rattle.planwriter.specs.Written.{outputText, PlanTextPost};
-ghost use Rattle.planwriter.specs.Printed.{textBytes, refusedText, Printed, CasePrinted};
+ghost use Rattle.answerlines.specs.Lines.{Spelled, Puts};
+ghost use Rattle.planwriter.specs.Written.{SolvedOutput, RailwayOutput, CaseOutput, textBytes};
 ghost use Rattle.planwriter.specs.Solved.{Solved};
 use casefile::CaseAnswer;
-use libc::STDOUT_FILENO;
 use plan::Emitted;
 use plan::PlanPlace;
 use planlines::MOST_LINE_BYTES;
 use railway::Railway;
-use railway::Refusal;
 use tables::ENTRIES;
 use tables::SolverAnswer;
 use text::append;
 
-// Room for a first line and one for each entry (planwriter/Claims: for whatever text there is).
-const TEXT: usize = (ENTRIES + 1) * MOST_LINE_BYTES;
+// Room for every text: a first line, and one for each entry of a table.
+pub const TEXT: usize = (ENTRIES + 1) * MOST_LINE_BYTES;
 
-// The solver's answer, and how many bytes the text has.
-pub struct PlanText {
-    pub answer: SolverAnswer,
-    pub bytes: usize,
-}
-
-// A railway, with two lent tables, which are left as the solver leaves them.
-pub fn plan_text(r: Railway, figures: &mut [u32], settings: &mut [u32], text: &mut [u8]) -> PlanText
-    ensures { λ t. ⌜ PlanTextPost r (now (figures .entry)) (now (settings .entry)) (now (text .entry)) t (now (figures .exit)) (now (settings .exit)) (now (text .exit)) ⌝ }
-{
-    let answer = solver::solve(r, figures, settings);
-    let bytes = match answer {
-        SolverAnswer::Refused(_) => 0,
-        SolverAnswer::Unsolvable => answerlines::none_line(text),
-        SolverAnswer::Figure(_) => plan_lines(r, figures, settings, text),
-    };
-    PlanText { answer, bytes }
-}
-
-// WHAT PROGRAM SIGNALPLAN DOES with a case text: it is read and solved, and its text written on standard output; or a refusal's line.
-pub fn print_case(case: &[u8]) -> PlanText
-    ensures { λ t. ⌜ CasePrinted (now (case .entry)) t ⌝ }
+// A case text: refused by the reader, or read and then solved.
+pub fn case_text(case: &[u8], text: &mut [u8]) -> usize
+    ensures { λ n. ⌜ Puts (CaseOutput (now (case .entry))) textBytes (now (text .entry)) (now (text .exit)) n ⌝ }
 {
     let read = reader::read_case(case);
     let answer = read.answer;
     match answer {
-        CaseAnswer::Refused(f) => print_refusal(f),
-        CaseAnswer::Accepted => print_plan(read.railway),
+        CaseAnswer::Refused(f) => answerlines::refusal_line(f, text),
+        CaseAnswer::Accepted => railway_text(read.railway, text),
     }
 }
 
-// A railway, with tables and a buffer of the call's own. The second promise ties the buffer's length to the definition.
-fn print_plan(r: Railway) -> PlanText
-    ensures { λ t. ⌜ Printed r t ⌝ }
-    ensures { λ t. do ⌜ (← ⟦TEXT⟧ .entry) ≡ textBytes ⌝ }
+// A railway, with tables of the call's own.
+fn railway_text(r: Railway, text: &mut [u8]) -> usize
+    ensures { λ n. ⌜ Puts (RailwayOutput r) textBytes (now (text .entry)) (now (text .exit)) n ⌝ }
 {
     let mut figures = [0u32; ENTRIES];
     let mut settings = [0u32; ENTRIES];
-    let mut text = [0u8; TEXT];
-    let made = plan_text(r, &mut figures, &mut settings, &mut text);
-    let answer = made.answer;
-    if let SolverAnswer::Refused(f) = answer {
-        return print_refusal(f);
-    }
-    let n = made.bytes;
-    write_text(&text[..n], r, answer, &figures, &settings);
-    made
+    solved_text(r, &mut figures, &mut settings, text)
 }
 
-// No contract can speak of what leaves the program, but this one asks that it be all of the text and nothing else. What the text is of is handed
-// in for that alone.
-fn write_text(text: &[u8], r: Railway, a: SolverAnswer, figures: &[u32], settings: &[u32])
-    requires { ⌜ now text ≡ outputText r a (now figures) (now settings) ⌝ }
+// The text for what the solver answers.
+fn solved_text(r: Railway, figures: &mut [u32], settings: &mut [u32], text: &mut [u8]) -> usize
+    ensures { λ n. ⌜ Puts (SolvedOutput r (now (figures .entry)) (now (settings .entry)) (now (figures .exit)) (now (settings .exit))) (suc (length (now (figures .entry))) * mostLineBytes) (now (text .entry)) (now (text .exit)) n ⌝ }
 {
-    io::write_all(STDOUT_FILENO, text);
-}
-
-fn print_refusal(f: Refusal) -> PlanText
-    ensures { λ t. ⌜ t ≡ refusedText f ⌝ }
-{
-    let mut line = [0u8; output::LINE];
-    output::refusal(f, &mut line);
-    PlanText {
-        answer: SolverAnswer::Refused(f),
-        bytes: 0,
+    match solver::solve(r, figures, settings) {
+        SolverAnswer::Refused(f) => answerlines::refusal_line(f, text),
+        SolverAnswer::Unsolvable => answerlines::none_line(text),
+        SolverAnswer::Figure(_) => plan_lines(r, figures, settings, text),
     }
 }
 
