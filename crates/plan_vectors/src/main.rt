@@ -1,4 +1,5 @@
 // Case texts, and what program signalplan writes for each. Standard input is records (crate framed).
+use libc::STDOUT_FILENO;
 
 fn main() {
     let mut turns: u64 = 0;
@@ -18,8 +19,14 @@ fn one() -> bool {
     let n = record.bytes;
     let reading = record.reading;
     if framed::is_whole(reading) {
-        planwriter::print_case(&space[..n]);
+        write_for(&space[..n]);
         return true;
     }
     false
+}
+
+fn write_for(case: &[u8]) {
+    let mut text = [0u8; planwriter::TEXT];
+    let n = planwriter::case_text(case, &mut text);
+    io::write_all(STDOUT_FILENO, &text[..n]);
 }

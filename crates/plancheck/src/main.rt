@@ -1,10 +1,13 @@
 // The case of file case.txt in the working folder and a plan on standard input; `pass` on standard output, or `refused`, a tab and the number.
 ghost use mathlib.Core.Path.{_≡_};
 ghost use Rattle.io.specs.Counts.{Counts};
+ghost use Prim.Native.Nat.{suc};
+ghost use Rattle.casefile.specs.Rows.{mostBytes};
 ghost use Rattle.verdict.specs.Claims.{readBytes};
 use libc::STDIN_FILENO;
+use libc::STDOUT_FILENO;
 
-// One byte more than a case text may have: whatever follows, such a text is refused for its length.
+// One byte more than a case text may have: so many bytes decide what is answered (`CutDecides` in casefile/specs/Claims).
 const CASE: usize = casefile::MOST_BYTES + 1;
 
 // One byte more than a plan can have, a first line and one for each entry: so many bytes decide what any text is answered
@@ -30,13 +33,13 @@ fn read_file(case: &mut [u8]) -> usize
     n
 }
 
-// Reads the plan into a buffer of as many bytes as decide its check. The promise ties the buffer's length to the definition.
+// Reads the plan, and writes what comes of it. The promise ties the numbers of bytes that are read to the definitions.
 fn check(case: &[u8])
-    ensures { λ u. do ⌜ (← ⟦PLAN⟧ .entry) ≡ readBytes ⌝ }
+    ensures { λ u. do ⌜ ((← ⟦CASE⟧ .entry) ≡ suc mostBytes) × ((← ⟦PLAN⟧ .entry) ≡ readBytes) ⌝ }
 {
     let mut plan = [0u8; PLAN];
     let n = io::read_full(STDIN_FILENO, &mut plan);
-    let answer = verdict::check_case(case, &plan[..n]);
-    let mut line = [0u8; output::LINE];
-    output::test_answer(answer, &mut line);
+    let mut line = [0u8; answerlines::LINE];
+    let m = verdict::check_line(case, &plan[..n], &mut line);
+    io::write_all(STDOUT_FILENO, &line[..m]);
 }

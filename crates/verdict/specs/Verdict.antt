@@ -13,6 +13,7 @@ use Rattle.railway.specs.declared.Refusal.{Refusal}
 use Rattle.railway.specs.declared.Refusal.the-variants.{PlanForm, PlanFault}
 use Rattle.railway.specs.Refusals.{Row, row, first, numberOf}
 use Rattle.reader.specs.Answers.{ByCase}
+use Rattle.answerlines.specs.Lines.{testLine}
 use Rattle.tables.specs.Lengths.{entries}
 use Rattle.tables.specs.Tables.{caseRows, caseRefusal}
 use Rattle.plan.specs.declared.LineAnswer.{LineAnswer}
@@ -68,3 +69,9 @@ pub record PlanPost (r : Railway) (plan : List ℕ) (a : TestAnswer) : Type 0 wh
 -- A CASE TEXT AND A PLAN'S: the reader's refusal, or what the plan is answered for the railway of the case.
 abbrev pub CasePlanPost : List ℕ → List ℕ → TestAnswer → Type 0
 CasePlanPost case plan a = ByCase case (λ f. a ≡ TestRefused f) (λ r. PlanPost r plan a)
+
+-- What program `plancheck` writes for them: the line of what they are answered.
+pub record CheckOutput (case plan text : List ℕ) : Type 0 where
+  pub answer : TestAnswer
+  pub checked : CasePlanPost case plan answer
+  pub written : text ≡ testLine answer

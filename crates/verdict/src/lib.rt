@@ -2,7 +2,8 @@
 ghost use mathlib.Core.Path.{_≡_};
 ghost use Prim.Native.Nat.{_+_};
 ghost use lib.ListN.{drop};
-ghost use Rattle.verdict.specs.Verdict.{PlanPost, CasePlanPost};
+ghost use Rattle.answerlines.specs.Lines.{mostAnswerBytes, Puts};
+ghost use Rattle.verdict.specs.Verdict.{PlanPost, CasePlanPost, CheckOutput};
 ghost use Rattle.verdict.specs.Lengths.{lineBytes};
 use casefile::CaseAnswer;
 use checker::Checker;
@@ -13,7 +14,15 @@ use railway::Railway;
 // As many entries has each of the two tables that a plan is entered into.
 pub const ENTRIES: usize = tables::ENTRIES;
 
-// WHAT PROGRAM PLANCHECK ANSWERS to a case text and a plan's: a refusal of the case, or what comes of the plan.
+// All that program plancheck writes for a case text and a plan's, put at the front of a lent buffer: how many bytes the line has.
+pub fn check_line(case: &[u8], plan: &[u8], line: &mut [u8]) -> usize
+    ensures { λ n. ⌜ Puts (CheckOutput (now (case .entry)) (now (plan .entry))) mostAnswerBytes (now (line .entry)) (now (line .exit)) n ⌝ }
+{
+    let answer = check_case(case, plan);
+    answerlines::test_line(answer, line)
+}
+
+// A case text and a plan's: a refusal of the case, or what comes of the plan.
 pub fn check_case(case: &[u8], plan: &[u8]) -> TestAnswer
     ensures { λ a. ⌜ CasePlanPost (now (case .entry)) (now (plan .entry)) a ⌝ }
 {
