@@ -4,6 +4,7 @@ pub mod Lines
 pub mod Whole
 pub mod Exactly
 pub mod Longest
+pub mod Cut
 pub mod Ends
 pub mod Faultless
 pub mod Described

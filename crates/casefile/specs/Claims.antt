@@ -6,7 +6,7 @@ use mathlib.Core.Logic.{_↔_, _⊎_}
 use mathlib.Core.List.{List, map, List·Memᴰ}
 use mathlib.Core.Option.{none, some}
 use Prim.Native.Nat.{ℕ, suc, _*_, _<_, _≤_}
-use lib.ListN.{length, getD}
+use lib.ListN.{length, getD, take}
 use Rattle.laws.specs.Lists.{Every, rises}
 use Rattle.railway.specs.declared.Side.the-variants.{Up, Down}
 use Rattle.railway.specs.declared.End.{End}
@@ -53,6 +53,10 @@ ReaderAnswers = (text : List ℕ) (a : CaseRead) → (a ≡ caseAnswer text) ↔
 -- Every text is accepted with a railway or refused.
 abbrev pub AlwaysAnswered : Type 0
 AlwaysAnswered = (text : List ℕ) → ((r : Railway) × (caseAnswer text ≡ accepted r)) ⊎ ((f : Refusal) × (caseAnswer text ≡ refused f))
+
+-- One byte more than a case text may have: so many bytes of a text decide what it is answered, whatever follows them.
+abbrev pub CutDecides : Type 0
+CutDecides = (text : List ℕ) (n : ℕ) → mostBytes < n → caseAnswer (take n text) ≡ caseAnswer text
 
 -- FIELD BY FIELD. An end as written names an end of the record: the same kind, the number less one, the same side or leg.
 abbrev pub Names : EndField → End → Type 0
