@@ -41,5 +41,5 @@ fn plan_of(case: &[u8]) -> bool {
 fn show(case: &[u8], plan: &[u8]) {
     let mut line = [0u8; answerlines::LINE];
     let n = verdict::check_line(case, plan, &mut line);
-    io::write_all(STDOUT_FILENO, &line[..n]);
+    output::front(&line, n);
 }

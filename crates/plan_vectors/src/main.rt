@@ -1,5 +1,4 @@
 // Case texts, and what program signalplan writes for each. Standard input is records (crate framed).
-use libc::STDOUT_FILENO;
 
 fn main() {
     let mut turns: u64 = 0;
@@ -28,5 +27,5 @@ fn one() -> bool {
 fn write_for(case: &[u8]) {
     let mut text = [0u8; planwriter::TEXT];
     let n = planwriter::case_text(case, &mut text);
-    io::write_all(STDOUT_FILENO, &text[..n]);
+    output::front(&text, n);
 }

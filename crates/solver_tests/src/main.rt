@@ -1,6 +1,7 @@
-// What the solver answers and leaves in the tables: document 01's yards, then other accepted cases. Standard input is records (crate framed),
-// each a case text. For each: the answer, then by rising code the figure (`none` for no figure) and the setting; then what comes of tables just
-// long enough and one entry shorter, and of records that are refused. Every entry that the solver is lent holds a mark before the call.
+// What the solver answers and leaves in the tables: document 01's yards, then other accepted cases, then one that is refused. Standard input is
+// records (crate framed), each a case text. For each: the number that the exported call answers, and the first code's entries; the answer, then
+// by rising code the figure (`none` for no figure) and the setting; then what comes of tables just long enough and one entry shorter, and of
+// records that are refused. Every entry that the solver is lent holds a mark before the call.
 use casefile::CaseAnswer;
 use libc::STDOUT_FILENO;
 use railway::Railway;
@@ -35,6 +36,7 @@ fn one() -> bool {
 }
 
 fn show(text: &[u8]) {
+    exported(text);
     let read = reader::read_case(text);
     let answer = read.answer;
     match answer {
@@ -44,6 +46,17 @@ fn show(text: &[u8]) {
             output::refusal(f, &mut line);
         }
     }
+}
+
+// The exported call's number, 0 where nothing is refused; the first code's entries then.
+fn exported(text: &[u8]) {
+    let mut figures = [MARK; ENTRIES];
+    let mut settings = [MARK; ENTRIES];
+    let n = solver_api::solve_case(text, &mut figures, &mut settings);
+    io::write_all(STDOUT_FILENO, b"exported call\t");
+    io::print_decimal(STDOUT_FILENO, n as u64);
+    io::write_all(STDOUT_FILENO, b"\n");
+    entry(0, figures[0], settings[0]);
 }
 
 fn accepted(r: Railway) {

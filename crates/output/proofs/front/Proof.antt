@@ -1,10 +1,11 @@
--- `output::write_front` is safe: the part that is written lies within the buffer.
+-- `output::front` meets its contract: the part that is written lies within the buffer.
 -- Assumes nothing.
 use native.Mathlib.Omega.{arith}
 use lib.ListN.{length-take}
 use borrow.Author.Needs.{needs}
-use Rattle.output.proofs.write_front.Statement.{statement}
-use Rattle.output.proofs.write_front.Tie as tie
+use borrow.Author.Tests.{le-leb, lt-leb}
+use Rattle.output.proofs.front.Statement.{statement}
+use Rattle.output.proofs.front.Tie as tie
 
 slice-aggregate-write-all : tie.Need-slice-aggregate-write-all
 slice-aggregate-write-all c = simp length-take (omega arith)
@@ -13,11 +14,11 @@ write-all-requires : tie.Need-write-all-requires
 write-all-requires c κs = search needs
 
 returns : tie.Need-returns
-returns c = search needs
+returns c = rw (le-leb _ _ (c .before .before .if1 .taken))
 
 returns-2 : tie.Need-returns-2
-returns-2 c = search needs
+returns-2 c = rw (lt-leb _ _ (c .if1 .left))
 
-pub write-front-spec : {M : Type 1} → statement M
-write-front-spec =
+pub front-spec : {M : Type 1} → statement M
+front-spec =
     tie.close (tie.spec slice-aggregate-write-all write-all-requires returns returns-2)
