@@ -7,6 +7,12 @@ use libc::STDOUT_FILENO;
 use moves::Move;
 use railway::Railway;
 
+// How many sets of open trains there can be.
+const OPENS: u32 = 1u32 << Railway::TRAINS;
+
+// The bit of the first train in an entry of the setting table, as a number: points have the bits below.
+const FIRST_TRAIN: u32 = 1u32 << Railway::POINTS;
+
 fn main() {
     let mut turns: u64 = 0;
     while turns < 18446744073709551615 {
@@ -60,7 +66,7 @@ fn settings(table: &Table, k: u8, q: u8, p: u32) {
     let n = power(k);
     let mut mask: u32 = 0;
     while mask < n {
-        points(table, k, q, p, mask % 16);
+        points(table, k, q, p, mask % OPENS);
         mask += 1;
     }
 }
@@ -70,7 +76,12 @@ fn points(table: &Table, k: u8, q: u8, p: u32, open: u32) {
     let n = power(q);
     let mut bits: u32 = 0;
     while bits < n {
-        line(table, k, p, (open % 16) * 65536 + bits % 65536);
+        line(
+            table,
+            k,
+            p,
+            (open % OPENS) * FIRST_TRAIN + bits % FIRST_TRAIN,
+        );
         bits += 1;
     }
 }

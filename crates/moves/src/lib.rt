@@ -29,7 +29,7 @@ pub struct Placement {
 }
 
 // What stands for no code: no railway has so many placements.
-pub const NO_CODE: u32 = 4294967295;
+const NO_CODE: u32 = 4294967295;
 
 // The bit of the first train in an entry of the setting table: points have the bits below.
 pub const TRAIN_BITS: u32 = Railway::POINTS as u32;
@@ -49,7 +49,7 @@ pub fn placements(table: &Table) -> u32
     power(compiled::sections_in(table), compiled::trains_in(table))
 }
 
-// How much a section more of train k counts in a code: a power, one factor after the other, with nothing for a processor to guess.
+// s to the power k: how much one section more of train k counts in a code. It is multiplied up without a branch.
 pub fn power(s: u8, k: u8) -> u32
     ensures { λ w. ⌜ (k ≤ mostTrains → w ≡ s ^ k) ⌝ }
 {
@@ -388,7 +388,7 @@ pub fn leads_to(table: &Table, q: Placement, t: u8, plus: bool) -> u8
 }
 
 // What a move ends in, the point that it meets lying at plus or not.
-pub fn outcome_of(table: &Table, q: Placement, t: u8, plus: bool) -> Move
+fn outcome_of(table: &Table, q: Placement, t: u8, plus: bool) -> Move
     ensures { λ m. ⌜ ((r : Railway) (p : ℕ) → On r p (now (table .entry)) q → t < r .trains → ended m ≡ some (moveOf r p (allAt plus) t)) ⌝ }
 {
     let x = leads_to(table, q, t, plus);

@@ -17,7 +17,7 @@ const SECTIONS: usize = Railway::SECTIONS as usize;
 const TRAIN: usize = 2 * SECTIONS;
 
 // Bytes of a table.
-pub const BEHIND: usize = TRAIN * (Railway::TRAINS as usize);
+const BEHIND: usize = TRAIN * (Railway::TRAINS as usize);
 
 // The table of a railway's sections behind each section.
 pub type SectionsBehind = [u8; BEHIND];

@@ -14,6 +14,9 @@ use railway::SectionNo;
 use railway::Side;
 use railway::Train;
 
+// No record here has more pieces.
+const PIECES: usize = 20;
+
 fn byte(s: &[u8], i: usize) -> u8 {
     if i < s.len() { s[i] } else { 0 }
 }
@@ -54,8 +57,9 @@ fn with_piece(r: Railway, letter: u8, a: u8, b: u8, c: u8, d: u8) -> Railway {
     }
 }
 
+// The piece that begins at a byte; none past the last that is looked at.
 fn piece_at(r: Railway, pieces: &[u8], i: usize) -> Railway {
-    if i < 1000 {
+    if i < 5 * PIECES {
         with_piece(
             r,
             byte(pieces, i),
@@ -74,7 +78,7 @@ fn built(s: u8, p: u8, k: u8, pieces: &[u8]) -> Railway {
     r.sections = s;
     r.points = p;
     r.trains = k;
-    for i in 0..20usize {
+    for i in 0..PIECES {
         r = piece_at(r, pieces, 5 * i);
     }
     r
