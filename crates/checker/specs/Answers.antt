@@ -5,12 +5,12 @@ use Prim.Native.Nat.{ℕ}
 use Rattle.plan.specs.declared.LineAnswer.{LineAnswer}
 use Rattle.plan.specs.Checker.{Checking, Left, left}
 use Rattle.checker.specs.declared.Checker.{Checker}
-use Rattle.checker.specs.declared.Taken.{Taken}
+use Rattle.checker.specs.declared.LineReply.{LineReply}
 
 -- A checker with the tables lent to it.
 abbrev pub checking : Checker → List ℕ → List ℕ → Checking
 checking c figs sets = record { state = c .state; figs = figs; sets = sets }
 
 -- What a call for a line hands back, with the tables as it leaves them.
-abbrev pub took : Taken → List ℕ → List ℕ → Left LineAnswer
+abbrev pub took : LineReply → List ℕ → List ℕ → Left LineAnswer
 took x figs sets = left (x .answer) (checking (x .checker) figs sets)

@@ -28,12 +28,12 @@ pub struct Checker {
 }
 
 // What a call for a line, and the call for the test, hand back.
-pub struct Taken {
+pub struct LineReply {
     pub answer: LineAnswer,
     pub checker: Checker,
 }
 
-pub struct PlanTested {
+pub struct TestReply {
     pub answer: TestAnswer,
     pub checker: Checker,
 }
@@ -51,7 +51,13 @@ impl Checker {
     }
 
     // A LINE. Rows 3 to 9 come before its form.
-    pub fn take(self, r: Railway, text: &[u8], figures: &mut [u32], settings: &mut [u32]) -> Taken
+    pub fn take(
+        self,
+        r: Railway,
+        text: &[u8],
+        figures: &mut [u32],
+        settings: &mut [u32],
+    ) -> LineReply
         ensures { λ x. ⌜ LinePost r (checking self (now (figures .entry)) (now (settings .entry))) (now (text .entry)) (x .answer) (checking (x .checker) (now (figures .exit)) (now (settings .exit))) ⌝ }
     {
         let c = cases::open_case(r, figures, settings);
@@ -67,7 +73,7 @@ impl Checker {
     }
 
     // What a line says is entered, if it may come now.
-    fn enter(self, line: LineRead, figures: &mut [u32], settings: &mut [u32]) -> Taken
+    fn enter(self, line: LineRead, figures: &mut [u32], settings: &mut [u32]) -> LineReply
         requires { ⌜ CodeSmall line ⌝ }
         ensures { λ x. ⌜ took x (now (figures .exit)) (now (settings .exit)) ≡ takesRead (checking self (now (figures .entry)) (now (settings .entry))) (self .state) line ⌝ }
     {
@@ -79,7 +85,7 @@ impl Checker {
     }
 
     // The first line comes once: no code is too low for what follows.
-    fn begin(self, n: u32) -> Taken
+    fn begin(self, n: u32) -> LineReply
         ensures { λ x. ⌜ ((figs sets : List ℕ) → took x figs sets ≡ takesStart (checking self figs sets) (self .state) n) ⌝ }
     {
         let state = self.state;
@@ -90,7 +96,7 @@ impl Checker {
     }
 
     // A placement comes after the first line, its code above all before it.
-    fn list(self, code: u32, n: u32, v: u32, figures: &mut [u32], settings: &mut [u32]) -> Taken
+    fn list(self, code: u32, n: u32, v: u32, figures: &mut [u32], settings: &mut [u32]) -> LineReply
         requires { ⌜ code < noCode ⌝ }
         ensures { λ x. ⌜ took x (now (figures .exit)) (now (settings .exit)) ≡ takesPlacement (checking self (now (figures .entry)) (now (settings .entry))) (self .state) code n v ⌝ }
     {
@@ -109,18 +115,18 @@ impl Checker {
     }
 
     // A refused line leaves the checker as it was.
-    fn refused(self, f: Refusal) -> Taken
+    fn refused(self, f: Refusal) -> LineReply
         ensures { λ x. ⌜ ((figs sets : List ℕ) → took x figs sets ≡ refuse (checking self figs sets) f) ⌝ }
     {
         let state = self.state;
-        Taken {
+        LineReply {
             answer: LineAnswer::Refused(f),
             checker: Checker { state: state },
         }
     }
 
     // THE TEST, after the last line: rows 3 to 9, then the lines taken.
-    pub fn test(self, r: Railway, figures: &[u32], settings: &[u32]) -> PlanTested
+    pub fn test(self, r: Railway, figures: &[u32], settings: &[u32]) -> TestReply
         ensures { λ x. ⌜ TestPost r (checking self (now (figures .entry)) (now (settings .entry))) (x .answer) (checking (x .checker) (now (figures .entry)) (now (settings .entry))) ⌝ }
     {
         let c = cases::open_case(r, figures, settings);
@@ -136,11 +142,11 @@ impl Checker {
         }
     }
 
-    fn tested(self, a: TestAnswer) -> PlanTested
+    fn tested(self, a: TestAnswer) -> TestReply
         ensures { λ x. ⌜ (x .answer ≡ a) × (x .checker .state ≡ self .state) ⌝ }
     {
         let state = self.state;
-        PlanTested {
+        TestReply {
             answer: a,
             checker: Checker { state: state },
         }
@@ -163,10 +169,10 @@ fn verdict(state: CheckerState, table: &Table, figures: &[u32], settings: &[u32]
 }
 
 // A line was taken: the first line's figure, and the lowest code that may come next.
-fn begun(m: u32, from: u32) -> Taken
+fn begun(m: u32, from: u32) -> LineReply
     ensures { λ x. ⌜ ((figs sets : List ℕ) → took x figs sets ≡ takenWith m from figs sets) ⌝ }
 {
-    Taken {
+    LineReply {
         answer: LineAnswer::Taken,
         checker: Checker {
             state: CheckerState::Begun(m, from),

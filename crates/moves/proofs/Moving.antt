@@ -154,19 +154,19 @@ module _ (r : Railway) (p : ℕ) (table : List ℕ) (q : Placement) (on : On r p
     put-on-is l lx o h = record { compiled = on .compiled; stands = λ u. h u ∙ put-each l u ∙ ap (λ (xs : List ℕ). getD xs u 0) (sym (sections-with r facts-of p t x lx)) }
 
   module _ (t : ℕ) (plus : Bool) (x : ℕ) (leads : x ≡ sectionByte (passes r (λ i. plus) (headsFor r p t) .reached)) where
-    abbrev way : Option ℕ
-    way = passes r (λ i. plus) (headsFor r p t) .reached
+    abbrev route : Option ℕ
+    route = passes r (λ i. plus) (headsFor r p t) .reached
 
     pub derails : x ≡ noByte → some (lost derailment) ≡ some (moveOf r p (allAt plus) t)
     unfolding moveOf
-    derails z = go way (λ y. passes-below r facts-of (λ i. plus) (headsFor r p t) y) (sym leads ∙ z)
+    derails z = go route (λ y. passes-below r facts-of (λ i. plus) (headsFor r p t) y) (sym leads ∙ z)
       where
         go : (o : Option ℕ) → ((y : ℕ) → o ≡ some y → y < r .sections) → sectionByte o ≡ noByte → some (lost derailment) ≡ some (enters r p t o)
         go none b e = refl
         go (some y) b e = absurd (omega (arith, b y refl, facts-of .few-sections))
 
-    pub arrives : (x ≡ noByte → ⊥) → way ≡ some x
-    arrives z = go way leads
+    pub arrives : (x ≡ noByte → ⊥) → route ≡ some x
+    arrives z = go route leads
       where
         go : (o : Option ℕ) → x ≡ sectionByte o → o ≡ some x
         go none e = absurd (z e)

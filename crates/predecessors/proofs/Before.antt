@@ -90,8 +90,8 @@ module _ (r : Railway) (accepted : recordRefusal r ≡ none) (c p t : ℕ) (plus
     behind-is : y ≡ standsOn r p t
     unfolding headsFor
     behind-is =
-        let way : passes r (λ i. plus) (Section (record { 0 = standsOn r p t }) (trainOf r t .heading)) .reached ≡ some x = into .reached ∙ ap (λ (a : ℕ). some a) (sym section-is) in
-        let back : passes r (λ i. plus) (endBehind r t x) .reached ≡ some (standsOn r p t) = goes-back r (accepted-facts r accepted) plus (trainOf r t .heading) (standsOn r p t) x way in
+        let route : passes r (λ i. plus) (Section (record { 0 = standsOn r p t }) (trainOf r t .heading)) .reached ≡ some x = into .reached ∙ ap (λ (a : ℕ). some a) (sym section-is) in
+        let back : passes r (λ i. plus) (endBehind r t x) .reached ≡ some (standsOn r p t) = goes-back r (accepted-facts r accepted) plus (trainOf r t .heading) (standsOn r p t) x route in
         behind ∙ ap sectionByte back
 
     pub some-behind : y ≡ noByte → ⊥

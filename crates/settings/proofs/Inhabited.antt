@@ -11,7 +11,7 @@ use Rattle.compiled.specs.Table.{Compiled}
 use Rattle.moves.specs.declared.Placement.{Placement}
 use Rattle.moves.specs.Steps.{sectionIn}
 use Rattle.moves.proofs.Round.{on-one}
-use Rattle.settings.specs.Ways.{Asked}
+use Rattle.settings.specs.Routes.{Asked}
 
 module _ (r : Railway) (table : List ℕ) (h : Compiled r table) (p : ℕ) where
   -- the placement by value

@@ -1,5 +1,5 @@
 pub mod Points
-pub mod Ways
+pub mod Routes
 pub mod Trying
 pub mod Exactly
 pub mod Inhabited

@@ -26,7 +26,7 @@ use Rattle.tables.specs.Find.{meetsPoint}
 use Rattle.compiled.specs.Table.{noByte, pointByte}
 use Rattle.moves.specs.Steps.{allAt}
 use Rattle.moves.proofs.Moving.{by-point}
-use Rattle.settings.specs.Ways.{pointMet}
+use Rattle.settings.specs.Routes.{pointMet}
 
 eqb-turned : (m n : ℕ) → eqb m n ≡ eqb n m
 eqb-turned m n = elim (bool? (eqb m n)) [

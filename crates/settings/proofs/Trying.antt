@@ -38,9 +38,9 @@ use Rattle.moves.specs.Steps.{sectionIn, On}
 use Rattle.moves.proofs.Coding.{bit-high}
 use Rattle.moves.proofs.Placing.{few-trains}
 use Rattle.settings.specs.Answers.{firstKeeping}
-use Rattle.settings.specs.Ways.{Asked, pointMet, endsBelow, failsAtMinus, failsAnyway, neededPoints, goodAtPlus}
+use Rattle.settings.specs.Routes.{Asked, pointMet, endsBelow, failsAtMinus, failsAnyway, neededPoints, goodAtPlus}
 use Rattle.settings.proofs.Points.{meets-is, met-small, move-by}
-use Rattle.settings.proofs.Ways.{bits-small, one-bit}
+use Rattle.settings.proofs.Routes.{bits-small, one-bit}
 
 module _ (r : Railway) (ok : Facts r) (p : ℕ) (apart : shared r p ≡ false) (F : ℕ → Option ℕ) (n : ℕ) where
   -- A TRY with some trains open

@@ -14,7 +14,7 @@ ghost use Rattle.compiled.specs.Table.{Compiled};
 ghost use Rattle.game.specs.Placement.{codeOn};
 ghost use Rattle.moves.specs.Steps.{sectionIn, On};
 ghost use Rattle.settings.specs.Answers.{entryFound, firstKeeping};
-ghost use Rattle.settings.specs.Ways.{Asked, endsBelow, failsAtMinus, neededPoints, goodAtPlus, withBit};
+ghost use Rattle.settings.specs.Routes.{Asked, endsBelow, failsAtMinus, neededPoints, goodAtPlus, withBit};
 use compiled::NO_BYTE;
 use compiled::Table;
 use moves::Placement;

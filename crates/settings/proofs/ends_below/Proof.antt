@@ -1,7 +1,7 @@
 -- `settings::ends_below` meets its contract: off the track, not below the figure, or below unless another train is in the way.
 -- Assumes nothing.
 use native.Mathlib.Omega.{arith}
-use Rattle.settings.proofs.Ways.{ends-derailed, ends-not, ends-unless}
+use Rattle.settings.proofs.Routes.{ends-derailed, ends-not, ends-unless}
 use borrow.Author.Needs.{needs}
 use Rattle.settings.proofs.ends_below.Statement.{statement}
 use Rattle.settings.proofs.ends_below.Tie as tie

@@ -13,7 +13,7 @@ use Rattle.tables.specs.Tables.{figureIn}
 use Rattle.tables.specs.Find.{findMet}
 use Rattle.moves.specs.Steps.{sectionIn, On}
 use Rattle.settings.specs.Answers.{firstKeeping}
-use Rattle.settings.specs.Ways.{Asked}
+use Rattle.settings.specs.Routes.{Asked}
 use Rattle.settings.proofs.Trying.{lost-none, found-first, trains-few, points-few, asked}
 use borrow.Author.Needs.{needs}
 use Rattle.settings.proofs.find_in.Statement.{statement}

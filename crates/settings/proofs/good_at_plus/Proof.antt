@@ -1,6 +1,6 @@
 -- `settings::good_at_plus` meets its contract: a train that is held, or whose point lies at minus, is not looked at.
 -- Assumes nothing.
-use Rattle.settings.proofs.Ways.{held-good, minus-good, plus-good}
+use Rattle.settings.proofs.Routes.{held-good, minus-good, plus-good}
 use borrow.Author.Needs.{needs}
 use Rattle.settings.proofs.good_at_plus.Statement.{statement}
 use Rattle.settings.proofs.good_at_plus.Tie as tie

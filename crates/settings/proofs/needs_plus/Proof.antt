@@ -1,6 +1,6 @@
 -- `settings::needs_plus` meets its contract: a held train needs nothing.
 -- Assumes nothing.
-use Rattle.settings.proofs.Ways.{held-fails, free-fails}
+use Rattle.settings.proofs.Routes.{held-fails, free-fails}
 use borrow.Author.Needs.{needs}
 use Rattle.settings.proofs.needs_plus.Statement.{statement}
 use Rattle.settings.proofs.needs_plus.Tie as tie

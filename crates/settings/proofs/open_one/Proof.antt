@@ -16,7 +16,7 @@ use Rattle.game.proofs.Accepted.{facts}
 use Rattle.tables.specs.Tables.{figureIn}
 use Rattle.tables.specs.Find.{tryMet, firstFound}
 use Rattle.settings.specs.Answers.{entryFound}
-use Rattle.settings.specs.Ways.{Asked}
+use Rattle.settings.specs.Routes.{Asked}
 use Rattle.settings.proofs.Trying.{closed-none, first-next, found-open, found-none}
 use Rattle.settings.proofs.open_one.Statement.{statement}
 use Rattle.settings.proofs.open_one.Tie as tie

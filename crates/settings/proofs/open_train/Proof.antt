@@ -3,7 +3,7 @@
 use native.Mathlib.Omega.{arith}
 use mathlib.Core.Path.{sym, _∙_}
 use Rattle.game.proofs.Accepted.{facts}
-use Rattle.settings.proofs.Ways.{power-small, shifted}
+use Rattle.settings.proofs.Routes.{power-small, shifted}
 use Rattle.settings.proofs.Trying.{open-minus, open-not, open-plus, open-neither}
 use borrow.Author.Needs.{needs}
 use Rattle.settings.proofs.open_train.Statement.{statement}

@@ -7,8 +7,8 @@ use Prim.Native.Nat.{ℕ, _-_, _≤_, _<_}
 use mathlib.Core.Logic.{⊎-elim}
 use Rattle.railway.specs.declared.Railway.{Railway}
 use Rattle.tables.specs.Tables.{figureIn}
-use Rattle.settings.specs.Ways.{Asked}
-use Rattle.settings.proofs.Ways.{with-small, NeedsTo, needs-start, needs-not, needs-one, needs-none, needs-end}
+use Rattle.settings.specs.Routes.{Asked}
+use Rattle.settings.proofs.Routes.{with-small, NeedsTo, needs-start, needs-not, needs-one, needs-none, needs-end}
 use Rattle.settings.proofs.plus_bits.Statement.{statement}
 use Rattle.settings.proofs.plus_bits.Tie as tie
 

@@ -11,8 +11,8 @@ use Rattle.railway.specs.declared.Railway.{Railway}
 use Rattle.tables.specs.Tables.{figureIn}
 use Rattle.game.specs.Placement.{codeOn}
 use Rattle.moves.specs.Steps.{sectionIn, On}
-use Rattle.settings.specs.Ways.{goodAtPlus}
-use Rattle.settings.proofs.Ways.{all-at-minus}
+use Rattle.settings.specs.Routes.{goodAtPlus}
+use Rattle.settings.proofs.Routes.{all-at-minus}
 use Rattle.settings.proofs.plus_holds.Statement.{statement}
 use Rattle.settings.proofs.plus_holds.Tie as tie
 

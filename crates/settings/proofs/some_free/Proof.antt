@@ -9,7 +9,7 @@ use Rattle.laws.proofs.Below.{any-next, any-one, any-none}
 use Rattle.railway.specs.declared.Railway.{Railway}
 use Rattle.game.specs.Setting.{free}
 use Rattle.moves.specs.Steps.{On}
-use Rattle.settings.proofs.Ways.{free-as}
+use Rattle.settings.proofs.Routes.{free-as}
 use borrow.Author.Needs.{needs}
 use Rattle.settings.proofs.some_free.Statement.{statement}
 use Rattle.settings.proofs.some_free.Tie as tie

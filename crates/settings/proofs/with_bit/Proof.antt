@@ -3,7 +3,7 @@
 use native.Mathlib.Omega.{arith}
 use borrow.Author.Needs.{needs}
 use Prim.Native.Nat.{_<_}
-use Rattle.settings.proofs.Ways.{power-small, shifted}
+use Rattle.settings.proofs.Routes.{power-small, shifted}
 use borrow.Author.Tests.{le-ltb, lt-ltb}
 use mathlib.Core.Path.{sym, _∙_}
 use Rattle.settings.proofs.with_bit.Statement.{statement}

@@ -33,7 +33,7 @@ use Rattle.compiled.specs.Table.{noByte, sectionByte}
 use Rattle.moves.specs.declared.Placement.{Placement}
 use Rattle.moves.specs.Steps.{noCode, sectionIn, On, otherIn, allAt}
 use Rattle.moves.proofs.Moving.{other-on, code-by-weight, derails, arrives, collides, stands-at}
-use Rattle.settings.specs.Ways.{Asked, pointMet, endsBelow, failsAtMinus, failsAnyway, neededPoints, goodAtPlus, withBit}
+use Rattle.settings.specs.Routes.{Asked, pointMet, endsBelow, failsAtMinus, failsAnyway, neededPoints, goodAtPlus, withBit}
 use Rattle.settings.proofs.Points.{meets-is, met-small}
 
 -- A TRAIN'S MOVE, the figure looked at before the other trains
