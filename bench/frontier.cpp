@@ -53,7 +53,7 @@ template <int K> struct Frontier {
     }
     void add_back(int t, int x, int32_t change, u32 plus) {
         if (change == 0) return;
-        int z = x + change / (int32_t)y.weight[t];
+        int z = x + change / (int32_t)y.stride[t];
         bool signal = y.step[t][x].signal;
         back[t][z][backs[t][z]++] = {-change, (u32)x, plus | (signal ? open_bit(t) : 0), signal};
     }

@@ -75,7 +75,7 @@ struct Graph {
             const Step& s = step(v, t);
             if (s.signal && !(setting(v) & open_bit(t))) continue;
             int32_t change = setting(v) & s.point ? s.plus : s.minus;
-            u32 to = change == 0 ? 0 : section(v, t) + change / (int32_t)y.weight[t];
+            u32 to = change == 0 ? 0 : section(v, t) + change / (int32_t)y.stride[t];
             successors.push_back((placement(v) & ~(u64(255) << 8 * t)) | u64(to) << 8 * t);
         }
         if (successors.empty()) successors.push_back(placement(v));
@@ -122,7 +122,7 @@ struct Graph {
         code = 0;
         for (int t = 0; t < y.trains; t++) {
             if (section(v, t) == 0) return false;
-            code += (section(v, t) - 1) * y.weight[t];
+            code += (section(v, t) - 1) * y.stride[t];
         }
         return true;
     }

@@ -41,8 +41,8 @@ struct Track {
     Track() { std::fill(joined, joined + ENDS, -1); }
     void join(int a, int b) { joined[a] = b; joined[b] = a; }
 
-    Step step(int end, int32_t weight) const {
-        auto change = [&](int to) { return to < 0 ? 0 : (to / 2 - end / 2) * weight; };
+    Step step(int end, int32_t stride) const {
+        auto change = [&](int to) { return to < 0 ? 0 : (to / 2 - end / 2) * stride; };
         Step s;
         s.signal = signal[end];
         int to = joined[end];
@@ -72,11 +72,11 @@ Yard read_yard(std::string_view text) {
         case 'G': track.signal[in.end()] = true; break;
         case 'T': {
             int t = in.number() - 1, heading = in.field() == "u" ? 0 : 1;
-            y.weight[t] = y.placements;
-            y.start += (in.number() - 1) * y.weight[t];
-            y.home += (in.number() - 1) * y.weight[t];
+            y.stride[t] = y.placements;
+            y.start += (in.number() - 1) * y.stride[t];
+            y.home += (in.number() - 1) * y.stride[t];
             y.placements *= y.sections;
-            for (int x = 0; x < y.sections; x++) y.step[t][x] = track.step(2 * x + heading, (int32_t)y.weight[t]);
+            for (int x = 0; x < y.sections; x++) y.step[t][x] = track.step(2 * x + heading, (int32_t)y.stride[t]);
         }
     }
     return y;

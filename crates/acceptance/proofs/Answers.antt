@@ -3,13 +3,14 @@ use mathlib.Core.Path.{_≡_, sym, _∙_, ap}
 use mathlib.Core.Option.{none, some}
 use Rattle.railway.specs.declared.Railway.{Railway}
 use Rattle.railway.specs.declared.Refusal.{Refusal}
+use Rattle.railway.specs.Refusals.{numberGiven}
 use Rattle.railway.specs.Rows.{recordRefusal}
 use Rattle.railway.proofs.Refusals.{number-tells}
-use Rattle.acceptance.specs.declared.Tested.{Tested}
-use Rattle.acceptance.specs.declared.Tested.the-variants.{Accepted, Refused}
-use Rattle.acceptance.specs.Answers.{numberGiven, Judged}
+use Rattle.railway.specs.declared.CaseAnswer.{CaseAnswer}
+use Rattle.railway.specs.declared.CaseAnswer.the-variants.{Accepted, Refused}
+use Rattle.acceptance.specs.Answers.{Judged}
 
-module _ (r : Railway) {t : Tested} (judged : Judged r t) where
+module _ (r : Railway) {t : CaseAnswer} (judged : Judged r t) where
   pub judged-refused : {f : Refusal} → t ≡ Refused f → recordRefusal r ≡ some f
   judged-refused {f} e = number-tells (recordRefusal r) (some f) (sym judged ∙ ap numberGiven e)
 

@@ -16,7 +16,7 @@ use Rattle.railway.specs.declared.Refusal.{Refusal}
 use Rattle.railway.specs.Ends.{endAt}
 use Rattle.railway.specs.Record.{linkAt, joined, trainOf}
 use Rattle.railway.specs.Refusals.{Row, numberOf, first}
-use Rattle.railway.specs.Rows.{known, unknownLinkAt, unknownTrainAt, tied, wrongPair, wrongLinkAt, leadsTo, unreturnedAt, recordRows, recordRefusal}
+use Rattle.railway.specs.Rows.{known, unknownLinkAt, unknownTrainAt, tied, wrongPair, wrongLinkAt, leadsTo, unreturnedAt, rowsBy, countRow, unknownRow, joinRow, looseRow, placeRow, recordRefusal}
 
 -- what a row makes of the link at a place
 module _ (r : Railway) (i : ℕ) (j : Joined) (is : j ≡ linkAt r i) where
@@ -69,14 +69,19 @@ pub all-passed : {given : Option Refusal} → Left given [] → none ≡ given
 unfolding first
 all-passed left = left .gives
 
--- of a record's rows the first n have been asked
-abbrev pub Asked : Railway → ℕ → Type 0
-Asked r n = Left (recordRefusal r) (drop n (recordRows r))
+-- of these rows the first n have been asked
+abbrev pub Asked : List Row → ℕ → Type 0
+Asked rows n = Left (first rows) (drop n rows)
 
-pub none-asked : (r : Railway) → Asked r 0
-unfolding recordRefusal
-none-asked r = record { gives = refl }
+pub none-asked : (rows : List Row) → Asked rows 0
+none-asked rows = record { gives = refl }
 
 -- what is given, by its number
-pub judged : (r : Railway) {o : Option Refusal} → o ≡ recordRefusal r → numberOf o ≡ numberOf (recordRefusal r)
-judged r h = ap numberOf h
+pub judged : {o g : Option Refusal} → o ≡ g → numberOf o ≡ numberOf g
+judged h = ap numberOf h
+
+-- the test of a record
+pub tested : (r : Railway) (n : Option ℕ) (u w : Bool) → n ≡ numberOf (first (rowsBy (countRow r) u w (looseRow r) false (placeRow r)))
+    → u ≡ unknownRow r → w ≡ joinRow r → n ≡ numberOf (recordRefusal r)
+unfolding recordRefusal
+tested r n u w e h k = e ∙ rw (h, k)

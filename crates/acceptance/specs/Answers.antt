@@ -2,23 +2,16 @@
 -- Contracts cite these; nothing of document 01 rests on the second part. Assumes nothing.
 use mathlib.Core.Path.{_≡_}
 use mathlib.Core.Bool.{Bool}
-use mathlib.Core.Option.{Option, none, some}
 use Prim.Native.Nat.{ℕ}
 use Rattle.railway.specs.declared.Railway.{Railway}
-use Rattle.acceptance.specs.declared.Tested.{Tested}
-use Rattle.acceptance.specs.declared.Tested.the-variants.{Accepted, Refused}
+use Rattle.railway.specs.declared.CaseAnswer.{CaseAnswer}
 use Rattle.acceptance.specs.declared.Flaw.{Flaw}
 use Rattle.acceptance.specs.declared.Flaw.the-variants.{UnknownLink, UnknownSignal, UnknownTrain, WrongLink, Unreturned, LoosePort, SharesWith}
-use Rattle.railway.specs.Refusals.{number, numberOf}
+use Rattle.railway.specs.Refusals.{numberGiven, numberOf}
 use Rattle.railway.specs.Rows.{recordRefusal, unknownLinkAt, unknownSignalAt, unknownTrainAt, wrongLinkAt, unreturnedAt, looseAt, sharesWith}
 
--- The number, in the table, of the refusal that a test answers, if it does.
-abbrev pub numberGiven : Tested → Option ℕ
-numberGiven Accepted = none
-numberGiven (Refused f) = some (number f)
-
 -- What the test of a record answers: the first of rows 3 to 8 that applies, by its number; accepted where none does.
-abbrev pub Judged : Railway → Tested → Type 0
+abbrev pub Judged : Railway → CaseAnswer → Type 0
 Judged r t = numberGiven t ≡ numberOf (recordRefusal r)
 
 -- What the test looks for, place by place.

@@ -5,8 +5,10 @@ ghost use mathlib.Core.Path.{_≡_};
 ghost use mathlib.Core.Bool.{_||_, _&&_};
 ghost use Rattle.laws.specs.Below.{anyBelow};
 ghost use Rattle.railway.specs.Ends.{sameSide};
-ghost use Rattle.railway.specs.Rows.{outside, known, unknownLinkAt, unknownSignalAt, unknownTrainAt, unknownRow, sectionOf, bothPorts, oneSection, tied, wrongPair, wrongLinkAt, leadsTo, unreturnedAt, joinRow, unjoined, looseAt, sharesWith, placeRow};
+ghost use Rattle.railway.specs.Refusals.{numberGiven, numberOf, first};
+ghost use Rattle.railway.specs.Rows.{rowsBy, countRow, looseRow, outside, known, unknownLinkAt, unknownSignalAt, unknownTrainAt, unknownRow, sectionOf, bothPorts, oneSection, tied, wrongPair, wrongLinkAt, leadsTo, unreturnedAt, joinRow, unjoined, looseAt, sharesWith, placeRow};
 ghost use Rattle.acceptance.specs.Answers.{Judged, flawAt};
+use railway::CaseAnswer;
 use railway::End;
 use railway::Joined;
 use railway::Leg;
@@ -15,13 +17,8 @@ use railway::Railway;
 use railway::Refusal;
 use railway::Side;
 
-pub enum Tested {
-    Accepted,
-    Refused(Refusal),
-}
-
 // What the rows look for, place by place. The last is asked of a train and of those before it.
-pub enum Flaw {
+enum Flaw {
     UnknownLink,
     UnknownSignal,
     UnknownTrain,
@@ -32,25 +29,35 @@ pub enum Flaw {
 }
 
 // The test of a record, rows 3 to 8 in the table's order. (Row 7 cannot apply: a record has one flag a signal.)
-pub fn test_record(r: Railway) -> Tested
+pub fn test_record(r: Railway) -> CaseAnswer
     ensures { λ t. ⌜ Judged r t ⌝ }
 {
+    first_row(r, unknown_named(r), joined_wrongly(r), false)
+}
+
+// The first of rows 3 to 8 that applies, given what rows 4, 5 and 7 say.
+pub fn first_row(r: Railway, unknown: bool, wrong: bool, double: bool) -> CaseAnswer
+    ensures { λ t. ⌜ numberGiven t ≡ numberOf (first (rowsBy (countRow r) unknown wrong (looseRow r) double (placeRow r))) ⌝ }
+{
     if counts_outside(r.sections, r.points, r.trains) {
-        return Tested::Refused(Refusal::Count);
+        return CaseAnswer::Refused(Refusal::Count);
     }
-    if unknown_named(r) {
-        return Tested::Refused(Refusal::Unknown);
+    if unknown {
+        return CaseAnswer::Refused(Refusal::Unknown);
     }
-    if joined_wrongly(r) {
-        return Tested::Refused(Refusal::Join);
+    if wrong {
+        return CaseAnswer::Refused(Refusal::Join);
     }
     if any_flaw(r, Flaw::LoosePort, r.points) {
-        return Tested::Refused(Refusal::Loose);
+        return CaseAnswer::Refused(Refusal::Loose);
+    }
+    if double {
+        return CaseAnswer::Refused(Refusal::Double);
     }
     if places_shared(r) {
-        return Tested::Refused(Refusal::Place);
+        return CaseAnswer::Refused(Refusal::Place);
     }
-    Tested::Accepted
+    CaseAnswer::Accepted
 }
 
 // Row 3.
@@ -96,7 +103,7 @@ fn joined_wrongly(r: Railway) -> bool
 }
 
 // Row 8.
-pub fn places_shared(r: Railway) -> bool
+fn places_shared(r: Railway) -> bool
     ensures { λ b. ⌜ b ≡ placeRow r ⌝ }
 {
     let k = r.trains;
@@ -111,7 +118,7 @@ pub fn places_shared(r: Railway) -> bool
 }
 
 // Whether a flaw shows at one of the first n places.
-pub fn any_flaw(r: Railway, f: Flaw, n: u8) -> bool
+fn any_flaw(r: Railway, f: Flaw, n: u8) -> bool
     ensures { λ b. ⌜ b ≡ anyBelow (flawAt r f) n ⌝ }
 {
     let mut i: u8 = 0;

@@ -10,14 +10,15 @@ use Rattle.text.proofs.Appending.{line-more, line-last, front-text}
 use Rattle.railway.specs.declared.Refusal.{Refusal}
 use Rattle.railway.specs.declared.Refusal.the-variants.{Length, Form, Count, Unknown, Join, Loose, Double, Place, Space, PlanForm, PlanFault}
 use Rattle.railway.specs.Refusals.{number}
+use Rattle.casefile.specs.declared.Written.{Written}
 use Rattle.plan.specs.declared.TestAnswer.{TestAnswer}
 use Rattle.plan.specs.declared.TestAnswer.the-variants.{Pass, Refused}
-use Rattle.answerlines.specs.Lines.{refusedWord, refusalLine, passLine, testLine, Spelled}
+use Rattle.answerlines.specs.Lines.{refusedWord, refusalLine, passLine, testLine, PutPost}
 
 pub refusal-made : {o o₁ o₂ : List ℕ} {a a₁ a₂ : ℕ} (f : Refusal) (n : ℕ) → n ≡ number f → Appended o a (refusedWord ++ (tab ∷ [])) o₁ a₁ → Appended o₁ a₁ (decimal n ++ (lineEnd ∷ [])) o₂ a₂ → Appended o a (refusalLine f) o₂ a₂
 refusal-made f n is p d = rw (← is) (line-more refusedWord (decimal n) [] p (line-last (decimal n) d))
 
--- IN A BUFFER OF ITS OWN, with room: what stands there is the line, so a copy of it is the line spelled
+-- IN A BUFFER OF ITS OWN, with room: what stands there is the line, so what is put from there is the line
 pub refusal-short : (f : Refusal) → length (refusalLine f) ≤ 16
 unfolding bytes line digits
 refusal-short Length = omega arith
@@ -32,13 +33,13 @@ refusal-short Space = omega arith
 refusal-short PlanForm = omega arith
 refusal-short PlanFault = omega arith
 
-pub made-copied : {blank text buffer old new : List ℕ} {n m : ℕ} → Appended blank 0 text buffer n → length text ≤ length blank → Spelled (take n buffer) old new m → Spelled text old new m
-made-copied p room s = rw (front-text p room) at s
+pub made-put : {blank text buffer old new : List ℕ} {n : ℕ} {w : Written} → Appended blank 0 text buffer n → length text ≤ length blank → PutPost (take n buffer) old w new → PutPost text old w new
+made-put p room s = rw (front-text p room) at s
 
 -- the test's answer is one of the two
-module _ (old new : List ℕ) (n : ℕ) (t : TestAnswer) where
-  pub passed-line : t ≡ Pass → Spelled passLine old new n → Spelled (testLine t) old new n
+module _ (old new : List ℕ) (w : Written) (t : TestAnswer) where
+  pub passed-line : t ≡ Pass → PutPost passLine old w new → PutPost (testLine t) old w new
   passed-line e h = rw e h
 
-  pub refused-line : (f : Refusal) → t ≡ Refused f → Spelled (refusalLine f) old new n → Spelled (testLine t) old new n
+  pub refused-line : (f : Refusal) → t ≡ Refused f → PutPost (refusalLine f) old w new → PutPost (testLine t) old w new
   refused-line f e h = rw e h

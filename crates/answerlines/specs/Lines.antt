@@ -1,12 +1,17 @@
--- The lines that programs write for an answer (document 01, end of "The two tables and the plan": what the two programs write). Assumes nothing.
+-- The lines that programs write for an answer (document 01, end of "The two tables and the plan": what the two programs write), and what is left of a
+-- lent buffer that a text is put into (row 9 of the table of numbers). Assumes nothing.
 use mathlib.Core.Path.{_≡_}
 use mathlib.Core.List.{List, [], _∷_}
+use mathlib.Core.Option.{Option}
 use Prim.Native.Nat.{ℕ, _≤_}
+use lib.Dec.{ltb}
 use lib.ListN.{length, take}
 use Rattle.text.specs.Text.{decimal, line, bytes}
-use Rattle.text.specs.Appending.{bytesAfter}
 use Rattle.railway.specs.declared.Refusal.{Refusal}
-use Rattle.railway.specs.Refusals.{number}
+use Rattle.railway.specs.declared.Refusal.the-variants.{Space}
+use Rattle.railway.specs.Refusals.{number, numberOf, row, first}
+use Rattle.casefile.specs.declared.Written.{Written}
+use Rattle.casefile.specs.Writing.{writerAnswer, writerBuffer, writtenNumber}
 use Rattle.plan.specs.declared.TestAnswer.{TestAnswer}
 use Rattle.plan.specs.declared.TestAnswer.the-variants.{Pass, Refused}
 
@@ -31,29 +36,34 @@ abbrev pub testLine : TestAnswer → List ℕ
 testLine Pass = passLine
 testLine (Refused f) = refusalLine f
 
--- A text at the front of a buffer, the rest as it was; what finds no room is lost.
-abbrev pub Fronted : List ℕ → List ℕ → List ℕ → Type 0
-Fronted old text new = new ≡ bytesAfter old 0 text
+-- A TEXT INTO A LENT BUFFER. 9, space, is given if the text is longer than the buffer.
+abbrev pub putRefusal : List ℕ → List ℕ → Option Refusal
+putRefusal text buffer = first (row Space (ltb (length buffer) (length text)) ∷ [])
 
--- WHAT THE CALLS PROMISE that put a text at the front of a buffer: the buffer so, and the length of the text, whether or not there was room for it.
-pub record Spelled (text old new : List ℕ) (n : ℕ) : Type 0 where
-  pub front : Fronted old text new
-  pub bytes : n ≡ length text
+-- The buffer's bytes afterwards: the text in front, the rest as it was; all as it was where it is refused.
+abbrev pub putInto : List ℕ → List ℕ → List ℕ
+putInto text buffer = writerBuffer text buffer (putRefusal text buffer)
+
+-- WHAT THE CALLS PROMISE that put a text into a buffer, which comes back as `new`: how many bytes the text has, or the refusal; the answer's number; and
+-- the bytes.
+pub record PutPost (text old : List ℕ) (w : Written) (new : List ℕ) : Type 0 where
+  pub answer : w ≡ writerAnswer text (putRefusal text old)
+  pub numbered : writtenNumber w ≡ numberOf (putRefusal text old)
+  pub buffer : new ≡ putInto text old
 
 -- So many bytes has the longest of these lines at most.
 abbrev pub mostAnswerBytes : ℕ
 mostAnswerBytes = 16
 
--- WHAT THE CALLS PROMISE that put all that a program writes at the front of a buffer: one of the texts that it may write, none of which is longer
--- than so many bytes.
-pub record Puts (Output : List ℕ → Type 0) (most : ℕ) (old new : List ℕ) (n : ℕ) : Type 0 where
+-- WHAT THE CALLS PROMISE that put all that a program writes into a buffer: one of the texts that it may write, none of which is longer than so many
+-- bytes, is put there.
+pub record Puts (Output : List ℕ → Type 0) (most : ℕ) (old : List ℕ) (w : Written) (new : List ℕ) : Type 0 where
   pub text : List ℕ
   pub output : Output text
   pub short : length text ≤ most
-  pub spelled : Spelled text old new n
+  pub put : PutPost text old w new
 
--- In a buffer of so many bytes it stands whole: the first n bytes are such a text.
-abbrev pub PutsWhole : Type 1
-PutsWhole =
-    (Output : List ℕ → Type 0) (most n : ℕ) (old new : List ℕ) → Puts Output most old new n → most ≤ length old
-    → (n ≤ length new) × Output (take n new)
+-- All that a program writes stands whole in a buffer: its first n bytes are one of the texts that it may write.
+pub record FrontIs (Output : List ℕ → Type 0) (n : ℕ) (buffer : List ℕ) : Type 0 where
+  pub within : n ≤ length buffer
+  pub output : Output (take n buffer)

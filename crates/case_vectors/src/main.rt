@@ -1,8 +1,8 @@
 // Case texts and what is made of each: read, and if it is accepted written again; else `refused`, a tab and the number. Standard
 // input is records (crate framed), each of 65,536 bytes at most.
-use casefile::CaseAnswer;
 use casefile::Written;
 use libc::STDOUT_FILENO;
+use railway::CaseAnswer;
 use railway::Railway;
 
 fn main() {

@@ -29,8 +29,8 @@ use Rattle.railway.specs.Rows.{bothPorts, oneSection, recordRefusal}
 use Rattle.railway.specs.Rows as RR
 use Rattle.railway.proofs.Ends.{end-section}
 use Rattle.railway.proofs.Accepted.{Right, Accepted, facts-accepted}
-use Rattle.casefile.specs.Form.{EndField, section, port, SignalLine, TrainLine, Description, WellFormed}
-use Rattle.casefile.specs.Rows.{known, sectionOf, sideOf, sameSignal}
+use Rattle.casefile.specs.Form.{EndField, section, port, SignalLine, TrainLine, Description, WellFormed, sameSignal}
+use Rattle.casefile.specs.Rows.{known, sectionOf, sideOf}
 use Rattle.casefile.specs.Recording.{endOf, fieldOf, partner, signalOf, trainOfLine, noTrainLine, railwayOf}
 use Rattle.casefile.specs.Claims.{AcceptedAgain}
 use Rattle.casefile.proofs.Exactly.{accepted-exactly}

@@ -26,8 +26,8 @@ use Rattle.railway.specs.Ends.{sideAt, endIndex, endAt}
 use Rattle.railway.specs.Record.{noLegs, noLink, noTrain, linkAt, flagAt, joined, hasSignal, legsOf, trainOf}
 use Rattle.railway.proofs.Ends.{Numbered, end-index, index-below, numbered-of, end-section, section-below}
 use Rattle.railway.proofs.Lookups.{Flagged, signal-flag}
-use Rattle.casefile.specs.Form.{EndField, section, port, SignalLine, Description, WellFormed}
-use Rattle.casefile.specs.Rows.{known, sameSignal}
+use Rattle.casefile.specs.Form.{EndField, section, port, SignalLine, Description, WellFormed, sameSignal}
+use Rattle.casefile.specs.Rows.{known}
 use Rattle.casefile.specs.Recording.{endOf, fieldOf, partner, signalOf, trainOfLine, noTrainLine, railwayOf}
 use Rattle.casefile.specs.Claims.{Names, Joins, Signals, TrainSaid, AsDescribed, ReadAsDescribed}
 use Rattle.casefile.proofs.Exactly.{accepted-exactly}

@@ -22,8 +22,8 @@ use Rattle.railway.specs.declared.Joined.the-variants.{Nothing, With}
 use Rattle.railway.specs.Ends.{sameSide, legIndex, legAt}
 use Rattle.railway.specs.Rows.{bothPorts, oneSection}
 use Rattle.railway.specs.Rows as RR
-use Rattle.casefile.specs.Form.{EndField, section, port, JoinLine, SignalLine}
-use Rattle.casefile.specs.Rows.{sectionOf, sameEnd, sameSignal, joinEnds}
+use Rattle.casefile.specs.Form.{EndField, section, port, JoinLine, SignalLine, sameEnd, sameSignal}
+use Rattle.casefile.specs.Rows.{sectionOf, joinEnds}
 use Rattle.casefile.specs.Recording.{endOf, fieldOf, partner}
 
 -- THE SAME END, the same signal

@@ -18,24 +18,20 @@ use Rattle.laws.proofs.Bools.{clash, some-none, some-one, not-true}
 use Rattle.laws.proofs.Lists.{every-none, every-more, map-in, map-append, parted}
 use Rattle.railway.specs.declared.Railway.{Railway}
 use Rattle.railway.specs.declared.Refusal.{Refusal}
-use Rattle.railway.specs.declared.Refusal.the-variants.{Length, Form, Count, Unknown, Join, Loose, Double, Place}
-use Rattle.railway.specs.Refusals.{number, Row, row, first, FirstOf}
+use Rattle.railway.specs.declared.Refusal.the-variants.{Length, Form}
+use Rattle.railway.specs.Refusals.{number, numberGiven, Row, row, NotApplying, first, FirstOf, FirstRow}
 use Rattle.railway.specs.Record.{emptyRailway}
-use Rattle.railway.proofs.Refusals.{FirstRow, first-is, first-none, none-first, number-one}
+use Rattle.railway.proofs.Refusals.{first-is, first-none, none-first, number-one}
 use Rattle.casefile.specs.declared.CaseRead.{CaseRead}
-use Rattle.casefile.specs.declared.CaseAnswer.{CaseAnswer}
-use Rattle.casefile.specs.declared.CaseAnswer.the-variants.{Accepted, Refused}
+use Rattle.railway.specs.declared.CaseAnswer.{CaseAnswer}
+use Rattle.railway.specs.declared.CaseAnswer.the-variants.{Accepted, Refused}
 use Rattle.casefile.specs.Form.{Description, Describes}
-use Rattle.casefile.specs.Rows.{mostBytes, countRow, unknownRow, joinRow, looseRow, doubleRow, placeRow, descriptionRows}
+use Rattle.casefile.specs.Rows.{mostBytes, countRow, unknownRow, joinRow, looseRow, doubleRow, placeRow, descriptionRows, descriptionTable}
 use Rattle.casefile.specs.Recording.{railwayOf}
-use Rattle.casefile.specs.Given.{accepted, refused, numberGiven, railwayGiven, Says, Applies, caseTable, RefusedWith, AcceptedWith, ReaderPost}
+use Rattle.casefile.specs.Given.{accepted, refused, railwayGiven, Says, Applies, caseTable, RefusedWith, AcceptedWith, ReaderPost}
 use Rattle.casefile.specs.Reading.{read, caseRows, judged, caseAnswer}
 use Rattle.casefile.specs.Claims.{RefusedExactly, AcceptedExactly, ReaderAnswers, AlwaysAnswered}
 use Rattle.casefile.proofs.Whole.{read-sound, read-complete, describes-one, form-decided}
-
--- a row that does not apply
-abbrev pub Off : Row → Type 0
-Off x = x .applies ≡ false
 
 -- a computed row applies exactly where the table's does
 pub record Agrees (text : List ℕ) (x : Row) : Type 0 where
@@ -74,7 +70,7 @@ module _ (text : List ℕ) where
 
   -- the computed rows stand in the table's order, where nothing is read as far as row 2
   rest-of : Option Description → List Refusal
-  rest-of none = Count ∷ Unknown ∷ Join ∷ Loose ∷ Double ∷ Place ∷ []
+  rest-of none = descriptionTable
   rest-of (some d) = []
 
   in-order : (o : Option Description) → caseTable ≡ map (λ x. x .refusal) (caseRows text o) ++ rest-of o
@@ -109,7 +105,7 @@ module _ (text : List ℕ) where
   ]
 
   -- where no computed row applies, no row of the table does
-  none-applies : (d : Description) → read text ≡ some d → Every Off (caseRows text (some d)) → Every (λ f. Applies text f → ⊥) caseTable
+  none-applies : (d : Description) → read text ≡ some d → Every NotApplying (caseRows text (some d)) → Every (λ f. Applies text f → ⊥) caseTable
   none-applies d e h f m =
       let t = map-in (λ x. x .refusal) (caseRows text (some d)) f m in
       rw (t .is) (rows-agree (some d) e (t .element) (t .member) .off (h (t .element) (t .member)))
@@ -117,7 +113,7 @@ module _ (text : List ℕ) where
   -- THE ANSWER, by what is read and what is given
   pub data Answered : Type 0 where
     refusing : (f : Refusal) → caseAnswer text ≡ refused f → RefusedWith text f → Answered
-    accepting : (d : Description) → caseAnswer text ≡ accepted (railwayOf d) → read text ≡ some d → Every Off (caseRows text (some d)) → Answered
+    accepting : (d : Description) → caseAnswer text ≡ accepted (railwayOf d) → read text ≡ some d → Every NotApplying (caseRows text (some d)) → Answered
 
   by-first : (o : Option Description) (g : Option Refusal) → read text ≡ o → first (caseRows text o) ≡ g → caseAnswer text ≡ judged o g → Answered
   by-first o (some f) e h a = refusing f a (chosen-first o f e (first-is (caseRows text o) f h))
@@ -160,8 +156,8 @@ module _ (text : List ℕ) where
   unfolding caseAnswer
   is-accepted r w =
       let d = w .description in
-      let off : Every Off (caseRows text (some d)) =
-      every-more Off _ _ (le-ltb mostBytes (length text) (w .short)) (every-more Off (row Form false) (descriptionRows d) refl (w .no-row)) in
+      let off : Every NotApplying (caseRows text (some d)) =
+      every-more NotApplying _ _ (le-ltb mostBytes (length text) (w .short)) (every-more NotApplying (row Form false) (descriptionRows d) refl (w .no-row)) in
       rw (read-complete text d (w .described), none-first (caseRows text (some d)) off, w .railway)
 
 -- the answer to a text that says something, by its rows

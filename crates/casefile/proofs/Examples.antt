@@ -24,13 +24,14 @@ use Rattle.railway.specs.Refusals.{number, first}
 use Rattle.railway.specs.Record.{emptyRailway, joined, hasSignal, legsOf, trainOf}
 use Rattle.railway.specs.Rows as R
 use Rattle.railway.specs.Rows.{recordRefusal}
-use Rattle.casefile.specs.declared.CaseAnswer.{CaseAnswer}
-use Rattle.casefile.specs.declared.CaseAnswer.the-variants.{Accepted, Refused}
+use Rattle.railway.specs.declared.CaseAnswer.{CaseAnswer}
+use Rattle.railway.specs.declared.CaseAnswer.the-variants.{Accepted, Refused}
 use Rattle.casefile.specs.declared.Written.the-variants as W
 use Rattle.casefile.specs.Form.{rising, spell}
 use Rattle.casefile.specs.Rows.{joinEnds, unknownRow, joinRow, looseRow, doubleRow, placeRow}
 use Rattle.casefile.specs.Recording.{partner, railwayOf}
 use Rattle.casefile.specs.Writing.{descriptionOf, writtenText, writerRefusal, written, bufferAfter}
+use Rattle.casefile.specs.YardTexts.{textA}
 use Rattle.casefile.specs.Reading.{counted, while, sideFieldAt, legFieldAt, endFieldAt, headerAt, pointLineAt, joinLineAt, signalLineAt, trainLineAt, walk, read, caseAnswer}
 
 -- The number that a text is refused with; 0: it is accepted.
@@ -38,13 +39,10 @@ given : CaseAnswer → ℕ
 given Accepted = 0
 given (Refused f) = number f
 
--- YARD A, as document 01 has it, and the record that it is read into, with every value written out.
-yardA : String
-yardA = "H\t3\t1\t2\nP\t1\td\nJ\t1u\t1+\nJ\t2u\t1-\nJ\t3d\t1s\nG\t1d\nG\t2u\nT\t1\tu\t2\t3\nT\t2\td\t3\t1\n"
-
+-- YARD A, and the record that it is read into, with every value written out.
 recordA : Railway
-unfolding bytes yardA
-recordA = caseAnswer (bytes yardA) .railway
+unfolding bytes
+recordA = caseAnswer (bytes textA) .railway
 
 abbrev up : ℕ → End
 up n = Section (record { 0 = n }) Up
@@ -52,14 +50,14 @@ up n = Section (record { 0 = n }) Up
 abbrev down : ℕ → End
 down n = Section (record { 0 = n }) Down
 
-yard-a : (given (caseAnswer (bytes yardA) .answer) ≡ 0) × (recordRefusal recordA ≡ none)
+yard-a : (given (caseAnswer (bytes textA) .answer) ≡ 0) × (recordRefusal recordA ≡ none)
     × ((recordA .sections ≡ 3) × (recordA .points ≡ 1) × (recordA .trains ≡ 2) × (legsOf recordA 0 ≡ Down))
     × (map (joined recordA) (down 0 ∷ up 0 ∷ down 1 ∷ up 1 ∷ down 2 ∷ up 2 ∷ Port (record { 0 = 0 }) Stem ∷ Port (record { 0 = 0 }) Plus ∷ Port (record { 0 = 0 }) Minus ∷ [])
     ≡ Nothing ∷ With (Port (record { 0 = 0 }) Plus) ∷ Nothing ∷ With (Port (record { 0 = 0 }) Minus) ∷ With (Port (record { 0 = 0 }) Stem) ∷ Nothing ∷ With (down 2) ∷ With (up 0) ∷ With (up 1) ∷ [])
     × (map (hasSignal recordA) (down 0 ∷ up 0 ∷ down 1 ∷ up 1 ∷ down 2 ∷ up 2 ∷ []) ≡ true ∷ false ∷ false ∷ true ∷ false ∷ false ∷ [])
     × (trainOf recordA 0 ≡ record { heading = Up; start = record { 0 = 1 }; destination = record { 0 = 2 } })
     × (trainOf recordA 1 ≡ record { heading = Down; start = record { 0 = 2 }; destination = record { 0 = 0 } })
-unfolding bytes yardA recordA given first digits line isDigit byteAt digitsAt numberAt counted while sideFieldAt legFieldAt endFieldAt headerAt pointLineAt joinLineAt signalLineAt trainLineAt walk read caseAnswer anyBelow listBelow any repeats joinEnds unknownRow joinRow looseRow doubleRow placeRow partner railwayOf endAt joined hasSignal legsOf trainOf R.unknownRow R.joinRow R.looseRow R.placeRow recordRefusal
+unfolding bytes recordA given first digits line isDigit byteAt digitsAt numberAt counted while sideFieldAt legFieldAt endFieldAt headerAt pointLineAt joinLineAt signalLineAt trainLineAt walk read caseAnswer anyBelow listBelow any repeats joinEnds unknownRow joinRow looseRow doubleRow placeRow partner railwayOf endAt joined hasSignal legsOf trainOf R.unknownRow R.joinRow R.looseRow R.placeRow recordRefusal
 yard-a = (refl, refl, (refl, refl, refl, refl), refl, refl, refl, refl)
 
 -- THE TABLE of texts, each with the number that it is refused with; 0: it is accepted.
@@ -237,11 +235,11 @@ return = refl
 
 -- THE WRITER. Yard A's text has 68 bytes: a buffer of 68 takes it, the end of one of 70 is kept, and 67 bytes are too few. A record that is refused
 -- is so for its own fault, however short the buffer.
-writes : (written recordA (replicate 68 7) ≡ W.Bytes 68) × (bufferAfter recordA (replicate 68 7) ≡ bytes yardA)
-    × (written recordA (replicate 70 7) ≡ W.Bytes 68) × (bufferAfter recordA (replicate 70 7) ≡ bytes yardA ++ (7 ∷ 7 ∷ []))
+writes : (written recordA (replicate 68 7) ≡ W.Bytes 68) × (bufferAfter recordA (replicate 68 7) ≡ bytes textA)
+    × (written recordA (replicate 70 7) ≡ W.Bytes 68) × (bufferAfter recordA (replicate 70 7) ≡ bytes textA ++ (7 ∷ 7 ∷ []))
     × (written recordA (replicate 67 7) ≡ W.Refused Space) × (bufferAfter recordA (replicate 67 7) ≡ replicate 67 7)
     × (written emptyRailway [] ≡ W.Refused Count) × (bufferAfter emptyRailway (1 ∷ 2 ∷ []) ≡ 1 ∷ 2 ∷ [])
-unfolding bytes yardA recordA first digits line isDigit byteAt digitsAt numberAt counted while sideFieldAt legFieldAt endFieldAt headerAt pointLineAt joinLineAt signalLineAt trainLineAt walk read caseAnswer anyBelow listBelow gatherBelow any repeats joinEnds unknownRow joinRow looseRow doubleRow placeRow partner railwayOf endAt joined hasSignal legsOf trainOf R.unknownRow R.joinRow R.looseRow R.placeRow recordRefusal flatMap rising spell descriptionOf writtenText writerRefusal written bufferAfter
+unfolding bytes recordA first digits line isDigit byteAt digitsAt numberAt counted while sideFieldAt legFieldAt endFieldAt headerAt pointLineAt joinLineAt signalLineAt trainLineAt walk read caseAnswer anyBelow listBelow gatherBelow any repeats joinEnds unknownRow joinRow looseRow doubleRow placeRow partner railwayOf endAt joined hasSignal legsOf trainOf R.unknownRow R.joinRow R.looseRow R.placeRow recordRefusal flatMap rising spell descriptionOf writtenText writerRefusal written bufferAfter
 writes = (refl, refl, refl, refl, refl, refl, refl, refl)
 
 -- Lines that come in disorder and turned round are written in the one order that the writer knows.

@@ -15,12 +15,11 @@ use Rattle.railway.specs.declared.Leg.{Leg}
 use Rattle.railway.specs.declared.Leg.the-variants.{Stem, Plus, Minus}
 use Rattle.railway.specs.declared.Refusal.the-variants.{Count, Unknown, Join, Loose, Double, Place}
 use Rattle.railway.specs.Ends.{sameSide}
-use Rattle.railway.specs.Refusals.{row}
+use Rattle.railway.specs.Refusals.{row, NotApplying}
 use Rattle.railway.specs.Rows.{bothPorts, oneSection}
 use Rattle.railway.proofs.Accepted.{Bounded, bounded, within-bounds}
-use Rattle.casefile.specs.Form.{port, JoinLine, Description}
-use Rattle.casefile.specs.Rows.{countRow, within, known, unknownJoin, unknownSignal, unknownTrain, unknownRow, sectionOf, sideOf, wrongJoin, sameEnd, joinEnds, joinRow, looseEnd, looseAt, looseRow, sameSignal, doubleRow, placeRow, descriptionRows}
-use Rattle.casefile.proofs.Exactly.{Off}
+use Rattle.casefile.specs.Form.{port, JoinLine, Description, sameEnd, sameSignal}
+use Rattle.casefile.specs.Rows.{countRow, within, known, unknownJoin, unknownSignal, unknownTrain, unknownRow, sectionOf, sideOf, wrongJoin, joinEnds, joinRow, looseEnd, looseAt, looseRow, doubleRow, placeRow, descriptionRows}
 
 -- a J line as it should be
 pub record RightJoin (d : Description) (j : JoinLine) : Type 0 where
@@ -61,7 +60,7 @@ module _ (d : Description) where
       let b = or-false (looseEnd d (port (suc n) Stem)) (looseEnd d (port (suc n) Plus)) (a .0) in
       elim l [ Stem ↦ b .0 | Plus ↦ b .1 | Minus ↦ a .1 ]
 
-  pub faultless-facts : Every Off (descriptionRows d) → Faultless d
+  pub faultless-facts : Every NotApplying (descriptionRows d) → Faultless d
   unfolding unknownRow joinRow looseRow doubleRow placeRow
   faultless-facts h =
       let r3 = h (row Count (countRow d)) (List·Memᴰ·head refl) in
@@ -115,12 +114,12 @@ module _ (d : Description) where
     unfolding placeRow
     no-place = or-none _ _ (w .starts) (w .destinations)
 
-    pub facts-faultless : Every Off (descriptionRows d)
+    pub facts-faultless : Every NotApplying (descriptionRows d)
     facts-faultless =
-        every-more Off _ _ (within-bounds (d .sections) (d .points) (d .trains) (w .bounds))
-        (every-more Off _ _ no-unknown
-        (every-more Off _ _ no-join
-        (every-more Off _ _ no-loose
-        (every-more Off _ _ no-double
-        (every-more Off _ _ no-place
-        (every-none Off))))))
+        every-more NotApplying _ _ (within-bounds (d .sections) (d .points) (d .trains) (w .bounds))
+        (every-more NotApplying _ _ no-unknown
+        (every-more NotApplying _ _ no-join
+        (every-more NotApplying _ _ no-loose
+        (every-more NotApplying _ _ no-double
+        (every-more NotApplying _ _ no-place
+        (every-none NotApplying))))))

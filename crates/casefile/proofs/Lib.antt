@@ -15,3 +15,4 @@ pub mod RoundTrip
 pub mod Order
 pub mod Call
 pub mod YardTexts
+pub mod Uses

@@ -29,7 +29,7 @@ every-copies P zero x l p h = h
 every-copies P (suc n) x l p h = every-more P x (copies n x l) p (every-copies P n x l p h)
 
 -- ten sections, G 1u so many times, G 10u so many times, one train
-long : ℕ → ℕ → Description
+pub long : ℕ → ℕ → Description
 long short wide =
     record {
       sections = 10;
@@ -41,7 +41,7 @@ long short wide =
       roster = record { heading = Up; start = 1; destination = 1 } ∷ [];
     }
 
-long-described : (a b : ℕ) → Describes (spell (long a b)) (long a b)
+pub long-described : (a b : ℕ) → Describes (spell (long a b)) (long a b)
 unfolding long
 long-described a b =
     record {
@@ -60,7 +60,7 @@ long-described a b =
     }
 
 -- A text in form of 4,096 bytes is read on, and refused for its repeated signals; with one byte more, whatever it says, it is too long.
-lengths : (length (spell (long 813 2)) ≡ 4096) × (caseAnswer (spell (long 813 2)) ≡ refused Double)
+pub lengths : (length (spell (long 813 2)) ≡ 4096) × (caseAnswer (spell (long 813 2)) ≡ refused Double)
     × (length (spell (long 812 3)) ≡ 4097) × (caseAnswer (spell (long 812 3)) ≡ refused Length)
     × (caseAnswer (replicate 4096 0) ≡ refused Form) × (caseAnswer (replicate 4097 0) ≡ refused Length)
 unfolding long copies spell flatMap rising first digits line isDigit byteAt digitsAt numberAt headerAt walk read caseAnswer anyBelow any repeats joinEnds unknownRow joinRow looseRow doubleRow placeRow

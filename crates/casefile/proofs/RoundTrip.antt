@@ -35,12 +35,11 @@ use Rattle.casefile.specs.Recording.{fieldOf, signalOf, noTrainLine, rai
 use Rattle.casefile.specs.Writing.{joinAt, signalAt, lineOfTrain, descriptionOf, writtenText}
 use Rattle.casefile.specs.Given.{accepted}
 use Rattle.casefile.specs.Reading.{caseAnswer}
-use Rattle.casefile.specs.Claims.{Names, Joins, Signals, TrainSaid, AsDescribed, WrittenAsDescribed, RoundTrip, ReadAgain, SameRefusal, SameText, TextSame}
+use Rattle.casefile.specs.Claims.{Names, Joins, Signals, TrainSaid, AsDescribed, WrittenAsDescribed, RoundTrip, SameRefusal, SameText, TextSame}
 use Rattle.casefile.proofs.Exactly.{accepted-exactly, accepted-one}
 use Rattle.casefile.proofs.Faultless.{facts-faultless}
 use Rattle.casefile.proofs.Ends.{field-one}
 use Rattle.casefile.proofs.Described.{names-field, names-is, signal-names, as-described}
-use Rattle.casefile.proofs.Again.{accepted-again}
 use Rattle.casefile.proofs.Writer.{from-link, from-flag, join-written, signal-written, joined-link, link-joined, link-back, faultless, well-formed}
 use Rattle.casefile.proofs.Lengths.{short}
 
@@ -225,8 +224,3 @@ text-same r q a b e =
     let y = round-trip q b in
     let z : x .0 ≡ y .0 = accepted-one (writtenText r) (x .0) (y .0) (x .1) (rw e (y .1)) in
     same-trans (rw z at (x .2)) (same-sym (y .2))
-
-pub read-again : ReadAgain
-read-again text r e =
-    let t = round-trip r (accepted-again text r e) in
-    (t .0, t .1, t .2, same-text (t .0) r (same-sym (t .2)))

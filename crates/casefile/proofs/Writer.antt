@@ -31,8 +31,8 @@ use Rattle.railway.specs.Rows as RR
 use Rattle.railway.proofs.Ends.{Numbered, index-below, index-end, end-section, section-below, port-behind}
 use Rattle.railway.proofs.Lookups.{joined-there}
 use Rattle.railway.proofs.Accepted.{Right, Accepted, joined-known, joined-right, joined-back}
-use Rattle.casefile.specs.Form.{EndField, section, port, JoinLine, SignalLine, TrainLine, WritableEnd, WritableSignal, WritableTrain, WellFormed}
-use Rattle.casefile.specs.Rows.{within, known, sectionOf, sideOf, sameEnd, joinEnds, sameSignal}
+use Rattle.casefile.specs.Form.{EndField, section, port, JoinLine, SignalLine, TrainLine, WritableEnd, WritableSignal, WritableTrain, WellFormed, sameEnd, sameSignal}
+use Rattle.casefile.specs.Rows.{within, known, sectionOf, sideOf, joinEnds}
 use Rattle.casefile.specs.Recording.{fieldOf, signalOf}
 use Rattle.casefile.specs.Writing.{joinFrom, joinAt, signalAt, lineOfTrain, descriptionOf}
 use Rattle.casefile.proofs.Faultless.{Faultless, RightJoin, is-within}

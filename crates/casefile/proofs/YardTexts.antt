@@ -22,7 +22,7 @@ AllAnswered (x ∷ xs) = (caseAnswer (bytes (x .text)) ≡ accepted (x .yard)) �
 
 all-answered : AllAnswered yardTexts
 unfolding yardTexts bytes first digits line isDigit byteAt digitsAt numberAt counted while sideFieldAt legFieldAt endFieldAt headerAt pointLineAt joinLineAt signalLineAt trainLineAt walk read caseAnswer anyBelow listBelow any repeats joinEnds unknownRow joinRow looseRow doubleRow placeRow partner railwayOf endAt withJoin withSignal withLegs withTrain
-all-answered = (refl, (refl, (refl, (refl, (refl, (refl, (refl, tt)))))))
+all-answered = (refl, (refl, (refl, (refl, (refl, (refl, (refl, (refl, tt))))))))
 
 each-accepted : (xs : List YardText) → AllAnswered xs → AllAccepted xs
 each-accepted [] h = tt

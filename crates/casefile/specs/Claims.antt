@@ -114,12 +114,6 @@ WrittenFits = (r : Railway) → recordRefusal r ≡ none → length (writtenText
 abbrev pub AcceptedAgain : Type 0
 AcceptedAgain = (text : List ℕ) (r : Railway) → caseAnswer text ≡ accepted r → recordRefusal r ≡ none
 
--- What was read, written and read again is the same railway, and what is written of it is what was written before.
-abbrev pub ReadAgain : Type 0
-ReadAgain =
-    (text : List ℕ) (r : Railway) → caseAnswer text ≡ accepted r
-    → (q : Railway) × (caseAnswer (writtenText r) ≡ accepted q) × SameRailway r q × (writtenText q ≡ writtenText r)
-
 -- THE WRITER'S ORDER. Where an end stands in it: section ends by number, down before up, and ports behind them all
 -- (2,000 is past every section end, for numbers are below 1,000).
 abbrev pub rank : EndField → ℕ

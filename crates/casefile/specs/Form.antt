@@ -1,8 +1,10 @@
 -- The form of a case text (document 01, "The case file"): what such a text says, and how it is spelled. A text is in form if some well-formed
 -- description spells it. Sections, points and trains count from 1 here, as in the text, and 0 can be written. Assumes nothing.
 use mathlib.Core.Path.{_≡_}
+use mathlib.Core.Bool.{Bool, false, _&&_}
 use mathlib.Core.List.{List, [], _∷_, _++_, flatMap}
 use Prim.Native.Nat.{ℕ, suc, _<_}
+use lib.Dec.{eqb}
 use lib.ListN.{length}
 use Rattle.laws.specs.Lists.{Every}
 use Rattle.text.specs.Text.{byte, decimal, line}
@@ -10,6 +12,7 @@ use Rattle.railway.specs.declared.Side.{Side}
 use Rattle.railway.specs.declared.Side.the-variants.{Up, Down}
 use Rattle.railway.specs.declared.Leg.{Leg}
 use Rattle.railway.specs.declared.Leg.the-variants.{Stem, Plus, Minus}
+use Rattle.railway.specs.Ends.{sameSide, legIndex}
 
 -- WHAT A TEXT SAYS. An end as it is written: a section's `7u`, `7d`, or a point's `2s`, `2+`, `2-`.
 pub data EndField : Type 0 where
@@ -41,6 +44,17 @@ pub record Description : Type 0 where
   pub joins : List JoinLine
   pub signals : List SignalLine
   pub roster : List TrainLine
+
+-- WHAT NAMES THE SAME. Two fields name one end.
+abbrev pub sameEnd : EndField → EndField → Bool
+sameEnd (section m s) (section n t) = eqb m n && sameSide s t
+sameEnd (section m s) (port n l) = false
+sameEnd (port m l) (section n s) = false
+sameEnd (port m l) (port n k) = eqb m n && eqb (legIndex l) (legIndex k)
+
+-- Two G lines name one section end.
+abbrev pub sameSignal : SignalLine → SignalLine → Bool
+sameSignal g h = eqb (g .number) (h .number) && sameSide (g .side) (h .side)
 
 -- FIELDS. A side or a heading: `u` or `d`.
 abbrev pub sideByte : Side → ℕ

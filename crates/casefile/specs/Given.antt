@@ -2,8 +2,8 @@
 -- The number is that of the earliest row that applies; a text to which none does is accepted. Stated over texts and what they say, not through
 -- any reading. Assumes nothing.
 use mathlib.Core.Path.{_≡_}
-use mathlib.Core.Bool.{Bool, true, false}
-use mathlib.Core.List.{List, [], _∷_}
+use mathlib.Core.Bool.{Bool, true}
+use mathlib.Core.List.{List, _∷_}
 use mathlib.Core.Logic.{_↔_}
 use mathlib.Core.Option.{Option, none, some}
 use Prim.Native.Nat.{ℕ, _≤_}
@@ -12,13 +12,13 @@ use Rattle.laws.specs.Lists.{Every}
 use Rattle.railway.specs.declared.Railway.{Railway}
 use Rattle.railway.specs.declared.Refusal.{Refusal}
 use Rattle.railway.specs.declared.Refusal.the-variants.{Length, Form, Count, Unknown, Join, Loose, Double, Place, Space, PlanForm, PlanFault}
-use Rattle.railway.specs.Refusals.{number, FirstOf}
+use Rattle.railway.specs.declared.CaseAnswer.{CaseAnswer}
+use Rattle.railway.specs.declared.CaseAnswer.the-variants.{Accepted, Refused}
+use Rattle.railway.specs.Refusals.{number, numberGiven, NotApplying, FirstOf}
 use Rattle.railway.specs.Record.{emptyRailway}
 use Rattle.casefile.specs.declared.CaseRead.{CaseRead}
-use Rattle.casefile.specs.declared.CaseAnswer.{CaseAnswer}
-use Rattle.casefile.specs.declared.CaseAnswer.the-variants.{Accepted, Refused}
 use Rattle.casefile.specs.Form.{Description, Describes}
-use Rattle.casefile.specs.Rows.{mostBytes, LengthRow, FormRow, countRow, unknownRow, joinRow, looseRow, doubleRow, placeRow, descriptionRows}
+use Rattle.casefile.specs.Rows.{mostBytes, LengthRow, FormRow, countRow, unknownRow, joinRow, looseRow, doubleRow, placeRow, descriptionRows, descriptionTable}
 use Rattle.casefile.specs.Recording.{railwayOf}
 
 -- The answer that accepts a text, with its railway.
@@ -28,11 +28,6 @@ accepted r = record { answer = Accepted; railway = r }
 -- The answer that refuses it, with the empty record, so that nothing else is answered.
 abbrev pub refused : Refusal → CaseRead
 refused f = record { answer = Refused f; railway = emptyRailway }
-
--- The number of the refusal that is answered, if one is.
-abbrev pub numberGiven : CaseAnswer → Option ℕ
-numberGiven Accepted = none
-numberGiven (Refused f) = some (number f)
 
 -- The railway that is answered, if one is: a record beside a refusal is none.
 abbrev pub railwayGiven : CaseAnswer → Railway → Option Railway
@@ -59,9 +54,9 @@ Applies text Space = ⊥
 Applies text PlanForm = ⊥
 Applies text PlanFault = ⊥
 
--- The rows that judge a case text, in the table's order.
+-- The rows that judge a case text, in the table's order: these two, then those that judge what it says.
 abbrev pub caseTable : List Refusal
-caseTable = Length ∷ Form ∷ Count ∷ Unknown ∷ Join ∷ Loose ∷ Double ∷ Place ∷ []
+caseTable = Length ∷ Form ∷ descriptionTable
 
 -- A refusal is given: its row applies and none that stands before it.
 abbrev pub RefusedWith : List ℕ → Refusal → Type 0
@@ -72,7 +67,7 @@ pub record AcceptedWith (text : List ℕ) (r : Railway) : Type 0 where
   pub short : length text ≤ mostBytes
   pub description : Description
   pub described : Describes text description
-  pub no-row : Every (λ x. x .applies ≡ false) (descriptionRows description)
+  pub no-row : Every NotApplying (descriptionRows description)
   pub railway : r ≡ railwayOf description
 
 -- WHAT A READER PROMISES of its answer: number and railway exactly as above, and the empty record beside a refusal.

@@ -16,8 +16,7 @@ use Rattle.railway.specs.declared.Train.{Train}
 use Rattle.railway.specs.declared.Railway.{Railway}
 use Rattle.railway.specs.Bounds.{mostPoints, mostTrains, sectionEnds, allEnds}
 use Rattle.railway.specs.Ends.{sideAt, endAt}
-use Rattle.casefile.specs.Form.{EndField, section, port, JoinLine, SignalLine, TrainLine, Description}
-use Rattle.casefile.specs.Rows.{sameEnd, sameSignal}
+use Rattle.casefile.specs.Form.{EndField, section, port, JoinLine, SignalLine, TrainLine, Description, sameEnd, sameSignal}
 
 -- An end as written, in the record: its number less one.
 abbrev pub endOf : EndField → End

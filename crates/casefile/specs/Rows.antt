@@ -11,11 +11,11 @@ use Rattle.laws.specs.Lists.{any, repeats}
 use Rattle.railway.specs.declared.Side.{Side}
 use Rattle.railway.specs.declared.Side.the-variants.{Up}
 use Rattle.railway.specs.declared.Leg.the-variants.{Stem, Plus, Minus}
-use Rattle.railway.specs.declared.Refusal.the-variants.{Count, Unknown, Join, Loose, Double, Place}
-use Rattle.railway.specs.Ends.{sameSide, portSide, legIndex}
-use Rattle.railway.specs.Refusals.{Row, row}
-use Rattle.railway.specs.Rows.{outside, Tied, wrongPair}
-use Rattle.casefile.specs.Form.{EndField, section, port, JoinLine, SignalLine, TrainLine, Description, Describes}
+use Rattle.railway.specs.declared.Refusal.{Refusal}
+use Rattle.railway.specs.Ends.{portSide}
+use Rattle.railway.specs.Refusals.{Row}
+use Rattle.railway.specs.Rows.{outside, Tied, wrongPair, rowsBy}
+use Rattle.casefile.specs.Form.{EndField, section, port, JoinLine, SignalLine, TrainLine, Description, sameEnd, sameSignal, Describes}
 
 -- The bytes that a case text may have.
 abbrev pub mostBytes : ℕ
@@ -76,13 +76,6 @@ tied d e = record { section = sectionOf e; side = sideOf d e }
 abbrev pub wrongJoin : Description → JoinLine → Bool
 wrongJoin d j = wrongPair (tied d (j .one)) (tied d (j .other))
 
--- Two fields name one end.
-abbrev pub sameEnd : EndField → EndField → Bool
-sameEnd (section m s) (section n t) = eqb m n && sameSide s t
-sameEnd (section m s) (port n l) = false
-sameEnd (port m l) (section n s) = false
-sameEnd (port m l) (port n k) = eqb m n && eqb (legIndex l) (legIndex k)
-
 -- The ends that the J lines name, each as often as it is named.
 unfoldable pub joinEnds : List JoinLine → List EndField
 joinEnds [] = []
@@ -104,11 +97,7 @@ looseAt d i = looseEnd d (port (suc i) Stem) || looseEnd d (port (suc i) Plus) |
 unfoldable pub looseRow : Description → Bool
 looseRow d = anyBelow (looseAt d) (d .points)
 
--- Two G lines name one section end.
-abbrev pub sameSignal : SignalLine → SignalLine → Bool
-sameSignal g h = eqb (g .number) (h .number) && sameSide (g .side) (h .side)
-
--- 7, double: some two do.
+-- 7, double: two G lines name one section end.
 unfoldable pub doubleRow : Description → Bool
 doubleRow d = repeats sameSignal (d .signals)
 
@@ -118,11 +107,8 @@ placeRow d = repeats eqb (map (λ t. t .start) (d .roster)) || repeats eqb (map 
 
 -- Rows 3 to 8 of what a text says, in the table's order.
 abbrev pub descriptionRows : Description → List Row
-descriptionRows d =
-    row Count (countRow d)
-    ∷ row Unknown (unknownRow d)
-    ∷ row Join (joinRow d)
-    ∷ row Loose (looseRow d)
-    ∷ row Double (doubleRow d)
-    ∷ row Place (placeRow d)
-    ∷ []
+descriptionRows d = rowsBy (countRow d) (unknownRow d) (joinRow d) (looseRow d) (doubleRow d) (placeRow d)
+
+-- Their refusals, in that order.
+abbrev pub descriptionTable : List Refusal
+descriptionTable = map (λ x. x .refusal) (rowsBy false false false false false false)

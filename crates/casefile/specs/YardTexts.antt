@@ -4,7 +4,7 @@ use mathlib.Core.List.{List, [], _∷_}
 use Prim.Native.String.{String}
 use Rattle.text.specs.Text.{bytes}
 use Rattle.railway.specs.declared.Railway.{Railway}
-use Rattle.railway.specs.Yards.{yardA, yardALess, yardOne, upOneTwo, upTwoOne, upTwoOneHeld, headOn}
+use Rattle.railway.specs.Yards.{yardA, yardALess, yardOne, yardOneDown, upOneTwo, upTwoOne, upTwoOneHeld, headOn}
 use Rattle.casefile.specs.Given.{AcceptedWith}
 
 -- A yard: its record and its case text.
@@ -12,15 +12,21 @@ pub record YardText : Type 0 where
   pub yard : Railway
   pub text : String
 
--- All of them, in the document's order: Yard A, and without its signal at 1d; one section; two sections and a train up, from 1 to 2, from 2 to 1,
+-- Yard A's text.
+abbrev pub textA : String
+textA = "H\t3\t1\t2\nP\t1\td\nJ\t1u\t1+\nJ\t2u\t1-\nJ\t3d\t1s\nG\t1d\nG\t2u\nT\t1\tu\t2\t3\nT\t2\td\t3\t1\n"
+
+-- All of them, in the document's order: Yard A, and without its signal at 1d; one section, the train up and down; two sections and a train up, from 1 to 2, from 2 to 1,
 -- and the same with a signal at 2u; two trains head on there.
 unfoldable pub yardTexts : List YardText
 yardTexts =
-    record { yard = yardA; text = "H\t3\t1\t2\nP\t1\td\nJ\t1u\t1+\nJ\t2u\t1-\nJ\t3d\t1s\nG\t1d\nG\t2u\nT\t1\tu\t2\t3\nT\t2\td\t3\t1\n" }
+    record { yard = yardA; text = textA }
     ∷
     record { yard = yardALess; text = "H\t3\t1\t2\nP\t1\td\nJ\t1u\t1+\nJ\t2u\t1-\nJ\t3d\t1s\nG\t2u\nT\t1\tu\t2\t3\nT\t2\td\t3\t1\n" }
     ∷
     record { yard = yardOne; text = "H\t1\t0\t1\nT\t1\tu\t1\t1\n" }
+    ∷
+    record { yard = yardOneDown; text = "H\t1\t0\t1\nT\t1\td\t1\t1\n" }
     ∷
     record { yard = upOneTwo; text = "H\t2\t0\t1\nJ\t1u\t2d\nT\t1\tu\t1\t2\n" }
     ∷

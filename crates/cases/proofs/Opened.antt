@@ -5,9 +5,9 @@ use mathlib.Core.Option.{none, some}
 use Prim.Native.Nat.{ℕ}
 use Rattle.railway.specs.declared.Railway.{Railway}
 use Rattle.railway.specs.declared.Refusal.{Refusal}
+use Rattle.railway.specs.declared.CaseAnswer.the-variants.{Accepted, Refused}
+use Rattle.railway.specs.Refusals.{numberGiven}
 use Rattle.railway.proofs.Refusals.{number-tells}
-use Rattle.acceptance.specs.declared.Tested.the-variants.{Accepted, Refused}
-use Rattle.acceptance.specs.Answers.{numberGiven}
 use Rattle.tables.specs.Tables.{caseRefusal}
 use Rattle.compiled.specs.declared.Compilation.{Compilation}
 use Rattle.compiled.specs.Table.{Compiled}

@@ -14,7 +14,7 @@ use Rattle.railway.specs.declared.Railway.{Railway}
 use Rattle.railway.specs.declared.Refusal.{Refusal}
 use Rattle.railway.specs.declared.Refusal.the-variants.{Space}
 use Rattle.railway.specs.Rows.{recordRefusal}
-use Rattle.acceptance.specs.declared.Tested.the-variants.{Accepted, Refused}
+use Rattle.railway.specs.declared.CaseAnswer.the-variants.{Accepted, Refused}
 use Rattle.acceptance.proofs.Answers.{judged-refused, judged-accepted}
 use Rattle.game.specs.Placement.{placements}
 use Rattle.tables.specs.Tables.{tablesShort, caseRefusal}

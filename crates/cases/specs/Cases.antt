@@ -8,8 +8,7 @@ use Prim.Native.Nat.{ℕ}
 use lib.ListN.{replicate}
 use Rattle.railway.specs.declared.Railway.{Railway}
 use Rattle.railway.specs.declared.Refusal.{Refusal}
-use Rattle.railway.specs.Refusals.{numberOf}
-use Rattle.acceptance.specs.Answers.{numberGiven}
+use Rattle.railway.specs.Refusals.{numberGiven, numberOf}
 use Rattle.tables.specs.Tables.{caseRefusal}
 use Rattle.compiled.specs.declared.Compilation.{Compilation}
 use Rattle.compiled.specs.Table.{Compiled, tableBytes}

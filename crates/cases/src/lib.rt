@@ -2,12 +2,12 @@
 ghost use mathlib.Core.Path.{_≡_};
 ghost use lib.ListN.{replicate};
 ghost use Rattle.railway.specs.declared.Refusal.the-variants.{Space};
-ghost use Rattle.acceptance.specs.declared.Tested.the-variants.{Refused};
+ghost use Rattle.railway.specs.declared.CaseAnswer.the-variants.{Refused};
 ghost use Rattle.compiled.specs.Table.{tableBytes};
 ghost use Rattle.cases.specs.Cases.{CasePost};
-use acceptance::Tested;
 use compiled::Compilation;
 use compiled::TABLE;
+use railway::CaseAnswer;
 use railway::Railway;
 use railway::Refusal;
 
@@ -17,7 +17,7 @@ pub fn open_case(r: Railway, figures: &[u32], settings: &[u32]) -> Compilation
 {
     let c = compiled::compile(r);
     let tested = c.tested;
-    let Tested::Accepted = tested else {
+    let CaseAnswer::Accepted = tested else {
         return c;
     };
     let table = c.table;
@@ -36,7 +36,7 @@ fn short() -> Compilation
     ensures { λ c. ⌜ (c .tested ≡ Refused Space) × (c .table ≡ replicate tableBytes 0) ⌝ }
 {
     Compilation {
-        tested: Tested::Refused(Refusal::Space),
+        tested: CaseAnswer::Refused(Refusal::Space),
         table: [0u8; TABLE],
     }
 }

@@ -40,6 +40,6 @@ fn plan_of(case: &[u8]) -> bool {
 
 fn show(case: &[u8], plan: &[u8]) {
     let mut line = [0u8; answerlines::LINE];
-    let n = verdict::check_line(case, plan, &mut line);
-    output::front(&line, n);
+    let put = verdict::check_line(case, plan, &mut line);
+    output::front(&line, put);
 }

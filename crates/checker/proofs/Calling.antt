@@ -1,6 +1,6 @@
 -- The checker's calls for a line and for the test, from what the case, the line and the test of a plan answer. What was entered is what the line read
 -- says, and the code of a line that fits the case is a placement's: an accepted railway has few of them. Assumes nothing.
-use mathlib.Core.Path.{_≡_, refl, sym, _∙_, ap}
+use mathlib.Core.Path.{_≡_, refl, sym, _∙_}
 use mathlib.Core.Bool.{Bool, true, false}
 use mathlib.Core.List.{List}
 use mathlib.Core.Option.{Option, none, some}
@@ -11,7 +11,7 @@ use Rattle.railway.specs.declared.Railway.{Railway}
 use Rattle.railway.specs.declared.Refusal.{Refusal}
 use Rattle.railway.specs.declared.Refusal.the-variants.{PlanForm, PlanFault}
 use Rattle.railway.specs.Rows.{recordRefusal}
-use Rattle.acceptance.specs.declared.Tested.the-variants.{Accepted, Refused}
+use Rattle.railway.specs.declared.CaseAnswer.the-variants.{Accepted, Refused}
 use Rattle.game.proofs.Accepted.{Facts, facts}
 use Rattle.tables.proofs.Exists.{few-placements}
 use Rattle.plan.specs.declared.CheckerState.{CheckerState}
@@ -32,15 +32,14 @@ use Rattle.plan.proofs.Steps.{line-steps, test-steps}
 use Rattle.plan.proofs.Promises.{takes-so, tests-so}
 use Rattle.compiled.specs.declared.Compilation.{Compilation}
 use Rattle.cases.specs.Cases.{CasePost}
-use Rattle.cases.proofs.Opened.{opened-refused, opened-none, opened-table}
-use Rattle.planreader.specs.declared.LineRead.{LineRead}
+use Rattle.cases.proofs.Opened.{opened-refused, opened-none}
 use Rattle.planreader.specs.Answers.{answerFor}
 use Rattle.checker.specs.declared.Checker.{Checker}
 use Rattle.checker.specs.Answers.{checking}
 use Rattle.checker.specs.Steps.{takesRead, CodeSmall}
 
 -- WHAT A LINE READ SAYS is what the line says
-answer-takes : (r : Railway) (c : Checking) (s : CheckerState) (o : Option PlanLine) → takesRead c s (answerFor r o) ≡ takes r c s o
+pub answer-takes : (r : Railway) (c : Checking) (s : CheckerState) (o : Option PlanLine) → takesRead c s (answerFor r o) ≡ takes r c s o
 answer-takes r c s none = refl
 answer-takes r c Fresh (some (startLine n)) = refl
 answer-takes r c (Begun m from) (some (startLine n)) = refl
@@ -51,7 +50,7 @@ module _ (r : Railway) (accepted : recordRefusal r ≡ none) where
   ok : Facts r
   ok = facts r accepted
 
-  code-small : (text : List ℕ) (o : Option PlanLine) → readLine r text ≡ o → CodeSmall (answerFor r o)
+  pub code-small : (text : List ℕ) (o : Option PlanLine) → readLine r text ≡ o → CodeSmall (answerFor r o)
   code-small text none e = tt
   code-small text (some (startLine n)) e = tt
   code-small text (some (placementLine d)) e =
@@ -62,13 +61,6 @@ module _ (r : Railway) (c : Checking) (k : Compilation) (case : CasePost r (c .f
   module _ (text : List ℕ) where
     pub line-refused : (f : Refusal) → k .tested ≡ Refused f → (w : Left LineAnswer) → w ≡ refuse c f → LinePost r c text (w .answer) (w .checking)
     line-refused f e w h = takes-so r c text w (h ∙ sym (line-steps r c text (opened-refused case e)))
-
-    module _ (e : k .tested ≡ Accepted) (line : LineRead) (is : line ≡ answerFor r (readLine r text)) where
-      pub line-small : CodeSmall line
-      line-small = rw is (code-small r (opened-table case e .accepted) text (readLine r text) refl)
-
-      pub line-entered : (w : Left LineAnswer) → w ≡ takesRead c (c .state) line → LinePost r c text (w .answer) (w .checking)
-      line-entered w h = takes-so r c text w (h ∙ ap (takesRead c (c .state)) is ∙ answer-takes r c (c .state) (readLine r text) ∙ sym (line-steps r c text (opened-none case e)))
 
   -- THE CALL FOR THE TEST
   pub test-refused : (f : Refusal) → k .tested ≡ Refused f → TestPost r c (TestRefused f) c

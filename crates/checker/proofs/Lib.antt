@@ -1,2 +1,5 @@
 pub mod Entering
 pub mod Calling
+pub mod Lines
+pub mod Fronts
+pub mod Freshening

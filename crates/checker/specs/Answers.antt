@@ -3,9 +3,11 @@
 use mathlib.Core.List.{List}
 use Prim.Native.Nat.{ℕ}
 use Rattle.plan.specs.declared.LineAnswer.{LineAnswer}
+use Rattle.plan.specs.declared.FrontAnswer.{FrontAnswer}
 use Rattle.plan.specs.Checker.{Checking, Left, left}
 use Rattle.checker.specs.declared.Checker.{Checker}
 use Rattle.checker.specs.declared.LineReply.{LineReply}
+use Rattle.checker.specs.declared.FrontReply.{FrontReply}
 
 -- A checker with the tables lent to it.
 abbrev pub checking : Checker → List ℕ → List ℕ → Checking
@@ -14,3 +16,7 @@ checking c figs sets = record { state = c .state; figs = figs; sets = sets }
 -- What a call for a line hands back, with the tables as it leaves them.
 abbrev pub took : LineReply → List ℕ → List ℕ → Left LineAnswer
 took x figs sets = left (x .answer) (checking (x .checker) figs sets)
+
+-- What a call for several lines hands back.
+abbrev pub tookFront : FrontReply → List ℕ → List ℕ → Left FrontAnswer
+tookFront x figs sets = left (x .answer) (checking (x .checker) figs sets)

@@ -5,14 +5,19 @@ use mathlib.Core.List.{List}
 use Prim.Native.Nat.{ℕ, _+_, _<_}
 use lib.ListN.{set}
 use lib.Dec.{ltb}
+use Rattle.railway.specs.declared.Railway.{Railway}
 use Rattle.railway.specs.declared.Refusal.the-variants.{PlanForm}
 use Rattle.moves.specs.Steps.{noCode}
 use Rattle.plan.specs.declared.CheckerState.{CheckerState}
 use Rattle.plan.specs.declared.CheckerState.the-variants.{Fresh, Begun}
 use Rattle.plan.specs.declared.LineAnswer.{LineAnswer}
 use Rattle.plan.specs.declared.LineAnswer.the-variants.{Taken}
+use Rattle.plan.specs.declared.FrontAnswer.{FrontAnswer}
+use Rattle.plan.specs.declared.FrontAnswer.the-variants.{Took}
 use Rattle.plan.specs.Checker.{Checking, Left, left}
 use Rattle.plan.specs.Steps.{refuse}
+use Rattle.plan.specs.Several.{Front}
+use Rattle.compiled.specs.Table.{Compiled}
 use Rattle.planreader.specs.declared.LineRead.{LineRead}
 use Rattle.planreader.specs.declared.LineRead.the-variants.{NoLine, Start, Placed}
 
@@ -41,3 +46,12 @@ abbrev pub CodeSmall : LineRead → Type 0
 CodeSmall NoLine = Unit {0}
 CodeSmall (Start n) = Unit {0}
 CodeSmall (Placed code n v) = code < noCode
+
+-- A table that is a railway's.
+pub record SomeTable (table : List ℕ) : Type 0 where
+  pub railway : Railway
+  pub compiled : Compiled railway table
+
+-- Lines were taken.
+abbrev pub frontTaken : Front → Left FrontAnswer
+frontTaken front = left (Took (front .bytes)) (front .checking)

@@ -1,24 +1,30 @@
 // The checker of a plan: a call for each line, into two lent tables, and a call for the test after the last. Each call takes a record and tests it
 // again, takes the checker by value and hands the next one back beside its answer. What is refused leaves checker and tables as they were.
 ghost use mathlib.Core.Path.{_≡_};
-ghost use mathlib.Core.List.{List};
-ghost use Prim.Native.Nat.{ℕ, _<_};
-ghost use lib.ListN.{length, set, replicate};
+ghost use mathlib.Core.List.{List, _++_};
+ghost use Prim.Native.Nat.{ℕ, _+_, _≤_, _<_};
+ghost use lib.ListN.{length, drop, set, replicate};
 ghost use mathlib.Core.Option.{none};
 ghost use Rattle.railway.specs.declared.Railway.{Railway};
 ghost use Rattle.compiled.specs.Table.{Compiled};
 ghost use Rattle.moves.specs.Steps.{noCode};
+ghost use Rattle.tables.specs.Tables.{caseRefusal};
+ghost use Rattle.plan.specs.declared.CheckerState.the-variants.{Fresh};
+ghost use Rattle.plan.specs.Checker.{takeLine};
+ghost use Rattle.plan.specs.Several.{linesOf, frontOf, FrontPost};
 ghost use Rattle.plan.specs.Steps.{refuse, tests};
 ghost use Rattle.plan.specs.Promises.{LinePost, TestPost, FreshPost};
 ghost use Rattle.checker.specs.declared.Checker.{Checker};
-ghost use Rattle.checker.specs.Answers.{checking, took};
-ghost use Rattle.checker.specs.Steps.{takesStart, takesPlacement, takesRead, takenWith, CodeSmall};
-use acceptance::Tested;
+ghost use Rattle.checker.specs.Answers.{checking, took, tookFront};
+ghost use Rattle.checker.specs.Steps.{takesStart, takesPlacement, takesRead, takenWith, CodeSmall, SomeTable, frontTaken};
+ghost use Rattle.checker.specs.Lengths.{lineBytes};
 use compiled::Table;
 use plan::CheckerState;
+use plan::FrontAnswer;
 use plan::LineAnswer;
 use plan::TestAnswer;
 use planreader::LineRead;
+use railway::CaseAnswer;
 use railway::Railway;
 use railway::Refusal;
 
@@ -27,9 +33,19 @@ pub struct Checker {
     pub state: CheckerState,
 }
 
-// What a call for a line, and the call for the test, hand back.
+// What the call for fresh tables, one for a line, one for several and the call for the test hand back.
+pub struct FreshReply {
+    pub answer: CaseAnswer,
+    pub checker: Checker,
+}
+
 pub struct LineReply {
     pub answer: LineAnswer,
+    pub checker: Checker,
+}
+
+pub struct FrontReply {
+    pub answer: FrontAnswer,
     pub checker: Checker,
 }
 
@@ -39,14 +55,21 @@ pub struct TestReply {
 }
 
 impl Checker {
-    // A checker at its beginning, and two tables made fresh, whatever stood in them: every entry is written.
-    pub fn fresh(figures: &mut [u32], settings: &mut [u32]) -> Checker
-        ensures { λ c. ⌜ FreshPost (now (figures .entry)) (now (settings .entry)) (checking c (now (figures .exit)) (now (settings .exit))) ⌝ }
+    // A checker at its beginning, and two tables made fresh, whatever stood in them: every code of the case is written, and no entry past the last.
+    pub fn fresh(r: Railway, figures: &mut [u32], settings: &mut [u32]) -> FreshReply
+        ensures { λ x. ⌜ FreshPost r (now (figures .entry)) (now (settings .entry)) (x .answer) (checking (x .checker) (now (figures .exit)) (now (settings .exit))) ⌝ }
     {
-        fill(figures, tables::NO_FIGURE);
-        fill(settings, 0);
-        Checker {
-            state: CheckerState::Fresh,
+        let c = cases::open_case(r, figures, settings);
+        let tested = c.tested;
+        match tested {
+            CaseAnswer::Refused(f) => unbegun(CaseAnswer::Refused(f)),
+            CaseAnswer::Accepted => {
+                let table = c.table;
+                let n = moves::placements(&table);
+                fill(figures, n, tables::NO_FIGURE);
+                fill(settings, n, 0);
+                unbegun(CaseAnswer::Accepted)
+            }
         }
     }
 
@@ -63,12 +86,84 @@ impl Checker {
         let c = cases::open_case(r, figures, settings);
         let tested = c.tested;
         match tested {
-            Tested::Refused(f) => self.refused(f),
-            Tested::Accepted => {
+            CaseAnswer::Refused(f) => self.refused(f),
+            CaseAnswer::Accepted => {
                 let table = c.table;
-                let line = planreader::read_line(&table, text);
-                self.enter(line, figures, settings)
+                self.take_line(&table, text, figures, settings)
             }
+        }
+    }
+
+    // A line in a case that is not refused.
+    fn take_line(
+        self,
+        table: &Table,
+        text: &[u8],
+        figures: &mut [u32],
+        settings: &mut [u32],
+    ) -> LineReply
+        requires { ⌜ SomeTable (now table) ⌝ }
+        ensures { λ x. ⌜ ((r : Railway) → Compiled r (now (table .entry)) → caseRefusal r (now (figures .entry)) (now (settings .entry)) ≡ none
+            → took x (now (figures .exit)) (now (settings .exit)) ≡ takeLine r (checking self (now (figures .entry)) (now (settings .entry))) (now (text .entry))) ⌝ }
+    {
+        let line = planreader::read_line(table, text);
+        self.enter(line, figures, settings)
+    }
+
+    // THE LINES IN FRONT of a text, up to the first that is refused: so many calls for a line each. Rows 3 to 9 refuse the call; no line does.
+    pub fn take_front(
+        self,
+        r: Railway,
+        text: &[u8],
+        figures: &mut [u32],
+        settings: &mut [u32],
+    ) -> FrontReply
+        ensures { λ x. ⌜ FrontPost r (checking self (now (figures .entry)) (now (settings .entry))) (now (text .entry)) (x .answer) (checking (x .checker) (now (figures .exit)) (now (settings .exit))) ⌝ }
+    {
+        let c = cases::open_case(r, figures, settings);
+        let tested = c.tested;
+        match tested {
+            CaseAnswer::Refused(f) => FrontReply {
+                answer: FrontAnswer::Refused(f),
+                checker: self,
+            },
+            CaseAnswer::Accepted => {
+                let table = c.table;
+                self.take_lines(&table, text, figures, settings)
+            }
+        }
+    }
+
+    // They, in a case that is not refused.
+    fn take_lines(
+        self,
+        table: &Table,
+        text: &[u8],
+        figures: &mut [u32],
+        settings: &mut [u32],
+    ) -> FrontReply
+        requires { ⌜ SomeTable (now table) ⌝ }
+        ensures { λ x. ⌜ ((r : Railway) → Compiled r (now (table .entry)) → caseRefusal r (now (figures .entry)) (now (settings .entry)) ≡ none
+            → tookFront x (now (figures .exit)) (now (settings .exit)) ≡ frontTaken (frontOf r (linesOf (now (text .entry))) (checking self (now (figures .entry)) (now (settings .entry))))) ⌝ }
+    {
+        let mut checker = self;
+        let mut at: usize = 0;
+        while at < text.len() {
+            let end = line_end(text, at);
+            let taken = checker.take_line(table, &text[at..end], figures, settings);
+            let answer = taken.answer;
+            checker = taken.checker;
+            if let LineAnswer::Refused(_) = answer {
+                return FrontReply {
+                    answer: FrontAnswer::Took(at),
+                    checker: checker,
+                };
+            }
+            at = end;
+        }
+        FrontReply {
+            answer: FrontAnswer::Took(at),
+            checker: checker,
         }
     }
 
@@ -133,8 +228,8 @@ impl Checker {
         let tested = c.tested;
         let state = self.state;
         match tested {
-            Tested::Refused(f) => self.tested(TestAnswer::Refused(f)),
-            Tested::Accepted => {
+            CaseAnswer::Refused(f) => self.tested(TestAnswer::Refused(f)),
+            CaseAnswer::Accepted => {
                 let table = c.table;
                 let a = verdict(state, &table, figures, settings);
                 self.tested(a)
@@ -190,13 +285,40 @@ fn put(table: &mut [u32], code: u32, v: u32)
     }
 }
 
-// Every entry of a table.
-fn fill(table: &mut [u32], v: u32)
-    ensures { λ _. ⌜ now (table .exit) ≡ replicate (length (now (table .entry))) v ⌝ }
+// No line was taken.
+fn unbegun(a: CaseAnswer) -> FreshReply
+    ensures { λ x. ⌜ (x .answer ≡ a) × (x .checker .state ≡ Fresh) ⌝ }
 {
-    let mut i: usize = 0;
-    while i < table.len() {
-        table[i] = v;
+    FreshReply {
+        answer: a,
+        checker: Checker {
+            state: CheckerState::Fresh,
+        },
+    }
+}
+
+// The first n entries of a table.
+fn fill(table: &mut [u32], n: u32, v: u32)
+    requires { ⌜ n ≤ length (now table) ⌝ }
+    ensures { λ _. ⌜ now (table .exit) ≡ replicate n v ++ drop n (now (table .entry)) ⌝ }
+{
+    let mut i: u32 = 0;
+    while i < n {
+        table[i as usize] = v;
         i += 1;
     }
+}
+
+// The end of the line that begins at a place: behind its line end, or the end of the text.
+fn line_end(text: &[u8], at: usize) -> usize
+    ensures { λ e. ⌜ e ≡ at + lineBytes (drop at (now (text .entry))) ⌝ }
+{
+    let mut end = at;
+    while end < text.len() {
+        if text[end] == b'\n' {
+            return end + 1;
+        }
+        end += 1;
+    }
+    end
 }

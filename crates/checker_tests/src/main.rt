@@ -1,7 +1,7 @@
 // A case on standard input, Yard A's: what the checker makes of its plan's lines when others come before, between and after them that it has to
 // refuse. A line for each call: `taken`, `pass`, or `refused`, a tab and the number. A test comes before the first line and one after the last.
-// Then the emitter's answer for a buffer that is a byte too short, and that buffer; then the checker's answers to a plan with a wrong figure.
-use casefile::CaseAnswer;
+// Then the emitter's answer for a buffer that is a byte too short, and that buffer; then the checker's answers to a plan with a wrong figure. Last,
+// tables made fresh that are longer than the case needs, and one that is shorter: the entries at the last code and past it.
 use checker::Checker;
 use libc::STDIN_FILENO;
 use libc::STDOUT_FILENO;
@@ -9,6 +9,7 @@ use plan::Emitted;
 use plan::LineAnswer;
 use plan::PlanPlace;
 use planlines::MOST_LINE_BYTES;
+use railway::CaseAnswer;
 use railway::Railway;
 use railway::Refusal;
 
@@ -35,14 +36,51 @@ fn checks(r: Railway) {
     // Code 1, one turn from home, gets the start's figure.
     figures[1] = 2;
     check(r, &figures, &settings);
+    fresh_tables(r);
+}
+
+// Tables made fresh that have an entry past the last code, and a table that is an entry short.
+fn fresh_tables(r: Railway) {
+    let mut figures = [7u32; ENTRIES + 1];
+    let mut settings = [7u32; ENTRIES + 1];
+    let made = Checker::fresh(r, &mut figures, &mut settings);
+    let answer = made.answer;
+    shown(answer);
+    last_two(&figures);
+    last_two(&settings);
+    let mut short = [7u32; ENTRIES - 1];
+    let refused = Checker::fresh(r, &mut short, &mut settings);
+    let space = refused.answer;
+    shown(space);
+    entry(tables::entry_at(&short, 7, 0));
+}
+
+fn shown(a: CaseAnswer) {
+    match a {
+        CaseAnswer::Accepted => {
+            io::write_all(STDOUT_FILENO, b"fresh\n");
+        }
+        CaseAnswer::Refused(f) => refused(f),
+    }
+}
+
+// The entry at the last code of Yard A, and the one past it.
+fn last_two(table: &[u32]) {
+    entry(tables::entry_at(table, 8, 0));
+    entry(tables::entry_at(table, 9, 0));
+}
+
+fn entry(e: u32) {
+    io::print_decimal(STDOUT_FILENO, e as u64);
+    io::write_all(STDOUT_FILENO, b"\n");
 }
 
 // The plan of two tables, with refused lines.
 fn check(r: Railway, figures: &[u32], settings: &[u32]) {
     let mut listed = [0u32; ENTRIES];
     let mut set = [0u32; ENTRIES];
-    let fresh = Checker::fresh(&mut listed, &mut set);
-    let early = test(fresh, r, &listed, &set);
+    let fresh = Checker::fresh(r, &mut listed, &mut set);
+    let early = test(fresh.checker, r, &listed, &set);
     let before = placement(early, r, &mut listed, &mut set);
     let begun = strays(before, r, &mut listed, &mut set);
     let done = plan_lines(begun, r, figures, settings, &mut listed, &mut set);

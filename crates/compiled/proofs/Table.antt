@@ -23,16 +23,16 @@ use Rattle.railway.specs.declared.Joined.the-variants.{With}
 use Rattle.railway.specs.declared.Train.{Train}
 use Rattle.railway.specs.declared.Railway.{Railway}
 use Rattle.railway.specs.declared.Refusal.{Refusal}
-use Rattle.railway.specs.Bounds.{mostTrains}
+use Rattle.railway.specs.Bounds.{mostSections, mostTrains}
 use Rattle.railway.specs.Ends.{sideIndex, sideAt}
 use Rattle.railway.specs.Record.{noTrain, joined, hasSignal, trainOf}
-use Rattle.acceptance.specs.declared.Tested.{Tested}
-use Rattle.acceptance.specs.declared.Tested.the-variants.{Accepted, Refused}
+use Rattle.railway.specs.declared.CaseAnswer.{CaseAnswer}
+use Rattle.railway.specs.declared.CaseAnswer.the-variants.{Accepted, Refused}
 use Rattle.acceptance.specs.Answers.{Judged}
 use Rattle.acceptance.proofs.Answers.{judged-refused, judged-accepted}
 use Rattle.game.specs.Moves.{through, behindPort, pastPoint, pastJoin, passes}
 use Rattle.game.proofs.Accepted.{facts}
-use Rattle.compiled.specs.Table.{routeBytes, countBytes, tableBytes, flagByte, pointByte, sectionByte, endOn, routeByte, countByte, rosterByte, compiledByte, byteIn, Compiled, CompilePost}
+use Rattle.compiled.specs.Table.{routeBytes, countBytes, tableBytes, flagByte, pointByte, sectionByte, endOn, signalOn, routeByte, countByte, rosterByte, compiledByte, byteIn, Compiled, CompilePost}
 
 -- WRITING. Past a point and past a join
 module _ (r : Railway) where
@@ -160,7 +160,7 @@ module _ (r : Railway) (t x : ℕ) where
 
 -- what lies on a train's route, by name
 module _ (r : Railway) (e : End) (x : ℕ) where
-  pub signal-is : x ≡ routeByte r e 0 → eqb x 1 ≡ hasSignal r e
+  signal-is : x ≡ routeByte r e 0 → eqb x 1 ≡ hasSignal r e
   unfolding routeByte
   signal-is h = rw h (go (hasSignal r e))
     where
@@ -179,6 +179,18 @@ module _ (r : Railway) (e : End) (x : ℕ) where
   pub minus-is : (plus : Bool) → plus ≡ false → x ≡ routeByte r e 2 → x ≡ sectionByte (passes r (λ n. plus) e .reached)
   unfolding routeByte
   minus-is plus b h = rw b h
+
+-- whether a signal stands there: none does for what no railway can have
+module _ (r : Railway) (t x : ℕ) where
+  pub signal-no-train : mostTrains ≤ t → false ≡ signalOn r t x
+  signal-no-train l = rw (le-ltb t mostTrains l)
+
+  module _ (lt : t < mostTrains) where
+    pub signal-no-section : mostSections ≤ x → false ≡ signalOn r t x
+    signal-no-section l = rw (lt-ltb t mostTrains lt, le-ltb x mostSections l)
+
+    pub signal-within : (b : ℕ) → x < mostSections → b ≡ routeByte r (endOn r t x) 0 → eqb b 1 ≡ signalOn r t x
+    signal-within b l h = rw (lt-ltb t mostTrains lt, lt-ltb x mostSections l) (signal-is r (endOn r t x) b h)
 
 -- a train that is not there
 module _ (r : Railway) (table : List ℕ) (i t : ℕ) (h : Compiled r table) (past : mostTrains ≤ t) where
@@ -209,7 +221,7 @@ heading-is r t x h = rw h (go (trainOf r t .heading))
 
 -- THE ANSWER, the table filled byte after byte
 module _ (r : Railway) where
-  module _ (t : Tested) (judged : Judged r t) where
+  module _ (t : CaseAnswer) (judged : Judged r t) where
     pub post-refused : (f : Refusal) → t ≡ Refused f → CompilePost r (record { tested = t; table = replicate tableBytes 0 })
     post-refused f e = record { judged = judged; accepted = λ a. some-none (judged-refused r judged e) a; refused = λ g x. refl }
 

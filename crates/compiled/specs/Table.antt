@@ -1,7 +1,8 @@
--- A railway compiled into bytes, for loops that ask the same things of it many times. Nothing of document 01 rests on this file:
--- contracts cite it, and the laws in proofs/Table say that the bytes give what the record gives. Assumes nothing.
+-- A railway compiled into bytes, for loops that ask the same things of it many times. Nothing of document 01 rests on this file but
+-- for its last record, what compiling a record promises: contracts cite it, and the laws in proofs/Table say that the bytes give what the record gives.
+-- Assumes nothing.
 use mathlib.Core.Path.{_≡_}
-use mathlib.Core.Bool.{Bool, true, false, cond}
+use mathlib.Core.Bool.{Bool, true, false, cond, _&&_}
 use mathlib.Core.List.{List, [], _∷_}
 use mathlib.Core.Option.{Option, none, some}
 use Prim.Native.Nat.{ℕ, _+_, _-_, _*_, _/_, _%_, _<_}
@@ -53,6 +54,14 @@ sectionByte (some x) = x
 -- The end that train t heads for on section x.
 abbrev pub endOn : Railway → ℕ → ℕ → End
 endOn r t x = Section (record { 0 = x }) (trainOf r t .heading)
+
+-- The table has bytes on train t and section x: some railway can have both.
+abbrev pub within : ℕ → ℕ → Bool
+within t x = ltb t mostTrains && ltb x mostSections
+
+-- A signal stands at the end that train t heads for on section x.
+abbrev pub signalOn : Railway → ℕ → ℕ → Bool
+signalOn r t x = within t x && hasSignal r (endOn r t x)
 
 -- Of a train that leaves by end e: whether a signal stands there, the point that it meets, and the section that it enters with the point at
 -- minus and at plus.

@@ -7,10 +7,10 @@ ghost use mathlib.Core.Bool.{false};
 ghost use Prim.Native.Nat.{_<_};
 ghost use Rattle.railway.specs.declared.Railway.{Railway};
 ghost use Rattle.railway.specs.Bounds.{mostSections, mostTrains};
-ghost use Rattle.railway.specs.Record.{hasSignal, trainOf};
+ghost use Rattle.railway.specs.Record.{trainOf};
 ghost use Rattle.game.specs.Moves.{through, behindPort, pastPoint, pastJoin, passes};
-ghost use Rattle.compiled.specs.Table.{tableBytes, pointByte, sectionByte, endOn, routeByte, countByte, rosterByte, compiledByte, byteIn, Compiled, CompilePost};
-use acceptance::Tested;
+ghost use Rattle.compiled.specs.Table.{tableBytes, pointByte, sectionByte, endOn, signalOn, routeByte, countByte, rosterByte, compiledByte, byteIn, Compiled, CompilePost};
+use railway::CaseAnswer;
 use railway::End;
 use railway::Joined;
 use railway::Leg;
@@ -42,7 +42,7 @@ pub const NO_BYTE: u8 = 255;
 
 // What compiling a record gives: the answer of its test, and the table; all zero where the record is refused.
 pub struct Compilation {
-    pub tested: Tested,
+    pub tested: CaseAnswer,
     pub table: Table,
 }
 
@@ -52,7 +52,7 @@ pub fn compile(r: Railway) -> Compilation
 {
     let mut table = [0u8; TABLE];
     let tested = acceptance::test_record(r);
-    let Tested::Accepted = tested else {
+    let CaseAnswer::Accepted = tested else {
         return Compilation {
             tested: tested,
             table: table,
@@ -265,10 +265,16 @@ fn roster_in(table: &Table, i: u8, t: u8) -> u8
     }
 }
 
-// Whether a signal stands at the end that a train heads for on a section.
+// Whether a signal stands at the end that a train heads for on a section. None does for a train or on a section that no railway can have.
 pub fn signal_in(table: &Table, t: u8, x: u8) -> bool
-    ensures { λ b. ⌜ ((r : Railway) → Compiled r (now (table .entry)) → t < mostTrains → x < mostSections → b ≡ hasSignal r (endOn r t x)) ⌝ }
+    ensures { λ b. ⌜ ((r : Railway) → Compiled r (now (table .entry)) → b ≡ signalOn r t x) ⌝ }
 {
+    if Railway::TRAINS <= t {
+        return false;
+    }
+    if Railway::SECTIONS <= x {
+        return false;
+    }
     route_in(table, t, x, 0) == 1
 }
 

@@ -1,11 +1,18 @@
--- Demand 3 of the calls that run: each contract computes to its promise, so what plan/Demand has of any solver, emitter and checker that
--- keep their promises holds of these. Assumes nothing.
+-- Demand 3 of the calls that run: each contract computes to its promise, and asks nothing, so what plan/Demand has of any solver, emitter and checker that
+-- keep their promises holds of these; that the routines meet their contracts the prover has shown of each. Assumes nothing.
 use mathlib.Core.Path.{refl}
 use denote.Ref.{now}
+use Rattle.solver.proofs.solve.Met as solve
+use Rattle.emitter.proofs.emit_line.Met as emit
+use Rattle.emitter.proofs.emit_lines.Met as lines
+use Rattle.checker.proofs.Checker.fresh.Met as fresh
+use Rattle.checker.proofs.Checker.take.Met as take
+use Rattle.checker.proofs.Checker.take_front.Met as front
+use Rattle.checker.proofs.Checker.test.Met as test
 use Rattle.plan.proofs.Demand.{demand3-holds}
 use Rattle.demand3.specs.Running.{SolvedHolds, Demand3Runs}
 
-solved-holds : SolvedHolds
+pub solved-holds : SolvedHolds
 solved-holds κs a answer left accepted figs sets learnt =
     demand3-holds (a .0) answer (now (a .1 .0)) (now (a .1 .1 .0)) (now (left .1 .0)) (now (left .1 .1 .0)) accepted figs sets learnt
 
@@ -13,9 +20,11 @@ pub demand3-runs : Demand3Runs
 demand3-runs =
     record {
       whole = solved-holds;
-      solver = λ κs a answer left. refl;
-      emitter = λ κs a answer left. refl;
-      fresh = λ κs a answer left. refl;
-      take = λ κs a answer left. refl;
-      test = λ κs a answer left. refl;
+      solver = record { asks = λ κs a. tt; tells = λ κs a answer left. refl; meets = solve.met };
+      emitter = record { asks = λ κs a. tt; tells = λ κs a answer left. refl; meets = emit.met };
+      fresh = record { asks = λ κs a. tt; tells = λ κs a answer left. refl; meets = fresh.met };
+      take = record { asks = λ κs a. tt; tells = λ κs a answer left. refl; meets = take.met };
+      test = record { asks = λ κs a. tt; tells = λ κs a answer left. refl; meets = test.met };
+      lines = record { asks = λ κs a. tt; tells = λ κs a answer left. refl; meets = lines.met };
+      front = record { asks = λ κs a. tt; tells = λ κs a answer left. refl; meets = front.met };
     }

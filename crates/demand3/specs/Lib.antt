@@ -1,1 +1,3 @@
 pub mod Running
+pub mod Checks
+pub mod Moving

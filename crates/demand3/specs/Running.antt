@@ -1,7 +1,8 @@
--- Demand 3 of the solver, the emitter and the checker as they run (document 01, "Agreement"). `Learnt` of a function is what its contract
--- tells whoever calls it, as the prover makes it: of the arguments, the answer, and what was lent, as the call leaves it. Each is the
--- promise of which plan/Demand3 speaks, and nothing else: the same proposition. Arguments stand in the order of the signature, one within
--- the other: `a .0` is the first, `a .1 .0` the second. Assumes nothing.
+-- Demand 3 of the solver, the emitter and the checker as they run (document 01, "Agreement"). Of a call the prover makes three propositions from its
+-- contract and its code: `Asked`, what it asks of its caller; `Learnt`, what it tells the caller of the arguments, the answer, and what was lent, as the call
+-- leaves it; and `Statement`, that the routine that runs meets the contract. Here every call asks nothing, tells the promise of which plan/Demand3 speaks
+-- and nothing else (the same proposition), and meets its contract. Arguments stand in the order of the signature, one within the other: `a .0` is the first,
+-- `a .1 .0` the second. Assumes nothing.
 use mathlib.Core.Path.{_≡_}
 use mathlib.Core.Option.{none}
 use Prim.Native.Nat.{_≤_}
@@ -15,50 +16,83 @@ use Rattle.game.specs.Placement.{placements}
 use Rattle.tables.specs.Solver.{SolverPost}
 use Rattle.plan.specs.Demand3.{Demand3}
 use Rattle.plan.specs.Promises.{EmitterPost, LinePost, TestPost, FreshPost}
+use Rattle.plan.specs.Several.{EmitLinesPost, FrontPost}
 use Rattle.checker.specs.Answers.{checking}
 use Rattle.solver.proofs.solve.Kinds as solve
-use Rattle.solver.proofs.solve.Reads.{Learnt as SolveLearnt}
+use Rattle.solver.proofs.solve.Reads.{Asked as SolveAsked, Learnt as SolveLearnt}
+use Rattle.solver.proofs.solve.Statement.{statement as SolveMeets}
 use Rattle.emitter.proofs.emit_line.Kinds as emit
-use Rattle.emitter.proofs.emit_line.Reads.{Learnt as EmitLearnt}
+use Rattle.emitter.proofs.emit_line.Reads.{Asked as EmitAsked, Learnt as EmitLearnt}
+use Rattle.emitter.proofs.emit_line.Statement.{statement as EmitMeets}
+use Rattle.emitter.proofs.emit_lines.Kinds as lines
+use Rattle.emitter.proofs.emit_lines.Reads.{Asked as LinesAsked, Learnt as LinesLearnt}
+use Rattle.emitter.proofs.emit_lines.Statement.{statement as LinesMeets}
 use Rattle.checker.proofs.Checker.fresh.Kinds as fresh
-use Rattle.checker.proofs.Checker.fresh.Reads.{Learnt as FreshLearnt}
+use Rattle.checker.proofs.Checker.fresh.Reads.{Asked as FreshAsked, Learnt as FreshLearnt}
+use Rattle.checker.proofs.Checker.fresh.Statement.{statement as FreshMeets}
 use Rattle.checker.proofs.Checker.take.Kinds as take
-use Rattle.checker.proofs.Checker.take.Reads.{Learnt as TakeLearnt}
+use Rattle.checker.proofs.Checker.take.Reads.{Asked as TakeAsked, Learnt as TakeLearnt}
+use Rattle.checker.proofs.Checker.take.Statement.{statement as TakeMeets}
+use Rattle.checker.proofs.Checker.take_front.Kinds as front
+use Rattle.checker.proofs.Checker.take_front.Reads.{Asked as FrontAsked, Learnt as FrontLearnt}
+use Rattle.checker.proofs.Checker.take_front.Statement.{statement as FrontMeets}
 use Rattle.checker.proofs.Checker.test.Kinds as test
-use Rattle.checker.proofs.Checker.test.Reads.{Learnt as TestLearnt}
+use Rattle.checker.proofs.Checker.test.Reads.{Asked as TestAsked, Learnt as TestLearnt}
+use Rattle.checker.proofs.Checker.test.Statement.{statement as TestMeets}
 
 -- `solver::solve`: the record, the figures, the settings; its answer; the two tables as it leaves them.
-abbrev pub SolverRuns : Type 1
-SolverRuns =
-    (κs : Lfts 2) (a : Dens κs solve.ps) (answer : resT solve.r κs .Denot) (left : AtExit (endedOf 2 solve.ps solve.r) κs)
-    → SolveLearnt κs a answer left ≡ SolverPost (a .0) answer (now (a .1 .0)) (now (a .1 .1 .0)) (now (left .1 .0)) (now (left .1 .1 .0))
+pub record SolverRuns : Type 2 where
+  pub asks : (κs : Lfts 2) (a : Dens κs solve.ps) → SolveAsked κs a
+  pub tells : (κs : Lfts 2) (a : Dens κs solve.ps) (answer : resT solve.r κs .Denot) (left : AtExit (endedOf 2 solve.ps solve.r) κs)
+      → SolveLearnt κs a answer left ≡ SolverPost (a .0) answer (now (a .1 .0)) (now (a .1 .1 .0)) (now (left .1 .0)) (now (left .1 .1 .0))
+  pub meets : {M : Type 1} → SolveMeets M
 
 -- `emitter::emit_line`: the record, the figures, the settings, the place, the buffer.
-abbrev pub EmitterRuns : Type 1
-EmitterRuns =
-    (κs : Lfts 3) (a : Dens κs emit.ps) (answer : resT emit.r κs .Denot) (left : AtExit (endedOf 3 emit.ps emit.r) κs)
-    → EmitLearnt κs a answer left ≡ EmitterPost (a .0) (now (a .1 .0)) (now (a .1 .1 .0)) (a .1 .1 .1 .0) (now (a .1 .1 .1 .1 .0)) answer (now (left .1 .1 .1 .1 .0))
+pub record EmitterRuns : Type 2 where
+  pub asks : (κs : Lfts 3) (a : Dens κs emit.ps) → EmitAsked κs a
+  pub tells : (κs : Lfts 3) (a : Dens κs emit.ps) (answer : resT emit.r κs .Denot) (left : AtExit (endedOf 3 emit.ps emit.r) κs)
+      → EmitLearnt κs a answer left ≡ EmitterPost (a .0) (now (a .1 .0)) (now (a .1 .1 .0)) (a .1 .1 .1 .0) (now (a .1 .1 .1 .1 .0)) answer (now (left .1 .1 .1 .1 .0))
+  pub meets : {M : Type 1} → EmitMeets M
 
--- `Checker::fresh`: the figures, the settings.
-abbrev pub FreshRuns : Type 1
-FreshRuns =
-    (κs : Lfts 2) (a : Dens κs fresh.ps) (answer : resT fresh.r κs .Denot) (left : AtExit (endedOf 2 fresh.ps fresh.r) κs)
-    → FreshLearnt κs a answer left ≡ FreshPost (now (a .0)) (now (a .1 .0)) (checking answer (now (left .0)) (now (left .1 .0)))
+-- `emitter::emit_lines`: the same arguments, for as many lines as have room.
+pub record LinesRuns : Type 2 where
+  pub asks : (κs : Lfts 3) (a : Dens κs lines.ps) → LinesAsked κs a
+  pub tells : (κs : Lfts 3) (a : Dens κs lines.ps) (answer : resT lines.r κs .Denot) (left : AtExit (endedOf 3 lines.ps lines.r) κs)
+      → LinesLearnt κs a answer left ≡ EmitLinesPost (a .0) (now (a .1 .0)) (now (a .1 .1 .0)) (a .1 .1 .1 .0) (now (a .1 .1 .1 .1 .0)) answer (now (left .1 .1 .1 .1 .0))
+  pub meets : {M : Type 1} → LinesMeets M
+
+-- `Checker::fresh`: the record, the figures, the settings.
+pub record FreshRuns : Type 2 where
+  pub asks : (κs : Lfts 2) (a : Dens κs fresh.ps) → FreshAsked κs a
+  pub tells : (κs : Lfts 2) (a : Dens κs fresh.ps) (answer : resT fresh.r κs .Denot) (left : AtExit (endedOf 2 fresh.ps fresh.r) κs)
+      → FreshLearnt κs a answer left ≡ FreshPost (a .0) (now (a .1 .0)) (now (a .1 .1 .0)) (answer .answer) (checking (answer .checker) (now (left .1 .0)) (now (left .1 .1 .0)))
+  pub meets : {M : Type 1} → FreshMeets M
 
 -- `Checker::take`: the checker, the record, the line, the figures, the settings.
-abbrev pub TakeRuns : Type 1
-TakeRuns =
-    (κs : Lfts 3) (a : Dens κs take.ps) (answer : resT take.r κs .Denot) (left : AtExit (endedOf 3 take.ps take.r) κs)
-    → TakeLearnt κs a answer left
-    ≡ LinePost (a .1 .0) (checking (a .0) (now (a .1 .1 .1 .0)) (now (a .1 .1 .1 .1 .0))) (now (a .1 .1 .0)) (answer .answer)
-    (checking (answer .checker) (now (left .1 .1 .1 .0)) (now (left .1 .1 .1 .1 .0)))
+pub record TakeRuns : Type 2 where
+  pub asks : (κs : Lfts 3) (a : Dens κs take.ps) → TakeAsked κs a
+  pub tells : (κs : Lfts 3) (a : Dens κs take.ps) (answer : resT take.r κs .Denot) (left : AtExit (endedOf 3 take.ps take.r) κs)
+      → TakeLearnt κs a answer left
+      ≡ LinePost (a .1 .0) (checking (a .0) (now (a .1 .1 .1 .0)) (now (a .1 .1 .1 .1 .0))) (now (a .1 .1 .0)) (answer .answer)
+      (checking (answer .checker) (now (left .1 .1 .1 .0)) (now (left .1 .1 .1 .1 .0)))
+  pub meets : {M : Type 1} → TakeMeets M
+
+-- `Checker::take_front`: the same, for the lines in front of a text.
+pub record FrontRuns : Type 2 where
+  pub asks : (κs : Lfts 3) (a : Dens κs front.ps) → FrontAsked κs a
+  pub tells : (κs : Lfts 3) (a : Dens κs front.ps) (answer : resT front.r κs .Denot) (left : AtExit (endedOf 3 front.ps front.r) κs)
+      → FrontLearnt κs a answer left
+      ≡ FrontPost (a .1 .0) (checking (a .0) (now (a .1 .1 .1 .0)) (now (a .1 .1 .1 .1 .0))) (now (a .1 .1 .0)) (answer .answer)
+      (checking (answer .checker) (now (left .1 .1 .1 .0)) (now (left .1 .1 .1 .1 .0)))
+  pub meets : {M : Type 1} → FrontMeets M
 
 -- `Checker::test`: the checker, the record, the figures, the settings, which it only reads.
-abbrev pub TestRuns : Type 1
-TestRuns =
-    (κs : Lfts 2) (a : Dens κs test.ps) (answer : resT test.r κs .Denot) (left : AtExit (endedOf 2 test.ps test.r) κs)
-    → TestLearnt κs a answer left
-    ≡ TestPost (a .1 .0) (checking (a .0) (now (a .1 .1 .0)) (now (a .1 .1 .1 .0))) (answer .answer) (checking (answer .checker) (now (a .1 .1 .0)) (now (a .1 .1 .1 .0)))
+pub record TestRuns : Type 2 where
+  pub asks : (κs : Lfts 2) (a : Dens κs test.ps) → TestAsked κs a
+  pub tells : (κs : Lfts 2) (a : Dens κs test.ps) (answer : resT test.r κs .Denot) (left : AtExit (endedOf 2 test.ps test.r) κs)
+      → TestLearnt κs a answer left
+      ≡ TestPost (a .1 .0) (checking (a .0) (now (a .1 .1 .0)) (now (a .1 .1 .1 .0))) (answer .answer) (checking (answer .checker) (now (a .1 .1 .0)) (now (a .1 .1 .1 .0)))
+  pub meets : {M : Type 1} → TestMeets M
 
 -- The whole holds of every call of the solver, in an accepted case with tables long enough.
 abbrev pub SolvedHolds : Type 0
@@ -67,12 +101,15 @@ SolvedHolds =
     → recordRefusal (a .0) ≡ none → placements (a .0) ≤ length (now (a .1 .0)) → placements (a .0) ≤ length (now (a .1 .1 .0))
     → SolveLearnt κs a answer left → Demand3 (a .0) answer (now (left .1 .0)) (now (left .1 .1 .0))
 
--- DEMAND 3, of the calls that run: the whole holds of what the solver answers and leaves, and where it speaks of the emitter's calls and
--- the checker's, it speaks of the contracts of `emit_line`, `fresh`, `take` and `test`.
-pub record Demand3Runs : Type 1 where
+-- DEMAND 3, of the calls that run: the whole holds of what the solver answers and leaves, and where it speaks of the emitter's calls and the checker's, one
+-- after the other, it speaks of the contracts of `emit_line`, `fresh`, `take` and `test`, which ask nothing and are met. So are those of the calls for
+-- several lines, each defined by the calls for one (plan/Several).
+pub record Demand3Runs : Type 2 where
   pub whole : SolvedHolds
   pub solver : SolverRuns
   pub emitter : EmitterRuns
   pub fresh : FreshRuns
   pub take : TakeRuns
   pub test : TestRuns
+  pub lines : LinesRuns
+  pub front : FrontRuns

@@ -31,8 +31,8 @@ use Rattle.railway.specs.Rows.{outside, unjoined}
 use Rattle.railway.specs.Rows as RR
 use Rattle.railway.proofs.Refusals.{refuse-none}
 use Rattle.railway.proofs.Accepted.{Bounded, bounded}
-use Rattle.casefile.specs.Form.{EndField, port, JoinLine, SignalLine, TrainLine, Description, WellFormed}
-use Rattle.casefile.specs.Rows.{within, known, unknownJoin, unknownSignal, unknownTrain, wrongJoin, sameEnd, joinEnds, looseEnd, looseAt, countRow, unknownRow, joinRow, looseRow, doubleRow, placeRow, descriptionRows}
+use Rattle.casefile.specs.Form.{EndField, port, JoinLine, SignalLine, TrainLine, Description, WellFormed, sameEnd}
+use Rattle.casefile.specs.Rows.{within, known, unknownJoin, unknownSignal, unknownTrain, wrongJoin, joinEnds, looseEnd, looseAt, countRow, unknownRow, joinRow, looseRow, doubleRow, placeRow, descriptionRows}
 use Rattle.casefile.specs.Recording.{partner, trainOfLine, noTrainLine, railwayOf}
 use Rattle.casefile.specs.Reading.{judged}
 use Rattle.casefile.proofs.Faultless.{within-is}

@@ -27,8 +27,8 @@ use Rattle.railway.specs.Rows as RR
 use Rattle.railway.proofs.Ends.{Numbered}
 use Rattle.railway.proofs.Updates.{join-first, join-second, join-rest}
 use Rattle.railway.proofs.Accepted.{Bounded}
-use Rattle.casefile.specs.Form.{EndField, section, port, JoinLine, Description}
-use Rattle.casefile.specs.Rows.{known, sideOf, tied, wrongJoin, sameEnd, joinEnds}
+use Rattle.casefile.specs.Form.{EndField, section, port, JoinLine, Description, sameEnd}
+use Rattle.casefile.specs.Rows.{known, sideOf, tied, wrongJoin, joinEnds}
 use Rattle.casefile.specs.Recording.{endOf, fieldOf, partner}
 use Rattle.casefile.proofs.Faultless.{within-is}
 use Rattle.casefile.proofs.Ends.{same-is, same-self, not-same, end-field, Counted, field-end, ports-same, one-same}

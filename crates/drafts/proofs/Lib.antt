@@ -8,3 +8,4 @@ pub mod Signalling
 pub mod Record
 pub mod Answering
 pub mod Whole
+pub mod Parts

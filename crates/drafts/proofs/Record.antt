@@ -27,8 +27,7 @@ use Rattle.railway.specs.Record.{bareRailway, noLegs, noLink, noTrain, linkAt, 
 use Rattle.railway.specs.Rows.{outside}
 use Rattle.railway.proofs.Ends.{index-end}
 use Rattle.railway.proofs.Accepted.{Bounded}
-use Rattle.casefile.specs.Form.{JoinLine, SignalLine, Description, WellFormed}
-use Rattle.casefile.specs.Rows.{sameSignal}
+use Rattle.casefile.specs.Form.{JoinLine, SignalLine, Description, WellFormed, sameSignal}
 use Rattle.casefile.specs.Recording.{endOf, fieldOf, partner, signalOf, trainOfLine, noTrainLine, railwayOf}
 use Rattle.casefile.proofs.Faultless.{within-is}
 use Rattle.drafts.specs.declared.Draft.{Draft}

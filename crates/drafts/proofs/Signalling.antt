@@ -21,8 +21,7 @@ use Rattle.railway.specs.Bounds.{mostSections, sectionEnds}
 use Rattle.railway.specs.Ends.{sameSide, endIndex}
 use Rattle.railway.specs.Record.{flagAt, hasSignal, withSignal}
 use Rattle.railway.proofs.Ends.{index-one, section-below, end-section, index-end}
-use Rattle.casefile.specs.Form.{section, SignalLine}
-use Rattle.casefile.specs.Rows.{sameSignal}
+use Rattle.casefile.specs.Form.{section, SignalLine, sameSignal}
 use Rattle.casefile.specs.Recording.{endOf, fieldOf, signalOf}
 use Rattle.casefile.proofs.Ends.{signal-is, side-self, field-end}
 use Rattle.drafts.proofs.Built.{signalEnd, signalAll, doubles}

@@ -2,7 +2,7 @@
 -- definitions and proofs/ ties them to the casefile's; nothing of document 01 rests on this file. Assumes nothing.
 use mathlib.Core.Path.{_≡_}
 use mathlib.Core.Bool.{Bool, true, false, cond, not, _&&_, _||_}
-use mathlib.Core.List.{List, [], _∷_}
+use mathlib.Core.List.{List}
 use mathlib.Core.Option.{Option, none, some}
 use Prim.Native.Nat.{ℕ, zero, suc, _-_, _≤_}
 use lib.Dec.{ltb, leb, eqb}
@@ -13,10 +13,9 @@ use Rattle.railway.specs.declared.Side.{Side}
 use Rattle.railway.specs.declared.End.{End}
 use Rattle.railway.specs.declared.Railway.{Railway}
 use Rattle.railway.specs.declared.Refusal.{Refusal}
-use Rattle.railway.specs.declared.Refusal.the-variants.{Count, Unknown, Join, Loose, Double, Place}
-use Rattle.railway.specs.Refusals.{Row, row, first}
+use Rattle.railway.specs.Refusals.{Row, first}
 use Rattle.railway.specs.Record.{bareRailway, emptyRailway, joined, hasSignal, withJoin, withSignal, withLegs, withTrain}
-use Rattle.railway.specs.Rows.{outside, tied, wrongPair, unjoined, countRow, looseRow, placeRow}
+use Rattle.railway.specs.Rows.{outside, tied, wrongPair, unjoined, countRow, looseRow, placeRow, rowsBy}
 use Rattle.casefile.specs.declared.CaseRead.{CaseRead}
 use Rattle.casefile.specs.Form.{EndField, section, port, JoinLine, SignalLine, TrainLine}
 use Rattle.casefile.specs.Rows.{within}
@@ -109,6 +108,13 @@ letter J = byte "J"
 letter G = byte "G"
 letter T = byte "T"
 
+-- Whether the first line says how many lines of a kind there are; their numbers then rise from 1. Of the other kinds all come that there are.
+abbrev pub counted : Kind → Bool
+counted P = true
+counted J = false
+counted G = false
+counted T = true
+
 -- Lines one after the other; `line n c r` makes of r what the line that begins at c and has number n says.
 module _ {R : Type 0} (line : ℕ → ℕ → R → Got R) where
   -- As many as the count says, numbered from n upwards.
@@ -123,13 +129,17 @@ module _ {R : Type 0} (begins : ℕ → Bool) (line : ℕ → R → Got R) where
   foldWhile zero c r = got r c
   foldWhile (suc most) c r = elim (begins c) [ true ↦ then (line c r) (λ r c. foldWhile most c r) | false ↦ got r c ]
 
--- All P lines, or all T lines.
+-- All lines of a kind with a count.
 abbrev pub countedInto : List ℕ → Kind → ℕ → ℕ → Draft → Got Draft
 countedInto s kind count c d = foldCounted (lineInto s kind) count 1 c d
 
--- All J lines, or all G lines.
+-- All lines of a kind without one.
 abbrev pub manyInto : List ℕ → Kind → ℕ → Draft → Got Draft
 manyInto s kind c d = foldWhile (λ c. eqb (getD s c 0) (letter kind)) (lineInto s kind 0) (length s) c d
+
+-- All lines of a kind; where it has no count, the number is of no use.
+abbrev pub linesInto : List ℕ → Kind → ℕ → ℕ → Draft → Got Draft
+linesInto s kind count c d = cond (counted kind) (countedInto s kind count c d) (manyInto s kind c d)
 
 -- Nothing stands behind the last line.
 abbrev pub endAt : List ℕ → Draft → ℕ → Got Draft
@@ -139,10 +149,10 @@ endAt s d c = cond (ltb c (length s)) bad (got d c)
 unfoldable pub draftOf : List ℕ → Got Draft
 draftOf s =
     then (headerAt s 0) (λ h c.
-    then (countedInto s P (h .points) c (opened (h .sections) (h .points) (h .trains))) (λ d c.
-    then (manyInto s J c d) (λ d c.
-    then (manyInto s G c d) (λ d c.
-    then (countedInto s T (h .trains) c d) (λ d c. endAt s d c)))))
+    then (linesInto s P (h .points) c (opened (h .sections) (h .points) (h .trains))) (λ d c.
+    then (linesInto s J 0 c d) (λ d c.
+    then (linesInto s G 0 c d) (λ d c.
+    then (linesInto s T (h .trains) c d) (λ d c. endAt s d c)))))
 
 -- What lines that were read stand for.
 abbrev pub linesGot : Lines → Got Draft
@@ -150,14 +160,7 @@ linesGot l = cond (l .good) (got (l .draft) (l .next .at)) bad
 
 -- THE ANSWER: rows 3 to 8, by the record and the flags.
 abbrev pub draftRows : Draft → List Row
-draftRows d =
-    row Count (countRow (d .railway))
-    ∷ row Unknown (d .unknown)
-    ∷ row Join (d .wrong)
-    ∷ row Loose (looseRow (d .railway))
-    ∷ row Double (d .double)
-    ∷ row Place (placeRow (d .railway))
-    ∷ []
+draftRows d = rowsBy (countRow (d .railway)) (d .unknown) (d .wrong) (looseRow (d .railway)) (d .double) (placeRow (d .railway))
 
 -- Accepted with the record where no row applies, else refused.
 abbrev pub answerOf : Railway → Option Refusal → CaseRead

@@ -1,7 +1,16 @@
 // What a reader keeps of a case text on its way: the record as it is built, line by line, beside three flags for what the record cannot show.
 // The types are declared here; specs/ has what each line makes of a draft and what a draft is answered with, proofs/ that it is the text's answer.
+ghost use mathlib.Core.Path.{_≡_};
+ghost use mathlib.Core.Bool.{true, false};
+ghost use Rattle.lines.specs.Answers.{endNamed, joinNamed};
+ghost use Rattle.drafts.specs.Drafting.{WithinCount, endIn, unknownIn, putPoint, faulty, putJoin, putSignal, putTrain, letter, counted};
+use lines::NamedEnd;
 use railway::End;
+use railway::PointNo;
 use railway::Railway;
+use railway::SectionNo;
+use railway::Side;
+use railway::Train;
 use text::Cursor;
 
 // The record so far; a name was not there; a join may not be; a signal was named twice.
@@ -20,6 +29,32 @@ pub enum Kind {
     T,
 }
 
+impl Kind {
+    // The letter that a line of the kind begins with.
+    pub fn letter(self) -> u8
+        ensures { λ b. ⌜ b ≡ letter self ⌝ }
+    {
+        match self {
+            Kind::P => b'P',
+            Kind::J => b'J',
+            Kind::G => b'G',
+            Kind::T => b'T',
+        }
+    }
+
+    // Whether the first line says how many lines of the kind there are.
+    pub fn is_counted(self) -> bool
+        ensures { λ b. ⌜ b ≡ counted self ⌝ }
+    {
+        match self {
+            Kind::P => true,
+            Kind::J => false,
+            Kind::G => false,
+            Kind::T => true,
+        }
+    }
+}
+
 // An end that a line names, if its section or point is there.
 pub enum KnownEnd {
     NotThere,
@@ -31,4 +66,166 @@ pub struct Lines {
     pub good: bool,
     pub draft: Draft,
     pub next: Cursor,
+}
+
+// Lines in form: the draft that they gave, and the place behind them.
+pub fn in_form(d: Draft, next: Cursor) -> Lines
+    ensures { λ r. ⌜ r ≡ record { good = true; draft = d; next = next } ⌝ }
+{
+    Lines {
+        good: true,
+        draft: d,
+        next: next,
+    }
+}
+
+// Lines that are not in form: the draft before them, and no place.
+pub fn not_in_form(d: Draft) -> Lines
+    ensures { λ r. ⌜ r ≡ record { good = false; draft = d; next = record { at = 0 } } ⌝ }
+{
+    Lines {
+        good: false,
+        draft: d,
+        next: Cursor { at: 0 },
+    }
+}
+
+// Whether a number lies between 1 and a count.
+fn within(n: u64, count: u8) -> bool
+    ensures { λ b. ⌜ WithinCount n count b ⌝ }
+{
+    if n < 1 {
+        return false;
+    }
+    n <= count as u64
+}
+
+// The draft with a name noted that is not there.
+fn noted(d: Draft) -> Draft
+    ensures { λ e. ⌜ e ≡ unknownIn d ⌝ }
+{
+    let r = d.railway;
+    Draft {
+        railway: r,
+        unknown: true,
+        wrong: d.wrong,
+        double: d.double,
+    }
+}
+
+pub fn put_point(d: Draft, n: u64, side: Side) -> Draft
+    ensures { λ e. ⌜ e ≡ putPoint d n side ⌝ }
+{
+    let r = d.railway;
+    if within(n, r.points) {
+        let i = (n - 1) as u8;
+        return Draft {
+            railway: r.with_legs(PointNo(i), side),
+            unknown: d.unknown,
+            wrong: d.wrong,
+            double: d.double,
+        };
+    }
+    d
+}
+
+pub fn put_join(d: Draft, one: NamedEnd, other: NamedEnd) -> Draft
+    ensures { λ e. ⌜ e ≡ putJoin d (joinNamed one other) ⌝ }
+{
+    let r = d.railway;
+    let KnownEnd::There(e) = end_in(r, one) else {
+        return noted(d);
+    };
+    let KnownEnd::There(f) = end_in(r, other) else {
+        return noted(d);
+    };
+    let bad = is_faulty(r, e, f);
+    Draft {
+        railway: r.with_join(e, f),
+        unknown: d.unknown,
+        wrong: d.wrong | bad,
+        double: d.double,
+    }
+}
+
+// Two ends that no join may tie, or one of them is in a join already.
+fn is_faulty(r: Railway, e: End, f: End) -> bool
+    ensures { λ b. ⌜ b ≡ faulty r e f ⌝ }
+{
+    if acceptance::wrong_pair(r, e, f) {
+        return true;
+    }
+    if acceptance::is_unjoined(r.joined(e)) {
+        if acceptance::is_unjoined(r.joined(f)) {
+            return false;
+        }
+    }
+    true
+}
+
+pub fn put_signal(d: Draft, n: u64, side: Side) -> Draft
+    ensures { λ e. ⌜ e ≡ putSignal d (record { number = n; side = side }) ⌝ }
+{
+    let r = d.railway;
+    let KnownEnd::There(e) = end_in(r, NamedEnd::OfSection(n, side)) else {
+        return noted(d);
+    };
+    let twice = r.has_signal(e);
+    Draft {
+        railway: r.with_signal(e),
+        unknown: d.unknown,
+        wrong: d.wrong,
+        double: d.double | twice,
+    }
+}
+
+pub fn put_train(d: Draft, n: u64, heading: Side, start: u64, destination: u64) -> Draft
+    ensures { λ e. ⌜ e ≡ putTrain d n (record { heading = heading; start = start; destination = destination }) ⌝ }
+{
+    let r = d.railway;
+    let numbered = within(n, r.trains);
+    let starts = within(start, r.sections);
+    let ends = within(destination, r.sections);
+    if numbered & (starts & ends) {
+        let t = (n - 1) as u8;
+        let from = (start - 1) as u8;
+        let to = (destination - 1) as u8;
+        let train = Train {
+            heading: heading,
+            start: SectionNo(from),
+            destination: SectionNo(to),
+        };
+        let next = r.with_train(t, train);
+        return Draft {
+            railway: next,
+            unknown: d.unknown,
+            wrong: d.wrong,
+            double: d.double,
+        };
+    }
+    noted(d)
+}
+
+// The end that a line names, counted from 0, if it is there by the record's counts.
+fn end_in(r: Railway, e: NamedEnd) -> KnownEnd
+    ensures { λ k. ⌜ k ≡ endIn r (endNamed e) ⌝ }
+{
+    match e {
+        NamedEnd::OfSection(n, side) => {
+            if within(n, r.sections) {
+                let i = (n - 1) as u8;
+                KnownEnd::There(End::Section(SectionNo(i), side))
+            } else {
+                KnownEnd::NotThere
+            }
+        }
+        NamedEnd::OfPoint(n, leg) => {
+            if within(n, r.points) {
+                let i = (n - 1) as u8;
+                KnownEnd::There(End::Port(PointNo(i), leg))
+            } else {
+                KnownEnd::NotThere
+            }
+        }
+    }
 }

@@ -7,13 +7,13 @@ use mathlib.Core.List.{List}
 use mathlib.Core.Option.{none, some, Option·getD}
 use native.Mathlib.Omega.{arith}
 use native.Mathlib.Numerals.{add-one}
-use lib.ListN.{getD, take, replicate}
+use lib.ListN.{length, getD, take, replicate}
 use borrow.Author.Tests.{eq-eqb, ne-eqb}
 use Rattle.laws.specs.Below.{lowest, listBelow}
 use Rattle.text.specs.Appending.{Appended}
 use Rattle.railway.specs.declared.Railway.{Railway}
 use Rattle.railway.specs.declared.Refusal.{Refusal}
-use Rattle.acceptance.specs.declared.Tested.the-variants as tested
+use Rattle.railway.specs.declared.CaseAnswer.the-variants as tested
 use Rattle.game.specs.Placement.{sectionsOf, standsOn, placements, startCode}
 use Rattle.game.proofs.Codes.{sections-length}
 use Rattle.tables.specs.Tables.{noFigure, figureIn}
@@ -33,8 +33,9 @@ use Rattle.plan.proofs.Steps.{emit-steps}
 use Rattle.plan.proofs.Promises.{emits-so}
 use Rattle.compiled.specs.declared.Compilation.{Compilation}
 use Rattle.compiled.specs.Table.{Compiled}
-use Rattle.moves.specs.declared.Placement.{Placement}
-use Rattle.moves.specs.Steps.{sectionIn, On}
+use Rattle.placement.specs.declared.Placement.{Placement}
+use Rattle.placement.specs.ByValue.{sectionIn}
+use Rattle.moves.specs.Steps.{On}
 use Rattle.cases.specs.Cases.{CasePost}
 use Rattle.cases.proofs.Opened.{opened-refused, opened-none, opened-table}
 use Rattle.planlines.specs.Spelling.{lineOf}
@@ -52,15 +53,27 @@ module _ (r : Railway) (figs sets : List ℕ) (p : ℕ) where
   unfolding lineFor
   line-is k m q n v ek em on en ev = rw (ek, em, en, ev, same-sections q on)
 
+  -- and it is short
+  pub record PlacementIs (k m : ℕ) (q : Placement) (n v : ℕ) : Type 0 where
+    pub same : lineOf k m q n v ≡ lineFor r figs sets p
+    pub short : length (spell (placementLine (lineFor r figs sets p))) ≤ mostLineBytes
+
+  pub placement-is : {k m n v : ℕ} {q : Placement} {table : List ℕ} → Compiled r table → hasFigure figs p ≡ true
+      → n ≡ getD figs p noFigure → n < 4294967296 → v ≡ getD sets p 0 → On r p table q → k ≡ r .trains → m ≡ r .points → PlacementIs k m q n v
+  placement-is {k} {m} {n} {v} {q} compiled has en small ev on ek em =
+      record {
+        same = line-is k m q n v ek em (on .stands) en ev;
+        short = lines-short r (compiled .accepted) (placementLine (lineFor r figs sets p)) (line-fits r (compiled .accepted) figs sets p (omega (arith, en)) has);
+      }
+
   pub placement-written : {k m len : ℕ} {n v : ℕ} {q : Placement} {own text table : List ℕ} {w : Wrote} (old : List ℕ) → Compiled r table → hasFigure figs p ≡ true
       → n ≡ getD figs p noFigure → n < 4294967296 → v ≡ getD sets p 0 → On r p table q → k ≡ r .trains → m ≡ r .points
       → own ≡ replicate mostLineBytes 0 → Appended own 0 (spell (placementLine (lineOf k m q n v))) text len
       → w ≡ lineWritten (take len text) (From (p + 1)) old → w ≡ lineWritten (spell (placementLine (lineFor r figs sets p))) (From (suc p)) old
   placement-written {k} {m} {len} {n} {v} {q} {own} {text} {table} {w} old compiled has en small ev on ek em blank made e =
-      let same : lineOf k m q n v ≡ lineFor r figs sets p = line-is k m q n v ek em (on .stands) en ev in
-      let made′ : Appended own 0 (spell (placementLine (lineFor r figs sets p))) text len = rw same at made in
-      let short = lines-short r (compiled .accepted) (placementLine (lineFor r figs sets p)) (line-fits r (compiled .accepted) figs sets p (omega (arith, en)) has) in
-      own-written blank made′ (From (suc p)) old short (rw (add-one p) at e)
+      let is : PlacementIs k m q n v = placement-is compiled has en small ev on ek em in
+      let made′ : Appended own 0 (spell (placementLine (lineFor r figs sets p))) text len = rw (is .same) at made in
+      own-written blank made′ (From (suc p)) old (is .short) (rw (add-one p) at e)
 
 -- WHAT IS DUE from a code on
 module _ (r : Railway) (figs sets : List ℕ) (c p total : ℕ) (old : List ℕ) (is : p ≡ Option·getD (lowest (figureFrom figs c) total) total) (all : total ≡ placements r) where

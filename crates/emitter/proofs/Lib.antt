@@ -1,3 +1,4 @@
 pub mod Next
 pub mod Copying
 pub mod Emitting
+pub mod Putting

@@ -1,25 +1,27 @@
-// The emitter: a line of the plan a call, from two tables into a lent buffer. The line is made in a buffer of its own and copied if the lent one
-// has room for it; every other answer leaves the lent one as it was, and bytes past the line stay.
+// The emitter: a line of the plan a call, or as many as have room, from two tables into a lent buffer. A line is made in a buffer of its own and copied
+// if the lent one has room for it; every other answer leaves the lent one as it was, and bytes past what is written stay.
 ghost use mathlib.Core.Path.{_≡_};
 ghost use mathlib.Core.Bool.{true};
 ghost use mathlib.Core.Option.{none, Option·getD};
-ghost use Prim.Native.Nat.{suc, _<_};
+ghost use Prim.Native.Nat.{suc, _+_, _<_};
+ghost use lib.Dec.{leb};
 ghost use Rattle.laws.specs.Below.{lowest};
 ghost use Rattle.railway.specs.declared.Railway.{Railway};
 ghost use Rattle.game.specs.Placement.{startCode};
-ghost use Rattle.tables.specs.Tables.{noFigure, figureIn};
+ghost use Rattle.tables.specs.Tables.{noFigure, figureIn, caseRefusal};
 ghost use Rattle.plan.specs.declared.PlanPlace.the-variants.{From};
-ghost use Rattle.plan.specs.Lines.{startLine, placementLine, spell};
+ghost use Rattle.plan.specs.Lines.{startLine, placementLine, spell, mostLineBytes};
 ghost use Rattle.plan.specs.Text.{hasFigure, lineFor};
 ghost use Rattle.plan.specs.Emitter.{figureFrom, nextCode, dueFor, leaves};
-ghost use Rattle.plan.specs.Steps.{lineWritten, dueWritten, emitted};
+ghost use Rattle.plan.specs.Several.{Run, emitLines, EmitLinesPost};
+ghost use Rattle.plan.specs.Steps.{lineWritten, dueWritten, emitted, putSo, putAt, Planned, Underway, ranWhole};
 ghost use Rattle.plan.specs.Promises.{EmitterPost};
 ghost use Rattle.compiled.specs.Table.{Compiled};
-use acceptance::Tested;
 use compiled::Table;
 use plan::Emitted;
 use plan::PlanPlace;
 use planlines::MOST_LINE_BYTES;
+use railway::CaseAnswer;
 use railway::Railway;
 use railway::Refusal;
 use tables::NO_FIGURE;
@@ -39,9 +41,128 @@ pub fn emit_line(
     let table = case.table;
     let tested = case.tested;
     match tested {
-        Tested::Refused(f) => Emitted::Refused(f),
-        Tested::Accepted => emit_due(&table, figures, settings, place, out),
+        CaseAnswer::Refused(f) => Emitted::Refused(f),
+        CaseAnswer::Accepted => emit_due(&table, figures, settings, place, out),
     }
+}
+
+// As many whole lines as have room in the buffer, one behind the other, and the place behind them: what as many calls for a line each would write there.
+// The case is judged once. Where not even one line is written, the answer is that of the call for one.
+pub fn emit_lines(
+    r: Railway,
+    figures: &[u32],
+    settings: &[u32],
+    place: PlanPlace,
+    out: &mut [u8],
+) -> Emitted
+    ensures { λ a. ⌜ EmitLinesPost r (now (figures .entry)) (now (settings .entry)) place (now (out .entry)) a (now (out .exit)) ⌝ }
+{
+    let case = cases::open_case(r, figures, settings);
+    let table = case.table;
+    let tested = case.tested;
+    match tested {
+        CaseAnswer::Refused(f) => Emitted::Refused(f),
+        CaseAnswer::Accepted => due_lines(&table, figures, settings, place, out),
+    }
+}
+
+// What is due at a place, and all lines behind it that have room.
+fn due_lines(
+    table: &Table,
+    figures: &[u32],
+    settings: &[u32],
+    place: PlanPlace,
+    out: &mut [u8],
+) -> Emitted
+    ensures { λ a. ⌜ ((r : Railway) → Compiled r (now (table .entry)) → caseRefusal r (now (figures .entry)) (now (settings .entry)) ≡ none
+        → leaves a (now (out .exit)) ≡ emitLines r (now (figures .entry)) (now (settings .entry)) place (now (out .entry))) ⌝ }
+{
+    let first = emit_due(table, figures, settings, place, out);
+    let Emitted::Line(n, next) = first else {
+        return first;
+    };
+    let PlanPlace::From(c) = next else {
+        return first;
+    };
+    more_lines(table, figures, settings, c, n, out)
+}
+
+// The lines from code `from` on that have room behind the cursor.
+fn more_lines(
+    table: &Table,
+    figures: &[u32],
+    settings: &[u32],
+    from: u32,
+    behind: usize,
+    out: &mut [u8],
+) -> Emitted
+    ensures { λ a. ⌜ ((r : Railway) (whole : Run) → Compiled r (now (table .entry)) → Planned r (now (figures .entry)) (now (settings .entry))
+        → Underway r (now (figures .entry)) (now (settings .entry)) whole (From from) behind (now (out .entry)) → leaves a (now (out .exit)) ≡ ranWhole whole) ⌝ }
+{
+    let total = moves::placements(table);
+    let mut c = from;
+    let mut at = behind;
+    loop {
+        let p = next_code(figures, c, total);
+        if total <= p {
+            return Emitted::Line(at, PlanPlace::From(c));
+        }
+        let next = put_placement(table, figures, settings, p, out, at);
+        if next == at {
+            return Emitted::Line(at, PlanPlace::From(c));
+        }
+        at = next;
+        c = p + 1;
+    }
+}
+
+// The line of a placement that has a figure, at a cursor, if it has room there: the cursor behind it. Where any line has room it is written in place.
+fn put_placement(
+    table: &Table,
+    figures: &[u32],
+    settings: &[u32],
+    p: u32,
+    out: &mut [u8],
+    at: usize,
+) -> usize
+    ensures { λ x. ⌜ ((r : Railway) → Compiled r (now (table .entry)) → hasFigure (now (figures .entry)) p ≡ true
+        → putSo (now (out .exit)) x ≡ putAt (spell (placementLine (lineFor r (now (figures .entry)) (now (settings .entry)) p))) (now (out .entry)) at) ⌝ }
+{
+    let n = tables::entry_at(figures, p, NO_FIGURE);
+    let v = tables::entry_at(settings, p, 0);
+    let q = moves::placement_of(table, p);
+    let k = compiled::trains_in(table);
+    let m = compiled::points_in(table);
+    if has_room(out.len(), at) {
+        return planlines::placement_line(out, at, k, m, q, n, v);
+    }
+    let mut text: [u8; MOST_LINE_BYTES] = [0; MOST_LINE_BYTES];
+    let len = planlines::placement_line(&mut text, 0, k, m, q, n, v);
+    put_behind(out, at, &text[..len])
+}
+
+// A buffer of this length has room for any line behind a cursor.
+fn has_room(long: usize, at: usize) -> bool
+    ensures { λ b. ⌜ b ≡ leb (at + mostLineBytes) long ⌝ }
+{
+    if at <= long {
+        MOST_LINE_BYTES <= long - at
+    } else {
+        false
+    }
+}
+
+// A line at a cursor, if it has room there.
+fn put_behind(out: &mut [u8], at: usize, line: &[u8]) -> usize
+    ensures { λ x. ⌜ putSo (now (out .exit)) x ≡ putAt (now (line .entry)) (now (out .entry)) at ⌝ }
+{
+    if out.len() < at {
+        return at;
+    }
+    if out.len() - at < line.len() {
+        return at;
+    }
+    append::bytes(out, at, line)
 }
 
 // What is due at a place, in a case that is not refused.

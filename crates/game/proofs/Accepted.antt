@@ -20,6 +20,8 @@ use Rattle.railway.specs.Ends.{endIndex, endAt}
 use Rattle.railway.specs.Refusals.{first, refuseIf}
 use Rattle.railway.specs.Record.{linkAt, joined, trainOf}
 use Rattle.railway.specs.Rows.{countRow, known, unknownLink, unknownLinkAt, unknownSignalAt, unknownTrainAt, unknownRow, recordRefusal}
+-- (Plays is named so that it is checked before: a wrong definition then shows at a computed value.)
+use Rattle.game.proofs.Plays as Plays
 
 -- an end that something is joined to is there
 abbrev pub Known : Railway → Joined → Type 0

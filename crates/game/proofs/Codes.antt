@@ -10,6 +10,8 @@ use lib.ListN.{length, getD, set}
 use Rattle.laws.specs.Below.{sumBelow}
 use Rattle.laws.proofs.Below.{sum-same, sum-first, sum-times}
 use Rattle.game.specs.Placement.{codeOf, sectionsIn}
+-- (Plays is named so that it is checked before: a wrong definition then shows at a computed value.)
+use Rattle.game.proofs.Plays as Plays
 
 -- all sections of a list are below s
 abbrev pub AllBelow : ℕ → List ℕ → Type 0

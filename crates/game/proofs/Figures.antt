@@ -36,7 +36,7 @@ firstly-later g s f (y ∷ h) p o m q = refl
 
 module _ {S : Type 0} (g : Game S) where
   -- a play that starts where it has ended stays there
-  ended : (w : Way S) (c : Choice S) (p : ℕ) → over g p ≡ true → (m : ℕ) → play g w c p m ≡ standing [] p
+  pub ended : (w : Way S) (c : Choice S) (p : ℕ) → over g p ≡ true → (m : ℕ) → play g w c p m ≡ standing [] p
   unfolding play
   ended w c p o zero = refl
   ended w c p o (suc m) = let e : play g w c p m ≡ standing [] p = ended w c p o m in rw (e, o)

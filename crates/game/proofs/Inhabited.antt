@@ -26,14 +26,14 @@ use Rattle.game.proofs.Settle.{Searches, figures, table, settle, rounds
 use Rattle.game.proofs.Accepted.{Facts, facts}
 
 -- Placement 0 is home and 2 is lost; the one train moves to 0 if the setting, open or not, lets it.
-abbrev small : Game Bool
+abbrev pub small : Game Bool
 small = record { placements = 3; trains = 1; isHome = λ p. eqb p 0; isLost = λ p. eqb p 2; allowed = λ p s t. s; next = λ p s t. at 0 }
 
 small-inside : Inside small
 small-inside p s t q hp m e = let z : 0 ≡ q = cc in omega arith
 
 -- tries the open setting
-abbrev search : (ℕ → Option ℕ) → ℕ → ℕ → Option ℕ
+abbrev pub search : (ℕ → Option ℕ) → ℕ → ℕ → Option ℕ
 search F p n = cond (keepsTest small F p true n) (some 1) none
 
 small-searches : Searches small (λ p v. true) search
@@ -46,7 +46,7 @@ small-searches = record { sound = sound; complete = complete }
     complete F p n true l k = (1, rw (keeps-test small F p true n k))
     complete F p n false l k = clash (may-allowed small p false (k .one-may .0) (k .one-may .1)) refl
 
-small-whole : Whole small (figures small search) (λ p. true)
+pub small-whole : Whole small (figures small search) (λ p. true)
 small-whole = whole small (figures small search) (λ p. true) small-inside (rounds-solved small (λ p v. true) search small-searches)
 
 -- its figures
@@ -59,7 +59,7 @@ unfolding recordRefusal first unknownRow joinRow looseRow placeRow anyBelow join
 yard-facts = facts yardA refl
 
 -- settings that agree in Yard A, at its point and at 1d and 2u, and nowhere else
-abbrev everywhere : Setting
+abbrev pub everywhere : Setting
 everywhere = record { plus = λ n. true; isOpen = λ i. true }
 
 abbrev in-yard : Setting

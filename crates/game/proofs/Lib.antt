@@ -9,3 +9,4 @@ pub mod Accepted
 pub mod Moves
 pub mod Agreeing
 pub mod Inhabited
+pub mod Uses

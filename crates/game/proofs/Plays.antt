@@ -3,7 +3,7 @@
 -- (three sections) placement (a, b) has code (a - 1) + 3 (b - 1): (2, 1) is 1, (3, 1) is 2, (1, 2) is 3, (3, 2) is 5, (1, 3) is 6, (2, 3)
 -- is 7.
 use mathlib.Core.Path.{_≡_, refl}
-use mathlib.Core.Bool.{Bool, true, false, cond, _&&_}
+use mathlib.Core.Bool.{Bool, true, false, cond, not, _&&_}
 use mathlib.Core.List.{List, [], _∷_}
 use mathlib.Core.Option.{Option, none, some}
 use Prim.Native.Nat.{ℕ}
@@ -95,14 +95,14 @@ always s h p = s
 abbrev names : ℕ → Choice Setting
 names t h p s = t
 
--- the first turn was played from placement p, and train t moved
+-- the first turn was played from placement p with the signal at 1u closed, and train t moved
 abbrev moved-is : ℕ → Option ℕ → Bool
 moved-is t none = false
 moved-is t (some u) = eqb u t
 
 abbrev first-was : ℕ → ℕ → List (Turn Setting) → Bool
 first-was p t [] = false
-first-was p t (x ∷ h) = eqb (x .placement) p && moved-is t (x .moved)
+first-was p t (x ∷ h) = eqb (x .placement) p && (not (x .setting .isOpen 1) && moved-is t (x .moved))
 
 -- open, and naming train 1, if in the first turn train 2 left the start; else shut, and naming train 2
 abbrev by-first : Way Setting

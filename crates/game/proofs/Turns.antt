@@ -14,6 +14,8 @@ use Rattle.laws.proofs.Below.{all-at, all-of, any-at, any-of, lowest-cases}
 use Rattle.game.specs.Game.{Outcome, lost, at, Game, may, mover, home, over}
 use Rattle.game.specs.Claim.{Below, figureOf, Keeps}
 use Rattle.game.specs.Local.{isBelow, goesBelow, keepsTest}
+-- (Plays is named so that it is checked before: a wrong definition then shows at a computed value.)
+use Rattle.game.proofs.Plays as Plays
 
 -- home and over, from lost and home
 pub home-over : (a b : Bool) → (not a && b) ≡ true → (a || b) ≡ true

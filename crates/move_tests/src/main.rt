@@ -1,10 +1,10 @@
 // Moves and first settings in small yards: Yard A of document 01, and a yard for each way in which moves are easily got wrong. A line
 // each: what is asked, a tab, and the answer. A move answers `-` (not allowed), `x` (derails), `c` (collides) or the code it leads
 // to; a search answers `none` or the entry. Sections, points and trains are counted from 0 in the code, from 1 in the text.
-use acceptance::Tested;
 use compiled::Table;
 use libc::STDOUT_FILENO;
 use moves::Move;
+use railway::CaseAnswer;
 use railway::End;
 use railway::Leg;
 use railway::PointNo;
@@ -57,8 +57,8 @@ fn show_test(label: &[u8], r: Railway) {
     let c = compiled::compile(r);
     let t = c.tested;
     match t {
-        Tested::Accepted => word(label, b"accepted"),
-        Tested::Refused(f) => number(label, f.number() as u32),
+        CaseAnswer::Accepted => word(label, b"accepted"),
+        CaseAnswer::Refused(f) => number(label, f.number() as u32),
     }
 }
 

@@ -1,10 +1,10 @@
 // What every move ends in, for case texts: by rising code, each placement with no two trains on a section, and there by rising entry of the
 // setting table: the code, the entry, and of each train `-` it may not move, `x` it derails, `c` it collides, or the section it then stands on.
 // Standard input is records (crate framed).
-use casefile::CaseAnswer;
 use compiled::Table;
 use libc::STDOUT_FILENO;
 use moves::Move;
+use railway::CaseAnswer;
 use railway::Railway;
 
 // How many sets of open trains there can be.
@@ -124,7 +124,7 @@ fn outcome(table: &Table, p: u32, v: u32, t: u8) {
             io::write_all(STDOUT_FILENO, b"c");
         }
         Move::At(q) => {
-            let x = moves::section_at(moves::placement_of(table, q), t);
+            let x = placement::section_at(moves::placement_of(table, q), t);
             io::print_decimal(STDOUT_FILENO, x as u64 + 1);
         }
     }

@@ -4,19 +4,19 @@ use mathlib.Core.Path.{_≡_, refl, sym, _∙_, ap}
 use mathlib.Core.Logic.{inl, inr}
 use mathlib.Core.Bool.{Bool, true, false, cond}
 use mathlib.Core.List.{List, [], _∷_}
-use Prim.Native.Nat.{ℕ, zero, suc, _+_, _*_, _/_, _%_, _^_, _≤_, _<_}
+use Prim.Native.Nat.{ℕ, zero, suc, _+_, _-_, _*_, _/_, _%_, _^_, _≤_, _<_}
 use native.Mathlib.Omega.{arith}
-use native.Mathlib.Nat.{pow-succ', pow-zero, mul-comm, mul-add, mul-assoc, mul-le-mul, mod-lt, pow-le-pow-right, div-eq-of-lt}
+use native.Mathlib.Nat.{pow-succ', pow-zero, mul-comm, mul-add, mul-assoc, mul-le-mul, mod-lt}
 use lib.Dec.{ltb}
 use lib.ListN.{length, getD, set, List·getD-eq-default}
 use borrow.Author.Tests.{lt-ltb, le-ltb}
 use Rattle.laws.specs.Below.{listBelow}
-use Rattle.laws.specs.Bits.{bit}
 use Rattle.laws.proofs.Bools.{lt?}
 use Rattle.laws.proofs.Below.{list-length, list-get}
 use Rattle.railway.specs.Bounds.{mostTrains}
 use Rattle.game.specs.Placement.{codeOf, sectionsIn}
 use Rattle.game.proofs.Codes.{code-nil, code-cons}
+use Rattle.moves.specs.Steps.{noCode, strideOf, codePut}
 
 -- POWERS of a byte, up to the fourth.
 pub times-fits : (m n : ℕ) {a b : ℕ} → a ≤ m → b ≤ n → a * b ≤ m * n
@@ -42,16 +42,44 @@ module _ (s k : ℕ) where
         record { up = λ m. absurd (omega arith); whole = λ m. a ∙ h .whole l }
   ]
 
-  pub power-is : (a b c d : ℕ) → a ≡ cond (ltb 0 k) (1 * s) 1 → b ≡ cond (ltb 1 k) (a * s) a → c ≡ cond (ltb 2 k) (b * s) b → d ≡ cond (ltb 3 k) (c * s) c → k ≤ mostTrains → d ≡ s ^ k
-  power-is a b c d ea eb ec ed l = power-next 3 c d (power-next 2 b c (power-next 1 a b (power-next 0 1 a power-start ea) eb) ec) ed .whole l
+  pub power-is : (a b c d : ℕ) → a ≡ cond (ltb 0 k) (1 * s) 1 → b ≡ cond (ltb 1 k) (a * s) a → c ≡ cond (ltb 2 k) (b * s) b → d ≡ cond (ltb 3 k) (c * s) c → d ≡ strideOf s k
+  power-is a b c d ea eb ec ed =
+      let all = power-next 3 c d (power-next 2 b c (power-next 1 a b (power-next 0 1 a power-start ea) eb) ec) ed in
+      elim (lt? k mostTrains) [
+        | inl l ↦ rw (lt-ltb k mostTrains l) (all .whole (omega arith))
+        | inr l ↦ rw (le-ltb k mostTrains l) (all .up l)
+      ]
 
--- A weight times a byte, or as it is, is at most 255 times what the weight is.
+  -- the power itself, for as many as a railway can have
+  pub stride-is : k ≤ mostTrains → strideOf s k ≡ s ^ k
+  stride-is l = elim (lt? k mostTrains) [
+    | inl m ↦ rw (lt-ltb k mostTrains m)
+    | inr m ↦ let z : k ≡ mostTrains = omega arith in rw z
+  ]
+
+-- A stride times a byte, or as it is, is at most 255 times what the stride is.
 pub times-small : (m s w v : ℕ) (more : Bool) → s < 256 → w ≤ m → v ≡ cond more (w * s) w → v ≤ m * 255
 times-small m s w v more l h e = rw e (go more)
   where
     go : (b : Bool) → cond b (w * s) w ≤ m * 255
     go true = times-fits m 255 h (omega arith)
     go false = omega arith
+
+-- A CODE BY A STRIDE, by the tests that code makes.
+module _ (c stride x y : ℕ) where
+  pub put-less : c + y * stride < x * stride → noCode ≡ codePut c stride x y
+  put-less l = rw (lt-ltb (c + y * stride) (x * stride) l)
+
+  module _ (more : x * stride ≤ c + y * stride) where
+    pub put-code : c + y * stride - x * stride < noCode → c + y * stride - x * stride ≡ codePut c stride x y
+    put-code l = rw (le-ltb (c + y * stride) (x * stride) more, lt-ltb (c + y * stride - x * stride) noCode l)
+
+    pub put-large : noCode ≤ c + y * stride - x * stride → noCode ≡ codePut c stride x y
+    put-large l = rw (le-ltb (c + y * stride) (x * stride) more, le-ltb (c + y * stride - x * stride) noCode l)
+
+  -- where there is such a code, it is that
+  pub put-there : (p : ℕ) → p < noCode → c + y * stride ≡ p + x * stride → codePut c stride x y ≡ p
+  put-there p l e = let d : c + y * stride - x * stride ≡ p = omega arith in sym (put-code (omega arith) (omega arith)) ∙ d
 
 -- The code of four bytes stays within 32 bits at each step.
 module _ (s : ℕ) (l : s < 256) (b c d : ℕ) (lb : b < 256) (lc : c < 256) (ld : d < 256) where
@@ -113,10 +141,6 @@ unfolding inDigits
 code-of-sections s k f a b c d l ea eb ec ed =
     let z : getD (listBelow f k) 3 0 + s * 0 ≡ d = omega (arith, ed ∙ sym (listed f k 3)) in
     sym (code-digits s mostTrains (listBelow f k) (rw (list-length f k) l) ∙ (rw (z, ec ∙ sym (listed f k 2), eb ∙ sym (listed f k 1), ea ∙ sym (listed f k 0))))
-
--- A number of 32 bits has no bit past them.
-pub bit-high : (v n : ℕ) → v < 4294967296 → 32 ≤ n → false ≡ bit v n
-bit-high v n l h = let e : v / (2 ^ n) ≡ 0 = div-eq-of-lt (omega (arith, pow-le-pow-right {n = 2} (omega arith) {i = 32} {j = n} h)) in rw e
 
 -- A CODE with one train put elsewhere.
 pub code-move : (s : ℕ) (xs : List ℕ) (t x : ℕ) → t < length xs → codeOf s (set xs t x) + getD xs t 0 * s ^ t ≡ codeOf s xs + x * s ^ t

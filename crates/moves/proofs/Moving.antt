@@ -1,7 +1,8 @@
 -- Moves, read from a table: who may move, and what a move ends in. A train looks at the point that it meets and at no other, so a setting
 -- may be replaced by one with all points as that one lies. Assumes nothing.
 use mathlib.Core.Path.{_≡_, refl, sym, _∙_, ap}
-use mathlib.Core.Bool.{Bool, true, false, cond}
+use mathlib.Core.Logic.{inl, inr}
+use mathlib.Core.Bool.{Bool, true, false, cond, _&&_}
 use mathlib.Core.List.{List}
 use mathlib.Core.Option.{Option, none, some}
 use Prim.Native.Nat.{ℕ, _+_, _*_, _^_, _≤_, _<_}
@@ -12,7 +13,7 @@ use lib.Seq.{ext-getD}
 use borrow.Author.Tests.{lt-ltb, le-ltb, ltb-true}
 use Rattle.laws.specs.Below.{anyBelow, listBelow}
 use Rattle.laws.specs.Bits.{bit}
-use Rattle.laws.proofs.Bools.{and-true}
+use Rattle.laws.proofs.Bools.{lt?, and-true}
 use Rattle.laws.proofs.Below.{any-same, any-one, any-none, list-length, list-get}
 use Rattle.railway.specs.declared.Side.{Side}
 use Rattle.railway.specs.declared.Leg.{Leg}
@@ -31,15 +32,17 @@ use Rattle.game.specs.Setting.{headsFor, held, mayMove}
 use Rattle.game.specs.Moves.{Passage, through, pastPoint, pastJoin, passes, otherOn, occupied, codeWith, enters, moveOf, gameOf}
 use Rattle.game.proofs.Codes.{sections-length}
 use Rattle.game.proofs.Accepted.{Facts}
-use Rattle.game.proofs.Moves.{section-below, passes-below, sections-with}
+use Rattle.game.proofs.Moves.{section-below, passes-below, sections-with, code-with-below}
 use Rattle.tables.specs.Entries.{opensIn, opensEnd, settingAt}
-use Rattle.compiled.specs.Table.{noByte, pointByte, sectionByte, endOn}
-use Rattle.moves.specs.declared.Placement.{Placement}
+use Rattle.tables.proofs.Exists.{few-placements}
+use Rattle.compiled.specs.Table.{noByte, pointByte, sectionByte, endOn, signalOn}
+use Rattle.placement.specs.declared.Placement.{Placement}
 use Rattle.moves.specs.declared.Move.{Move}
 use Rattle.moves.specs.Answers.{ended, moveUnder}
-use Rattle.moves.specs.Steps.{sectionIn, On, movedTo, otherIn, allAt}
-use Rattle.moves.proofs.Coding.{code-move}
-use Rattle.moves.proofs.Placing.{table-facts, put-section, sections-listed}
+use Rattle.placement.specs.ByValue.{sectionIn}
+use Rattle.moves.specs.Steps.{noCode, strideOf, codePut, On, movedTo, putIn, heldIn, otherIn, allAt}
+use Rattle.moves.proofs.Coding.{stride-is, put-there, code-move}
+use Rattle.moves.proofs.Placing.{table-facts, past-trains, put-section, sections-listed}
 
 -- ONE POINT AT MOST: past a join all depends on how the point met lies.
 module _ (r : Railway) (plus : ℕ → Bool) where
@@ -76,15 +79,29 @@ module _ (r : Railway) (p : ℕ) (table : List ℕ) (q : Placement) (on : On r p
     pub end-on : endOn r t x ≡ headsFor r p t
     end-on = end-is t x (trainOf r t .heading) e refl
 
-    pub held-is : (b : Bool) → b ≡ hasSignal r (endOn r t x) → b ≡ held r p t
-    unfolding held
-    held-is b h = h ∙ ap (hasSignal r) end-on
-
     pub point-is : (b : ℕ) → b ≡ pointByte (passes r (λ i. false) (endOn r t x) .met) → b ≡ pointByte (passes r (λ i. false) (headsFor r p t) .met)
     point-is b h = rw end-on at h
 
     pub section-is : (b : ℕ) (plus : Bool) → b ≡ sectionByte (passes r (λ i. plus) (endOn r t x) .reached) → b ≡ sectionByte (passes r (λ i. plus) (headsFor r p t) .reached)
     section-is b plus h = rw end-on at h
+
+  -- WHO IS HELD, of any train: one that is not there stands on the first section.
+  pub held-is : (t x : ℕ) → x ≡ sectionIn q t → (b : Bool) → b ≡ signalOn r t x → b ≡ heldIn r p t
+  unfolding held
+  held-is t x e b h = h ∙ (rw (lt-ltb x mostSections small, end-is t x (trainOf r t .heading) e refl) (turn (ltb t mostTrains) (hasSignal r (headsFor r p t))))
+    where
+      small : x < mostSections
+      small = elim (lt? t (r .trains)) [
+        | inl l ↦ section-small t x l e
+        | inr l ↦ let z : 0 ≡ x = past-trains r table (on .compiled) p t l ∙ sym (e ∙ on .stands t) in rw (← z) (omega arith)
+      ]
+
+      turn : (a b : Bool) → ((a && true) && b) ≡ (a && b)
+      turn true b = refl
+      turn false b = refl
+
+  pub held-as : (t : ℕ) → t < r .trains → (b : Bool) → b ≡ heldIn r p t → b ≡ held r p t
+  held-as t l b h = let few : ltb t mostTrains ≡ true = lt-ltb t mostTrains (omega (arith, facts-of .few-trains)) in rw few at h
 
   -- WHO MAY MOVE under entry v.
   module _ (v : ℕ) where
@@ -140,18 +157,27 @@ module _ (r : Railway) (p : ℕ) (table : List ℕ) (q : Placement) (on : On r p
             ext-getD 0 (listBelow (movedTo q t x) (r .trains)) (set (sectionsOf r p) t x) (list-length (movedTo q t x) (r .trains) ∙ sym sized)
             (λ u m. list-get (movedTo q t x) (r .trains) u 0 (rw (list-length (movedTo q t x) (r .trains)) at m) ∙ put-each l u)
 
-    -- THE CODE BY THE WEIGHT of the train: from the code of the placement as it is and the section where the train stands.
-    pub code-by-weight : t < r .trains → (c y w s : ℕ) → c ≡ codeOn r (sectionIn q) → y ≡ sectionIn q t → s ≡ r .sections → (t ≤ mostTrains → w ≡ s ^ t) → c + x * w ≡ codeWith r p t x + y * w
-    unfolding standsOn
-    code-by-weight l c y w s ec ey es ew =
-        let weight : w ≡ r .sections ^ t = ew (omega (arith, facts-of .few-trains)) ∙ ap (λ (a : ℕ). a ^ t) es in
-        let here : c ≡ codeOf (r .sections) (sectionsOf r p) = ec ∙ ap (codeOf (r .sections)) (sections-listed r (sectionIn q) p (λ u m. on .stands u)) in
-        let stood : y ≡ getD (sectionsOf r p) t 0 = ey ∙ on .stands t in
-        rw (weight, here, stood) (sym (code-move (r .sections) (sectionsOf r p) t x (rw (sections-length (r .sections) (r .trains) p) l)))
+    -- PUT ON A SECTION of the railway. The code comes by the stride of the train: from the code of the placement as it is and the section where
+    -- the train stands.
+    module _ (l : t < r .trains) (lx : x < r .sections) where
+      code-by-stride : (c y w s : ℕ) → c ≡ codeOn r (sectionIn q) → y ≡ sectionIn q t → s ≡ r .sections → w ≡ strideOf s t → c + x * w ≡ codeWith r p t x + y * w
+      unfolding standsOn
+      code-by-stride c y w s ec ey es ew =
+          let stride : w ≡ r .sections ^ t = ew ∙ stride-is s t (omega (arith, facts-of .few-trains)) ∙ ap (λ (a : ℕ). a ^ t) es in
+          let here : c ≡ codeOf (r .sections) (sectionsOf r p) = ec ∙ ap (codeOf (r .sections)) (sections-listed r (sectionIn q) p (λ u m. on .stands u)) in
+          let stood : y ≡ getD (sectionsOf r p) t 0 = ey ∙ on .stands t in
+          rw (stride, here, stood) (sym (code-move (r .sections) (sectionsOf r p) t x (rw (sections-length (r .sections) (r .trains) p) l)))
 
-    pub put-on-is : t < r .trains → x < r .sections → (o : Placement) → ((u : ℕ) → sectionIn o u ≡ movedTo q t x u) → On r (codeWith r p t x) table o
-    unfolding standsOn
-    put-on-is l lx o h = record { compiled = on .compiled; stands = λ u. h u ∙ put-each l u ∙ ap (λ (xs : List ℕ). getD xs u 0) (sym (sections-with r facts-of p t x lx)) }
+      pub code-put-is : (c y w s b : ℕ) → c ≡ codeOn r (sectionIn q) → y ≡ sectionIn q t → s ≡ r .sections → w ≡ strideOf s t → b ≡ codePut c w y x → b ≡ codeWith r p t x
+      code-put-is c y w s b ec ey es ew eb =
+          let small : codeWith r p t x < noCode = omega (arith, code-with-below r facts-of p t x lx, few-placements r (on .compiled .accepted)) in
+          eb ∙ put-there c w y x (codeWith r p t x) small (code-by-stride c y w s ec ey es ew)
+
+      pub put-on-is : (o : Placement) → ((u : ℕ) → sectionIn o u ≡ putIn q t x u) → On r (codeWith r p t x) table o
+      unfolding standsOn
+      put-on-is o h =
+          let few : ltb t mostTrains ≡ true = lt-ltb t mostTrains (omega (arith, facts-of .few-trains)) in
+          record { compiled = on .compiled; stands = λ u. (rw few at (h u)) ∙ put-each l u ∙ ap (λ (xs : List ℕ). getD xs u 0) (sym (sections-with r facts-of p t x lx)) }
 
   module _ (t : ℕ) (plus : Bool) (x : ℕ) (leads : x ≡ sectionByte (passes r (λ i. plus) (headsFor r p t) .reached)) where
     abbrev route : Option ℕ

@@ -7,10 +7,8 @@ use mathlib.Core.List.{List, [], _∷_}
 use Prim.Native.Nat.{ℕ, _+_, _*_, _/_, _%_, _^_, _≤_, _<_}
 use native.Mathlib.Omega.{arith}
 use lib.Dec.{ltb, eqb}
-use lib.ListN.{length, length-map, getD, set, List·getD-eq-default}
+use lib.ListN.{length, getD, set, List·getD-eq-default}
 use lib.Seq.{ext-getD, getD-set-same, getD-set-other}
-use mir.Val.{Val}
-use denote.Laws.{Is}
 use borrow.Author.Tests.{lt-ltb, le-ltb, eq-eqb, ne-eqb}
 use Rattle.laws.specs.Below.{allBelow, anyBelow, listBelow}
 use Rattle.laws.proofs.Bools.{lt?, eq?}
@@ -23,17 +21,12 @@ use Rattle.game.specs.Placement.{codeOf, sectionsOf, placements, standsOn, arri
 use Rattle.game.proofs.Codes.{sections-length}
 use Rattle.game.proofs.Accepted.{Facts, facts}
 use Rattle.compiled.specs.Table.{Compiled}
-use Rattle.moves.specs.declared.Placement.{Placement}
-use Rattle.moves.specs.Steps.{sectionIn, On, movedTo, otherIn}
-use Rattle.moves.proofs.Placement as T
+use Rattle.placement.specs.declared.Placement.{Placement}
+use Rattle.placement.specs.ByValue.{sectionIn}
+use Rattle.placement.proofs.Places.{section-past}
+use Rattle.placement.specs.ByValue.{sectionIn}
+use Rattle.moves.specs.Steps.{On, movedTo, putIn, otherIn}
 use Rattle.moves.proofs.Coding.{without, section-left, code-of-sections}
-
--- What holding a placement tells: it has a place for each train a railway can have.
-pub placement-length : (q : Placement) (vs : List Val) → Is T.the-row q vs → length (q .sections) ≡ mostTrains
-placement-length q vs p = sym (length-map (q .sections) _) ∙ p .1 .1 .0 .1 .0 .1
-
-pub section-past : (q : Placement) (t : ℕ) → length (q .sections) ≤ t → 0 ≡ sectionIn q t
-section-past q t l = sym (List·getD-eq-default (q .sections) 0 l)
 
 -- A list of sections with one train put elsewhere.
 pub put-section : (xs : List ℕ) (t x : ℕ) → t < length xs → (u : ℕ) → getD (set xs t x) u 0 ≡ cond (eqb u t) x (getD xs u 0)
@@ -41,6 +34,14 @@ put-section xs t x l u = elim (eq? u t) [
   | inl z ↦ rw (z, eq-eqb t t refl) (getD-set-same xs t x 0 l)
   | inr z ↦ rw (ne-eqb u t z) (getD-set-other xs t u x 0 z)
 ]
+
+-- A placement by value with one train put elsewhere, if it has a place for the train.
+module _ (q : Placement) (t x : ℕ) where
+  pub put-in : t < mostTrains → t < length (q .sections) → (u : ℕ) → getD (set (q .sections) t x) u 0 ≡ putIn q t x u
+  put-in few l u = rw (lt-ltb t mostTrains few) (put-section (q .sections) t x l u)
+
+  pub put-nowhere : mostTrains ≤ t → (u : ℕ) → sectionIn q u ≡ putIn q t x u
+  put-nowhere l u = rw (le-ltb t mostTrains l)
 
 -- The sections of a code, train by train.
 pub sections-listed : (r : Railway) (f : ℕ → ℕ) (p : ℕ) → ((t : ℕ) → t < r .trains → f t ≡ standsOn r p t) → listBelow f (r .trains) ≡ sectionsOf r p
@@ -60,7 +61,7 @@ module _ (r : Railway) (table : List ℕ) (h : Compiled r table) where
   few-trains k e = rw e (table-facts .few-trains)
 
   -- THE SECTION of a train.
-  past-trains : (p t : ℕ) → r .trains ≤ t → 0 ≡ standsOn r p t
+  pub past-trains : (p t : ℕ) → r .trains ≤ t → 0 ≡ standsOn r p t
   unfolding standsOn
   past-trains p t l = sym (List·getD-eq-default (sectionsOf r p) 0 (rw (sections-length (r .sections) (r .trains) p) l))
 

@@ -20,9 +20,10 @@ use Rattle.game.specs.Placement.{codeOf, sectionsIn, sectionsOf, placements, st
 use Rattle.game.proofs.Codes.{AllBelow, code-sections, sections-code}
 use Rattle.game.proofs.Accepted.{Facts}
 use Rattle.compiled.specs.Table.{Compiled}
-use Rattle.moves.specs.declared.Placement.{Placement}
+use Rattle.placement.specs.declared.Placement.{Placement}
 use Rattle.moves.specs.Answers.{homeCode}
-use Rattle.moves.specs.Steps.{sectionIn, On}
+use Rattle.placement.specs.ByValue.{sectionIn}
+use Rattle.moves.specs.Steps.{On}
 use Rattle.moves.proofs.Placing.{table-facts, placed, sections-listed}
 
 module _ (r : Railway) (facts : Facts r) where

@@ -4,35 +4,30 @@
 ghost use mathlib.Core.Path.{_≡_};
 ghost use mathlib.Core.Bool.{false, cond};
 ghost use mathlib.Core.Option.{some};
-ghost use Prim.Native.Nat.{ℕ, _+_, _*_, _/_, _%_, _^_, _≤_, _<_};
+ghost use Prim.Native.Nat.{ℕ, _+_, _*_, _/_, _%_, _≤_, _<_};
 ghost use lib.Dec.{ltb};
 ghost use Rattle.laws.specs.Below.{anyBelow};
-ghost use Rattle.laws.specs.Bits.{bit};
 ghost use Rattle.railway.specs.declared.Railway.{Railway};
-ghost use Rattle.railway.specs.Bounds.{mostTrains};
 ghost use Rattle.game.specs.Game.{may};
 ghost use Rattle.game.specs.Placement.{placements, startCode, atHome, shared, codeOn};
-ghost use Rattle.game.specs.Setting.{headsFor, held};
+ghost use Rattle.game.specs.Setting.{headsFor};
 ghost use Rattle.game.specs.Moves.{passes, moveOf, gameOf};
 ghost use Rattle.tables.specs.Entries.{opensIn, opensEnd, settingAt};
 ghost use Rattle.compiled.specs.Table.{pointByte, sectionByte, Compiled};
+ghost use Rattle.placement.specs.ByValue.{sectionIn};
 ghost use Rattle.moves.specs.Answers.{homeCode, ended, moveUnder};
-ghost use Rattle.moves.specs.Steps.{noCode, sectionIn, On, movedTo, otherIn, allAt};
+ghost use Rattle.moves.specs.Steps.{strideOf, codePut, On, movedTo, putIn, heldIn, otherIn, allAt};
 use compiled::Table;
+use placement::Placement;
+use placement::TRAIN_BITS;
+use placement::bit_at;
+use placement::section_at;
 use railway::End;
 use railway::Railway;
 use railway::SectionNo;
 
-// The section of each train, the document's number less one; 0 for trains that are not there.
-pub struct Placement {
-    pub sections: [u8; Railway::TRAINS as usize],
-}
-
 // What stands for no code: no railway has so many placements.
-const NO_CODE: u32 = 4294967295;
-
-// The bit of the first train in an entry of the setting table: points have the bits below.
-pub const TRAIN_BITS: u32 = Railway::POINTS as u32;
+pub const NO_CODE: u32 = 4294967295;
 
 // What comes of a move: it is not allowed, loses, or leads to the next placement.
 pub enum Move {
@@ -49,9 +44,9 @@ pub fn placements(table: &Table) -> u32
     power(compiled::sections_in(table), compiled::trains_in(table))
 }
 
-// s to the power k: how much one section more of train k counts in a code. It is multiplied up without a branch.
+// s to the power k, where k is at most 4: the stride of a train with k before it. It is multiplied up without a branch.
 pub fn power(s: u8, k: u8) -> u32
-    ensures { λ w. ⌜ (k ≤ mostTrains → w ≡ s ^ k) ⌝ }
+    ensures { λ w. ⌜ w ≡ strideOf s k ⌝ }
 {
     let one = times_if(1, s, 0 < k);
     let two = times_if(one, s, 1 < k);
@@ -59,7 +54,7 @@ pub fn power(s: u8, k: u8) -> u32
     times_if(three, s, 3 < k)
 }
 
-// A weight times s, or as it is.
+// A stride times s, or as it is.
 fn times_if(w: u32, s: u8, more: bool) -> u32
     requires { ⌜ w ≤ 255 * 255 * 255 ⌝ }
     ensures { λ v. ⌜ v ≡ cond more (w * s) w ⌝ }
@@ -108,18 +103,6 @@ fn first_section(s: u8, k: u8, p: u32, t: u8) -> u8
     (p % (s as u32)) as u8
 }
 
-// The section of a train; 0 past the last.
-pub fn section_at(q: Placement, t: u8) -> u8
-    ensures { λ x. ⌜ x ≡ sectionIn q t ⌝ }
-{
-    let at = t as usize;
-    if t < Railway::TRAINS {
-        q.sections[at]
-    } else {
-        0
-    }
-}
-
 // The code of a placement.
 pub fn code_of(table: &Table, q: Placement) -> u32
     ensures { λ p. ⌜ ((r : Railway) → Compiled r (now (table .entry)) → p ≡ codeOn r (sectionIn q)) ⌝ }
@@ -161,9 +144,9 @@ fn code_of_sections(s: u8, a: u8, b: u8, c: u8, d: u8) -> u32
     (a as u32) + m * ((b as u32) + m * ((c as u32) + m * (d as u32)))
 }
 
-// The placement with train t put on section x.
+// The placement with train t put on section x; as it was, if there is no place for the train.
 pub fn put_on(q: Placement, t: u8, x: u8) -> Placement
-    ensures { λ p. ⌜ (t < mostTrains → (u : ℕ) → sectionIn p u ≡ movedTo q t x u) ⌝ }
+    ensures { λ p. ⌜ ((u : ℕ) → sectionIn p u ≡ putIn q t x u) ⌝ }
 {
     let at = t as usize;
     let mut sections = q.sections;
@@ -173,11 +156,11 @@ pub fn put_on(q: Placement, t: u8, x: u8) -> Placement
     Placement { sections: sections }
 }
 
-// The code of a placement whose code is c, with a train of weight w put from section x to section y.
-pub fn code_put(c: u32, w: u32, x: u8, y: u8) -> u32
-    ensures { λ b. ⌜ ((p : ℕ) → p < noCode → c + y * w ≡ p + x * w → b ≡ p) ⌝ }
+// The code of a placement whose code is c, with a train of this stride put from section x on section y; `NO_CODE`, if that is none.
+pub fn code_put(c: u32, stride: u32, x: u8, y: u8) -> u32
+    ensures { λ b. ⌜ b ≡ codePut c stride x y ⌝ }
 {
-    let m = w as u64;
+    let m = stride as u64;
     let more = (c as u64) + (y as u64) * m;
     let less = (x as u64) * m;
     if more < less {
@@ -267,7 +250,13 @@ pub fn lost_in(table: &Table, q: Placement) -> bool
 pub fn is_home(table: &Table, p: u32) -> bool
     ensures { λ b. ⌜ ((r : Railway) → Compiled r (now (table .entry)) → b ≡ atHome r p) ⌝ }
 {
-    let q = placement_of(table, p);
+    home_in(table, placement_of(table, p))
+}
+
+// Each train of a placement by value stands on its destination.
+pub fn home_in(table: &Table, q: Placement) -> bool
+    ensures { λ b. ⌜ ((r : Railway) (p : ℕ) → On r p (now (table .entry)) q → b ≡ atHome r p) ⌝ }
+{
     let k = compiled::trains_in(table);
     let mut t: u8 = 0;
     while t < k {
@@ -304,7 +293,7 @@ pub fn may_move(table: &Table, p: u32, v: u32, t: u8) -> bool
 }
 
 // Whether a train of a placement by value is there and may move.
-fn may_in(table: &Table, q: Placement, v: u32, t: u8) -> bool
+pub fn may_in(table: &Table, q: Placement, v: u32, t: u8) -> bool
     ensures { λ b. ⌜ ((r : Railway) (p : ℕ) → On r p (now (table .entry)) q → b ≡ may (gameOf r) p (settingAt r p v) t) ⌝ }
 {
     if compiled::trains_in(table) <= t {
@@ -317,9 +306,9 @@ fn may_in(table: &Table, q: Placement, v: u32, t: u8) -> bool
     }
 }
 
-// A signal stands at the end that the train heads for.
+// A signal stands at the end that the train heads for; none does for a train that no railway can have.
 pub fn held_in(table: &Table, q: Placement, t: u8) -> bool
-    ensures { λ b. ⌜ ((r : Railway) (p : ℕ) → On r p (now (table .entry)) q → t < r .trains → b ≡ held r p t) ⌝ }
+    ensures { λ b. ⌜ ((r : Railway) (p : ℕ) → On r p (now (table .entry)) q → b ≡ heldIn r p t) ⌝ }
 {
     compiled::signal_in(table, t, section_at(q, t))
 }
@@ -350,21 +339,17 @@ fn opens_end(table: &Table, q: Placement, v: u32, i: u8, u: u8) -> bool
     }
 }
 
-// Bit n of a number.
-pub fn bit_at(v: u32, n: u32) -> bool
-    ensures { λ b. ⌜ b ≡ bit v n ⌝ }
-{
-    if 32 <= n {
-        return false;
-    }
-    (v >> n) % 2 == 1
-}
-
 // What moving a train ends in under an entry of the setting table.
 pub fn move_of(table: &Table, p: u32, v: u32, t: u8) -> Move
     ensures { λ m. ⌜ ((r : Railway) → Compiled r (now (table .entry)) → ended m ≡ moveUnder r p v t) ⌝ }
 {
-    let q = placement_of(table, p);
+    move_in(table, placement_of(table, p), v, t)
+}
+
+// What moving a train of a placement by value ends in.
+pub fn move_in(table: &Table, q: Placement, v: u32, t: u8) -> Move
+    ensures { λ m. ⌜ ((r : Railway) (p : ℕ) → On r p (now (table .entry)) q → ended m ≡ moveUnder r p v t) ⌝ }
+{
     if may_in(table, q, v, t) {
         let n = point_in(table, q, t);
         outcome_of(table, q, t, bit_at(v, n as u32))

@@ -1,9 +1,11 @@
-// The lines that programs write for an answer. Each is made at the front of a lent buffer, and what stands there is written on standard
+// The lines that programs write for an answer. Each is put at the front of a lent buffer, and what stands there is written on standard
 // output: the promise is about the buffer, since no contract can speak of what leaves the program, nor of whether it left.
 ghost use mathlib.Core.Path.{_≡_};
 ghost use lib.Dec.{leb};
 ghost use lib.ListN.{length};
-ghost use Rattle.answerlines.specs.Lines.{refusalLine, testLine, Fronted};
+ghost use Rattle.answerlines.specs.Lines.{refusalLine, testLine, putInto};
+ghost use Rattle.output.specs.Front.{hasFront};
+use casefile::Written;
 use libc::STDOUT_FILENO;
 use plan::TestAnswer;
 use railway::Refusal;
@@ -13,22 +15,32 @@ pub const LINE: usize = answerlines::LINE;
 
 // A refusal, by its number in the table.
 pub fn refusal(f: Refusal, out: &mut [u8])
-    ensures { λ _. ⌜ Fronted (now (out .entry)) (refusalLine f) (now (out .exit)) ⌝ }
+    ensures { λ _. ⌜ now (out .exit) ≡ putInto (refusalLine f) (now (out .entry)) ⌝ }
 {
-    let n = answerlines::refusal_line(f, out);
-    front(out, n);
+    let put = answerlines::refusal_line(f, out);
+    front(out, put);
 }
 
 // The answer to the call for the test.
 pub fn test_answer(a: TestAnswer, out: &mut [u8])
-    ensures { λ _. ⌜ Fronted (now (out .entry)) (testLine a) (now (out .exit)) ⌝ }
+    ensures { λ _. ⌜ now (out .exit) ≡ putInto (testLine a) (now (out .entry)) ⌝ }
 {
-    let n = answerlines::test_line(a, out);
-    front(out, n);
+    let put = answerlines::test_line(a, out);
+    front(out, put);
 }
 
-// The first n bytes of a buffer, written on standard output; whether it has so many: else nothing is written.
-pub fn front(out: &[u8], n: usize) -> bool
+// What was put at the front of a buffer, written on standard output; whether there is such a front: else nothing is written.
+pub fn front(out: &[u8], put: Written) -> bool
+    ensures { λ b. ⌜ b ≡ hasFront put (now (out .entry)) ⌝ }
+{
+    match put {
+        Written::Bytes(n) => write_first(out, n),
+        Written::Refused(_) => false,
+    }
+}
+
+// The first n bytes of a buffer, if it has so many.
+fn write_first(out: &[u8], n: usize) -> bool
     ensures { λ b. ⌜ b ≡ leb n (length (now (out .entry))) ⌝ }
 {
     if n <= out.len() {

@@ -5,18 +5,15 @@ use mathlib.Core.Bool.{false}
 use mathlib.Core.List.{List, [], _∷_}
 use mathlib.Core.Option.{none, some}
 use Prim.Native.Nat.{ℕ}
-use lib.ListN.{length, take, replicate}
+use lib.ListN.{take}
 use Rattle.laws.proofs.Bools.{clash}
 use Rattle.railway.specs.declared.Railway.{Railway}
-use Rattle.tables.specs.Tables.{noFigure}
 use Rattle.plan.specs.declared.PlanPlace.{PlanPlace}
 use Rattle.plan.specs.declared.Emitted.{Emitted}
 use Rattle.plan.specs.declared.Emitted.the-variants.{Line, End, NoPlan, Refused}
-use Rattle.plan.specs.declared.CheckerState.{CheckerState}
-use Rattle.plan.specs.declared.CheckerState.the-variants.{Fresh}
 use Rattle.plan.specs.Emitter.{isLine, Wrote, emitLine}
-use Rattle.plan.specs.Checker.{Checking, freshChecking, takeLine, LineCalls, callLines}
-use Rattle.plan.specs.Promises.{EmitterPost, FreshPost}
+use Rattle.plan.specs.Checker.{Checking, takeLine, LineCalls, callLines}
+use Rattle.plan.specs.Promises.{EmitterPost}
 use Rattle.plan.specs.Calls.{Emission, Emitting, unasked, wrote, stopped, Taking, no-more, one-more}
 use Rattle.plan.proofs.Promises.{emits-so, takes-so}
 
@@ -70,10 +67,3 @@ taking r [] c = no-more c
 taking r (l ∷ ls) c =
     one-more c (takeLine r c l .checking) (takeLine r c l .answer) l ls (callLines r ls (takeLine r c l .checking)) (takes-so r c l (takeLine r c l) refl)
     (taking r ls (takeLine r c l .checking))
-
--- fresh tables
-by-parts : (c : Checking) (state : CheckerState) (figs sets : List ℕ) → c .state ≡ state → c .figs ≡ figs → c .sets ≡ sets → c ≡ record { state = state; figs = figs; sets = sets }
-by-parts c state figs sets e f s = rw (← e, ← f, ← s)
-
-pub fresh-one : (figs sets : List ℕ) (c : Checking) → FreshPost figs sets c → c ≡ freshChecking (length figs) (length sets)
-fresh-one figs sets c p = by-parts c Fresh (replicate (length figs) noFigure) (replicate (length sets) 0) (p .state) (p .figures) (p .settings)

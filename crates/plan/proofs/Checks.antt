@@ -8,7 +8,7 @@ use mathlib.Core.List.{List, [], _∷_, _++_, map, map-append, append-assoc, app
 use mathlib.Core.Option.{Option, none, some}
 use Prim.Native.Nat.{ℕ, suc, _+_, _^_, _≤_, _<_}
 use native.Mathlib.Omega.{arith}
-use lib.ListN.{length, getD, set, replicate, length-set, length-replicate, getD-replicate}
+use lib.ListN.{length, getD, set, length-set}
 use lib.Seq.{getD-set-same, getD-set-other}
 use lib.Dec.{eqb, ltb, leb}
 use borrow.Author.Tests.{ltb-true, ltb-false, eq-eqb, ne-eqb}
@@ -36,9 +36,9 @@ use Rattle.plan.specs.Lines.{PlacementLine, PlanLine, startLine, placeme
 use Rattle.plan.specs.Reading.{readLine}
 use Rattle.plan.specs.Test.{Test, lineOn, figureOn, opensOn, plusOn, byLines, byTables}
 use Rattle.plan.specs.Computed.{testHolds}
-use Rattle.plan.specs.Checker.{Checking, Left, left, freshChecking, lineEntry, enter, takeLine, testPlan, LineCalls, onward, callLines, isTaken, takenTexts}
+use Rattle.plan.specs.Checker.{Checking, Left, left, lineEntry, enter, takeLine, testPlan, LineCalls, onward, callLines, isTaken, takenTexts}
 use Rattle.plan.specs.Steps.{refuse, takes, tests}
-use Rattle.plan.specs.Checked.{Form, InForm, Passing, Failing, Checked, CheckedHolds}
+use Rattle.plan.specs.Checked.{Form, InForm, Passing, Failing, Checked, FreshTables, CheckedHolds}
 use Rattle.plan.proofs.Reading.{fits-parts, reads-line, reads}
 use Rattle.plan.proofs.Steps.{line-steps, test-steps}
 use Rattle.plan.proofs.Emits.{none-refused}
@@ -81,9 +81,10 @@ module _ (r : Railway) where
     long : placements r ≤ length table
     has : (p : ℕ) → p < placements r → getD table p other ≡ cell other of (lineOn r ds p)
 
-  cells-fresh : (other : ℕ) (of : PlacementLine → ℕ) (k : ℕ) → placements r ≤ k → Cells other of [] (replicate k other)
+  cells-fresh : (other : ℕ) (of : PlacementLine → ℕ) (table : List ℕ) → placements r ≤ length table → ((p : ℕ) → p < placements r → getD table p other ≡ other)
+      → Cells other of [] table
   unfolding lineOn
-  cells-fresh other of k l = record { long = rw (length-replicate k other) l; has = λ p h. getD-replicate k p other other (omega arith) }
+  cells-fresh other of table l h = record { long = l; has = h }
 
   cells-more : (other : ℕ) (of : PlacementLine → ℕ) (ds : List PlacementLine) (d : PlacementLine) (table : List ℕ) → Cells other of ds table
       → rises 0 (codes r ds) ≡ true → codeAfter 0 (codes r ds) ≤ lineCode r d → lineCode r d < placements r
@@ -325,8 +326,10 @@ module _ (r : Railway) (a : recordRefusal r ≡ none) where
         others = n .others;
       }
 
-  pub fresh-holds : (k l : ℕ) → placements r ≤ k → placements r ≤ l → Holds [] (freshChecking k l)
-  fresh-holds k l i j = unbegun refl refl (record { figs = cells-fresh r noFigure (λ d. d .figure) k i; sets = cells-fresh r 0 (lineEntry r) l j })
+  pub fresh-holds : (c : Checking) → FreshTables r c → Holds [] c
+  fresh-holds c f =
+      unbegun refl (f .state)
+      (record { figs = cells-fresh r noFigure (λ d. d .figure) (c .figs) (f .enough-figs) (f .figures); sets = cells-fresh r 0 (lineEntry r) (c .sets) (f .enough-sets) (f .settings) })
 
 pub checked-holds : CheckedHolds
-checked-holds r a k l i j texts = checked r a texts (freshChecking k l) (fresh-holds r a k l i j)
+checked-holds r a c f texts = checked r a texts c (fresh-holds r a c f)

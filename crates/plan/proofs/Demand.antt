@@ -3,7 +3,7 @@
 use mathlib.Core.Path.{_≡_, refl, sym, _∙_, ap, subst}
 use mathlib.Core.Bool.{Bool, true, false, not, cond, _&&_, _||_}
 use mathlib.Core.List.{List, [], _∷_, _++_, map, append-assoc}
-use mathlib.Core.Option.{none}
+use mathlib.Core.Option.{none, some}
 use Prim.Native.Nat.{ℕ, _≤_, _<_}
 use native.Mathlib.Omega.{arith}
 use lib.ListN.{length}
@@ -12,27 +12,30 @@ use borrow.Author.Tests.{le-leb, leb-true}
 use Rattle.laws.specs.Lists.{all}
 use Rattle.laws.proofs.Bools.{clash, and-true, and-both}
 use Rattle.railway.specs.declared.Railway.{Railway}
+use Rattle.railway.specs.declared.CaseAnswer.{CaseAnswer}
 use Rattle.railway.specs.Refusals.{numberOf}
 use Rattle.railway.specs.Rows.{recordRefusal}
-use Rattle.game.specs.Placement.{placements}
-use Rattle.tables.specs.Tables.{caseRefusal}
+use Rattle.game.specs.Placement.{placements, startCode}
+use Rattle.tables.specs.Tables.{figureIn, caseRefusal, Filled}
 use Rattle.tables.specs.Solver.{SolverLeaves}
 use Rattle.tables.proofs.Plays.{filled-whole}
 use Rattle.plan.specs.declared.PlanPlace.the-variants.{Top}
+use Rattle.plan.specs.declared.Emitted.the-variants.{End}
 use Rattle.plan.specs.declared.LineAnswer.{LineAnswer}
 use Rattle.plan.specs.declared.TestAnswer.{TestAnswer}
 use Rattle.plan.specs.Lines.{PlanLine, spell, fits, mostLineBytes}
 use Rattle.plan.specs.Text.{planLines, planTexts}
-use Rattle.plan.specs.Emitter.{saysNone, Wrote}
+use Rattle.plan.specs.Emitter.{Wrote}
 use Rattle.plan.specs.Checker.{Checking, Left, takeLine, testPlan, LineCalls, onward, callLines, isTaken, takenTexts}
 use Rattle.plan.specs.Promises.{TestPost, FreshPost}
-use Rattle.plan.specs.Calls.{longEnough, Taking}
+use Rattle.plan.specs.Calls.{Emission, EmittingInto, longEnough, Taking}
 use Rattle.plan.specs.Checked.{InForm, Passing}
 use Rattle.plan.specs.Demand3.{Handed, ownTexts, othersRefused, Passed, Demand3Holds}
 use Rattle.plan.proofs.Lengths.{lines-short}
-use Rattle.plan.proofs.Calls.{emitting-one, taking-one, fresh-one}
+use Rattle.plan.proofs.Calls.{emitting-one, taking-one}
 use Rattle.plan.proofs.Emits.{none-refused, emits, emits-into, emits-none}
 use Rattle.plan.proofs.Forms.{form-front}
+use Rattle.plan.proofs.Fresh.{fresh-made}
 use Rattle.plan.proofs.Checks.{Holds, Call, took, refused, call, ran, answers, fresh-holds}
 use Rattle.plan.proofs.Plan.{plan-fits, plan-passes}
 
@@ -112,14 +115,26 @@ module _ (r : Railway) (accepted : recordRefusal r ≡ none) where
       record { taken = n .marks; passes = answers r accepted (ownTexts hs) (u .end) h .passes .1 p }
 
   -- the same of any calls that keep their promises
-  passed-calls : (figs sets : List ℕ) (c : Checking) → placements r ≤ length figs → placements r ≤ length sets → FreshPost figs sets c
+  passed-calls : (figs sets : List ℕ) (made : CaseAnswer) (c : Checking) → placements r ≤ length figs → placements r ≤ length sets → FreshPost r figs sets made c
       → (hs : List Handed) (u : LineCalls) → Taking r c (textsOf hs) u → Passing r (ownTexts hs) → othersRefused hs (u .answers) ≡ true
       → (test : TestAnswer) (c′ : Checking) → TestPost r (u .end) test c′ → Passed hs (u .answers) test
-  passed-calls figs sets c lf ls p hs u t y e test c′ q =
+  passed-calls figs sets made c lf ls p hs u t y e test c′ q =
       let s : u ≡ callLines r (textsOf hs) c = taking-one r c (textsOf hs) u t in
-      let k : Holds r accepted [] c = subst (Holds r accepted []) (sym (fresh-one figs sets c p)) (fresh-holds r accepted (length figs) (length sets) lf ls) in
+      let k : Holds r accepted [] c = fresh-holds r accepted c (fresh-made r figs sets made c accepted lf ls p) in
       let x = passed hs c k y (rw s at e) in
       rw s (record { taken = x .taken; passes = q .answer ∙ ap (λ (v : LineCalls). testPlan r (v .end) .answer) s ∙ x .passes })
+
+-- tables that are filled, and with them a start that has a figure
+module _ (r : Railway) (accepted : recordRefusal r ≡ none) (figs sets : List ℕ) (filled : Filled r figs sets) (unrefused : caseRefusal r figs sets ≡ none)
+    (n : ℕ) (start : figureIn figs (startCode r) ≡ some n) where
+  into-plan : (buffer : List ℕ) (e : Emission) → EmittingInto r figs sets Top buffer e → mostLineBytes ≤ length buffer → e ≡ record { lines = planTexts r figs sets; last = some End }
+  into-plan buffer e calls long = emits-into r figs sets unrefused n start buffer e calls (plan-fits-in r accepted figs sets buffer (plan-fits r accepted figs sets filled n start) long)
+
+  checks-plan : (lent₁ lent₂ : List ℕ) (made : CaseAnswer) (c : Checking) → placements r ≤ length lent₁ → placements r ≤ length lent₂ → FreshPost r lent₁ lent₂ made c
+      → (hs : List Handed) (u : LineCalls) → Taking r c (map (λ h. h .text) hs) u → ownTexts hs ≡ planTexts r figs sets → othersRefused hs (u .answers) ≡ true
+      → (test : TestAnswer) (c′ : Checking) → TestPost r (u .end) test c′ → Passed hs (u .answers) test
+  checks-plan lent₁ lent₂ made c i j fresh hs u calls own others test c′ p =
+      passed-calls r accepted lent₁ lent₂ made c i j fresh hs u calls (subst (Passing r) (sym own) (plan-passes r accepted figs sets filled n start)) others test c′ p
 
 pub demand3-holds : Demand3Holds
 demand3-holds r a figs sets figs′ sets′ accepted lf ls post =
@@ -134,12 +149,14 @@ demand3-holds r a figs sets figs′ sets′ accepted lf ls post =
       plays = filled-whole r accepted figs′ sets′ filled;
       emits = λ n start buffers e calls long. emitting-one r figs′ sets′ Top buffers e calls ∙ emits r figs′ sets′ still n start buffers long;
       room = λ n start buffers each more. plan-room r accepted figs′ sets′ buffers (plan-fits r accepted figs′ sets′ filled n start) each more;
-      emits-into = λ n start buffer e calls long.
-          emits-into r figs′ sets′ still n start buffer e calls (plan-fits-in r accepted figs′ sets′ buffer (plan-fits r accepted figs′ sets′ filled n start) long);
+      emits-into = into-plan r accepted figs′ sets′ filled still;
       emits-none = λ start place b b′ e p. (
           let w = emits-none r figs′ sets′ still start place b in
-          (ap saysNone (p .answer ∙ ap (λ (x : Wrote). x .answer) w), p .buffer ∙ ap (λ (x : Wrote). x .buffer) w)
+          (p .answer ∙ ap (λ (x : Wrote). x .answer) w, p .buffer ∙ ap (λ (x : Wrote). x .buffer) w)
           );
-      checks = λ n start lent₁ lent₂ c i j fresh hs u calls own e test c′ p.
-          passed-calls r accepted lent₁ lent₂ c i j fresh hs u calls (subst (Passing r) (sym own) (plan-passes r accepted figs′ sets′ filled n start)) e test c′ p;
+      checks = checks-plan r accepted figs′ sets′ filled still;
+      chain = λ n start buffer e emitted long lent₁ lent₂ made c i j fresh hs u calls own others test c′ p. (
+          let w : e ≡ record { lines = planTexts r figs′ sets′; last = some End } = into-plan r accepted figs′ sets′ filled still n start buffer e emitted long in
+          (ap (λ (x : Emission). x .last) w, checks-plan r accepted figs′ sets′ filled still n start lent₁ lent₂ made c i j fresh hs u calls (own ∙ ap (λ (x : Emission). x .lines) w) others test c′ p)
+          );
     }

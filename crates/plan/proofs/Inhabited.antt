@@ -1,9 +1,9 @@
 -- The hypotheses can be met: Yard A's tables are what a solver leaves that keeps its promise, its start has a figure, buffers are long enough,
 -- one buffer does for all lines, and lines that the checker refuses come among the plan's; there are plans that pass and plans that fail.
 -- Assumes nothing.
-use mathlib.Core.Path.{_≡_, refl, sym, _∙_}
+use mathlib.Core.Path.{_≡_, refl, sym, _∙_, ap}
 use mathlib.Core.Bool.{true, false}
-use mathlib.Core.List.{List, [], _∷_, map}
+use mathlib.Core.List.{List, [], _∷_, _++_, map}
 use mathlib.Core.Option.{none, some}
 use Prim.Native.Nat.{ℕ, _≤_}
 use Prim.Native.String.{String}
@@ -15,9 +15,11 @@ use Rattle.laws.specs.Bits.{fromBits}
 use Rattle.laws.specs.Lists.{any, all}
 use Rattle.text.specs.Text.{digits, line, bytes}
 use Rattle.text.specs.Reading.{fields, valueOf, sameText}
+use Rattle.railway.specs.declared.CaseAnswer.{CaseAnswer}
+use Rattle.railway.specs.declared.CaseAnswer.the-variants.{Accepted}
 use Rattle.railway.specs.declared.Refusal.the-variants.{PlanFault}
 use Rattle.railway.specs.Ends.{endAt}
-use Rattle.railway.specs.Refusals.{first}
+use Rattle.railway.specs.Refusals.{first, numberOf}
 use Rattle.railway.specs.Record.{joined, hasSignal, legsOf, trainOf, withJoin, withSignal, withLegs, withTrain}
 use Rattle.railway.specs.Rows.{unknownRow, joinRow, looseRow, placeRow}
 use Rattle.game.specs.Local.{keepsTest}
@@ -27,33 +29,36 @@ use Rattle.game.specs.Moves.{passes, occupied, moveOf}
 use Rattle.railway.specs.Yards.{yardA}
 use Rattle.tables.specs.declared.SolverAnswer.the-variants.{Figure}
 use Rattle.tables.specs.Entries.{entryFrom}
-use Rattle.tables.specs.Tables.{figureIn, tablesShort, caseRefusal}
+use Rattle.tables.specs.Tables.{noFigure, figureIn, tablesShort, caseRefusal}
 use Rattle.tables.specs.Solver.{Kept, SolverPost}
 use Rattle.tables.proofs.KnownYards.{figsA, setsA, yardA-accepted, yardA-filled}
 use Rattle.plan.specs.declared.PlanPlace.the-variants.{Top}
 use Rattle.plan.specs.declared.Emitted.the-variants.{End}
+use Rattle.plan.specs.declared.CheckerState.the-variants.{Fresh}
 use Rattle.plan.specs.declared.TestAnswer.the-variants.{Pass, Refused}
 use Rattle.plan.specs.Lines.{spell, fits, mostLineBytes}
 use Rattle.plan.specs.Text.{lineFor, planLines, planTexts}
-use Rattle.plan.specs.Calls.{Emission, EmittingInto, longEnough}
+use Rattle.plan.specs.Calls.{Emitting, EmittingInto, longEnough, Taking}
 use Rattle.plan.specs.Test.{listedSetting}
 use Rattle.plan.specs.Reading.{guess, readLine}
 use Rattle.plan.specs.Computed.{placementPasses, testHolds}
-use Rattle.plan.specs.Checker.{freshChecking, takeLine, testPlan, LineCalls, callLines, takenTexts}
+use Rattle.plan.specs.Checker.{Checking, freshChecking, freshened, takeLine, testPlan, LineCalls, callLines, takenTexts}
 use Rattle.plan.specs.Checked.{Passing, Failing}
-use Rattle.plan.specs.Demand3.{Handed, ownTexts, othersRefused, Passed, Demand3}
+use Rattle.plan.specs.Promises.{TestPost, FreshPost}
+use Rattle.plan.specs.Demand3.{Handed, ownTexts, othersRefused, Demand3}
 use Rattle.plan.proofs.Promises.{tests-so}
 use Rattle.plan.proofs.Calls.{emission, emitting, taking}
 use Rattle.plan.proofs.Emits.{none-refused, into-whole}
 use Rattle.plan.proofs.Checks.{checked-holds}
+use Rattle.plan.proofs.Fresh.{fresh-all}
 use Rattle.plan.proofs.Plan.{plan-passes}
 use Rattle.plan.proofs.Demand.{demand3-holds}
 
 -- tables of nine entries, lent to the solver
-abbrev lent : List ℕ
+abbrev pub lent : List ℕ
 lent = replicate 9 5
 
-nine : placements yardA ≡ 9
+pub nine : placements yardA ≡ 9
 unfolding withJoin withSignal withLegs withTrain
 nine = refl
 
@@ -65,71 +70,85 @@ post : SolverPost yardA (Figure 2) lent lent figsA setsA
 unfolding caseRefusal tablesShort first unknownRow joinRow looseRow placeRow endAt joined hasSignal legsOf trainOf withJoin withSignal withLegs withTrain anyBelow startCode codeOf sumBelow listBelow
 post = record { numbered = refl; leaves = (record { filled = yardA-filled; kept-figs = kept figsA refl; kept-sets = kept setsA refl }, refl) }
 
-demand : Demand3 yardA (Figure 2) figsA setsA
+pub demand : Demand3 yardA (Figure 2) figsA setsA
 demand = demand3-holds yardA (Figure 2) lent lent figsA setsA yardA-accepted (omega (arith, nine)) (omega (arith, nine)) post
 
--- What is computed: the start has a figure; buffers are long enough for its plan of four lines; the plan's lines with refused lines among
--- them; the first line alone fails the test; and each line fits into a buffer of the most bytes.
+-- What is computed: the plan's lines, with refused lines among those handed in; the plan's text; buffers that are long enough for it; the start has a
+-- figure; the first line alone fails the test; and each line fits into a buffer of the most bytes.
 abbrev stray : String → Handed
 stray s = record { own = false; text = bytes s }
 
 abbrev ours : String → Handed
 ours s = record { own = true; text = bytes s }
 
-abbrev handed : List Handed
+abbrev pub handed : List Handed
 handed = stray "2\t1\t1\t1\t-\n" ∷ ours "plan\t2\n" ∷ stray "plan\t2\n" ∷ ours "2\t1\t1\t1\t-\n" ∷ ours "3\t1\t0\t0\t-\n" ∷ stray "" ∷ ours "2\t3\t2\t0\t+\n" ∷ stray "2\t3" ∷ []
 
-abbrev buffers : List (List ℕ)
+abbrev pub linesA : List (List ℕ)
+linesA = bytes "plan\t2\n" ∷ bytes "2\t1\t1\t1\t-\n" ∷ bytes "3\t1\t0\t0\t-\n" ∷ bytes "2\t3\t2\t0\t+\n" ∷ []
+
+abbrev pub buffers : List (List ℕ)
 buffers = replicate 5 (replicate 10 7)
 
-abbrev widest : List ℕ
+abbrev pub widest : List ℕ
 widest = replicate mostLineBytes 7
 
+-- tables lent to the checker, and made fresh, one of them with entries past the last code
+abbrev pub wider : List ℕ
+wider = replicate 12 5
+
+abbrev pub madeFresh : Checking
+madeFresh = record { state = Fresh; figs = replicate 9 noFigure; sets = replicate 9 0 ++ replicate 3 5 }
+
 abbrev handedCalls : LineCalls
-handedCalls = callLines yardA (map (λ h. h .text) handed) (freshChecking 9 12)
+handedCalls = callLines yardA (map (λ h. h .text) handed) madeFresh
 
 abbrev firstAlone : LineCalls
 firstAlone = callLines yardA (bytes "plan\t2\n" ∷ []) (freshChecking 9 9)
 
-computed :
-    (figureIn figsA (startCode yardA) ≡ some 2)
-    × (longEnough (planTexts yardA figsA setsA) buffers ≡ true)
-    × (length (planTexts yardA figsA setsA) ≡ 4)
-    × (ownTexts handed ≡ planTexts yardA figsA setsA)
+pub computed :
+    (ownTexts handed ≡ linesA)
+    × (planTexts yardA figsA setsA ≡ linesA)
+    × (longEnough linesA buffers ≡ true)
     × (othersRefused handed (handedCalls .answers) ≡ true)
+    × (figureIn figsA (startCode yardA) ≡ some 2)
     × (testPlan yardA (firstAlone .end) .answer ≡ Refused PlanFault)
     × (Pass ≡ testPlan yardA (handedCalls .end) .answer)
     × (all (λ l. leb (length l) (length widest)) (planTexts yardA figsA setsA) ≡ true)
 unfolding longEnough planTexts planLines lineFor ownTexts othersRefused bytes callLines takeLine testPlan caseRefusal tablesShort first unknownRow joinRow looseRow placeRow endAt joined hasSignal legsOf trainOf withJoin withSignal withLegs withTrain allBelow anyBelow sumBelow whichBelow listBelow fromBits any all readLine guess fields valueOf sameText spell line digits fits entryFrom codeOf testHolds placementPasses listedSetting keepsTest sectionsIn standsOn startCode atHome shared headsFor held mayMove passes occupied moveOf
 computed = (refl, refl, refl, refl, refl, refl, refl, refl)
 
--- so demand 3 speaks of calls that there are: those of the functions, with buffers that are long enough and with buffers of the most bytes
+-- so demand 3 speaks of calls that there are: the emitter's with a buffer for each line, and with one of the most bytes, which is handed on
+emits : Emitting yardA figsA setsA Top buffers (emission yardA figsA setsA buffers Top)
+emits = emitting yardA figsA setsA buffers Top
+
 unrefused : caseRefusal yardA figsA setsA ≡ none
 unrefused = none-refused yardA figsA setsA yardA-accepted (omega (arith, nine)) (omega (arith, nine))
 
-abbrev whole : Emission
-whole = record { lines = planTexts yardA figsA setsA; last = some End }
+emits-into : EmittingInto yardA figsA setsA Top widest (record { lines = planTexts yardA figsA setsA; last = some End }) × (mostLineBytes ≤ length widest)
+emits-into = (into-whole yardA figsA setsA unrefused 2 (computed .4) widest (computed .7), omega arith)
 
-emits : emission yardA figsA setsA buffers Top ≡ whole
-emits = demand .emits 2 (computed .0) buffers (emission yardA figsA setsA buffers Top) (emitting yardA figsA setsA buffers Top) (computed .1)
+-- and the checker's, from tables made fresh, with lines among the plan's that it refuses, and then the test
+unrefused-lent : caseRefusal yardA lent wider ≡ none
+unrefused-lent = none-refused yardA lent wider yardA-accepted (omega (arith, nine)) (omega (arith, nine))
 
-room : longEnough (planTexts yardA figsA setsA) (replicate 5 widest) ≡ true
-unfolding all
-room = demand .room 2 (computed .0) (replicate 5 widest) refl (omega (arith, computed .2))
+makes-fresh : freshened yardA lent wider none ≡ madeFresh
+unfolding withJoin withSignal withLegs withTrain
+makes-fresh = refl
 
--- with one buffer of the most bytes, which is handed on
-emits-into : EmittingInto yardA figsA setsA Top widest whole × (mostLineBytes ≤ length widest)
-emits-into = (into-whole yardA figsA setsA unrefused 2 (computed .0) widest (computed .7), omega arith)
+pub made-fresh : (a : CaseAnswer) (c : Checking) → FreshPost yardA lent wider a c → c ≡ madeFresh
+made-fresh a c p = p .checking ∙ ap (freshened yardA lent wider) unrefused-lent ∙ makes-fresh
 
-checks : Passed handed (handedCalls .answers) Pass
-checks =
-    demand .checks 2 (computed .0) lent (replicate 12 5) (freshChecking 9 12) (omega (arith, nine)) (omega (arith, nine)) (record { state = refl; figures = refl; settings = refl })
-    handed handedCalls (taking yardA (map (λ h. h .text) handed) (freshChecking 9 12)) (computed .3) (computed .4)
-    Pass (handedCalls .end) (tests-so yardA (handedCalls .end) Pass (computed .6))
+checks : FreshPost yardA lent wider Accepted madeFresh × Taking yardA madeFresh (map (λ h. h .text) handed) handedCalls × TestPost yardA (handedCalls .end) Pass (handedCalls .end)
+checks = (
+  record { numbered = sym (ap numberOf unrefused-lent); checking = sym (ap (freshened yardA lent wider) unrefused-lent ∙ makes-fresh) },
+  taking yardA (map (λ h. h .text) handed) madeFresh,
+  tests-so yardA (handedCalls .end) Pass (computed .6),
+)
 
 -- and there are plans that pass, and plans that fail
 passing : Passing yardA (planTexts yardA figsA setsA)
-passing = plan-passes yardA yardA-accepted figsA setsA yardA-filled 2 (computed .0)
+passing = plan-passes yardA yardA-accepted figsA setsA yardA-filled 2 (computed .4)
 
 failing : Failing yardA (takenTexts (firstAlone .answers) (bytes "plan\t2\n" ∷ []))
-failing = checked-holds yardA yardA-accepted 9 9 (omega (arith, nine)) (omega (arith, nine)) (bytes "plan\t2\n" ∷ []) .faulty .0 (computed .5)
+failing = checked-holds yardA yardA-accepted (freshChecking 9 9) (fresh-all yardA 9 9 (omega (arith, nine)) (omega (arith, nine))) (bytes "plan\t2\n" ∷ []) .faulty .0 (computed .5)

@@ -5,8 +5,10 @@ pub mod Numbers
 pub mod Promises
 pub mod Calls
 pub mod Emits
+pub mod Several
 pub mod Tested
 pub mod Forms
+pub mod Fresh
 pub mod Checks
 pub mod Plan
 pub mod Demand
@@ -14,3 +16,5 @@ pub mod Outputs
 pub mod Examples
 pub mod Inhabited
 pub mod Rules
+pub mod Uses
+pub mod RuleUses

@@ -2,49 +2,60 @@
 -- certified, and all filled tables make the same plan. Assumes nothing.
 use mathlib.Core.Path.{_≡_, refl, _∙_, ap}
 use mathlib.Core.List.{List, [], _∷_, flatten}
-use mathlib.Core.Option.{none}
+use mathlib.Core.Option.{none, some}
 use Prim.Native.Nat.{ℕ}
-use Rattle.laws.specs.Below.{allBelow, anyBelow, sumBelow, whichBelow, listBelow, lowest}
-use Rattle.laws.specs.Bits.{fromBits}
+use Prim.Native.String.{String}
+use Rattle.laws.specs.Below.{sumBelow, whichBelow, listBelow}
 use Rattle.text.specs.Text.{digits, line, bytes}
-use Rattle.railway.specs.Ends.{endAt}
-use Rattle.railway.specs.Refusals.{first}
-use Rattle.railway.specs.Record.{joined, hasSignal, legsOf, trainOf, withJoin, withSignal, withLegs, withTrain}
-use Rattle.railway.specs.Rows.{unknownRow, joinRow, looseRow, placeRow, recordRefusal}
-use Rattle.game.specs.Local.{keepsTest}
-use Rattle.game.specs.Placement.{codeOf, sectionsIn, standsOn, startCode, atHome, shared}
-use Rattle.game.specs.Setting.{headsFor, held, mayMove}
-use Rattle.game.specs.Moves.{passes, occupied, moveOf}
-use Rattle.railway.specs.Yards.{yardA, yardOne}
-use Rattle.tables.specs.Entries.{settingAt, entryFrom}
+use Rattle.railway.specs.declared.Railway.{Railway}
+use Rattle.railway.specs.Record.{trainOf, withJoin, withSignal, withLegs, withTrain}
+use Rattle.railway.specs.Rows.{recordRefusal}
+use Rattle.game.specs.Placement.{codeOf, sectionsIn, startCode}
+use Rattle.railway.specs.Yards.{yardA, yardOne, yardOneDown}
 use Rattle.tables.specs.Tables.{Filled}
-use Rattle.tables.specs.Find.{tryOpen, firstFound, find}
-use Rattle.tables.proofs.Certify.{certified, certify}
-use Rattle.tables.proofs.KnownYards.{Sure, figsA, setsA, yardA-accepted, yardA-filled, known-figures}
+use Rattle.tables.specs.KnownYards.{planA, planOne}
+use Rattle.tables.proofs.KnownYards.{figsA, setsA, zeros, yardA-accepted, yardA-filled, one-filled, one-down-filled, known-figures}
 use Rattle.plan.specs.Lines.{spell}
 use Rattle.plan.specs.Text.{lineFor, planLines, planTexts, planText}
-use Rattle.plan.specs.Outputs.{Output, outputA, outputOne, Writes, OutputsHold, KnownYardsHold}
+use Rattle.plan.specs.Outputs.{Writes, KnownYardsHold}
 use Rattle.plan.proofs.Plan.{texts-one}
 
-one-sure : Sure yardOne (0 ∷ []) (0 ∷ [])
-unfolding recordRefusal first unknownRow joinRow looseRow placeRow endAt joined hasSignal legsOf trainOf withJoin withSignal withLegs withTrain allBelow anyBelow sumBelow lowest fromBits certified keepsTest sectionsIn standsOn codeOf atHome shared headsFor held mayMove passes occupied moveOf settingAt entryFrom tryOpen firstFound find
-one-sure = record { accepted = refl; passes = refl }
-
 -- a text that one pair of filled tables makes
-writes : (x : Output) (figs sets : List ℕ) → recordRefusal (x .yard) ≡ none → Filled (x .yard) figs sets → planText (x .yard) figs sets ≡ bytes (x .text) → Writes x
-writes x figs sets a f e = record { accepted = a; text = λ figs′ sets′ g. ap flatten (texts-one (x .yard) a figs′ sets′ figs sets g f) ∙ e }
+writes : (r : Railway) (s : String) (figs sets : List ℕ) → recordRefusal r ≡ none → Filled r figs sets → planText r figs sets ≡ bytes s → Writes r (some s)
+writes r s figs sets a f e = λ figs′ sets′ g. ap flatten (texts-one r a figs′ sets′ figs sets g f) ∙ e
 
-computed : (planText yardA figsA setsA ≡ bytes (outputA .text)) × (planText yardOne (0 ∷ []) (0 ∷ []) ≡ bytes (outputOne .text))
+computed : (planText yardA figsA setsA ≡ bytes planA) × (planText yardOne (0 ∷ []) zeros ≡ bytes planOne) × (planText yardOneDown (0 ∷ []) zeros ≡ bytes planOne)
 unfolding flatten bytes planTexts planLines lineFor spell digits line sumBelow whichBelow listBelow sectionsIn startCode codeOf trainOf withJoin withSignal withLegs withTrain
-computed = (refl, refl)
-
--- THE TEXTS WRITTEN OUT
-pub outputs-hold : OutputsHold
-outputs-hold = (
-  writes outputA figsA setsA yardA-accepted yardA-filled (computed .0),
-  (writes outputOne (0 ∷ []) (0 ∷ []) (one-sure .accepted) (certify yardOne (one-sure .accepted) (0 ∷ []) (0 ∷ []) (one-sure .passes)) (computed .1), tt),
-)
+computed = (refl, refl, refl)
 
 -- FIGURES AND TEXTS
 pub known-yards : KnownYardsHold
-known-yards = record { figures = known-figures; texts = outputs-hold }
+known-yards =
+    record {
+      figures = known-figures;
+      texts = (
+        writes yardA planA figsA setsA yardA-accepted yardA-filled (computed .0),
+        (
+          tt,
+          (
+            tt,
+            (
+              tt,
+              (
+                tt,
+                (
+                  tt,
+                  (
+                    tt,
+                    (
+                      writes yardOne planOne (0 ∷ []) zeros (one-filled .0) (one-filled .1) (computed .1),
+                      (writes yardOneDown planOne (0 ∷ []) zeros (one-down-filled .0) (one-down-filled .1) (computed .2), (tt, (tt, (tt, (tt, tt))))),
+                    ),
+                  ),
+                ),
+              ),
+            ),
+          ),
+        ),
+      );
+    }

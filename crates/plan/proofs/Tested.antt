@@ -68,6 +68,17 @@ module _ (r : Railway) (L : Listing) where
       ]))
 
   module _ (m : ℕ) where
+    of-test : Test r m L → testHolds r m L ≡ true
+    unfolding testHolds placementPasses
+    of-test t =
+        and-both (isFigure m (L .figure (startCode r))) (allBelow (placementPasses r L) (placements r))
+        (figure-is m (L .figure (startCode r)) (t .start))
+        (all-of (placementPasses r L) (placements r) (λ p l. elim (option? (L .figure p)) [
+          | inl f ↦ rw f
+          | inr f ↦ subst (λ (o : Option ℕ). passesIf r L p o ≡ true) (sym (f .1))
+              (test-listed p (f .0) (record { apart = t .apart p (f .0) l (f .1); signalled = λ u k o. t .signalled p (f .0) u l (f .1) k o; kept = λ h. t .kept p (f .0) l (f .1) h }))
+        ]))
+
     test-of : testHolds r m L ≡ true → Test r m L
     unfolding testHolds placementPasses
     test-of e =
@@ -81,17 +92,6 @@ module _ (r : Railway) (L : Listing) where
       where
         each : allBelow (placementPasses r L) (placements r) ≡ true → (p n : ℕ) → p < placements r → L .figure p ≡ some n → PlacementTest p n
         each a p n l f = listed-test p n (subst (λ (o : Option ℕ). passesIf r L p o ≡ true) f (all-at (placementPasses r L) (placements r) a p l))
-
-    of-test : Test r m L → testHolds r m L ≡ true
-    unfolding testHolds placementPasses
-    of-test t =
-        and-both (isFigure m (L .figure (startCode r))) (allBelow (placementPasses r L) (placements r))
-        (figure-is m (L .figure (startCode r)) (t .start))
-        (all-of (placementPasses r L) (placements r) (λ p l. elim (option? (L .figure p)) [
-          | inl f ↦ rw f
-          | inr f ↦ subst (λ (o : Option ℕ). passesIf r L p o ≡ true) (sym (f .1))
-              (test-listed p (f .0) (record { apart = t .apart p (f .0) l (f .1); signalled = λ u k o. t .signalled p (f .0) u l (f .1) k o; kept = λ h. t .kept p (f .0) l (f .1) h }))
-        ]))
 
 -- COMPUTED, the test is true exactly if the plan passes
 pub tested : TestComputed

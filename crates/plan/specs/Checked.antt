@@ -6,7 +6,7 @@ use mathlib.Core.Bool.{true}
 use mathlib.Core.List.{List, [], _∷_, _++_, map, List·Memᴰ}
 use mathlib.Core.Option.{none, some}
 use Prim.Native.Nat.{ℕ, _≤_, _<_}
-use lib.ListN.{length}
+use lib.ListN.{length, getD}
 use Rattle.laws.specs.Lists.{all, rises}
 use Rattle.railway.specs.declared.Railway.{Railway}
 use Rattle.railway.specs.declared.Refusal.the-variants.{PlanForm, PlanFault}
@@ -16,6 +16,7 @@ use Rattle.game.specs.Game.{Choice, following, HomeWithin}
 use Rattle.game.specs.Setting.{Setting}
 use Rattle.game.specs.Moves.{gameOf}
 use Rattle.tables.specs.Tables.{noFigure}
+use Rattle.plan.specs.declared.CheckerState.the-variants.{Fresh}
 use Rattle.plan.specs.declared.LineAnswer.{LineAnswer}
 use Rattle.plan.specs.declared.LineAnswer.the-variants.{Taken, Refused as LineRefused}
 use Rattle.plan.specs.declared.TestAnswer.the-variants.{Pass, Refused as TestRefused}
@@ -23,7 +24,7 @@ use Rattle.plan.specs.Lines.{PlacementLine, PlanLine, spell, fits, Spell
 use Rattle.plan.specs.Test.{Listing, listedSetting, Test, byLines}
 use Rattle.plan.specs.Reading.{readLine}
 use Rattle.plan.specs.Computed.{testHolds}
-use Rattle.plan.specs.Checker.{Checking, freshChecking, takeLine, testPlan, LineCalls, callLines, isTaken, takenTexts}
+use Rattle.plan.specs.Checker.{Checking, takeLine, testPlan, LineCalls, callLines, isTaken, takenTexts}
 
 -- A text is read as a line exactly if it is the spelling of that line and the line fits the case. (An accepted case has so few sections.)
 abbrev pub ReadsLine : Type 0
@@ -73,11 +74,19 @@ pub record Checked (r : Railway) (texts : List (List ℕ)) (answers : List LineA
   pub answered : length answers ≡ length texts
   pub others : (a : LineAnswer) → List·Memᴰ a answers → (a ≡ Taken) ⊎ (a ≡ LineRefused PlanForm)
 
--- In an accepted case, from the state before the first line and fresh tables that are long enough.
+-- A checker that has taken no line, with fresh tables that are long enough: none at every code in the one, zero in the other.
+pub record FreshTables (r : Railway) (c : Checking) : Type 0 where
+  pub state : c .state ≡ Fresh
+  pub enough-figs : placements r ≤ length (c .figs)
+  pub enough-sets : placements r ≤ length (c .sets)
+  pub figures : (p : ℕ) → p < placements r → getD (c .figs) p noFigure ≡ noFigure
+  pub settings : (p : ℕ) → p < placements r → getD (c .sets) p 0 ≡ 0
+
+-- In an accepted case, from there.
 abbrev pub CheckedHolds : Type 0
 CheckedHolds =
-    (r : Railway) → recordRefusal r ≡ none → (n m : ℕ) → placements r ≤ n → placements r ≤ m → (texts : List (List ℕ))
-    → (let u : LineCalls = callLines r texts (freshChecking n m) in Checked r texts (u .answers) (takenTexts (u .answers) texts) (u .end))
+    (r : Railway) → recordRefusal r ≡ none → (c : Checking) → FreshTables r c → (texts : List (List ℕ))
+    → (let u : LineCalls = callLines r texts c in Checked r texts (u .answers) (takenTexts (u .answers) texts) (u .end))
 
 -- A plan that passes can be followed: from the start its settings lead home within the figure of its first line, against every choice of trains.
 abbrev pub PlanWorks : Type 0

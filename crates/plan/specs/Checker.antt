@@ -5,12 +5,13 @@ use mathlib.Core.Bool.{Bool, true, false, not}
 use mathlib.Core.List.{List, [], _∷_, _++_}
 use mathlib.Core.Option.{Option, none, some}
 use Prim.Native.Nat.{ℕ, suc}
-use lib.ListN.{getD, set, replicate}
+use lib.ListN.{getD, set, replicate, drop}
 use lib.Dec.{ltb}
 use Rattle.railway.specs.declared.Railway.{Railway}
 use Rattle.railway.specs.declared.Refusal.{Refusal}
 use Rattle.railway.specs.declared.Refusal.the-variants.{PlanForm, PlanFault}
 use Rattle.railway.specs.Refusals.{number, Row, row, first}
+use Rattle.game.specs.Placement.{placements}
 use Rattle.tables.specs.Entries.{entryFrom}
 use Rattle.tables.specs.Tables.{noFigure, caseRows}
 use Rattle.plan.specs.declared.CheckerState.{CheckerState}
@@ -49,9 +50,18 @@ pub record Left (Answer : Type 0) : Type 0 where
 abbrev pub left : {A : Type 0} → A → Checking → Left A
 left a c = record { answer = a; checking = c }
 
--- The state before the first line, with fresh tables of so many entries, which list nothing: none at every code, and zero.
+-- The state before the first line, with fresh tables of so many entries, which list nothing: none in every entry, and zero.
 abbrev pub freshChecking : ℕ → ℕ → Checking
 freshChecking n m = record { state = Fresh; figs = replicate n noFigure; sets = replicate m 0 }
+
+-- MADE FRESH. A table with this number at every code; past the last code all is as it was.
+abbrev pub freshTable : Railway → ℕ → List ℕ → List ℕ
+freshTable r v table = replicate (placements r) v ++ drop (placements r) table
+
+-- What the call that makes two lent tables fresh leaves, by the refusal of the case: refused, both as they were. No line is taken in either case.
+abbrev pub freshened : Railway → List ℕ → List ℕ → Option Refusal → Checking
+freshened r figs sets (some f) = record { state = Fresh; figs = figs; sets = sets }
+freshened r figs sets none = record { state = Fresh; figs = freshTable r noFigure figs; sets = freshTable r 0 sets }
 
 -- A LINE. The entry of the setting table for its open trains and points.
 abbrev pub lineEntry : Railway → PlacementLine → ℕ

@@ -9,6 +9,7 @@ use lib.ListN.{length, getD}
 use lib.Dec.{leb}
 use Rattle.laws.specs.Lists.{all}
 use Rattle.railway.specs.declared.Railway.{Railway}
+use Rattle.railway.specs.declared.CaseAnswer.{CaseAnswer}
 use Rattle.railway.specs.Rows.{recordRefusal}
 use Rattle.game.specs.Claim.{Whole}
 use Rattle.game.specs.Placement.{placements, startCode}
@@ -19,13 +20,12 @@ use Rattle.tables.specs.Solver.{numberGiven, figureGiven, SolverPost}
 use Rattle.plan.specs.declared.PlanPlace.{PlanPlace}
 use Rattle.plan.specs.declared.PlanPlace.the-variants.{Top}
 use Rattle.plan.specs.declared.Emitted.{Emitted}
-use Rattle.plan.specs.declared.Emitted.the-variants.{End}
+use Rattle.plan.specs.declared.Emitted.the-variants.{End, NoPlan}
 use Rattle.plan.specs.declared.LineAnswer.{LineAnswer}
 use Rattle.plan.specs.declared.TestAnswer.{TestAnswer}
 use Rattle.plan.specs.declared.TestAnswer.the-variants.{Pass}
 use Rattle.plan.specs.Lines.{mostLineBytes}
 use Rattle.plan.specs.Text.{planTexts}
-use Rattle.plan.specs.Emitter.{saysNone}
 use Rattle.plan.specs.Checker.{Checking, LineCalls, isTaken}
 use Rattle.plan.specs.Promises.{EmitterPost, TestPost, FreshPost}
 use Rattle.plan.specs.Calls.{Emission, Emitting, EmittingInto, longEnough, Taking}
@@ -73,13 +73,20 @@ pub record Demand3 (r : Railway) (a : SolverAnswer) (figs sets : List ℕ) : Typ
       → mostLineBytes ≤ length buffer → e ≡ record { lines = planTexts r figs sets; last = some End }
   -- where the start has no figure every call answers none, and writes nothing
   pub emits-none : figureIn figs (startCode r) ≡ none → (place : PlanPlace) (b b′ : List ℕ) (e : Emitted) → EmitterPost r figs sets place b e b′
-      → (saysNone e ≡ true) × (b′ ≡ b)
+      → (e ≡ NoPlan) × (b′ ≡ b)
   -- the checker's calls for the plan's lines in their order, with any others that it refuses anywhere among them, from fresh tables that are
   -- long enough: it takes those of the plan and no others, and then answers pass to the call for the test
   pub checks : (n : ℕ) → figureIn figs (startCode r) ≡ some n
-      → (lent₁ lent₂ : List ℕ) (c : Checking) → placements r ≤ length lent₁ → placements r ≤ length lent₂ → FreshPost lent₁ lent₂ c
+      → (lent₁ lent₂ : List ℕ) (made : CaseAnswer) (c : Checking) → placements r ≤ length lent₁ → placements r ≤ length lent₂ → FreshPost r lent₁ lent₂ made c
       → (hs : List Handed) (u : LineCalls) → Taking r c (map (λ h. h .text) hs) u → ownTexts hs ≡ planTexts r figs sets → othersRefused hs (u .answers) ≡ true
       → (test : TestAnswer) (c′ : Checking) → TestPost r (u .end) test c′ → Passed hs (u .answers) test
+  -- in one chain: the lines that the emitter's calls gave, whatever they are, are those that the checker's calls are handed, with any others that it
+  -- refuses anywhere among them; the emitter's calls end where the plan does, and the checker's with pass
+  pub chain : (n : ℕ) → figureIn figs (startCode r) ≡ some n
+      → (buffer : List ℕ) (e : Emission) → EmittingInto r figs sets Top buffer e → mostLineBytes ≤ length buffer
+      → (lent₁ lent₂ : List ℕ) (made : CaseAnswer) (c : Checking) → placements r ≤ length lent₁ → placements r ≤ length lent₂ → FreshPost r lent₁ lent₂ made c
+      → (hs : List Handed) (u : LineCalls) → Taking r c (map (λ h. h .text) hs) u → ownTexts hs ≡ e .lines → othersRefused hs (u .answers) ≡ true
+      → (test : TestAnswer) (c′ : Checking) → TestPost r (u .end) test c′ → (e .last ≡ some End) × Passed hs (u .answers) test
 
 -- DEMAND 3: in an accepted case with tables long enough it holds of whatever a solver leaves that keeps its promise.
 abbrev pub Demand3Holds : Type 0

@@ -1,6 +1,6 @@
 -- The emitter: a line of the plan a call, from two tables into a lent text buffer (document 01, "The two tables and the plan": plan text; rows 3
 -- to 9 and what stands under the table of numbers). Each call is total: any record, tables, place and buffer. Assumes nothing.
-use mathlib.Core.Bool.{Bool, true, false, _&&_, _||_}
+use mathlib.Core.Bool.{Bool, false, _&&_, _||_}
 use mathlib.Core.List.{List, [], _∷_, _++_}
 use mathlib.Core.Option.{Option, none, some}
 use Prim.Native.Nat.{ℕ, suc}
@@ -38,13 +38,6 @@ lineGiven (Refused f) = none
 -- A line was written.
 abbrev pub isLine : Emitted → Bool
 isLine a = isSome (lineGiven a)
-
--- The verdict "none": there is no plan, for the start has no figure.
-abbrev pub saysNone : Emitted → Bool
-saysNone (Line n next) = false
-saysNone End = false
-saysNone NoPlan = true
-saysNone (Refused f) = false
 
 -- What a call leaves: its answer, and the lent text buffer.
 pub record Wrote : Type 0 where

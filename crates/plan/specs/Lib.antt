@@ -3,6 +3,7 @@ pub mod Text
 pub mod Emitter
 pub mod Test
 pub mod Checker
+pub mod Several
 pub mod Promises
 pub mod Calls
 pub mod Rules

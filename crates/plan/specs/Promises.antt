@@ -4,17 +4,16 @@
 use mathlib.Core.Path.{_≡_}
 use mathlib.Core.List.{List}
 use Prim.Native.Nat.{ℕ}
-use lib.ListN.{length, replicate}
 use Rattle.railway.specs.declared.Railway.{Railway}
-use Rattle.railway.specs.Refusals.{first, numberOf}
-use Rattle.tables.specs.Tables.{noFigure}
+use Rattle.railway.specs.declared.CaseAnswer.{CaseAnswer}
+use Rattle.railway.specs.Refusals.{first, numberOf, numberGiven as caseNumber}
+use Rattle.tables.specs.Tables.{caseRefusal}
 use Rattle.plan.specs.declared.PlanPlace.{PlanPlace}
 use Rattle.plan.specs.declared.Emitted.{Emitted}
-use Rattle.plan.specs.declared.CheckerState.the-variants.{Fresh}
 use Rattle.plan.specs.declared.LineAnswer.{LineAnswer}
 use Rattle.plan.specs.declared.TestAnswer.{TestAnswer}
 use Rattle.plan.specs.Emitter.{numberGiven, emitterRows, emitLine}
-use Rattle.plan.specs.Checker.{lineNumber, testNumber, Checking, lineRows, takeLine, testRows, testPlan}
+use Rattle.plan.specs.Checker.{lineNumber, testNumber, Checking, freshened, lineRows, takeLine, testRows, testPlan}
 
 -- The emitter, handed a buffer that comes back as `new`.
 pub record EmitterPost (r : Railway) (figs sets : List ℕ) (place : PlanPlace) (old : List ℕ) (a : Emitted) (new : List ℕ) : Type 0 where
@@ -34,9 +33,8 @@ pub record TestPost (r : Railway) (old : Checking) (a : TestAnswer) (new : Check
   pub numbered : testNumber a ≡ numberOf (first (testRows r old))
   pub checking : new ≡ testPlan r old .checking
 
--- The call that makes two lent tables fresh, whatever stands in them, and hands out the state that has taken no line: it refuses nothing, and
--- every entry is written, none in the one table and zero in the other.
-pub record FreshPost (figs sets : List ℕ) (new : Checking) : Type 0 where
-  pub state : new .state ≡ Fresh
-  pub figures : new .figs ≡ replicate (length figs) noFigure
-  pub settings : new .sets ≡ replicate (length sets) 0
+-- The call that makes two lent tables fresh, whatever stands in them, and hands out the state that has taken no line: it refuses by rows 3 to 9,
+-- and else writes none in the one table and zero in the other at every code.
+pub record FreshPost (r : Railway) (figs sets : List ℕ) (a : CaseAnswer) (new : Checking) : Type 0 where
+  pub numbered : caseNumber a ≡ numberOf (caseRefusal r figs sets)
+  pub checking : new ≡ freshened r figs sets (caseRefusal r figs sets)

@@ -1,5 +1,6 @@
--- The rule on refusals (document 01, under the table of numbers), for every call of the emitter and of the checker, whatever it is handed:
--- rows 3 to 9 come before all else, and what is refused leaves state, tables and buffer as they were. Assumes nothing.
+-- The rule on refusals (document 01, under the table of numbers), for every call of the emitter and of the checker for a line, and for the test,
+-- whatever it is handed: rows 3 to 9 come before all else, and what is refused leaves state, tables and buffer as they were. Of fresh tables Promises says
+-- it by an equation (`FreshPost`), and the calls for several lines are so many of these (Several). Assumes nothing.
 use mathlib.Core.Path.{_≡_}
 use mathlib.Core.Logic.{_⊎_, _↔_}
 use mathlib.Core.Bool.{true, false}

@@ -1,14 +1,17 @@
 -- The calls of Emitter and Checker one test after the other, as code makes them. Nothing of document 01 rests on this file: contracts of inner
 -- functions cite it, and the laws in proofs/Steps say that these are the calls that the rows define. Assumes nothing.
+use mathlib.Core.Path.{_≡_}
 use mathlib.Core.Bool.{cond}
 use mathlib.Core.List.{List, _++_}
 use mathlib.Core.Option.{Option, none, some}
-use Prim.Native.Nat.{ℕ}
-use lib.ListN.{length, drop}
+use Prim.Native.Nat.{ℕ, _+_, _≤_}
+use lib.ListN.{length, take, drop}
 use lib.Dec.{ltb}
 use Rattle.railway.specs.declared.Railway.{Railway}
 use Rattle.railway.specs.declared.Refusal.{Refusal}
 use Rattle.railway.specs.declared.Refusal.the-variants.{Space, PlanForm, PlanFault}
+use Rattle.game.specs.Placement.{startCode}
+use Rattle.tables.specs.Tables.{figureIn, caseRefusal}
 use Rattle.plan.specs.declared.PlanPlace.{PlanPlace}
 use Rattle.plan.specs.declared.Emitted.the-variants.{Line, End, NoPlan, Refused}
 use Rattle.plan.specs.declared.CheckerState.{CheckerState}
@@ -23,6 +26,7 @@ use Rattle.plan.specs.Reading.{readLine}
 use Rattle.plan.specs.Computed.{testHolds}
 use Rattle.plan.specs.Emitter.{Wrote, leaves, Due, due}
 use Rattle.plan.specs.Checker.{Checking, Left, left, begin, enter}
+use Rattle.plan.specs.Several.{Run, runBehind, runFrom}
 
 -- THE EMITTER. A line into the buffer, if it has room.
 abbrev pub lineWritten : List ℕ → PlanPlace → List ℕ → Wrote
@@ -41,6 +45,38 @@ abbrev pub emitted : Railway → List ℕ → List ℕ → PlanPlace → List �
 emitted r figs sets place buffer (some f) start = leaves (Refused f) buffer
 emitted r figs sets place buffer none none = leaves NoPlan buffer
 emitted r figs sets place buffer none (some n) = dueWritten buffer (due r figs sets place)
+
+-- SEVERAL LINES. A line into the buffer at a cursor, if it has room there: the buffer and the cursor behind it.
+pub record PutAt : Type 0 where
+  pub buffer : List ℕ
+  pub at : ℕ
+
+abbrev pub putAt : List ℕ → List ℕ → ℕ → PutAt
+putAt l buffer at =
+    cond (ltb (length buffer) (at + length l))
+    (record { buffer = buffer; at = at })
+    (record { buffer = take at buffer ++ l ++ drop (at + length l) buffer; at = at + length l })
+
+-- A buffer and a cursor.
+abbrev pub putSo : List ℕ → ℕ → PutAt
+putSo buffer at = record { buffer = buffer; at = at }
+
+-- A case that is not refused, in which the start has a figure.
+pub record Planned (r : Railway) (figs sets : List ℕ) : Type 0 where
+  pub unrefused : caseRefusal r figs sets ≡ none
+  pub figure : ℕ
+  pub start : figureIn figs (startCode r) ≡ some figure
+
+-- Of a whole run the lines up to the cursor are written, and those from a place on are left.
+pub record Underway (r : Railway) (figs sets : List ℕ) (whole : Run) (place : PlanPlace) (at : ℕ) (buffer : List ℕ) : Type 0 where
+  pub most : ℕ
+  pub enough : length buffer ≤ at + most
+  pub inside : at ≤ length buffer
+  pub same : runBehind at (take at buffer) (runFrom r figs sets most place (drop at buffer)) ≡ whole
+
+-- All of it is written.
+abbrev pub ranWhole : Run → Wrote
+ranWhole whole = record { answer = Line (whole .bytes) (whole .next); buffer = whole .buffer }
 
 -- THE CHECKER. A line that is refused.
 abbrev pub refuse : Checking → Refusal → Left LineAnswer

@@ -8,7 +8,8 @@ pub enum PlanPlace {
     From(u32),
 }
 
-// What the emitter answers: a line of so many bytes was written, and the next place; the plan has ended; there is no plan; a refusal.
+// What the emitter answers: a line of so many bytes was written, or as many whole lines as had room, and the next place; the plan has ended; there is
+// no plan; a refusal.
 pub enum Emitted {
     Line(usize, PlanPlace),
     End,
@@ -25,6 +26,12 @@ pub enum CheckerState {
 // What the checker answers to a line.
 pub enum LineAnswer {
     Taken,
+    Refused(Refusal),
+}
+
+// What the checker answers to a text of several lines: so many bytes in front were taken, in whole lines; or a refusal of the case.
+pub enum FrontAnswer {
+    Took(usize),
     Refused(Refusal),
 }
 

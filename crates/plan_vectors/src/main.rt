@@ -26,6 +26,6 @@ fn one() -> bool {
 
 fn write_for(case: &[u8]) {
     let mut text = [0u8; planwriter::TEXT];
-    let n = planwriter::case_text(case, &mut text);
-    output::front(&text, n);
+    let put = planwriter::case_text(case, &mut text);
+    output::front(&text, put);
 }

@@ -1,11 +1,15 @@
 // The case of file case.txt in the working folder and a plan on standard input; `pass` on standard output, or `refused`, a tab and the number.
 ghost use mathlib.Core.Path.{_≡_};
-ghost use Rattle.io.specs.Counts.{Counts};
-ghost use Prim.Native.Nat.{suc};
+ghost use mathlib.Core.Bool.{true};
+ghost use Prim.Native.Nat.{suc, _≤_};
+ghost use lib.ListN.{length};
 ghost use Rattle.casefile.specs.Rows.{mostBytes};
+ghost use Rattle.answerlines.specs.Lines.{mostAnswerBytes};
+ghost use Rattle.output.specs.Front.{hasFront};
 ghost use Rattle.verdict.specs.Claims.{readBytes};
+ghost use Rattle.filecheck.specs.Hearing.{HeardPost};
+use filecheck::Heard;
 use libc::STDIN_FILENO;
-use libc::STDOUT_FILENO;
 
 // One byte more than a case text may have: so many bytes decide what is answered (`CutDecides` in casefile/specs/Claims).
 const CASE: usize = casefile::MOST_BYTES + 1;
@@ -16,30 +20,20 @@ const PLAN: usize = (verdict::ENTRIES + 1) * planlines::MOST_LINE_BYTES + 1;
 
 fn main() {
     let mut case = [0u8; CASE];
-    let n = read_file(&mut case);
-    check(&case[..n]);
+    let mut plan = [0u8; PLAN];
+    let mut line = [0u8; answerlines::LINE];
+    check(&mut case, &mut plan, &mut line);
 }
 
-// A file that is not there is an empty text.
-fn read_file(case: &mut [u8]) -> usize
-    ensures { λ n. ⌜ Counts n (now (case .exit)) ⌝ }
+// Reads into buffers of these lengths and writes what stands in the third. A file that is not there cannot be read, and is an empty text.
+fn check(case: &mut [u8], plan: &mut [u8], line: &mut [u8]) -> Heard
+    requires { ⌜ (length (now case) ≡ suc mostBytes) × (length (now plan) ≡ readBytes) × (mostAnswerBytes ≤ length (now line)) ⌝ }
+    ensures { λ x. ⌜ HeardPost (now (case .exit)) (now (plan .exit)) (now (line .entry)) (x .case) (x .plan) (x .line) (now (line .exit)) ⌝ }
+    ensures { λ x. ⌜ hasFront (x .line) (now (line .exit)) ≡ true ⌝ }
 {
     let file = os::open_read(b"case.txt");
-    if file < 0 {
-        return 0;
-    }
-    let n = io::read_full(file, case);
-    libc::close(file);
-    n
-}
-
-// Reads the plan, and writes what comes of it. The promise ties the numbers of bytes that are read to the definitions.
-fn check(case: &[u8])
-    ensures { λ u. do ⌜ ((← ⟦CASE⟧ .entry) ≡ suc mostBytes) × ((← ⟦PLAN⟧ .entry) ≡ readBytes) ⌝ }
-{
-    let mut plan = [0u8; PLAN];
-    let n = io::read_full(STDIN_FILENO, &mut plan);
-    let mut line = [0u8; answerlines::LINE];
-    let m = verdict::check_line(case, &plan[..n], &mut line);
-    io::write_all(STDOUT_FILENO, &line[..m]);
+    let heard = filecheck::check_files(file, STDIN_FILENO, case, plan, line);
+    let put = heard.line;
+    output::front(line, put);
+    heard
 }

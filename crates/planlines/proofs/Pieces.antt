@@ -19,9 +19,9 @@ use Rattle.text.specs.Appending.{Appended}
 use Rattle.text.proofs.Appending.{append-none, append-then, line-more, line-last}
 use Rattle.tables.specs.Entries.{opensIn}
 use Rattle.plan.specs.Lines.{startLine, placementLine, orByte, trainDigit, openField, sign, pointField, sectionField, planWord, spell}
-use Rattle.moves.specs.declared.Placement.{Placement}
-use Rattle.moves.specs.Steps.{sectionIn}
-use Rattle.moves.proofs.Coding.{bit-high}
+use Rattle.placement.specs.declared.Placement.{Placement}
+use Rattle.placement.specs.ByValue.{sectionIn}
+use Rattle.placement.proofs.Places.{bit-high}
 use Rattle.planlines.specs.Spelling.{sectionPiece, openPiece, pointPiece, lineOf}
 
 -- A FIELD that is not empty stands for itself

@@ -8,8 +8,8 @@ use Rattle.laws.specs.Bits.{bit}
 use Rattle.text.specs.Text.{tab}
 use Rattle.tables.specs.Entries.{opensIn}
 use Rattle.plan.specs.Lines.{PlacementLine, trainDigit, sign, sectionField}
-use Rattle.moves.specs.declared.Placement.{Placement}
-use Rattle.moves.specs.Steps.{sectionIn}
+use Rattle.placement.specs.declared.Placement.{Placement}
+use Rattle.placement.specs.ByValue.{sectionIn}
 
 -- The line of a placement by value, of k trains, with figure n and entry v of the setting table over m points.
 abbrev pub lineOf : ℕ → ℕ → Placement → ℕ → ℕ → PlacementLine

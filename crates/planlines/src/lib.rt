@@ -7,8 +7,8 @@ ghost use Rattle.text.specs.Appending.{Appended};
 ghost use Rattle.tables.specs.Entries.{opensIn};
 ghost use Rattle.plan.specs.Lines.{startLine, placementLine, openField, sign, pointField, spell};
 ghost use Rattle.planlines.specs.Spelling.{sectionPiece, openPiece, pointPiece, lineOf};
-use moves::Placement;
-use moves::TRAIN_BITS;
+use placement::Placement;
+use placement::TRAIN_BITS;
 use text::LINE_END;
 use text::TAB;
 use text::append;
@@ -51,7 +51,7 @@ fn put_sections(out: &mut [u8], at: usize, k: u8, q: Placement) -> usize
     let mut next = at;
     let mut t: u8 = 0;
     while t < k {
-        next = append::number(out, next, moves::section_at(q, t) as u32 + 1, TAB);
+        next = append::number(out, next, placement::section_at(q, t) as u32 + 1, TAB);
         t += 1;
     }
     next
@@ -73,7 +73,7 @@ fn any_open(k: u8, v: u32) -> bool
 {
     let mut t: u8 = 0;
     while t < k {
-        if moves::bit_at(v, TRAIN_BITS + (t as u32)) {
+        if placement::bit_at(v, TRAIN_BITS + (t as u32)) {
             return true;
         }
         t += 1;
@@ -97,7 +97,7 @@ fn put_trains(out: &mut [u8], at: usize, k: u8, v: u32) -> usize
 fn put_train(out: &mut [u8], at: usize, t: u8, v: u32) -> usize
     ensures { λ x. ⌜ Appended (now (out .entry)) at (openPiece (opensIn v) t) (now (out .exit)) x ⌝ }
 {
-    if moves::bit_at(v, TRAIN_BITS + (t as u32)) {
+    if placement::bit_at(v, TRAIN_BITS + (t as u32)) {
         append::byte(out, at, b'1' + t)
     } else {
         at
@@ -120,7 +120,7 @@ fn put_signs(out: &mut [u8], at: usize, m: u8, v: u32) -> usize
     let mut next = at;
     let mut n: u8 = 0;
     while n < m {
-        next = append::byte(out, next, sign(moves::bit_at(v, n as u32)));
+        next = append::byte(out, next, sign(placement::bit_at(v, n as u32)));
         n += 1;
     }
     next

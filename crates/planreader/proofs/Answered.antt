@@ -34,8 +34,8 @@ use Rattle.plan.specs.Checker.{lineEntry}
 use Rattle.plan.specs.Reading.{readLine}
 use Rattle.plan.proofs.Reading.{lastFields, list-is, fits-parts, reads-line}
 use Rattle.plan.proofs.Lengths.{lines-short}
-use Rattle.moves.specs.declared.Placement.{Placement}
-use Rattle.moves.specs.Steps.{sectionIn}
+use Rattle.placement.specs.declared.Placement.{Placement}
+use Rattle.placement.specs.ByValue.{sectionIn}
 use Rattle.planlines.specs.Spelling.{lineOf}
 use Rattle.planreader.specs.declared.LineRead.the-variants.{NoLine, Start, Placed}
 use Rattle.planreader.specs.Answers.{answerFor}

@@ -1,5 +1,6 @@
 -- The test of a plan by the tests that code makes, one law for each return. Assumes nothing.
-use mathlib.Core.Path.{_≡_, sym, _∙_}
+use mathlib.Core.Path.{_≡_, sym, _∙_, ap}
+use mathlib.Core.Logic.{inl, inr}
 use mathlib.Core.Bool.{Bool, true, false, cond}
 use mathlib.Core.List.{List}
 use mathlib.Core.Option.{none, some}
@@ -8,6 +9,7 @@ use lib.Dec.{eqb}
 use lib.ListN.{getD}
 use borrow.Author.Tests.{eq-eqb, ne-eqb}
 use Rattle.laws.specs.Below.{allBelow, anyBelow}
+use Rattle.laws.proofs.Bools.{bool?, some-none}
 use Rattle.laws.proofs.Below.{any-one, any-none, all-but, all-each}
 use Rattle.railway.specs.declared.Railway.{Railway}
 use Rattle.game.specs.Game.{Outcome, may}
@@ -21,6 +23,7 @@ use Rattle.tables.specs.Tables.{noFigure, figureIn}
 use Rattle.plan.specs.Test.{byTables, listedSetting}
 use Rattle.plan.specs.Computed.{trainSignalled, listedPasses, passesIf, placementPasses, testHolds}
 use Rattle.moves.specs.declared.Move.{Move}
+use Rattle.moves.specs.declared.Move.the-variants.{NotAllowed}
 use Rattle.moves.specs.Answers.{ended, moveUnder}
 use Rattle.plantest.specs.Steps.{signalledIn}
 
@@ -49,15 +52,22 @@ module _ (r : Railway) (p v t : ℕ) (o : Bool) (is : o ≡ opensIn v t) where
   pub closed-signalled : o ≡ false → true ≡ signalledIn r p v t
   closed-signalled y = rw (sym is ∙ y)
 
--- ONE TRAIN: where its move ends
-module _ (r : Railway) (figs : List ℕ) (p v n t : ℕ) (m : Bool) (is : m ≡ may (gameOf r) p (settingAt r p v) t) where
-  pub stays-below : m ≡ false → true ≡ goesBelow (gameOf r) (figureIn figs) p (settingAt r p v) n t
-  stays-below y = rw (sym is ∙ y)
+-- ONE TRAIN: where its move ends, if it may move
+module _ (r : Railway) (figs : List ℕ) (p v n t : ℕ) (o : Move) (is : ended o ≡ moveUnder r p v t) where
+  pub stays-below : o ≡ NotAllowed → true ≡ goesBelow (gameOf r) (figureIn figs) p (settingAt r p v) n t
+  unfolding moveUnder
+  stays-below e = elim (bool? (may (gameOf r) p (settingAt r p v) t)) [
+    | inl y ↦ let z : moveUnder r p v t ≡ some (moveOf r p (settingAt r p v) t) = rw y in some-none (is ∙ z) (ap ended e)
+    | inr y ↦ rw y
+  ]
 
-  pub moves-below : (o : Move) (b : Bool) → m ≡ true → ended o ≡ moveUnder r p v t → ((x : Outcome) → ended o ≡ some x → b ≡ isBelow n (figureOf (figureIn figs) x))
+  pub moves-below : (b : Bool) → ¬ (ended o ≡ none) → ((x : Outcome) → ended o ≡ some x → b ≡ isBelow n (figureOf (figureIn figs) x))
       → b ≡ goesBelow (gameOf r) (figureIn figs) p (settingAt r p v) n t
   unfolding moveUnder
-  moves-below o b y e h = rw (sym is ∙ y) (h (moveOf r p (settingAt r p v) t) (rw (sym is ∙ y) at e))
+  moves-below b moved h = elim (bool? (may (gameOf r) p (settingAt r p v) t)) [
+    | inl y ↦ let z : moveUnder r p v t ≡ some (moveOf r p (settingAt r p v) t) = rw y in rw y (h (moveOf r p (settingAt r p v) t) (is ∙ z))
+    | inr y ↦ let z : moveUnder r p v t ≡ none = rw y in absurd (moved (is ∙ z))
+  ]
 
 -- A SETTING THAT KEEPS the figure
 module _ (r : Railway) (figs : List ℕ) (p v n : ℕ) (s : Bool) (is : s ≡ anyBelow (may (gameOf r) p (settingAt r p v)) (r .trains)) where

@@ -20,8 +20,8 @@ ghost use Rattle.moves.specs.Steps.{On};
 ghost use Rattle.plantest.specs.Steps.{signalledIn};
 use compiled::Table;
 use moves::Move;
-use moves::Placement;
-use moves::TRAIN_BITS;
+use placement::Placement;
+use placement::TRAIN_BITS;
 use tables::NO_FIGURE;
 
 // THE TEST, m being the first line's figure: the start is listed with it, and every listed placement is as it must be.
@@ -76,10 +76,10 @@ fn listed_passes(table: &Table, figures: &[u32], settings: &[u32], p: u32, n: u3
     }
     let v = tables::entry_at(settings, p, 0);
     if opens_signalled(table, q, v) {
-        if moves::is_home(table, p) {
+        if moves::home_in(table, q) {
             return true;
         }
-        keeps(table, figures, p, v, n)
+        keeps(table, figures, q, v, n)
     } else {
         false
     }
@@ -104,7 +104,7 @@ fn opens_signalled(table: &Table, q: Placement, v: u32) -> bool
 fn train_signalled(table: &Table, q: Placement, v: u32, t: u8) -> bool
     ensures { λ b. ⌜ ((r : Railway) (p : ℕ) → On r p (now (table .entry)) q → t < r .trains → b ≡ signalledIn r p v t) ⌝ }
 {
-    if moves::bit_at(v, TRAIN_BITS + (t as u32)) {
+    if placement::bit_at(v, TRAIN_BITS + (t as u32)) {
         moves::held_in(table, q, t)
     } else {
         true
@@ -112,23 +112,23 @@ fn train_signalled(table: &Table, q: Placement, v: u32, t: u8) -> bool
 }
 
 // Entry v keeps figure n: somebody may move under it, and whoever may comes to a listed placement with a figure below n.
-fn keeps(table: &Table, figures: &[u32], p: u32, v: u32, n: u32) -> bool
-    ensures { λ b. ⌜ ((r : Railway) → Compiled r (now (table .entry)) → b ≡ keepsTest (gameOf r) (figureIn (now (figures .entry))) p (settingAt r p v) n) ⌝ }
+fn keeps(table: &Table, figures: &[u32], q: Placement, v: u32, n: u32) -> bool
+    ensures { λ b. ⌜ ((r : Railway) (p : ℕ) → On r p (now (table .entry)) q → b ≡ keepsTest (gameOf r) (figureIn (now (figures .entry))) p (settingAt r p v) n) ⌝ }
 {
-    if some_may(table, p, v) {
-        all_below(table, figures, p, v, n)
+    if some_may(table, q, v) {
+        all_below(table, figures, q, v, n)
     } else {
         false
     }
 }
 
-fn some_may(table: &Table, p: u32, v: u32) -> bool
-    ensures { λ b. ⌜ ((r : Railway) → Compiled r (now (table .entry)) → b ≡ anyBelow (may (gameOf r) p (settingAt r p v)) (r .trains)) ⌝ }
+fn some_may(table: &Table, q: Placement, v: u32) -> bool
+    ensures { λ b. ⌜ ((r : Railway) (p : ℕ) → On r p (now (table .entry)) q → b ≡ anyBelow (may (gameOf r) p (settingAt r p v)) (r .trains)) ⌝ }
 {
     let k = compiled::trains_in(table);
     let mut t: u8 = 0;
     while t < k {
-        if moves::may_move(table, p, v, t) {
+        if moves::may_in(table, q, v, t) {
             return true;
         }
         t += 1;
@@ -136,13 +136,13 @@ fn some_may(table: &Table, p: u32, v: u32) -> bool
     false
 }
 
-fn all_below(table: &Table, figures: &[u32], p: u32, v: u32, n: u32) -> bool
-    ensures { λ b. ⌜ ((r : Railway) → Compiled r (now (table .entry)) → b ≡ allBelow (goesBelow (gameOf r) (figureIn (now (figures .entry))) p (settingAt r p v) n) (r .trains)) ⌝ }
+fn all_below(table: &Table, figures: &[u32], q: Placement, v: u32, n: u32) -> bool
+    ensures { λ b. ⌜ ((r : Railway) (p : ℕ) → On r p (now (table .entry)) q → b ≡ allBelow (goesBelow (gameOf r) (figureIn (now (figures .entry))) p (settingAt r p v) n) (r .trains)) ⌝ }
 {
     let k = compiled::trains_in(table);
     let mut t: u8 = 0;
     while t < k {
-        if goes_below(table, figures, p, v, n, t) {
+        if goes_below(table, figures, q, v, n, t) {
             t += 1;
         } else {
             return false;
@@ -152,14 +152,14 @@ fn all_below(table: &Table, figures: &[u32], p: u32, v: u32, n: u32) -> bool
 }
 
 // The train may not move, or its move ends below n.
-fn goes_below(table: &Table, figures: &[u32], p: u32, v: u32, n: u32, t: u8) -> bool
-    ensures { λ b. ⌜ ((r : Railway) → Compiled r (now (table .entry)) → b ≡ goesBelow (gameOf r) (figureIn (now (figures .entry))) p (settingAt r p v) n t) ⌝ }
+fn goes_below(table: &Table, figures: &[u32], q: Placement, v: u32, n: u32, t: u8) -> bool
+    ensures { λ b. ⌜ ((r : Railway) (p : ℕ) → On r p (now (table .entry)) q → b ≡ goesBelow (gameOf r) (figureIn (now (figures .entry))) p (settingAt r p v) n t) ⌝ }
 {
-    if moves::may_move(table, p, v, t) {
-        is_below(figures, moves::move_of(table, p, v, t), n)
-    } else {
-        true
-    }
+    let m = moves::move_in(table, q, v, t);
+    let Move::NotAllowed = m else {
+        return is_below(figures, m, n);
+    };
+    true
 }
 
 // What a move ends in has a figure below n.

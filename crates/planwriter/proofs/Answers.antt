@@ -1,30 +1,33 @@
 -- A plan can be made of what a solver leaves that answered a figure. Assumes nothing.
-use mathlib.Core.Path.{_≡_, refl, sym, subst}
+use mathlib.Core.Path.{_≡_, refl, sym, _∙_, subst}
 use mathlib.Core.List.{List}
 use mathlib.Core.Option.{none}
 use Prim.Native.Nat.{ℕ}
+use lib.ListN.{length-replicate}
 use Rattle.railway.specs.declared.Railway.{Railway}
 use Rattle.tables.specs.declared.SolverAnswer.{SolverAnswer}
 use Rattle.tables.specs.declared.SolverAnswer.the-variants.{Figure}
+use Rattle.tables.specs.Lengths.{entries}
 use Rattle.tables.specs.Solver.{SolverLeaves, SolverPost}
 use Rattle.tables.proofs.Refusals.{case-none}
 use Rattle.tables.proofs.Promise.{solver-accepted}
 use Rattle.plan.proofs.Emits.{none-refused}
 use Rattle.planwriter.specs.Solved.{Solved}
+use Rattle.planwriter.specs.Written.{blank}
 
--- what a solver leaves that answered a figure can be made a plan of
-pub solved-by : (r : Railway) (n : ℕ) (figs sets figs′ sets′ : List ℕ) → SolverPost r (Figure n) figs sets figs′ sets′ → Solved r figs′ sets′
-solved-by r n figs sets figs′ sets′ post =
+pub solved-by : (r : Railway) (n : ℕ) (figs sets : List ℕ) → SolverPost r (Figure n) blank blank figs sets → Solved r figs sets
+solved-by r n figs sets post =
     let fine = solver-accepted post refl in
-    let k = case-none r figs sets .0 fine in
-    let leaves : SolverLeaves r (Figure n) figs sets figs′ sets′ none = subst (SolverLeaves r (Figure n) figs sets figs′ sets′) fine (post .leaves) in
+    let k = case-none r blank blank .0 fine in
+    let leaves : SolverLeaves r (Figure n) blank blank figs sets none = subst (SolverLeaves r (Figure n) blank blank figs sets) fine (post .leaves) in
     record {
-      unrefused = none-refused r figs′ sets′ (k .0) (rw (leaves .0 .kept-figs .as-long) (k .1 .figures)) (rw (leaves .0 .kept-sets .as-long) (k .1 .settings));
+      long = leaves .0 .kept-figs .as-long ∙ length-replicate {A = ℕ} entries 0;
+      unrefused = none-refused r figs sets (k .0) (rw (leaves .0 .kept-figs .as-long) (k .1 .figures)) (rw (leaves .0 .kept-sets .as-long) (k .1 .settings));
       filled = leaves .0 .filled;
       figure = n;
       start = sym (leaves .1);
     }
 
 -- the same of an answer that is known to be a figure
-pub figure-solved : (r : Railway) (a : SolverAnswer) (figs sets figs′ sets′ : List ℕ) (m : ℕ) → SolverPost r a figs sets figs′ sets′ → a ≡ Figure m → Solved r figs′ sets′
-figure-solved r a figs sets figs′ sets′ m post e = solved-by r m figs sets figs′ sets′ (subst (λ (x : SolverAnswer). SolverPost r x figs sets figs′ sets′) e post)
+pub figure-solved : (r : Railway) (a : SolverAnswer) (figs sets : List ℕ) (m : ℕ) → SolverPost r a blank blank figs sets → a ≡ Figure m → Solved r figs sets
+figure-solved r a figs sets m post e = solved-by r m figs sets (subst (λ (x : SolverAnswer). SolverPost r x blank blank figs sets) e post)

@@ -1,5 +1,7 @@
 pub mod Answers
 pub mod Sizes
-pub mod Lines
-pub mod Short
+pub mod Whole
+pub mod Written
 pub mod Cases
+pub mod Cut
+pub mod Uses

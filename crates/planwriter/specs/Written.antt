@@ -2,8 +2,8 @@
 -- Assumes nothing.
 use mathlib.Core.Path.{_≡_}
 use mathlib.Core.List.{List}
-use Prim.Native.Nat.{ℕ, suc, _*_}
-use lib.ListN.{replicate}
+use Prim.Native.Nat.{ℕ, suc, _*_, _<_}
+use lib.ListN.{take, replicate}
 use Rattle.railway.specs.declared.Railway.{Railway}
 use Rattle.tables.specs.declared.SolverAnswer.{SolverAnswer}
 use Rattle.tables.specs.declared.SolverAnswer.the-variants.{Refused, Unsolvable, Figure}
@@ -12,6 +12,7 @@ use Rattle.tables.specs.Solver.{SolverPost}
 use Rattle.plan.specs.Lines.{mostLineBytes}
 use Rattle.plan.specs.Text.{planText}
 use Rattle.answerlines.specs.Lines.{refusalLine, noneLine}
+use Rattle.casefile.specs.Rows.{mostBytes}
 use Rattle.reader.specs.Answers.{ByCase}
 
 -- The text for a solver's answer and the two tables that it left: the plan, `none`, or the refusal's line.
@@ -20,21 +21,17 @@ outputText r (Refused f) figs sets = refusalLine f
 outputText r Unsolvable figs sets = noneLine
 outputText r (Figure n) figs sets = planText r figs sets
 
--- The text for what a solver answers that is lent two tables.
-pub record SolvedOutput (r : Railway) (figs sets figs′ sets′ text : List ℕ) : Type 0 where
-  pub answer : SolverAnswer
-  pub solved : SolverPost r answer figs sets figs′ sets′
-  pub written : text ≡ outputText r answer figs′ sets′
-
 -- A table of the program's own, as the solver is lent it.
 abbrev pub blank : List ℕ
 blank = replicate entries 0
 
--- A RAILWAY: the text for what a solver answers that is lent two of these.
+-- A RAILWAY: the text for what a solver answers that is lent two of these, and for the tables that it leaves.
 pub record RailwayOutput (r : Railway) (text : List ℕ) : Type 0 where
+  pub answer : SolverAnswer
   pub figs : List ℕ
   pub sets : List ℕ
-  pub output : SolvedOutput r blank blank figs sets text
+  pub solved : SolverPost r answer blank blank figs sets
+  pub written : text ≡ outputText r answer figs sets
 
 -- A CASE TEXT: the line of the reader's refusal, or the text for its railway.
 abbrev pub CaseOutput : List ℕ → List ℕ → Type 0
@@ -43,3 +40,7 @@ CaseOutput case text = ByCase case (λ f. text ≡ refusalLine f) (λ r. Railway
 -- No such text has more bytes than a first line, and one for each entry of a table.
 abbrev pub textBytes : ℕ
 textBytes = suc entries * mostLineBytes
+
+-- One byte more than a case text may have: what is written for so many bytes of a text is written for the text, whatever follows them.
+abbrev pub CutWrites : Type 0
+CutWrites = (case text : List ℕ) (n : ℕ) → mostBytes < n → CaseOutput (take n case) text → CaseOutput case text

@@ -6,3 +6,5 @@ pub mod Refusals
 pub mod Accepted
 pub mod Same
 pub mod Examples
+pub mod Claims
+pub mod Uses

@@ -14,20 +14,13 @@ use Rattle.laws.proofs.Bools.{clash, some-none, some-one, not-true}
 use Rattle.laws.proofs.Lists.{every-none, every-more}
 use Rattle.railway.specs.declared.Refusal.{Refusal}
 use Rattle.railway.specs.declared.Refusal.the-variants.{Length, Form, Count, Unknown, Join, Loose, Double, Place, Space, PlanForm, PlanFault}
-use Rattle.railway.specs.Refusals.{number, Row, row, refuseIf, first, numberOf, FirstOf}
-
--- a row applies; the row of f applies, and none before it in the list
-abbrev pub On : Row → Type 0
-On x = x .applies ≡ true
-
-abbrev pub FirstRow : List Row → Refusal → Type 0
-FirstRow xs f = FirstOf On xs (row f true)
+use Rattle.railway.specs.Refusals.{number, Row, row, Applying, NotApplying, refuseIf, first, numberOf, FirstRow}
 
 first-step : (b : Bool) (x : Row) (xs : List Row) (f : Refusal) → x .applies ≡ b → refuseIf b (x .refusal) (first xs) ≡ some f
     → (first xs ≡ some f → FirstRow xs f) → FirstRow (x ∷ xs) f
 first-step true x xs f h e ih =
     let z : x .refusal ≡ f = cc in
-    record { before = []; after = xs; order = rw (← z, ← h); here = refl; not-before = every-none (λ y. On y → ⊥) }
+    record { before = []; after = xs; order = rw (← z, ← h); here = refl; not-before = every-none (λ y. Applying y → ⊥) }
 first-step false x xs f h e ih =
     let t = ih e in
     record {
@@ -35,7 +28,7 @@ first-step false x xs f h e ih =
       after = t .after;
       order = ap (λ (l : List Row). x ∷ l) (t .order);
       here = refl;
-      not-before = every-more (λ y. On y → ⊥) x (t .before) (λ p. clash p h) (t .not-before);
+      not-before = every-more (λ y. Applying y → ⊥) x (t .before) (λ p. clash p h) (t .not-before);
     }
 
 pub first-is : (xs : List Row) (f : Refusal) → first xs ≡ some f → FirstRow xs f
@@ -43,7 +36,7 @@ unfolding first
 first-is [] f e = some-none e refl
 first-is (x ∷ xs) f e = first-step (x .applies) x xs f refl e (first-is xs f)
 
-passed : (before after : List Row) (f : Refusal) → Every (λ y. On y → ⊥) before → first (before ++ (row f true ∷ after)) ≡ some f
+passed : (before after : List Row) (f : Refusal) → Every (λ y. Applying y → ⊥) before → first (before ++ (row f true ∷ after)) ≡ some f
 unfolding first
 passed [] after f h = refl
 passed (x ∷ xs) after f h =
@@ -63,11 +56,11 @@ none-step true y xs x h e m ih = some-none refl e
 none-step false y xs x h e (List·Memᴰ·head p) ih = rw p h
 none-step false y xs x h e (List·Memᴰ·tail m) ih = ih e m
 
-pub first-none : (xs : List Row) → first xs ≡ none → (x : Row) → List·Memᴰ x xs → x .applies ≡ false
+pub first-none : (xs : List Row) → first xs ≡ none → Every NotApplying xs
 unfolding first
 first-none (y ∷ xs) e x m = none-step (y .applies) y xs x refl e m (λ e m. first-none xs e x m)
 
-pub none-first : (xs : List Row) → ((x : Row) → List·Memᴰ x xs → x .applies ≡ false) → first xs ≡ none
+pub none-first : (xs : List Row) → Every NotApplying xs → first xs ≡ none
 unfolding first
 none-first [] h = refl
 none-first (x ∷ xs) h = rw (h x (List·Memᴰ·head refl)) (none-first xs (λ y m. h y (List·Memᴰ·tail m)))

@@ -5,3 +5,4 @@ pub mod Record
 pub mod Rows
 pub mod Same
 pub mod Yards
+pub mod Claims

@@ -8,6 +8,8 @@ use Prim.Native.Nat.{ℕ}
 use Rattle.laws.specs.Lists.{Every}
 use Rattle.railway.specs.declared.Refusal.{Refusal}
 use Rattle.railway.specs.declared.Refusal.the-variants.{Length, Form, Count, Unknown, Join, Loose, Double, Place, Space, PlanForm, PlanFault}
+use Rattle.railway.specs.declared.CaseAnswer.{CaseAnswer}
+use Rattle.railway.specs.declared.CaseAnswer.the-variants.{Accepted, Refused}
 
 -- The table's first two columns.
 abbrev pub number : Refusal → ℕ
@@ -23,6 +25,11 @@ number Space = 9
 number PlanForm = 10
 number PlanFault = 11
 
+-- The number that the answer to a case gives, if it is refused.
+abbrev pub numberGiven : CaseAnswer → Option ℕ
+numberGiven Accepted = none
+numberGiven (Refused f) = some (number f)
+
 -- A row: what is given, and whether it applies.
 pub record Row : Type 0 where
   pub refusal : Refusal
@@ -31,6 +38,14 @@ pub record Row : Type 0 where
 -- A row by its parts.
 abbrev pub row : Refusal → Bool → Row
 row f b = record { refusal = f; applies = b }
+
+-- It applies.
+abbrev pub Applying : Row → Type 0
+Applying x = x .applies ≡ true
+
+-- It does not.
+abbrev pub NotApplying : Row → Type 0
+NotApplying x = x .applies ≡ false
 
 -- The refusal of a row that applies, else that of the later ones.
 abbrev pub refuseIf : Bool → Refusal → Option Refusal → Option Refusal
@@ -54,3 +69,7 @@ pub record FirstOf {A : Type 0} (applies : A → Type 0) (table : List A) (x : A
   pub order : table ≡ before ++ (x ∷ after)
   pub here : applies x
   pub not-before : Every (λ y. applies y → ⊥) before
+
+-- A refusal's row is the first of these that applies.
+abbrev pub FirstRow : List Row → Refusal → Type 0
+FirstRow rows f = FirstOf Applying rows (row f true)

@@ -148,16 +148,20 @@ sharesAt r t = anyBelow (sharesWith r t) t
 unfoldable pub placeRow : Railway → Bool
 placeRow r = anyBelow (sharesAt r) (r .trains)
 
--- The rows in the table's order.
-abbrev pub recordRows : Railway → List Row
-recordRows r =
-    row Count (countRow r)
-    ∷ row Unknown (unknownRow r)
-    ∷ row Join (joinRow r)
-    ∷ row Loose (looseRow r)
-    ∷ row Double (doubleRow r)
-    ∷ row Place (placeRow r)
+-- Rows 3 to 8 in the table's order, by whether each applies.
+abbrev pub rowsBy : Bool → Bool → Bool → Bool → Bool → Bool → List Row
+rowsBy count unknown join loose double place =
+    row Count count
+    ∷ row Unknown unknown
+    ∷ row Join join
+    ∷ row Loose loose
+    ∷ row Double double
+    ∷ row Place place
     ∷ []
+
+-- Those of a record.
+abbrev pub recordRows : Railway → List Row
+recordRows r = rowsBy (countRow r) (unknownRow r) (joinRow r) (looseRow r) (doubleRow r) (placeRow r)
 
 -- What the test of a record gives: the first row that applies; none: the record is accepted.
 unfoldable pub recordRefusal : Railway → Option Refusal

@@ -53,9 +53,12 @@ yardALess =
 abbrev pub yardA : Railway
 yardA = lineG (sec 1 Down) yardALess
 
--- One section, and one train that starts at home.
+-- One section, and one train that starts at home; it heads up, or down.
 abbrev pub yardOne : Railway
 yardOne = lineT 1 Up 1 1 (yardH 1 0 1)
+
+abbrev pub yardOneDown : Railway
+yardOneDown = lineT 1 Down 1 1 (yardH 1 0 1)
 
 -- Two sections, joined 1u to 2d, for k trains.
 abbrev pub yardTwo : ℕ → Railway

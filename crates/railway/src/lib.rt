@@ -67,6 +67,12 @@ pub enum Refusal {
     PlanFault,
 }
 
+// What a case is answered with, as a record or as a text: it is accepted, or refused with the first row that applies.
+pub enum CaseAnswer {
+    Accepted,
+    Refused(Refusal),
+}
+
 // Legs by point; links by end, in the order of `index_of`; signals by section end; the roster by train.
 pub struct Railway {
     pub sections: u8,

@@ -5,11 +5,12 @@ use Prim.Native.Nat.{ℕ}
 use Rattle.laws.proofs.Bools.{some-none, some-one}
 use Rattle.railway.specs.declared.Railway.{Railway}
 use Rattle.railway.specs.declared.Refusal.{Refusal}
+use Rattle.railway.specs.Refusals.{numberGiven}
 use Rattle.railway.proofs.Refusals.{number-one}
 use Rattle.casefile.specs.declared.CaseRead.{CaseRead}
-use Rattle.casefile.specs.declared.CaseAnswer.{CaseAnswer}
-use Rattle.casefile.specs.declared.CaseAnswer.the-variants.{Accepted, Refused}
-use Rattle.casefile.specs.Given.{numberGiven, railwayGiven, ReaderPost}
+use Rattle.railway.specs.declared.CaseAnswer.{CaseAnswer}
+use Rattle.railway.specs.declared.CaseAnswer.the-variants.{Accepted, Refused}
+use Rattle.casefile.specs.Given.{railwayGiven, ReaderPost}
 use Rattle.reader.specs.Answers.{ByCase}
 
 module _ (R : Refusal → Type 0) (A : Railway → Type 0) (text : List ℕ) (a : CaseRead) (p : ReaderPost text a) where

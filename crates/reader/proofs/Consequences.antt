@@ -8,8 +8,9 @@ use Rattle.casefile.specs.declared.CaseRead.{CaseRead}
 use Rattle.casefile.specs.Given.{ReaderPost}
 use Rattle.casefile.specs.Reading.{caseAnswer}
 use Rattle.casefile.proofs.Exactly.{accepted-exactly, refused-exactly, always-answered, reader-answers}
+use Rattle.casefile.proofs.Described.{read-as-described}
 use Rattle.casefile.proofs.Again.{accepted-again}
-use Rattle.reader.specs.Claims.{ReaderAccepts, ReaderRefuses, ReaderSettles, ReaderGives}
+use Rattle.reader.specs.Claims.{ReaderAccepts, ReaderRefuses, ReaderSettles, ReaderGives, ReaderDescribes}
 
 answer-is : (text : List ℕ) (r : CaseRead) → ReaderPost text r → r ≡ caseAnswer text
 answer-is text r = reader-answers text r .1
@@ -25,3 +26,6 @@ reader-settles text r p = let h = answer-is text r p in elim (always-answered te
 
 pub reader-gives : ReaderGives
 reader-gives text r p q e = accepted-again text q (sym (answer-is text r p) ∙ e)
+
+pub reader-describes : ReaderDescribes
+reader-describes text r p q e = read-as-described text q (sym (answer-is text r p) ∙ e)

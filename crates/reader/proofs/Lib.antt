@@ -1,3 +1,4 @@
 pub mod Parts
 pub mod Consequences
 pub mod Answers
+pub mod Uses

@@ -1,30 +1,32 @@
 -- What the reader's functions answer, over plain values: each return is a case of the definition that its contract cites.
 -- Assumes nothing.
-use Prim.Native.Nat.{ℕ, _+_, _-_, _<_, _≤_}
-use mathlib.Core.Path.{_≡_, refl, sym, _∙_}
+use Prim.Native.Nat.{ℕ, _<_, _≤_}
+use mathlib.Core.Path.{_≡_, refl, sym, _∙_, ap}
 use mathlib.Core.Logic.{inl, inr}
 use mathlib.Core.Bool.{Bool, true, false}
 use mathlib.Core.List.{List}
-use mathlib.Core.Option.{Option}
+use mathlib.Core.Option.{Option, none, some}
 use native.Mathlib.Omega.{arith}
 use lib.Dec.{ltb}
-use lib.ListN.{length, drop}
+use lib.ListN.{length}
 use borrow.Author.Tests.{lt-ltb, le-ltb, le-leb, lt-leb}
 use Rattle.text.specs.Reading.{Got, bad, got, then}
 use Rattle.laws.proofs.Bools.{bool?, lt?}
 use Rattle.railway.specs.declared.Railway.{Railway}
 use Rattle.railway.specs.declared.Refusal.{Refusal}
-use Rattle.railway.specs.Refusals.{first}
+use Rattle.railway.specs.Refusals.{numberGiven, first, numberOf}
+use Rattle.railway.proofs.Refusals.{number-tells}
 use Rattle.railway.specs.Record.{emptyRailway}
 use Rattle.railway.specs.Rows.{outside}
 use Rattle.railway.proofs.Accepted.{bounded}
-use Rattle.acceptance.proofs.Testing.{Left}
+use Rattle.railway.specs.declared.CaseAnswer.{CaseAnswer}
+use Rattle.railway.specs.declared.CaseAnswer.the-variants as given
+use Rattle.casefile.specs.Given.{accepted, refused}
 use Rattle.casefile.specs.Reading.{Counts, headerAt}
 use Rattle.drafts.specs.declared.Draft.{Draft}
 use Rattle.drafts.specs.declared.Kind.the-variants.{P, J, G, T}
 use Rattle.drafts.specs.declared.Lines.{Lines}
-use Rattle.walk.specs.Walking.{leftInto}
-use Rattle.drafts.specs.Drafting.{cap, opened, countedInto, manyInto, endAt, draftOf, linesGot, draftRows, answerOf, draftAnswer}
+use Rattle.drafts.specs.Drafting.{cap, opened, linesInto, endAt, draftOf, linesGot, draftRows, answerOf, draftAnswer}
 
 -- NUMBERS
 pub cap-low : (n : ℕ) → n ≤ 255 → n ≡ cap n
@@ -95,49 +97,33 @@ in-turn : {B D E : Type 0} (g : Got B) (f : B → ℕ → Got D) (k : D → ℕ 
 in-turn bad f k = refl
 in-turn (got x c) f k = refl
 
+-- lines behind others, and what comes behind them
+behind : (l m : Lines) (f k : Draft → ℕ → Got Draft) → linesGot m ≡ then (linesGot l) f → then (linesGot m) k ≡ then (linesGot l) (λ d c. then (f d c) k)
+behind l m f k e = rw e (in-turn (linesGot l) f k)
+
 module _ (s : List ℕ) where
   pub header-bad : headerAt s 0 ≡ bad → bad ≡ draftOf s
   unfolding draftOf
   header-bad e = rw e
 
-  counted-all : (k : ℕ) (g : Got Draft) → then g (λ d c. leftInto s 0 k T c d) ≡ then g (λ d c. countedInto s T k c d)
-  counted-all k g = let z : k - 0 ≡ k = omega arith in let y : 0 + 1 ≡ 1 = omega arith in rw (z, y)
-
-  first-all : (k c : ℕ) (d : Draft) → leftInto s 0 k P c d ≡ countedInto s P k c d
-  first-all k c d = let z : k - 0 ≡ k = omega arith in let y : 0 + 1 ≡ 1 = omega arith in rw (z, y)
-
   module _ (h : Counts) (c : ℕ) (eh : headerAt s 0 ≡ got h c) (w : Draft) (hw : w ≡ opened (h .sections) (h .points) (h .trains)) (l0 : Lines)
-      (e0 : l0 ≡ record { good = true; draft = w; next = record { at = c } }) (l1 l2 l3 l4 l5 : Lines) (e1 : linesGot l1 ≡ then (linesGot l0) (λ d c. leftInto s 0 (h .points) P c d))
-      (e2 : linesGot l2 ≡ then (linesGot l1) (λ d c. leftInto s 0 0 J c d)) (e3 : linesGot l3 ≡ then (linesGot l2) (λ d c. leftInto s 0 0 G c d))
-      (e4 : linesGot l4 ≡ then (linesGot l3) (λ d c. leftInto s 0 (h .trains) T c d)) (e5 : linesGot l5 ≡ then (linesGot l4) (λ d c. endAt s d c)) where
-    from-points : linesGot l1 ≡ countedInto s P (h .points) c (opened (h .sections) (h .points) (h .trains))
-    from-points = e1 ∙ rw (e0, hw) (first-all (h .points) c (opened (h .sections) (h .points) (h .trains)))
-
-    from-signals : linesGot l3 ≡ then (linesGot l1) (λ d c. then (manyInto s J c d) (λ d c. manyInto s G c d))
-    from-signals = e3 ∙ rw e2 (in-turn (linesGot l1) (λ d c. manyInto s J c d) (λ d c. manyInto s G c d))
-
-    to-trains : linesGot l5 ≡ then (linesGot l3) (λ d c. then (countedInto s T (h .trains) c d) (λ d c. endAt s d c))
-    to-trains = e5 ∙ rw (e4 ∙ counted-all (h .trains) (linesGot l3)) (in-turn (linesGot l3) (λ d c. countedInto s T (h .trains) c d) (λ d c. endAt s d c))
-
-    three : (g : Got Draft) (k : Draft → ℕ → Got Draft)
-        → then (then g (λ d c. then (manyInto s J c d) (λ d c. manyInto s G c d))) k ≡ then g (λ d c. then (manyInto s J c d) (λ d c. then (manyInto s G c d) k))
-    three bad k = refl
-    three (got d c) k = in-turn (manyInto s J c d) (λ d c. manyInto s G c d) k
-
-    from-joins : linesGot l5 ≡ then (linesGot l1) (λ d c. then (manyInto s J c d) (λ d c. then (manyInto s G c d) (λ d c. then (countedInto s T (h .trains) c d) (λ d c. endAt s d c))))
-    from-joins = to-trains ∙ rw from-signals (three (linesGot l1) (λ d c. then (countedInto s T (h .trains) c d) (λ d c. endAt s d c)))
-
+      (e0 : l0 ≡ record { good = true; draft = w; next = record { at = c } }) (l1 l2 l3 l4 l5 : Lines) (e1 : linesGot l1 ≡ then (linesGot l0) (λ d c. linesInto s P (h .points) c d))
+      (e2 : linesGot l2 ≡ then (linesGot l1) (λ d c. linesInto s J 0 c d)) (e3 : linesGot l3 ≡ then (linesGot l2) (λ d c. linesInto s G 0 c d))
+      (e4 : linesGot l4 ≡ then (linesGot l3) (λ d c. linesInto s T (h .trains) c d)) (e5 : linesGot l5 ≡ then (linesGot l4) (λ d c. endAt s d c)) where
     pub whole : linesGot l5 ≡ draftOf s
     unfolding draftOf
-    whole = from-joins ∙ rw (eh, from-points)
+    whole = e5 ∙ behind l3 l4 _ _ e4 ∙ behind l2 l3 _ _ e3 ∙ behind l1 l2 _ _ e2 ∙ behind l0 l1 _ _ e1 ∙ rw (e0, hw, eh)
 
--- THE ANSWER: of a draft's rows the first n have been asked
-abbrev pub Asked : Draft → ℕ → Type 0
-Asked d n = Left (first (draftRows d)) (drop n (draftRows d))
+-- THE ANSWER, by the number that the rows give
+module _ (d : Draft) where
+  pub answered : (o : Option Refusal) → numberOf o ≡ numberOf (first (draftRows d)) → answerOf (d .railway) o ≡ draftAnswer d
+  unfolding draftAnswer
+  answered o e = rw (number-tells o (first (draftRows d)) e)
 
-pub none-asked : (d : Draft) → Asked d 0
-none-asked d = record { gives = refl }
+  -- the answer to a test that gave that number
+  module _ (t : CaseAnswer) (e : numberGiven t ≡ numberOf (first (draftRows d))) where
+    pub refused-by : (f : Refusal) → t ≡ given.Refused f → refused f ≡ draftAnswer d
+    refused-by f h = answered (some f) (sym (ap numberGiven h) ∙ e)
 
-pub answered : (d : Draft) {given : Option Refusal} → given ≡ first (draftRows d) → answerOf (d .railway) given ≡ draftAnswer d
-unfolding draftAnswer
-answered d e = rw e
+    pub accepted-by : t ≡ given.Accepted → accepted (d .railway) ≡ draftAnswer d
+    accepted-by h = answered none (sym (ap numberGiven h) ∙ e)

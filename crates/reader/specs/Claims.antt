@@ -9,6 +9,8 @@ use Rattle.railway.specs.declared.Railway.{Railway}
 use Rattle.railway.specs.declared.Refusal.{Refusal}
 use Rattle.railway.specs.Rows.{recordRefusal}
 use Rattle.casefile.specs.declared.CaseRead.{CaseRead}
+use Rattle.casefile.specs.Form.{Description, Describes}
+use Rattle.casefile.specs.Claims.{AsDescribed}
 use Rattle.casefile.specs.Given.{accepted, refused, RefusedWith, AcceptedWith, ReaderPost}
 
 -- A reader accepts exactly the texts to which no row applies, each with the railway that it describes.
@@ -26,3 +28,7 @@ ReaderSettles = (text : List ℕ) (r : CaseRead) → ReaderPost text r → ((q :
 -- A railway that a reader gives passes the test of a record.
 abbrev pub ReaderGives : Type 0
 ReaderGives = (text : List ℕ) (r : CaseRead) → ReaderPost text r → (q : Railway) → r ≡ accepted q → recordRefusal q ≡ none
+
+-- It has what the text's lines say.
+abbrev pub ReaderDescribes : Type 0
+ReaderDescribes = (text : List ℕ) (r : CaseRead) → ReaderPost text r → (q : Railway) → r ≡ accepted q → (d : Description) × Describes text d × AsDescribed d q

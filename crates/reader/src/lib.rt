@@ -6,13 +6,12 @@ ghost use mathlib.Core.Bool.{false};
 ghost use Rattle.text.specs.Reading.{then};
 ghost use Rattle.casefile.specs.Given.{refused, ReaderPost};
 ghost use Rattle.drafts.specs.Drafting.{cap, opened, endAt, draftOf, linesGot, draftAnswer};
-use acceptance::Flaw;
-use casefile::CaseAnswer;
 use casefile::CaseRead;
 use drafts::Draft;
 use drafts::Kind;
 use drafts::Lines;
 use lines::HeaderRead;
+use railway::CaseAnswer;
 use railway::Railway;
 use railway::Refusal;
 
@@ -46,27 +45,12 @@ fn answer(d: Draft) -> CaseRead
     ensures { λ r. ⌜ r ≡ draftAnswer d ⌝ }
 {
     let r = d.railway;
-    if acceptance::counts_outside(r.sections, r.points, r.trains) {
-        return refuse(Refusal::Count);
-    }
-    if d.unknown {
-        return refuse(Refusal::Unknown);
-    }
-    if d.wrong {
-        return refuse(Refusal::Join);
-    }
-    if acceptance::any_flaw(r, Flaw::LoosePort, r.points) {
-        return refuse(Refusal::Loose);
-    }
-    if d.double {
-        return refuse(Refusal::Double);
-    }
-    if acceptance::places_shared(r) {
-        return refuse(Refusal::Place);
-    }
-    CaseRead {
-        answer: CaseAnswer::Accepted,
-        railway: r,
+    match acceptance::first_row(r, d.unknown, d.wrong, d.double) {
+        CaseAnswer::Refused(f) => refuse(f),
+        CaseAnswer::Accepted => CaseRead {
+            answer: CaseAnswer::Accepted,
+            railway: r,
+        },
     }
 }
 
@@ -75,9 +59,9 @@ fn read_lines(text: &[u8]) -> Lines
     ensures { λ r. ⌜ linesGot r ≡ draftOf (now (text .entry)) ⌝ }
 {
     let HeaderRead::CountsAre(s, p, k, c) = walk::first_line(text) else {
-        return walk::not_in_form(begin(0, 0, 0));
+        return drafts::not_in_form(begin(0, 0, 0));
     };
-    let header = walk::in_form(begin(s, p, k), c);
+    let header = drafts::in_form(begin(s, p, k), c);
     let points = walk::lines_of(text, Kind::P, p, header);
     let joins = walk::lines_of(text, Kind::J, 0, points);
     let signals = walk::lines_of(text, Kind::G, 0, joins);
@@ -91,7 +75,7 @@ fn to_end(text: &[u8], all: Lines) -> Lines
 {
     let next = all.next;
     if next.at < text.len() {
-        return walk::not_in_form(all.draft);
+        return drafts::not_in_form(all.draft);
     }
     all
 }

@@ -2,8 +2,8 @@
 // a tab, and `accepted` or `refused` with the number. A record is given by its counts and by pieces of five bytes: `P1d..` legs,
 // `J1u2d` a join, `G1u..` a signal, `T123.` train 1 up from section 2 to 3, with the case file's numbers, letters and signs.
 // Row 7 has no line of its own: a record has one flag a signal, and a signal set twice is set.
-use acceptance::Tested;
 use libc::STDOUT_FILENO;
+use railway::CaseAnswer;
 use railway::End;
 use railway::Joined;
 use railway::Leg;
@@ -91,10 +91,10 @@ fn show(label: &[u8], s: u8, p: u8, k: u8, pieces: &[u8]) {
 fn show_record(label: &[u8], r: Railway) {
     io::write_all(STDOUT_FILENO, label);
     match acceptance::test_record(r) {
-        Tested::Accepted => {
+        CaseAnswer::Accepted => {
             io::write_all(STDOUT_FILENO, b"\taccepted\n");
         }
-        Tested::Refused(f) => {
+        CaseAnswer::Refused(f) => {
             io::write_all(STDOUT_FILENO, b"\trefused\t");
             let n = f.number();
             io::print_decimal(STDOUT_FILENO, n as u64);

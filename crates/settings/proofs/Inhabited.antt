@@ -8,8 +8,8 @@ use Rattle.railway.specs.declared.Railway.{Railway}
 use Rattle.railway.specs.Bounds.{mostTrains}
 use Rattle.game.specs.Placement.{standsOn, shared, codeOn}
 use Rattle.compiled.specs.Table.{Compiled}
-use Rattle.moves.specs.declared.Placement.{Placement}
-use Rattle.moves.specs.Steps.{sectionIn}
+use Rattle.placement.specs.declared.Placement.{Placement}
+use Rattle.placement.specs.ByValue.{sectionIn}
 use Rattle.moves.proofs.Round.{on-one}
 use Rattle.settings.specs.Routes.{Asked}
 

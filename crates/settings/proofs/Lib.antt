@@ -4,3 +4,4 @@ pub mod Trying
 pub mod Exactly
 pub mod Inhabited
 pub mod Examples
+pub mod Uses

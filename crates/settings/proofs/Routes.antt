@@ -18,21 +18,21 @@ use Rattle.laws.proofs.Bools.{bool?, lt?, eq?, some-one, and-off, and-both}
 use Rattle.laws.proofs.Below.{all-of, any-next, any-one}
 use Rattle.laws.proofs.Bits.{bits-same, bits-plain, bits-below, bits-none, bit-none, bits-add, bits-again, bits-past, bits-of}
 use Rattle.railway.specs.declared.Railway.{Railway}
-use Rattle.railway.specs.Bounds.{mostPoints, mostTrains}
+use Rattle.railway.specs.Bounds.{mostPoints}
 use Rattle.game.specs.Game.{derailment, collision, lost, at}
 use Rattle.game.specs.Local.{isBelow}
 use Rattle.game.specs.Setting.{headsFor, held, free}
 use Rattle.game.specs.Moves.{passes, occupied, codeWith, moveOf}
 use Rattle.game.proofs.Accepted.{Facts, facts}
 use Rattle.game.specs.Placement.{codeOn}
-use Rattle.game.proofs.Moves.{passes-below, code-with-below}
+use Rattle.game.proofs.Moves.{passes-below}
 use Rattle.tables.specs.Tables.{noFigure, figureIn}
 use Rattle.tables.specs.Find.{needsPlus}
-use Rattle.tables.proofs.Exists.{few-placements}
 use Rattle.compiled.specs.Table.{noByte, sectionByte}
-use Rattle.moves.specs.declared.Placement.{Placement}
-use Rattle.moves.specs.Steps.{noCode, sectionIn, On, otherIn, allAt}
-use Rattle.moves.proofs.Moving.{other-on, code-by-weight, derails, arrives, collides, stands-at}
+use Rattle.placement.specs.declared.Placement.{Placement}
+use Rattle.placement.specs.ByValue.{sectionIn}
+use Rattle.moves.specs.Steps.{strideOf, codePut, On, otherIn, allAt}
+use Rattle.moves.proofs.Moving.{other-on, code-put-is, derails, arrives, collides, stands-at}
 use Rattle.settings.specs.Routes.{Asked, pointMet, endsBelow, failsAtMinus, failsAnyway, neededPoints, goodAtPlus, withBit}
 use Rattle.settings.proofs.Points.{meets-is, met-small}
 
@@ -41,8 +41,8 @@ module _ (r : Railway) (p : ℕ) (table : List ℕ) (q : Placement) (on : On r p
   pub ends-derailed : y ≡ noByte → false ≡ endsBelow r (figureIn figs) p n plus t
   ends-derailed z = let e : lost derailment ≡ moveOf r p (allAt plus) t = some-one (derails r p table q on t plus y leads z) in rw (← e)
 
-  module _ (z : y ≡ noByte → ⊥) (c s w x b : ℕ) (code : c ≡ codeOn r (sectionIn q)) (sections : s ≡ r .sections) (weight : t ≤ mostTrains → w ≡ s ^ t) (here : x ≡ sectionIn q t)
-      (put : (p : ℕ) → p < noCode → c + y * w ≡ p + x * w → b ≡ p) (f : ℕ) (is : f ≡ getD figs b noFigure) where
+  module _ (z : y ≡ noByte → ⊥) (c s w x b : ℕ) (code : c ≡ codeOn r (sectionIn q)) (sections : s ≡ r .sections) (stride : w ≡ strideOf s t) (here : x ≡ sectionIn q t)
+      (put : b ≡ codePut c w x y) (f : ℕ) (is : f ≡ getD figs b noFigure) where
     ok : Facts r
     ok = facts r (on .compiled .accepted)
 
@@ -50,7 +50,7 @@ module _ (r : Railway) (p : ℕ) (table : List ℕ) (q : Placement) (on : On r p
     inside = passes-below r ok (λ i. plus) (headsFor r p t) y (arrives r p table q on t plus y leads z)
 
     after-is : b ≡ codeWith r p t y
-    after-is = put (codeWith r p t y) (omega (arith, code-with-below r ok p t y inside, few-placements r (on .compiled .accepted))) (code-by-weight r p table q on t y there c x w s code here sections weight)
+    after-is = code-put-is r p table q on t y there inside c x w s b code here sections stride put
 
     ends-by : (o : Bool) → o ≡ occupied r p t y → cond o false (isBelow n (figureIn figs b)) ≡ endsBelow r (figureIn figs) p n plus t
     ends-by true e = let h : lost collision ≡ moveOf r p (allAt plus) t = some-one (collides r p table q on t plus y leads z true e refl) in rw (← h)

@@ -33,9 +33,10 @@ use Rattle.tables.proofs.Fewer.{keeps-closed, bits-small as closed-small}
 use Rattle.tables.proofs.Find.{try-finds, find-sound}
 use Rattle.tables.proofs.Points.{met-try, find-met}
 use Rattle.compiled.specs.Table.{noByte, Compiled}
-use Rattle.moves.specs.declared.Placement.{Placement}
-use Rattle.moves.specs.Steps.{sectionIn, On}
-use Rattle.moves.proofs.Coding.{bit-high}
+use Rattle.placement.specs.declared.Placement.{Placement}
+use Rattle.placement.specs.ByValue.{sectionIn}
+use Rattle.moves.specs.Steps.{On}
+use Rattle.placement.proofs.Places.{bit-high}
 use Rattle.moves.proofs.Placing.{few-trains}
 use Rattle.settings.specs.Answers.{firstKeeping}
 use Rattle.settings.specs.Routes.{Asked, pointMet, endsBelow, failsAtMinus, failsAnyway, neededPoints, goodAtPlus}

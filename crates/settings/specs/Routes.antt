@@ -16,8 +16,9 @@ use Rattle.game.specs.Setting.{headsFor, free}
 use Rattle.game.specs.Moves.{passes, moveOf}
 use Rattle.tables.specs.Find.{somePlus}
 use Rattle.compiled.specs.Table.{noByte, pointByte}
-use Rattle.moves.specs.declared.Placement.{Placement}
-use Rattle.moves.specs.Steps.{sectionIn, On, allAt}
+use Rattle.placement.specs.declared.Placement.{Placement}
+use Rattle.placement.specs.ByValue.{sectionIn}
+use Rattle.moves.specs.Steps.{On, allAt}
 
 -- What is asked about: placement p of an accepted railway with k trains and m points, by value and by the code of that; not lost.
 pub record Asked (r : Railway) (p : ℕ) (table : List ℕ) (q : Placement) (c k m : ℕ) : Type 0 where

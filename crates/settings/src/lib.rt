@@ -12,12 +12,13 @@ ghost use Rattle.tables.specs.Tables.{figureIn};
 ghost use Rattle.tables.specs.Find.{tryMet, findMet};
 ghost use Rattle.compiled.specs.Table.{Compiled};
 ghost use Rattle.game.specs.Placement.{codeOn};
-ghost use Rattle.moves.specs.Steps.{sectionIn, On};
+ghost use Rattle.placement.specs.ByValue.{sectionIn};
+ghost use Rattle.moves.specs.Steps.{On};
 ghost use Rattle.settings.specs.Answers.{entryFound, firstKeeping};
 ghost use Rattle.settings.specs.Routes.{Asked, endsBelow, failsAtMinus, neededPoints, goodAtPlus, withBit};
 use compiled::NO_BYTE;
 use compiled::Table;
-use moves::Placement;
+use placement::Placement;
 use railway::Railway;
 
 // The bit of the first train in an entry of the setting table, as a number: points have the bits below.
@@ -92,8 +93,8 @@ fn ends_below(
     if y == NO_BYTE {
         return false;
     }
-    let w = moves::power(compiled::sections_in(table), t);
-    let after = moves::code_put(c, w, moves::section_at(q, t), y);
+    let stride = moves::power(compiled::sections_in(table), t);
+    let after = moves::code_put(c, stride, placement::section_at(q, t), y);
     if n <= tables::entry_at(figures, after, tables::NO_FIGURE) {
         return false;
     }
@@ -152,7 +153,7 @@ fn with_bit(b: u32, x: u8, k: u8) -> u32
     ensures { λ c. ⌜ c ≡ withBit b x k ⌝ }
 {
     if x < k {
-        if moves::bit_at(b, x as u32) {
+        if placement::bit_at(b, x as u32) {
             return b;
         }
         return b + (1u32 << x);
@@ -202,7 +203,7 @@ fn good_at_plus(
         return true;
     }
     let x = moves::point_in(table, q, t);
-    if moves::bit_at(bits, x as u32) {
+    if placement::bit_at(bits, x as u32) {
         ends_below(table, figures, q, c, n, t, true)
     } else {
         true

@@ -8,7 +8,7 @@ use lib.ListN.{length, getD}
 use Rattle.railway.specs.declared.Railway.{Railway}
 use Rattle.railway.specs.declared.Refusal.{Refusal}
 use Rattle.railway.specs.Refusals.{numberOf}
-use Rattle.acceptance.specs.declared.Tested.the-variants.{Accepted, Refused}
+use Rattle.railway.specs.declared.CaseAnswer.the-variants.{Accepted, Refused}
 use Rattle.game.specs.Placement.{placements, startCode}
 use Rattle.tables.specs.declared.SolverAnswer.{SolverAnswer}
 use Rattle.tables.specs.declared.SolverAnswer.the-variants.{Refused as Refuses}

@@ -6,4 +6,3 @@ pub mod Retracing
 pub mod Loops
 pub mod Filling
 pub mod Answering
-pub mod Claims

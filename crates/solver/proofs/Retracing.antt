@@ -1,12 +1,12 @@
 -- One move back. The placements from which a train comes to placement c have it on the section behind, with the point that it meets at minus
--- or at plus, and the others as they are: so their codes differ from c by the train's weight, and there are two of them at most.
+-- or at plus, and the others as they are: so their codes differ from c by the train's stride, and there are two of them at most.
 -- Assumes nothing.
 use mathlib.Core.Path.{_≡_, refl, sym, _∙_}
 use mathlib.Core.Logic.{_⊎_, inl, inr}
 use mathlib.Core.Bool.{Bool, true, false, _||_}
 use mathlib.Core.List.{List}
 use mathlib.Core.Option.{none}
-use Prim.Native.Nat.{ℕ, _+_, _*_, _^_, _≤_, _<_}
+use Prim.Native.Nat.{ℕ, _≤_, _<_}
 use native.Mathlib.Omega.{arith}
 use lib.ListN.{length, getD}
 use lib.Dec.{eqb}
@@ -16,15 +16,15 @@ use Rattle.railway.specs.declared.Railway.{Railway}
 use Rattle.railway.specs.Bounds.{mostSections, mostTrains}
 use Rattle.game.specs.Game.{at}
 use Rattle.game.specs.Placement.{placements}
-use Rattle.game.specs.Moves.{codeWith, moveOf}
+use Rattle.game.specs.Moves.{moveOf}
 use Rattle.game.proofs.Accepted.{facts}
 use Rattle.game.proofs.Moves.{code-with-below}
 use Rattle.tables.specs.Tables.{noFigure, figureIn}
-use Rattle.tables.proofs.Exists.{few-placements}
 use Rattle.compiled.specs.Table.{noByte}
-use Rattle.moves.specs.declared.Placement.{Placement}
-use Rattle.moves.specs.Steps.{noCode, sectionIn, On, movedTo, allAt}
-use Rattle.moves.proofs.Moving.{train-small, section-small, code-by-weight, put-on-is}
+use Rattle.placement.specs.declared.Placement.{Placement}
+use Rattle.placement.specs.ByValue.{sectionIn}
+use Rattle.moves.specs.Steps.{strideOf, codePut, On, putIn, allAt}
+use Rattle.moves.proofs.Moving.{train-small, section-small, code-put-is, put-on-is}
 use Rattle.moves.proofs.Round.{code-back}
 use Rattle.predecessors.specs.Behind.{sectionBehind}
 use Rattle.predecessors.proofs.Before.{some-behind, before-is, behind-below}
@@ -61,7 +61,7 @@ module _ (r : Railway) (table : List ℕ) (m n c t y p : ℕ) (figs sets marks :
   no-visit b w e = visited-rests r n (Put r c t y) figs sets marks (o .marked) (λ q l k f g. absurd (not-waiting b w e q k f))
 
   module _ (q v : Placement) (on : On r c table q) (lt : t < r .trains) (b : Bool) (w : Waits figs m y p b) (e : b ≡ true)
-      (moved : t < mostTrains → (u : ℕ) → sectionIn v u ≡ movedTo q t y u) where
+      (moved : (u : ℕ) → sectionIn v u ≡ putIn q t y u) where
     pub one-visit : (figs′ sets′ marks′ : List ℕ) (a : Bool)
         → ((r : Railway) (m : ℕ) → Round r table m n figs marks → On r p table v → p < placements r → figureIn figs p ≡ none → Visited r n (One p) figs sets figs′ sets′ marks′ a)
         → Visited r n (Put r c t y) figs sets figs′ sets′ marks′ a
@@ -72,7 +72,7 @@ module _ (r : Railway) (table : List ℕ) (m n c t y p : ℕ) (figs sets marks :
         go b (outside l) e = clash e refl
         go b (figured h) e = clash e refl
         go b (empty there inside none-yet) e =
-            let there-on : On r p table v = rw (put there .1) (put-on-is r c table q on t y lt (put there .0) v (moved (train-small r c table q on t (sectionIn q t) lt refl))) in
+            let there-on : On r p table v = rw (put there .1) (put-on-is r c table q on t y lt (put there .0) v moved) in
             visited-less r n (One p) figs sets figs′ sets′ marks′ a (visit r m o there-on (below there) none-yet) (Put r c t y) (λ u l k. k .code ∙ sym (put there .1))
 
 -- BOTH SECTIONS BEHIND train t, that stands on section x of placement c: y with the point at minus and z with it at plus; p and o are the
@@ -85,16 +85,14 @@ pub record BothBehind (r : Railway) (q : Placement) (c t x y z p o : ℕ) : Type
   pub put-plus : PutBy r c t z o
 
 module _ (r : Railway) (table : List ℕ) (q : Placement) (c : ℕ) (on : On r c table q) (lc : c < placements r) (t x : ℕ) (lt : t < r .trains) (here : x ≡ sectionIn q t) where
-  put-code : (s w y p : ℕ) (b : Bool) → s ≡ r .sections → (t ≤ mostTrains → w ≡ s ^ t) → y ≡ sectionBehind r t x b → ((k : ℕ) → k < noCode → c + y * w ≡ k + x * w → p ≡ k) → PutBy r c t y p
+  put-code : (s w y p : ℕ) (b : Bool) → s ≡ r .sections → w ≡ strideOf s t → y ≡ sectionBehind r t x b → p ≡ codePut c w x y → PutBy r c t y p
   put-code s w y p b es ew is put there =
-      let accepted = on .compiled .accepted in
-      let below : y < r .sections = behind-below r accepted t x b y is there in
-      let small : codeWith r c t y < placements r = code-with-below r (facts r accepted) c t y below in
-      (below, put (codeWith r c t y) (omega (arith, few-placements r accepted)) (code-by-weight r c table q on t y lt c x w s (sym (code-back r table (on .compiled) c q on lc)) here es ew))
+      let below : y < r .sections = behind-below r (on .compiled .accepted) t x b y is there in
+      (below, code-put-is r c table q on t y lt below c x w s p (sym (code-back r table (on .compiled) c q on lc)) here es ew put)
 
   -- as they are computed
-  pub both-behind : (s w y z p o : ℕ) → s ≡ r .sections → (t ≤ mostTrains → w ≡ s ^ t) → (t < mostTrains → x < mostSections → y ≡ sectionBehind r t x false)
-      → (t < mostTrains → x < mostSections → z ≡ sectionBehind r t x true) → ((k : ℕ) → k < noCode → c + y * w ≡ k + x * w → p ≡ k) → ((k : ℕ) → k < noCode → c + z * w ≡ k + x * w → o ≡ k)
+  pub both-behind : (s w y z p o : ℕ) → s ≡ r .sections → w ≡ strideOf s t → (t < mostTrains → x < mostSections → y ≡ sectionBehind r t x false)
+      → (t < mostTrains → x < mostSections → z ≡ sectionBehind r t x true) → p ≡ codePut c w x y → o ≡ codePut c w x z
       → BothBehind r q c t x y z p o
   both-behind s w y z p o es ew at-minus at-plus put-p put-o =
       let few = train-small r c table q on t x lt here in

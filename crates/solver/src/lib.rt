@@ -21,11 +21,11 @@ ghost use Rattle.moves.specs.Steps.{On};
 ghost use Rattle.predecessors.specs.Behind.{Behind};
 ghost use Rattle.solver.specs.Rounds.{After, RoundPost};
 ghost use Rattle.solver.specs.Visits.{stretchOf, Marked, Round, Visited, Passed, PutBy, Waits, One, Other, By, Comes, Before};
-use acceptance::Tested;
 use compiled::NO_BYTE;
 use compiled::Table;
-use moves::Placement;
+use placement::Placement;
 use predecessors::SectionsBehind;
+use railway::CaseAnswer;
 use railway::Railway;
 use settings::Found;
 use tables::NO_FIGURE;
@@ -55,8 +55,8 @@ pub fn solve(r: Railway, figures: &mut [u32], settings: &mut [u32]) -> SolverAns
     let tested = c.tested;
     let table = c.table;
     match tested {
-        Tested::Refused(f) => SolverAnswer::Refused(f),
-        Tested::Accepted => {
+        CaseAnswer::Refused(f) => SolverAnswer::Refused(f),
+        CaseAnswer::Accepted => {
             let m = moves::placements(&table);
             let behind = predecessors::sections_behind(r);
             fill(&table, &behind, figures, settings, m);
@@ -302,12 +302,12 @@ fn visit_train(
     requires { ⌜ (m ≤ length (now figures)) × (m ≤ length (now settings)) ⌝ }
     ensures { λ b. ⌜ ((r : Railway) → Behind r (now (behind .entry)) → Round r (now (table .entry)) m n (now (figures .entry)) (now (marks .entry)) → On r c (now (table .entry)) q → c < placements r → t < r .trains → Visited r n (By r c t) (now (figures .entry)) (now (settings .entry)) (now (figures .exit)) (now (settings .exit)) (now (marks .exit)) b) ⌝ }
 {
-    let x = moves::section_at(q, t);
-    let w = moves::power(compiled::sections_in(table), t);
+    let x = placement::section_at(q, t);
+    let stride = moves::power(compiled::sections_in(table), t);
     let y = predecessors::section_behind(behind, t, x, false);
     let z = predecessors::section_behind(behind, t, x, true);
-    let p = moves::code_put(c, w, x, y);
-    let o = moves::code_put(c, w, x, z);
+    let p = moves::code_put(c, stride, x, y);
+    let o = moves::code_put(c, stride, x, z);
     if waits(figures, m, y, p) {
         let one = visit(
             table,

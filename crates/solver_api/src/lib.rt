@@ -1,6 +1,6 @@
 // The solver for programs in other languages: a case text and two lent tables go in. The static library that `rt staticlib` writes exports it.
 ghost use Rattle.solver_api.specs.Exported.{SolvedRailway, SolvedText};
-use casefile::CaseAnswer;
+use railway::CaseAnswer;
 use railway::Railway;
 use tables::SolverAnswer;
 

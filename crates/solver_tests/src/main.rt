@@ -2,8 +2,8 @@
 // records (crate framed), each a case text. For each: the number that the exported call answers, and the first code's entries; the answer, then
 // by rising code the figure (`none` for no figure) and the setting; then what comes of tables just long enough and one entry shorter, and of
 // records that are refused. Every entry that the solver is lent holds a mark before the call.
-use casefile::CaseAnswer;
 use libc::STDOUT_FILENO;
+use railway::CaseAnswer;
 use railway::Railway;
 use tables::ENTRIES;
 use tables::NO_FIGURE;

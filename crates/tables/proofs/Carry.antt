@@ -20,6 +20,8 @@ use Rattle.game.proofs.Moves.{inside}
 use Rattle.tables.specs.Entries.{settingAt, entryFrom}
 use Rattle.tables.specs.Tables.{IsPlanEntry}
 use Rattle.tables.specs.Find.{tryOpen, foundBy, find}
+-- (Examples is named so that it is checked before: a wrong definition then shows at a computed value.)
+use Rattle.tables.proofs.Examples as Examples
 
 -- Figures of F below n are G's.
 abbrev pub Carries : Railway → (ℕ → Option ℕ) → (ℕ → Option ℕ) → ℕ → Type 0

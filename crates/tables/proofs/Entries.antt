@@ -25,6 +25,8 @@ use Rattle.game.specs.Placement.{standsOn, standsWith, sharesLower, shared}
 use Rattle.game.specs.Setting.{headsFor, held, free, opensFor, mayMove, signalOpen}
 use Rattle.game.proofs.Agreeing.{held-flag, may-free, may-held}
 use Rattle.tables.specs.Entries.{trainBits, opensIn, opensEnd, settingAt, entryFrom, entryOf}
+-- (Examples is named so that it is checked before: a wrong definition then shows at a computed value.)
+use Rattle.tables.proofs.Examples as Examples
 
 -- which signals are open depends on the trains that are there
 pub open-same : (r : Railway) (p : ℕ) (a b : ℕ → Bool) → ((t : ℕ) → t < r .trains → a t ≡ b t) → (i : ℕ) → anyBelow (opensEnd r p a i) (r .trains) ≡ anyBelow (opensEnd r p b i) (r .trains)

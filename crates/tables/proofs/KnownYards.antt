@@ -21,7 +21,7 @@ use Rattle.game.specs.Local.{keepsTest}
 use Rattle.game.specs.Placement.{codeOf, sectionsIn, placements, standsOn, startCode, atHome, shared}
 use Rattle.game.specs.Setting.{headsFor, held, mayMove}
 use Rattle.game.specs.Moves.{passes, occupied, moveOf}
-use Rattle.railway.specs.Yards.{yardA, yardALess, yardOne, upOneTwo, upTwoOne, upTwoOneHeld, headOn}
+use Rattle.railway.specs.Yards.{yardA, yardALess, yardOne, yardOneDown, upOneTwo, upTwoOne, upTwoOneHeld, headOn}
 use Rattle.tables.specs.Entries.{settingAt, entryFrom}
 use Rattle.tables.specs.Tables.{noFigure, figureIn, Filled}
 use Rattle.tables.specs.Find.{tryOpen, firstFound, find}
@@ -29,9 +29,9 @@ use Rattle.tables.specs.KnownYards.{KnownFigure, knownCode, Holds, Known
 use Rattle.tables.proofs.Certify.{certified, certify}
 
 -- what is computed of a yard: it is accepted, and its tables pass
-pub record Sure (r : Railway) (figs sets : List ℕ) : Type 0 where
-  pub accepted : recordRefusal r ≡ none
-  pub passes : certified r figs sets ≡ true
+record Sure (r : Railway) (figs sets : List ℕ) : Type 0 where
+  accepted : recordRefusal r ≡ none
+  passes : certified r figs sets ≡ true
 
 filled : {r : Railway} {figs sets : List ℕ} → Sure r figs sets → Filled r figs sets
 filled {r} {figs} {sets} s = certify r (s .accepted) figs sets (s .passes)
@@ -50,18 +50,20 @@ abbrev figsALess : List ℕ
 figsALess = N ∷ N ∷ 0 ∷ N ∷ N ∷ N ∷ N ∷ N ∷ N ∷ []
 
 -- in the order of the yards in specs/; where no setting is needed, zeros
-abbrev zeros : List ℕ
+abbrev pub zeros : List ℕ
 zeros = 0 ∷ 0 ∷ 0 ∷ 0 ∷ 0 ∷ 0 ∷ 0 ∷ 0 ∷ 0 ∷ []
 
 sure : Sure yardA figsA setsA
     × Sure yardALess figsALess zeros
     × Sure yardOne (0 ∷ []) zeros
+    × Sure yardOneDown (0 ∷ []) zeros
     × Sure upOneTwo (1 ∷ 0 ∷ []) zeros
     × Sure upTwoOne (0 ∷ N ∷ []) zeros
     × Sure upTwoOneHeld (0 ∷ N ∷ []) zeros
     × Sure headOn (N ∷ 0 ∷ N ∷ N ∷ []) zeros
 unfolding recordRefusal first unknownRow joinRow looseRow placeRow endAt joined hasSignal legsOf trainOf withJoin withSignal withLegs withTrain allBelow anyBelow sumBelow lowest fromBits certified keepsTest sectionsIn standsOn codeOf atHome shared headsFor held mayMove passes occupied moveOf settingAt entryFrom tryOpen firstFound find
 sure = (
+  record { accepted = refl; passes = refl },
   record { accepted = refl; passes = refl },
   record { accepted = refl; passes = refl },
   record { accepted = refl; passes = refl },
@@ -77,6 +79,16 @@ yardA-accepted = sure .0 .accepted
 
 pub yardA-filled : Filled yardA figsA setsA
 yardA-filled = filled (sure .0)
+
+-- so are those of one section, and of the yard with trains head on
+pub one-filled : (recordRefusal yardOne ≡ none) × Filled yardOne (0 ∷ []) zeros
+one-filled = (sure .2 .accepted, filled (sure .2))
+
+pub one-down-filled : (recordRefusal yardOneDown ≡ none) × Filled yardOneDown (0 ∷ []) zeros
+one-down-filled = (sure .3 .accepted, filled (sure .3))
+
+pub headOn-filled : (recordRefusal headOn ≡ none) × Filled headOn (N ∷ 0 ∷ N ∷ N ∷ []) zeros
+headOn-filled = (sure .7 .accepted, filled (sure .7))
 
 -- a known figure, from the tables of its yard and what is computed of its placement
 abbrev there : KnownFigure → Bool
@@ -103,7 +115,7 @@ h also hs = (h, hs)
 pub known-figures : KnownFiguresHold
 unfolding all codeOf startCode sumBelow listBelow trainOf withJoin withSignal withLegs withTrain
 known-figures =
-    known-figure (sure .0) (λ e. clash e refl) refl refl
+    known-figure (sure .0) (λ e. refl) refl refl
     also known-figure (sure .0) (λ e. clash e refl) refl refl
     also known-figure (sure .0) (λ e. clash e refl) refl refl
     also known-figure (sure .0) (λ e. clash e refl) refl refl
@@ -115,4 +127,5 @@ known-figures =
     also known-figure (sure .4) (λ e. refl) refl refl
     also known-figure (sure .5) (λ e. refl) refl refl
     also known-figure (sure .6) (λ e. refl) refl refl
+    also known-figure (sure .7) (λ e. refl) refl refl
     also tt

@@ -1,4 +1,5 @@
 pub mod Entries
+pub mod Acting
 pub mod Fewer
 pub mod Find
 pub mod Order
@@ -18,3 +19,4 @@ pub mod Rounds
 pub mod Promise
 pub mod Steps
 pub mod Inhabited
+pub mod Uses

@@ -19,6 +19,8 @@ use Rattle.railway.specs.Rows.{recordRows, recordRefusal}
 use Rattle.railway.proofs.Refusals.{first-append}
 use Rattle.game.specs.Placement.{placements}
 use Rattle.tables.specs.Tables.{tablesShort, caseRows, caseRefusal}
+-- (Examples is named so that it is checked before: a wrong definition then shows at a computed value.)
+use Rattle.tables.proofs.Examples as Examples
 
 module _ (r : Railway) (figs sets : List ℕ) where
   -- the record's rows, else row 9

@@ -1,13 +1,20 @@
--- What an entry of the setting table stands for, and the entry of points and open trains (document 01, "The two tables and the plan").
+-- What an entry of the setting table stands for, and the entry of points and open trains (document 01, "The two tables and the plan"); that no
+-- whole setting does more at a placement than its entry.
 -- Assumes nothing.
-use mathlib.Core.Bool.{Bool, _&&_}
+use mathlib.Core.Path.{_≡_}
+use mathlib.Core.Bool.{Bool, false, _&&_}
+use mathlib.Core.Option.{none}
 use Prim.Native.Nat.{ℕ, _+_, _*_, _^_}
 use lib.Dec.{eqb}
 use Rattle.laws.specs.Below.{anyBelow}
 use Rattle.laws.specs.Bits.{bit, fromBits}
 use Rattle.railway.specs.declared.Railway.{Railway}
 use Rattle.railway.specs.Ends.{endIndex}
+use Rattle.railway.specs.Rows.{recordRefusal}
+use Rattle.game.specs.Claim.{Alike}
+use Rattle.game.specs.Placement.{shared}
 use Rattle.game.specs.Setting.{Setting, headsFor, signalOpen}
+use Rattle.game.specs.Moves.{gameOf}
 
 -- The bit of the first train: points have the bits below, point 1 the lowest.
 abbrev pub trainBits : ℕ
@@ -36,3 +43,8 @@ entryFrom r plus opens = fromBits plus (r .points) + 2 ^ trainBits * fromBits op
 -- The entry of a whole setting at placement p. Signals that no train heads for leave no trace in it.
 abbrev pub entryOf : Railway → ℕ → Setting → ℕ
 entryOf r p s = entryFrom r (s .plus) (signalOpen r p s)
+
+-- Every whole setting acts at a placement as its entry there, in an accepted case where no two trains share a section: it lets the same trains
+-- move, and to the same ends. So what is said of entries is said of all settings.
+abbrev pub EntryActs : Type 0
+EntryActs = (r : Railway) → recordRefusal r ≡ none → (p : ℕ) → shared r p ≡ false → (s : Setting) → Alike (gameOf r) p s (settingAt r p (entryOf r p s))

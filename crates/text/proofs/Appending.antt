@@ -12,7 +12,7 @@ use lib.Seq.{sets, sets-eq, set-out, take-suc, take-all, take-append-seam}
 use borrow.Author.Tests.{lt-ltb, le-ltb}
 use Rattle.laws.specs.Below.{gatherBelow}
 use Rattle.laws.proofs.Bools.{lt?}
-use Rattle.text.specs.Text.{digits, line}
+use Rattle.text.specs.Text.{digits, decimal, line}
 use Rattle.text.specs.Appending.{next, bytesAfter, cursorAfter, Appended, StandsWhole}
 
 -- NOTHING, and one byte, with room or without
@@ -79,6 +79,21 @@ module _ (left n : ℕ) {o o₁ : List ℕ} {a a₁ : ℕ} where
   pub digits-more : {o₂ : List ℕ} {a₂ : ℕ} → (left ≡ 0 → ⊥) → 10 ≤ n → Appended o a (digits (left - 1) (n / 10)) o₁ a₁ → Appended o₁ a₁ ((48 + n % 10) ∷ []) o₂ a₂
       → Appended o a (digits left n) o₂ a₂
   digits-more l h p q = rw (digits-front left n l h) (append-then p q)
+
+-- A NUMBER of one digit, or of two, and the byte behind it
+ten : _≡_ {A = ℕ} 10 0 → ⊥
+ten e = absurd (omega (arith, e))
+
+module _ (n after : ℕ) {o o₁ : List ℕ} {a a₁ : ℕ} where
+  pub number-one : n < 10 → Appended o a ((48 + n) ∷ after ∷ []) o₁ a₁ → Appended o a (decimal n ++ (after ∷ [])) o₁ a₁
+  number-one h p = rw (digits-last 10 n ten h) p
+
+  pub number-two : {o₂ : List ℕ} {a₂ : ℕ} → 10 ≤ n → n < 100 → Appended o a ((48 + n / 10) ∷ (48 + n % 10) ∷ []) o₁ a₁ → Appended o₁ a₁ (after ∷ []) o₂ a₂
+      → Appended o a (decimal n ++ (after ∷ [])) o₂ a₂
+  number-two {o₂} {a₂} h k p q =
+      let nine : _≡_ {A = ℕ} (10 - 1) 0 → ⊥ = λ e. absurd (omega (arith, e)) in
+      let e : decimal n ≡ (48 + n / 10) ∷ (48 + n % 10) ∷ [] = digits-front 10 n ten h ∙ rw (digits-last (10 - 1) (n / 10) nine (omega arith)) refl in
+      rw e (append-then p q)
 
 -- LINES: a field and the byte behind it, and then the other fields
 module _ {o o₁ o₂ : List ℕ} {a a₁ a₂ : ℕ} (f g : List ℕ) (fs : List (List ℕ)) where

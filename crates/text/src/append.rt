@@ -23,10 +23,17 @@ pub fn two(out: &mut [u8], at: usize, a: u8, b: u8) -> usize
     byte(out, next, b)
 }
 
-// A number in decimal, and a byte behind it.
+// A number in decimal, and a byte behind it. Most numbers have one digit or two.
 pub fn number(out: &mut [u8], at: usize, n: u32, after: u8) -> usize
     ensures { λ r. ⌜ Appended (now (out .entry)) at (decimal n ++ (after ∷ [])) (now (out .exit)) r ⌝ }
 {
+    if n < 10 {
+        return two(out, at, b'0' + n as u8, after);
+    }
+    if n < 100 {
+        let behind = two(out, at, b'0' + (n / 10) as u8, b'0' + (n % 10) as u8);
+        return byte(out, behind, after);
+    }
     let next = digits(out, at, 10, n);
     byte(out, next, after)
 }

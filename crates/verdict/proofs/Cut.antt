@@ -36,17 +36,18 @@ use Rattle.plan.proofs.Checks.{code-in}
 use Rattle.plan.proofs.Lengths.{lines-short}
 use Rattle.plan.proofs.Reading.{reads-line}
 use Rattle.plan.proofs.Steps.{line-steps}
-use Rattle.verdict.specs.Verdict.{linesOf, checkLines}
-use Rattle.verdict.specs.Lengths.{lineBytes}
+use Rattle.plan.specs.Several.{linesOf}
+use Rattle.verdict.specs.Verdict.{checkLines}
+use Rattle.checker.specs.Lengths.{lineBytes}
 use Rattle.verdict.specs.Claims.{CutDecides}
-use Rattle.verdict.proofs.Lines.{first-line, line-within}
+use Rattle.checker.proofs.Lines.{first-line, line-within}
 use Rattle.verdict.proofs.Calls.{one-line, still-fine, refused-case}
 
 -- A TEXT THAT IS CUT. Its first line is kept whole, or is all that the cut leaves.
-abbrev firstOf : List ℕ → List ℕ
+abbrev pub firstOf : List ℕ → List ℕ
 firstOf text = take (lineBytes text) text
 
-abbrev behindFirst : List ℕ → List ℕ
+abbrev pub behindFirst : List ℕ → List ℕ
 behindFirst text = drop (lineBytes text) text
 
 line-kept : (n : ℕ) (text : List ℕ) → lineBytes text ≤ n → lineBytes (take n text) ≡ lineBytes text
@@ -64,13 +65,13 @@ line-cut (suc n) (b ∷ bs) more = elim (bool? (eqb b lineEnd)) [
   | inr e ↦ let h = (rw e at more) in rw e (ap suc (line-cut n bs (omega (arith, h))))
 ]
 
-drop-take : (m n : ℕ) (l : List ℕ) → m ≤ n → drop m (take n l) ≡ take (n - m) (drop m l)
+pub drop-take : (m n : ℕ) (l : List ℕ) → m ≤ n → drop m (take n l) ≡ take (n - m) (drop m l)
 drop-take zero n l le = let e : n - 0 ≡ n = omega arith in rw e refl
 drop-take (suc m) zero l le = absurd (omega (arith, le))
 drop-take (suc m) (suc n) [] le = sym (take-nil {A = ℕ} (suc n - suc m))
 drop-take (suc m) (suc n) (x ∷ xs) le = let e : suc n - suc m ≡ n - m = omega arith in rw e (drop-take m n xs (omega (arith, le)))
 
-first-length : (text : List ℕ) → length (firstOf text) ≡ lineBytes text
+pub first-length : (text : List ℕ) → length (firstOf text) ≡ lineBytes text
 first-length text = length-take-le (lineBytes text) text (line-within text)
 
 -- cut behind its first line, a text is that line and what is left of the others
@@ -92,7 +93,7 @@ data Step (r : Railway) (s : CheckerState) (l : List ℕ) (x : Left LineAnswer) 
   taken : x .answer ≡ Taken → length l ≤ mostLineBytes → budget r (x .checking .state) < budget r s → Step r s l x
 
 module _ (r : Railway) (accepted : recordRefusal r ≡ none) (c : Checking) (l : List ℕ) where
-  spells : (p : PlanLine) → readLine r l ≡ some p → Spells r l p
+  pub spells : (p : PlanLine) → readLine r l ≡ some p → Spells r l p
   spells p e = reads-line r (omega (arith, facts r accepted .few-sections)) l p .0 e
 
   short : (p : PlanLine) → readLine r l ≡ some p → length l ≤ mostLineBytes

@@ -24,14 +24,16 @@ use Rattle.plan.specs.declared.LineAnswer.the-variants.{Taken, Refused as LineR
 use Rattle.plan.specs.declared.TestAnswer.{TestAnswer}
 use Rattle.plan.specs.declared.TestAnswer.the-variants.{Pass, Refused as TestRefused}
 use Rattle.plan.specs.Lines.{PlacementLine}
-use Rattle.plan.specs.Checker.{testNumber, Checking, freshChecking, takeLine, nothingTaken, planFails, testRows, testPlan, LineCalls, callLines, isTaken, takenTexts}
-use Rattle.plan.specs.Checked.{Form, PlanWith, Checked, InForm}
+use Rattle.plan.specs.Checker.{testNumber, Checking, takeLine, nothingTaken, planFails, testRows, testPlan, LineCalls, callLines, isTaken, takenTexts}
+use Rattle.plan.specs.Checked.{Form, PlanWith, Checked, FreshTables, InForm}
 use Rattle.plan.proofs.Checks.{checked-holds}
 use Rattle.plan.proofs.Emits.{none-refused}
 use Rattle.plan.proofs.Forms.{no-form}
+use Rattle.plan.proofs.Fresh.{fresh-all}
 use Rattle.plan.proofs.Numbers.{test-numbered}
 use Rattle.plan.proofs.Rules.{differ, testNumbered, check-rule}
-use Rattle.verdict.specs.Verdict.{linesOf, checkLines, planOutOfForm, rowsBy, checkText, PlanPost}
+use Rattle.plan.specs.Several.{linesOf}
+use Rattle.verdict.specs.Verdict.{checkLines, planOutOfForm, rowsBy, fresh, checkRefusal, checkText, PlanPost}
 use Rattle.verdict.specs.Claims.{ByPlan, VerdictHolds, CaseHolds}
 use Rattle.verdict.proofs.Calls.{refused-case, still-fine}
 
@@ -90,7 +92,7 @@ still-none r [] c e = e
 still-none r (l ∷ ls) c e = still-none r ls (takeLine r c l .checking) (still-fine r c l e)
 
 -- in a case that is not refused the first row is one of those behind the case's
-behind-case : (r : Railway) (figs sets : List ℕ) → caseRefusal r figs sets ≡ none → (rest : List Row) → first (caseRows r figs sets ++ rest) ≡ first rest
+pub behind-case : (r : Railway) (figs sets : List ℕ) → caseRefusal r figs sets ≡ none → (rest : List Row) → first (caseRows r figs sets ++ rest) ≡ first rest
 behind-case r figs sets e rest = case-then r figs sets rest ∙ rw e
 
 -- THE ANSWER by the plan is one of three.
@@ -179,13 +181,32 @@ module _ (r : Railway) (ls : List (List ℕ)) (c : Checking) (k : Checked r ls (
     by-rows (inl h) = ap testNumber (h .same) ∙ test-numbered r (after .end) ∙ ap numberOf (sym (rows-of-test (h .each)))
     by-rows (inr h) = ap testNumber (plan-form h) ∙ ap numberOf (sym (row-of-line (h .not-each)))
 
--- FROM FRESH TABLES of n and m entries
-fresh-unrefused : (r : Railway) (n m : ℕ) → recordRefusal r ≡ none → placements r ≤ n → placements r ≤ m
-    → caseRefusal r (freshChecking n m .figs) (freshChecking n m .sets) ≡ none
-fresh-unrefused r n m ok p q = none-refused r _ _ ok (rw (length-replicate {A = ℕ} n noFigure) p) (rw (length-replicate {A = ℕ} m 0) q)
+-- FROM FRESH TABLES
+module _ (r : Railway) (ok : recordRefusal r ≡ none) (c : Checking) (f : FreshTables r c) (ls : List (List ℕ)) where
+  fresh-unrefused : caseRefusal r (c .figs) (c .sets) ≡ none
+  fresh-unrefused = none-refused r (c .figs) (c .sets) ok (f .enough-figs) (f .enough-sets)
 
-fresh-by-plan : (r : Railway) (n m : ℕ) → recordRefusal r ≡ none → placements r ≤ n → placements r ≤ m → (ls : List (List ℕ)) → ByPlan r ls (checkLines r ls (freshChecking n m))
-fresh-by-plan r n m ok p q ls = by-plan r ls (freshChecking n m) (checked-holds r ok n m p q ls) (fresh-unrefused r n m ok p q) (either r ls (freshChecking n m))
+  fresh-by-plan : ByPlan r ls (checkLines r ls c)
+  fresh-by-plan = by-plan r ls c (checked-holds r ok c f ls) fresh-unrefused (either r ls c)
+
+  fresh-three : ByTest (checkLines r ls c)
+  fresh-three = one-of-three r ls c (checked-holds r ok c f ls) fresh-unrefused (either r ls c)
+
+-- the lines decide, so all fresh tables are answered alike
+pub fresh-alike : (r : Railway) → recordRefusal r ≡ none → (c d : Checking) → FreshTables r c → FreshTables r d → (ls : List (List ℕ)) → checkLines r ls c ≡ checkLines r ls d
+fresh-alike r ok c d f g ls = go (fresh-three r ok c f ls)
+  where
+    go : ByTest (checkLines r ls c) → checkLines r ls c ≡ checkLines r ls d
+    go (passed e) = e ∙ sym (fresh-by-plan r ok d g ls .passes .1 (fresh-by-plan r ok c f ls .passes .0 e))
+    go (unformed e) = e ∙ sym (fresh-by-plan r ok d g ls .unformed .1 (fresh-by-plan r ok c f ls .unformed .0 e))
+    go (faulty e) = e ∙ sym (fresh-by-plan r ok d g ls .faulty .1 (fresh-by-plan r ok c f ls .faulty .0 e))
+
+-- tables of the number of entries, in a case that is not refused with them
+pub fresh-enough : (r : Railway) → checkRefusal r ≡ none → (recordRefusal r ≡ none) × FreshTables r fresh
+fresh-enough r e =
+    let k = case-none r (fresh .figs) (fresh .sets) .0 e in
+    let p : placements r ≤ entries = rw (length-replicate {A = ℕ} entries noFigure) at (k .1 .figures) in
+    (k .0, fresh-all r entries entries p p)
 
 -- a case that is refused, or one that is not and whose answer is one of the three
 module _ (r : Railway) (ls : List (List ℕ)) (c : Checking) (f : Refusal) (other₁ : ¬ (f ≡ PlanForm)) (other₂ : ¬ (f ≡ PlanFault)) where
@@ -199,20 +220,8 @@ module _ (r : Railway) (ls : List (List ℕ)) (c : Checking) (f : Refusal) (othe
   by-case three none e q = none-other (three e) q
   by-case three (some g) e q = let h = refused-case r ls c g e in let z : g ≡ f = cc in e ∙ ap some z
 
-fresh-enough : (r : Railway) (n m : ℕ) → caseRefusal r (freshChecking n m .figs) (freshChecking n m .sets) ≡ none → (recordRefusal r ≡ none) × (placements r ≤ n) × (placements r ≤ m)
-fresh-enough r n m e =
-    let k = case-none r (freshChecking n m .figs) (freshChecking n m .sets) .0 e in
-    let p : placements r ≤ n = rw (length-replicate {A = ℕ} n noFigure) at (k .1 .figures) in
-    let q : placements r ≤ m = rw (length-replicate {A = ℕ} m 0) at (k .1 .settings) in
-    (k .0, p, q)
-
-fresh-three : (r : Railway) (n m : ℕ) (ls : List (List ℕ)) → caseRefusal r (freshChecking n m .figs) (freshChecking n m .sets) ≡ none → ByTest (checkLines r ls (freshChecking n m))
-fresh-three r n m ls e =
-    let k = fresh-enough r n m e in one-of-three r ls (freshChecking n m) (checked-holds r (k .0) n m (k .1) (k .2) ls) e (either r ls (freshChecking n m))
-
-fresh-by-case : (r : Railway) (n m : ℕ) (ls : List (List ℕ)) (f : Refusal) → ¬ (f ≡ PlanForm) → ¬ (f ≡ PlanFault)
-    → (checkLines r ls (freshChecking n m) ≡ TestRefused f) ↔ (caseRefusal r (freshChecking n m .figs) (freshChecking n m .sets) ≡ some f)
-fresh-by-case r n m ls f other₁ other₂ = (by-case r ls (freshChecking n m) f other₁ other₂ (fresh-three r n m ls) _ refl, refused-case r ls (freshChecking n m) f)
+whole-three : (r : Railway) (ls : List (List ℕ)) → checkRefusal r ≡ none → ByTest (checkLines r ls fresh)
+whole-three r ls e = let k = fresh-enough r e in fresh-three r (k .0) fresh (k .1) ls
 
 -- THE NUMBER is that of the first row: a case that is refused, or one that is not
 refused-rows : (r : Railway) (ls : List (List ℕ)) (c : Checking) (f : Refusal) → caseRefusal r (c .figs) (c .sets) ≡ some f
@@ -223,19 +232,20 @@ refused-rows r ls c f e =
     case-then r (c .figs) (c .sets) (row PlanForm (planOutOfForm u) ∷ row PlanFault (planFails r (u .end) (u .end .state)) ∷ []) ∙ rw e in
     ap testNumber (refused-case r ls c f e) ∙ ap numberOf (sym given)
 
-fresh-rows : (r : Railway) (n m : ℕ) (ls : List (List ℕ)) (o : Option Refusal) → caseRefusal r (freshChecking n m .figs) (freshChecking n m .sets) ≡ o
-    → testNumber (checkLines r ls (freshChecking n m)) ≡ numberOf (first (rowsBy r (freshChecking n m) (callLines r ls (freshChecking n m))))
-fresh-rows r n m ls (some f) e = refused-rows r ls (freshChecking n m) f e
-fresh-rows r n m ls none e = let k = fresh-enough r n m e in by-rows r ls (freshChecking n m) (checked-holds r (k .0) n m (k .1) (k .2) ls) e (either r ls (freshChecking n m))
+whole-rows : (r : Railway) (ls : List (List ℕ)) (o : Option Refusal) → checkRefusal r ≡ o
+    → testNumber (checkLines r ls fresh) ≡ numberOf (first (rowsBy r fresh (callLines r ls fresh)))
+whole-rows r ls (some f) e = refused-rows r ls fresh f e
+whole-rows r ls none e = let k = fresh-enough r e in by-rows r ls fresh (checked-holds r (k .0) fresh (k .1) ls) e (either r ls fresh)
 
 -- what was done is what is promised
 pub promised : (r : Railway) (plan : List ℕ) (a : TestAnswer) → a ≡ checkText r plan → PlanPost r plan a
-promised r plan a e = record { answer = e; numbered = ap testNumber e ∙ fresh-rows r entries entries (linesOf plan) _ refl }
+promised r plan a e = record { answer = e; numbered = ap testNumber e ∙ whole-rows r (linesOf plan) _ refl }
 
 pub verdict-holds : VerdictHolds
-verdict-holds r ok p plan a post = subst (ByPlan r (linesOf plan)) (sym (post .answer)) (fresh-by-plan r entries entries ok p p (linesOf plan))
+verdict-holds r ok p plan a post = subst (ByPlan r (linesOf plan)) (sym (post .answer)) (fresh-by-plan r ok fresh (fresh-all r entries entries p p) (linesOf plan))
 
 pub case-holds : CaseHolds
-case-holds r plan a post f other₁ other₂ =
-    let k = fresh-by-case r entries entries (linesOf plan) f other₁ other₂ in
-    (λ q. k .0 (sym (post .answer) ∙ q), λ e. post .answer ∙ k .1 e)
+case-holds r plan a post f other₁ other₂ = (
+  λ q. by-case r (linesOf plan) fresh f other₁ other₂ (whole-three r (linesOf plan)) _ refl (sym (post .answer) ∙ q),
+  λ e. post .answer ∙ refused-case r (linesOf plan) fresh f e,
+)

@@ -17,7 +17,8 @@ use Rattle.plan.specs.declared.TestAnswer.{TestAnswer}
 use Rattle.plan.specs.declared.TestAnswer.the-variants.{Pass, Refused}
 use Rattle.plan.specs.Lines.{mostLineBytes}
 use Rattle.plan.specs.Checked.{InForm, Passing, Failing}
-use Rattle.verdict.specs.Verdict.{linesOf, checkRefusal, checkText, PlanPost}
+use Rattle.plan.specs.Several.{linesOf}
+use Rattle.verdict.specs.Verdict.{checkRefusal, checkText, PlanPost}
 
 -- The answer to lines by their form and the test of the plan in them.
 pub record ByPlan (r : Railway) (ls : List (List ℕ)) (a : TestAnswer) : Type 0 where

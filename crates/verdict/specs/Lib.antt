@@ -1,3 +1,3 @@
 pub mod Verdict
-pub mod Lengths
+pub mod Pieces
 pub mod Claims

@@ -1,13 +1,11 @@
 -- A plan's text checked whole (document 01, end of "The two tables and the plan": what `plancheck` makes of a case and a plan).
 -- Assumes nothing.
 use mathlib.Core.Path.{_≡_}
-use mathlib.Core.Bool.{Bool, cond, not, _||_}
+use mathlib.Core.Bool.{Bool, not, _||_}
 use mathlib.Core.List.{List, [], _∷_, _++_}
 use mathlib.Core.Option.{Option}
 use Prim.Native.Nat.{ℕ}
-use lib.Dec.{eqb}
-use Rattle.laws.specs.Lists.{all, onFirst}
-use Rattle.text.specs.Text.{lineEnd}
+use Rattle.laws.specs.Lists.{all}
 use Rattle.railway.specs.declared.Railway.{Railway}
 use Rattle.railway.specs.declared.Refusal.{Refusal}
 use Rattle.railway.specs.declared.Refusal.the-variants.{PlanForm, PlanFault}
@@ -20,12 +18,8 @@ use Rattle.plan.specs.declared.LineAnswer.{LineAnswer}
 use Rattle.plan.specs.declared.LineAnswer.the-variants.{Taken, Refused as LineRefused}
 use Rattle.plan.specs.declared.TestAnswer.{TestAnswer}
 use Rattle.plan.specs.declared.TestAnswer.the-variants.{Refused as TestRefused}
+use Rattle.plan.specs.Several.{linesOf}
 use Rattle.plan.specs.Checker.{testNumber, Checking, freshChecking, takeLine, nothingTaken, planFails, testPlan, LineCalls, callLines, isTaken}
-
--- THE LINES OF A TEXT, each with its line end; bytes behind the last line end are a line as they stand.
-unfoldable pub linesOf : List ℕ → List (List ℕ)
-linesOf [] = []
-linesOf (b ∷ bs) = cond (eqb b lineEnd) ((b ∷ []) ∷ linesOf bs) (onFirst b (linesOf bs))
 
 -- THE CALLS. After a line that was taken the calls go on; a refused one ends them, and its refusal is the answer.
 abbrev pub afterLine : LineAnswer → Checking → (Checking → TestAnswer) → TestAnswer

@@ -11,8 +11,8 @@ use native.Mathlib.Omega.{arith}
 use lib.Dec.{ltb, eqb}
 use lib.ListN.{length, getD, drop, length-append, length-drop, List·getD-eq-default}
 use borrow.Author.Tests.{lt-ltb, le-ltb, ltb-true, ltb-false, eqb-true}
-use Rattle.laws.proofs.Bools.{bool?, lt?, and-true}
-use Rattle.text.specs.Text.{byte, line}
+use Rattle.laws.proofs.Bools.{bool?, lt?, and-true, clash}
+use Rattle.text.specs.Text.{line}
 use Rattle.text.specs.Reading.{Got, bad, got, then}
 use Rattle.text.proofs.Walking.{steps}
 use Rattle.casefile.specs.Form.{joinLine, signalLine}
@@ -22,20 +22,21 @@ use Rattle.drafts.specs.declared.Draft.{Draft}
 use Rattle.drafts.specs.declared.Kind.{Kind}
 use Rattle.drafts.specs.declared.Kind.the-variants.{P, J, G, T}
 use Rattle.drafts.specs.declared.Lines.{Lines}
-use Rattle.drafts.specs.Drafting.{putJoin, putSignal, lineInto, letter, foldCounted, foldWhile, linesGot}
+use Rattle.drafts.specs.Drafting.{putJoin, putSignal, lineInto, letter, counted, foldCounted, foldWhile, linesInto, linesGot}
 use Rattle.walk.specs.declared.Walk.{Walk}
-use Rattle.walk.specs.Walking.{another, goesOn, numberDue, LineRead, leftInto, restInto, asLines}
+use Rattle.walk.specs.Walking.{another, goesOn, numberDue, dueInto, withLine, soFar, restInto, asLines}
 
 -- ANOTHER LINE, as the code asks for it
 module _ (s : List ℕ) (at : ℕ) (w : Walk) where
-  pub on-not : w .lines .good ≡ false → false ≡ goesOn s at w
+  pub on-not : w .good ≡ false → false ≡ goesOn s at w
   on-not h = rw h
 
-  pub on-by : w .lines .good ≡ true → (k : Kind) (b : Bool) → w .kind ≡ k → b ≡ another s at (w .read) (w .count) k → b ≡ goesOn s at w
-  on-by g k b e h = rw (g, e) h
+  module _ (g : w .good ≡ true) (b : Bool) (e : b ≡ counted (w .kind)) where
+    pub on-due : b ≡ true → ltb (w .read) (w .count) ≡ goesOn s at w
+    on-due h = rw (g, sym e ∙ h)
 
-pub begins-by : {here there : ℕ} (k : ℕ) → here ≡ there → eqb here k ≡ eqb there k
-begins-by k e = rw e
+    pub on-letter : b ≡ false → (here m : ℕ) → here ≡ getD s at 0 → m ≡ letter (w .kind) → eqb here m ≡ goesOn s at w
+    on-letter h here m p q = rw (g, sym e ∙ h, p, q)
 
 pub due-more : (w : Walk) → w .read < w .count → w .read + 1 ≡ numberDue w
 due-more w h = rw (lt-ltb (w .read) (w .count) h)
@@ -43,9 +44,11 @@ due-more w h = rw (lt-ltb (w .read) (w .count) h)
 pub due-none : (w : Walk) → w .count ≤ w .read → w .read ≡ numberDue w
 due-none w h = rw (le-ltb (w .read) (w .count) h)
 
-pub line-read : (s : List ℕ) (at : ℕ) (w : Walk) (n : ℕ) → n ≡ numberDue w → (l : Lines) → linesGot l ≡ lineInto s (w .kind) n at (w .lines .draft)
-    → LineRead s at w (record { kind = w .kind; count = w .count; read = n; lines = l })
-line-read s at w n h l e = record { kind = refl; count = refl; read = h; lines = rw h at e }
+pub line-due : (s : List ℕ) (at : ℕ) (w : Walk) (n : ℕ) → n ≡ numberDue w → {g : Got Draft} → g ≡ lineInto s (w .kind) n at (w .draft) → g ≡ dueInto s at w
+line-due s at w n h e = rw h at e
+
+pub line-with : (w : Walk) (l : Lines) (n : ℕ) → n ≡ numberDue w → record { kind = w .kind; count = w .count; read = n; good = l .good; draft = l .draft } ≡ withLine w l
+line-with w l n h = rw h
 
 -- AS MANY AS A COUNT SAYS
 module _ (s : List ℕ) (k : Kind) (read c : ℕ) (d : Draft) where
@@ -75,49 +78,55 @@ module _ (s : List ℕ) where
   moved : (l : List ℕ) (a m c : ℕ) (w e : Draft) → got w m ≡ got e c → drop a s ≡ l ++ drop m s → 1 ≤ length l → a < length s → a < c
   moved l a m c w e g q h b = let z : m ≡ c = cc in rw z at (ahead s l a m q h b)
 
-  forward-join : (a c : ℕ) (d e : Draft) → lineInto s J 0 a d ≡ got e c → a < length s → a < c
+  -- OF THE KINDS WITHOUT A COUNT, a line moves the reader forward and has no number
+  forward : (k : Kind) → counted k ≡ false → (a c : ℕ) (d e : Draft) → lineInto s k 0 a d ≡ got e c → a < length s → a < c
   unfolding line
-  forward-join a c d e h b =
+  forward P n a c d e h b = clash refl n
+  forward J n a c d e h b =
       let t = steps (joinLineAt s a) (λ x c. got (putJoin d x) c) e c h in
       moved (joinLine (t .value)) a (t .cursor) c _ e (t .second) (join-sound s a (t .value) (t .cursor) (t .first) .text) (omega arith) b
-
-  forward-signal : (a c : ℕ) (d e : Draft) → lineInto s G 0 a d ≡ got e c → a < length s → a < c
-  unfolding line
-  forward-signal a c d e h b =
+  forward G n a c d e h b =
       let t = steps (signalLineAt s a) (λ x c. got (putSignal d x) c) e c h in
       moved (signalLine (t .value)) a (t .cursor) c _ e (t .second) (signal-sound s a (t .value) (t .cursor) (t .first) .text) (omega arith) b
+  forward T n a c d e h b = clash refl n
 
-  letter-inside : (c m : ℕ) → 0 < m → eqb (getD s c 0) m ≡ true → c < length s
-  letter-inside c m p e = let z = eqb-true (getD s c 0) m e in elim (lt? c (length s)) [ inl q ↦ q | inr q ↦ omega (arith, List·getD-eq-default s 0 q) ]
+  unnumbered : (k : Kind) → counted k ≡ false → (n c : ℕ) (d : Draft) → lineInto s k n c d ≡ lineInto s k 0 c d
+  unnumbered P h n c d = clash refl h
+  unnumbered J h n c d = refl
+  unnumbered G h n c d = refl
+  unnumbered T h n c d = clash refl h
 
-  -- HOW OFTEN another line may follow, and what that many turns give
-  abbrev pub enough : ℕ → ℕ → ℕ → ℕ → Kind → Type 0
-  enough t c read count P = t ≡ count - read
-  enough t c read count J = length s ≤ c + t
-  enough t c read count G = length s ≤ c + t
-  enough t c read count T = t ≡ count - read
+  letter-some : (k : Kind) → 0 < letter k
+  letter-some P = omega arith
+  letter-some J = omega arith
+  letter-some G = omega arith
+  letter-some T = omega arith
 
   abbrev begins : Kind → ℕ → Bool
   begins k c = eqb (getD s c 0) (letter k)
 
+  begins-inside : (k : Kind) (c : ℕ) → begins k c ≡ true → c < length s
+  begins-inside k c e =
+      let z = eqb-true (getD s c 0) (letter k) e in
+      elim (lt? c (length s)) [ inl q ↦ q | inr q ↦ omega (arith, letter-some k, List·getD-eq-default s 0 q) ]
+
+  -- HOW OFTEN another line may follow, and what that many turns give
+  pub record Enough (t c read count : ℕ) (k : Kind) : Type 0 where
+    pub due : counted k ≡ true → t ≡ count - read
+    pub room : counted k ≡ false → length s ≤ c + t
+
   abbrev pub turned : ℕ → ℕ → Kind → ℕ → Draft → Got Draft
-  turned t read P c d = foldCounted (lineInto s P) t (read + 1) c d
-  turned t read J c d = foldWhile (begins J) (lineInto s J 0) t c d
-  turned t read G c d = foldWhile (begins G) (lineInto s G 0) t c d
-  turned t read T c d = foldCounted (lineInto s T) t (read + 1) c d
+  turned t read k c d = cond (counted k) (foldCounted (lineInto s k) t (read + 1) c d) (foldWhile (begins k) (lineInto s k 0) t c d)
 
   abbrev turns : Kind → ℕ → ℕ → ℕ
-  turns P read count = count - read
-  turns J read count = length s
-  turns G read count = length s
-  turns T read count = count - read
+  turns k read count = cond (counted k) (count - read) (length s)
 
   -- one turn at one kind, whatever line it reads
   record Turned (k : Kind) (read count c : ℕ) (d : Draft) (t n : ℕ) (g : Got Draft) : Type 0 where
     pub left : ℕ
     pub less : left < t
     pub is : turned t read k c d ≡ then g (λ d c. turned left n k c d)
-    pub on : (e : Draft) (b : ℕ) → g ≡ got e b → enough left b n count k
+    pub on : (e : Draft) (b : ℕ) → g ≡ got e b → Enough left b n count k
 
   module _ (read count c : ℕ) (d : Draft) (t n : ℕ) (g : Got Draft) where
     fold-turn : (k : Kind) → t ≡ count - read → ltb read count ≡ true → n ≡ cond (ltb read count) (read + 1) read → g ≡ lineInto s k n c d
@@ -141,85 +150,86 @@ module _ (s : List ℕ) where
         go zero h z = absurd (omega arith)
         go (suc m) h z = record { left = m; less = omega arith; is = rw (z, while-more test ln c d m b, e); on = λ w k l. let y = f w k (sym e ∙ l) in omega arith }
 
-    turn-at : (k : Kind) → enough t c read count k → another s c read count k ≡ true → n ≡ cond (ltb read count) (read + 1) read → g ≡ lineInto s k n c d → Turned k read count c d t n g
-    turn-at P e b h q = let f = fold-turn P e b h q in record { left = count - n; less = f .1; is = f .0; on = λ w k l. refl }
-    turn-at J e b h q =
-        let i = letter-inside c (byte "J") (omega arith) b in
-        let f = while-turn (begins J) (lineInto s J 0) e b i q (λ w k l. forward-join c k d w l i) in
-        record { left = f .left; less = f .less; is = f .is; on = f .on }
-    turn-at G e b h q =
-        let i = letter-inside c (byte "G") (omega arith) b in
-        let f = while-turn (begins G) (lineInto s G 0) e b i q (λ w k l. forward-signal c k d w l i) in
-        record { left = f .left; less = f .less; is = f .is; on = f .on }
-    turn-at T e b h q = let f = fold-turn T e b h q in record { left = count - n; less = f .1; is = f .0; on = λ w k l. refl }
+    turn-at : (k : Kind) → Enough t c read count k → another s c read count k ≡ true → n ≡ cond (ltb read count) (read + 1) read → g ≡ lineInto s k n c d → Turned k read count c d t n g
+    turn-at k e b h q = elim (bool? (counted k)) [
+      | inl y ↦
+          let f = fold-turn k (e .due y) (rw y at b) h q in
+          record { left = count - n; less = f .1; is = rw y (f .0); on = λ w j l. record { due = λ z. refl; room = λ z. clash y z } }
+      | inr y ↦
+          let p : begins k c ≡ true = rw y at b in
+          let i = begins-inside k c p in
+          let f = while-turn (begins k) (lineInto s k 0) (e .room y) p i (q ∙ unnumbered k y n c d) (λ w j l. forward k y c j d w l i) in
+          record { left = f .left; less = f .less; is = rw y (f .is); on = λ w j l. record { due = λ z. clash z y; room = λ z. f .on w j l } }
+    ]
 
   -- no turn at one kind
-  stop-at : (k : Kind) (read count c : ℕ) (d : Draft) (t : ℕ) → enough t c read count k → another s c read count k ≡ false → got d c ≡ turned t read k c d
-  stop-at P read count c d t e b = let l = ltb-false read count b in fold-none s P read c d t (omega arith)
-  stop-at J read count c d t e b = while-none (begins J) (lineInto s J 0) c d t b
-  stop-at G read count c d t e b = while-none (begins G) (lineInto s G 0) c d t b
-  stop-at T read count c d t e b = let l = ltb-false read count b in fold-none s T read c d t (omega arith)
+  stop-at : (k : Kind) (read count c : ℕ) (d : Draft) (t : ℕ) → Enough t c read count k → another s c read count k ≡ false → got d c ≡ turned t read k c d
+  stop-at k read count c d t e b = elim (bool? (counted k)) [
+    | inl y ↦ let l = ltb-false read count (rw y at b) in let z = e .due y in rw y (fold-none s k read c d t (omega arith))
+    | inr y ↦ rw y (while-none (begins k) (lineInto s k 0) c d t (rw y at b))
+  ]
 
-  -- THE WALK, where at most t turns are left of it
-  pub record Left (w₀ w : Walk) (t : ℕ) : Type 0 where
-    pub ample : w .lines .good ≡ true → enough t (w .lines .next .at) (w .read) (w .count) (w .kind)
-    pub is : then (linesGot (w₀ .lines)) (λ d c. restInto s w₀ c d) ≡ then (linesGot (w .lines)) (λ d c. turned t (w .read) (w .kind) c d)
+  -- THE WALK from a place on, whose reader stands at another, where at most t turns are left of it
+  pub record Left (from : ℕ) (start : Walk) (at : ℕ) (w : Walk) (t : ℕ) : Type 0 where
+    pub ample : w .good ≡ true → Enough t at (w .read) (w .count) (w .kind)
+    pub is : then (linesGot (soFar start from)) (λ d c. restInto s start c d) ≡ then (linesGot (soFar w at)) (λ d c. turned t (w .read) (w .kind) c d)
 
-  ample-at : (k : Kind) (read count c : ℕ) → enough (turns k read count) c read count k
-  ample-at P read count c = refl
-  ample-at J read count c = omega arith
-  ample-at G read count c = omega arith
-  ample-at T read count c = refl
+  ample-at : (k : Kind) (read count c : ℕ) → Enough (turns k read count) c read count k
+  ample-at k read count c = record { due = λ y. rw y; room = λ y. rw y (omega arith) }
 
-  start-at : (g : Got Draft) (k : Kind) (read count : ℕ) → then g (λ d c. leftInto s read count k c d) ≡ then g (λ d c. turned (turns k read count) read k c d)
-  start-at g P read count = refl
-  start-at g J read count = refl
-  start-at g G read count = refl
-  start-at g T read count = refl
+  start-at : (g : Got Draft) (w : Walk) → then g (λ d c. restInto s w c d) ≡ then g (λ d c. turned (turns (w .kind) (w .read) (w .count)) (w .read) (w .kind) c d)
+  start-at g w = elim (bool? (counted (w .kind))) [ inl y ↦ rw y | inr y ↦ rw y ]
 
   pub turns-of : Walk → ℕ
   turns-of w = turns (w .kind) (w .read) (w .count)
 
-  pub left-start : (w : Walk) → Left w w (turns-of w)
+  -- it starts, with a reader that was made there
+  pub left-start : (from : ℕ) (start : Walk) (at : ℕ) → at ≡ from → Left from start at start (turns-of start)
   unfolding turns-of
-  left-start w = record { ample = λ h. ample-at (w .kind) (w .read) (w .count) (w .lines .next .at); is = start-at (linesGot (w .lines)) (w .kind) (w .read) (w .count) }
+  left-start from w at e = rw e (record { ample = λ h. ample-at (w .kind) (w .read) (w .count) from; is = start-at (linesGot (soFar w from)) w })
 
-  module _ (w₀ w : Walk) (t : ℕ) (l : Left w₀ w t) where
-    pub record Next (r : Walk) : Type 0 where
+  module _ (from : ℕ) (start : Walk) (at : ℕ) (w : Walk) (t : ℕ) (l : Left from start at w t) where
+    pub record Next (b : ℕ) (r : Walk) : Type 0 where
       pub left : ℕ
       pub less : left < t
-      pub still : Left w₀ r left
+      pub still : Left from start b r left
 
-    so-far : w .lines .good ≡ true → linesGot (w .lines) ≡ got (w .lines .draft) (w .lines .next .at)
+    so-far : w .good ≡ true → linesGot (soFar w at) ≡ got (w .draft) at
     so-far h = rw h
 
-    good-got : (r : Walk) → r .lines .good ≡ true → linesGot (r .lines) ≡ got (r .lines .draft) (r .lines .next .at)
-    good-got r h = rw h
+    good-got : (x : Lines) → x .good ≡ true → linesGot x ≡ got (x .draft) (x .next .at)
+    good-got x h = rw h
 
-    pub left-next : goesOn s (w .lines .next .at) w ≡ true → (r : Walk) → LineRead s (w .lines .next .at) w r → Next r
-    left-next b r h =
+    next-at : goesOn s at w ≡ true → (x : Lines) → linesGot x ≡ dueInto s at w → Next (x .next .at) (withLine w x)
+    next-at b x h =
         let p = and-true _ _ b in
-        let f = turn-at (w .read) (w .count) (w .lines .next .at) (w .lines .draft) t (r .read) (linesGot (r .lines)) (w .kind) (l .ample (p .0)) (p .1) (h .read) (rw (h .read) (h .lines)) in
-        record {
-          left = f .left;
-          less = f .less;
-          still = record {
-            ample = λ g. rw (h .kind, h .count) (f .on _ _ (good-got r g));
-            is = l .is ∙ rw (so-far (p .0)) (rw (h .kind) (f .is));
-          };
-        }
+        let f = turn-at (w .read) (w .count) at (w .draft) t (numberDue w) (linesGot x) (w .kind) (l .ample (p .0)) (p .1) refl h in
+        record { left = f .left; less = f .less; still = record { ample = λ g. f .on _ _ (good-got x g); is = l .is ∙ rw (so-far (p .0)) (f .is) } }
 
-    bad-same : w .lines .good ≡ false → linesGot (w .lines) ≡ then (linesGot (w .lines)) (λ d c. turned t (w .read) (w .kind) c d)
+    -- a line was read, the reader moved on behind it, and the line noted
+    pub left-next : goesOn s at w ≡ true → (x : Lines) → linesGot x ≡ dueInto s at w → (b : ℕ) → b ≡ x .next .at → (r : Walk) → r ≡ withLine w x → Next b r
+    left-next b x h c e r f = rw (e, f) (next-at b x h)
+
+    bad-same : w .good ≡ false → linesGot (soFar w at) ≡ then (linesGot (soFar w at)) (λ d c. turned t (w .read) (w .kind) c d)
     bad-same h = rw h
 
-    good-same : w .lines .good ≡ true → another s (w .lines .next .at) (w .read) (w .count) (w .kind) ≡ false → linesGot (w .lines) ≡ then (linesGot (w .lines)) (λ d c. turned t (w .read) (w .kind) c d)
-    good-same h b = rw h (stop-at (w .kind) (w .read) (w .count) (w .lines .next .at) (w .lines .draft) t (l .ample h) b)
+    good-same : w .good ≡ true → another s at (w .read) (w .count) (w .kind) ≡ false → linesGot (soFar w at) ≡ then (linesGot (soFar w at)) (λ d c. turned t (w .read) (w .kind) c d)
+    good-same h b = rw h (stop-at (w .kind) (w .read) (w .count) at (w .draft) t (l .ample h) b)
 
     none-more : (a b : Bool) → a ≡ true → (a && b) ≡ false → b ≡ false
     none-more a b h e = rw h at e
 
-    pub left-done : goesOn s (w .lines .next .at) w ≡ false → linesGot (w .lines) ≡ then (linesGot (w₀ .lines)) (λ d c. restInto s w₀ c d)
-    left-done b = elim (bool? (w .lines .good)) [ inl h ↦ good-same h (none-more _ _ h b) ∙ sym (l .is) | inr h ↦ bad-same h ∙ sym (l .is) ]
+    done-at : goesOn s at w ≡ false → linesGot (soFar w at) ≡ then (linesGot (soFar start from)) (λ d c. restInto s start c d)
+    done-at b = elim (bool? (w .good)) [ inl h ↦ good-same h (none-more _ _ h b) ∙ sym (l .is) | inr h ↦ bad-same h ∙ sym (l .is) ]
+
+    -- there is none more, and the reader is asked for its place
+    pub left-done : goesOn s at w ≡ false → (b : ℕ) → b ≡ at → (x : Lines) → x ≡ soFar w b → linesGot x ≡ then (linesGot (soFar start from)) (λ d c. restInto s start c d)
+    left-done h b e x f = rw (f, e) (done-at h)
+
+-- A WALK OF WHICH NOTHING IS READ has all lines of its kind left
+pub rest-all : (s : List ℕ) (kind : Kind) (count : ℕ) (before : Lines)
+    → then (linesGot before) (λ d c. restInto s (record { kind = kind; count = count; read = 0; good = before .good; draft = before .draft }) c d) ≡ then (linesGot before) (λ d c. linesInto s kind count c d)
+rest-all s kind count before = let z : count - 0 ≡ count = omega arith in let y : 0 + 1 ≡ 1 = omega arith in rw (z, y)
 
 -- WHAT THE WALK GAVE, as an answer
 pub as-good : (before l : Lines) (x : Got Draft) → l .good ≡ true → linesGot l ≡ x → l ≡ asLines before x

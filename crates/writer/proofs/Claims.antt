@@ -11,12 +11,12 @@ use lib.Seq.{take-append-seam, drop-append-seam}
 use Rattle.laws.proofs.Bools.{some-none, some-one}
 use Rattle.railway.specs.declared.Railway.{Railway}
 use Rattle.casefile.specs.declared.Written.{Written}
-use Rattle.casefile.specs.Reading.{caseAnswer}
 use Rattle.casefile.specs.Writing.{writtenText, written, writtenNumber, writtenCount}
+use Rattle.casefile.proofs.Exactly.{accepted-exactly, reader-answers}
 use Rattle.casefile.proofs.Lengths.{written-fits}
 use Rattle.casefile.proofs.RoundTrip.{round-trip, same-text}
 use Rattle.casefile.proofs.Call.{by-none, Call, refused, done, call}
-use Rattle.writer.specs.Claims.{RoomEnough, ReadBack, BytesReadBack, RefusedKeeps}
+use Rattle.writer.specs.Claims.{RoomEnough, ReadBack, BytesReadBack, RefusedKeeps, WrittenIsRead}
 
 pub room-enough : RoomEnough
 unfolding written
@@ -35,7 +35,7 @@ module _ (r : Railway) (buffer : List ℕ) where
       let front : take n left ≡ t = rw (← z) (take-append-seam t (drop (length t) buffer)) in
       record {
         railway = q .0;
-        reads = ap caseAnswer front ∙ q .1;
+        reads = rw front (accepted-exactly t (q .0) .0 (q .1));
         same = q .2;
         again = sym (same-text r (q .0) (q .2)) ∙ sym front;
         short = rw (← z) (written-fits r h);
@@ -52,3 +52,8 @@ bytes-read-back r buffer w after p n e = rw (p .buffer) (read-back r buffer _ _ 
 
 pub refused-keeps : RefusedKeeps
 refused-keeps r buffer w after p n e = p .buffer ∙ keeps r buffer _ _ (call r buffer) n (sym (ap writtenNumber (p .answer)) ∙ e)
+
+pub written-is-read : WrittenIsRead
+written-is-read r buffer w after p n e a h =
+    let b = bytes-read-back r buffer w after p n e in
+    (b .railway, reader-answers (take n after) a .1 h ∙ accepted-exactly (take n after) (b .railway) .1 (b .reads), b .same)

@@ -13,8 +13,8 @@ use Rattle.railway.specs.declared.Refusal.{Refusal}
 use Rattle.railway.specs.declared.Refusal.the-variants.{Space}
 use Rattle.railway.specs.declared.Railway.{Railway}
 use Rattle.railway.specs.Rows.{recordRefusal}
-use Rattle.acceptance.specs.declared.Tested.{Tested}
-use Rattle.acceptance.specs.declared.Tested.the-variants as tested
+use Rattle.railway.specs.declared.CaseAnswer.{CaseAnswer}
+use Rattle.railway.specs.declared.CaseAnswer.the-variants as tested
 use Rattle.acceptance.specs.Answers.{Judged}
 use Rattle.acceptance.proofs.Answers.{judged-refused, judged-accepted}
 use Rattle.casefile.specs.declared.Written.the-variants.{Bytes, Refused}
@@ -29,11 +29,11 @@ module _ (r : Railway) (buffer : List ℕ) where
   unfolding written bufferAfter
   refused-so f h = promised r buffer (rw h) (rw h)
 
-  pub record-refused : {t : Tested} (f : Refusal) → Judged r t → t ≡ tested.Refused f → WriterPost r buffer (Refused f) buffer
+  pub record-refused : {t : CaseAnswer} (f : Refusal) → Judged r t → t ≡ tested.Refused f → WriterPost r buffer (Refused f) buffer
   record-refused f j e = refused-so f (by-record r buffer f (judged-refused r j e))
 
 -- THE TEXT, in a buffer of its own
-module _ (r : Railway) {t : Tested} (judged : Judged r t) (passed : t ≡ tested.Accepted) where
+module _ (r : Railway) {t : CaseAnswer} (judged : Judged r t) (passed : t ≡ tested.Accepted) where
   accepted-record : recordRefusal r ≡ none
   accepted-record = judged-accepted r judged passed
 

@@ -11,8 +11,8 @@ use Rattle.railway.specs.Rows.{recordRefusal}
 use Rattle.railway.specs.Same.{SameRailway}
 use Rattle.casefile.specs.declared.Written.{Written}
 use Rattle.casefile.specs.Rows.{mostBytes}
-use Rattle.casefile.specs.Given.{accepted}
-use Rattle.casefile.specs.Reading.{caseAnswer}
+use Rattle.casefile.specs.declared.CaseRead.{CaseRead}
+use Rattle.casefile.specs.Given.{accepted, AcceptedWith, ReaderPost}
 use Rattle.casefile.specs.Writing.{writtenText, writtenNumber, writtenCount, WriterPost}
 
 -- ROOM ENOUGH. An accepted record is written whole into any buffer that is as long as a case text may be.
@@ -25,7 +25,7 @@ RoomEnough =
 -- more than a case text may have, and the bytes behind them are as they were.
 pub record ReadBack (r : Railway) (buffer after : List ℕ) (n : ℕ) : Type 0 where
   pub railway : Railway
-  pub reads : caseAnswer (take n after) ≡ accepted railway
+  pub reads : AcceptedWith (take n after) railway
   pub same : SameRailway r railway
   pub again : writtenText railway ≡ take n after
   pub short : n ≤ mostBytes
@@ -40,3 +40,9 @@ BytesReadBack =
 -- REFUSED, the buffer is as it was.
 abbrev pub RefusedKeeps : Type 0
 RefusedKeeps = (r : Railway) (buffer : List ℕ) (w : Written) (after : List ℕ) → WriterPost r buffer w after → (n : ℕ) → writtenNumber w ≡ some n → after ≡ buffer
+
+-- Written and read: a reader that is handed the bytes that were answered for gives the same railway.
+abbrev pub WrittenIsRead : Type 0
+WrittenIsRead =
+    (r : Railway) (buffer : List ℕ) (w : Written) (after : List ℕ) → WriterPost r buffer w after → (n : ℕ) → writtenCount w ≡ some n
+    → (a : CaseRead) → ReaderPost (take n after) a → (q : Railway) × (a ≡ accepted q) × SameRailway r q

@@ -9,8 +9,8 @@ ghost use Rattle.casefile.specs.Form.{sideByte, legByte, endField, pointLine, t
 ghost use Rattle.casefile.specs.Recording.{fieldOf};
 ghost use Rattle.casefile.specs.Writing.{lineOfTrain, writtenText, WriterPost};
 ghost use Rattle.writer.specs.Pieces.{headerText, joinPiece, signalPiece, pieceOf};
-use acceptance::Tested;
 use casefile::Written;
+use railway::CaseAnswer;
 use railway::End;
 use railway::Joined;
 use railway::Leg;
@@ -36,8 +36,8 @@ pub fn write_case(r: Railway, buffer: &mut [u8]) -> Written
     ensures { λ w. ⌜ WriterPost r (now (buffer .entry)) w (now (buffer .exit)) ⌝ }
 {
     match acceptance::test_record(r) {
-        Tested::Refused(f) => Written::Refused(f),
-        Tested::Accepted => {
+        CaseAnswer::Refused(f) => Written::Refused(f),
+        CaseAnswer::Accepted => {
             let mut text: [u8; casefile::MOST_BYTES] = [0; casefile::MOST_BYTES];
             let n = put_text(&mut text, r);
             if buffer.len() < n {

@@ -5,18 +5,18 @@ use Rattle.text.specs.Text.{line, bytes}
 use Rattle.answerlines.proofs.none_line.Statement.{statement}
 use Rattle.answerlines.proofs.none_line.Tie as tie
 
-slice-aggregate-copy : tie.Need-slice-aggregate-copy
-slice-aggregate-copy c = search needs
+slice-aggregate-put : tie.Need-slice-aggregate-put
+slice-aggregate-put c = search needs
 
-copy-requires : tie.Need-copy-requires
-copy-requires c κs = search needs
+put-requires : tie.Need-put-requires
+put-requires c κs = search needs
 
 same-length : tie.Need-same-length
 same-length c = search needs
 
 returns : tie.Need-returns
 unfolding bytes line
-returns c = c .before .before .copy .ensures
+returns c = c .before .before .put .ensures
 
 pub none-line-spec : {M : Type 1} → statement M
-none-line-spec = tie.close (tie.spec slice-aggregate-copy copy-requires same-length returns)
+none-line-spec = tie.close (tie.spec slice-aggregate-put put-requires same-length returns)

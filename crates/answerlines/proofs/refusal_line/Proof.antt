@@ -1,25 +1,25 @@
--- `answerlines::refusal_line` meets its contract: the line stands whole in a buffer of its own, and the copy is the line.
+-- `answerlines::refusal_line` meets its contract: the line stands whole in a buffer of its own, and what is put from there is the line.
 -- Assumes nothing.
 use borrow.Author.Needs.{needs}
 use Rattle.text.proofs.Appending.{front-fits, front-cut}
-use Rattle.answerlines.proofs.Made.{refusal-short, made-copied}
+use Rattle.answerlines.proofs.Made.{refusal-short, made-put}
 use Rattle.answerlines.proofs.refusal_line.Statement.{statement}
 use Rattle.answerlines.proofs.refusal_line.Tie as tie
 
-slice-aggregate-put-refusal : tie.Need-slice-aggregate-put-refusal
-slice-aggregate-put-refusal c = search needs
+slice-aggregate-spell-refusal : tie.Need-slice-aggregate-spell-refusal
+slice-aggregate-spell-refusal c = search needs
 
-put-refusal-requires : tie.Need-put-refusal-requires
-put-refusal-requires c κs = search needs
+spell-refusal-requires : tie.Need-spell-refusal-requires
+spell-refusal-requires c κs = search needs
 
 array-share-prefix-line : tie.Need-array-share-prefix-line
-array-share-prefix-line c = let p = c .before .put-refusal in front-fits (p .ensures) (p .kept .0)
+array-share-prefix-line c = let p = c .before .spell-refusal in front-fits (p .ensures) (p .kept .0)
 
-slice-aggregate-copy : tie.Need-slice-aggregate-copy
-slice-aggregate-copy c = let p = c .before .before .put-refusal in front-cut (p .ensures) (p .kept .0)
+slice-aggregate-put : tie.Need-slice-aggregate-put
+slice-aggregate-put c = let p = c .before .before .spell-refusal in front-cut (p .ensures) (p .kept .0)
 
-copy-requires : tie.Need-copy-requires
-copy-requires c κs = search needs
+put-requires : tie.Need-put-requires
+put-requires c κs = search needs
 
 same-length : tie.Need-same-length
 same-length c = search needs
@@ -28,16 +28,16 @@ returns : tie.Need-returns
 returns c =
     let t = c .before .before in
     let p = t .before .before .before .before in
-    made-copied (p .put-refusal .ensures) (refusal-short (p .before .before .before .args .f)) (t .copy .ensures)
+    made-put (p .spell-refusal .ensures) (refusal-short (p .before .before .before .args .f)) (t .put .ensures)
 
 pub refusal-line-spec : {M : Type 1} → statement M
 refusal-line-spec =
     tie.close
     (tie.spec
-    slice-aggregate-put-refusal
-    put-refusal-requires
+    slice-aggregate-spell-refusal
+    spell-refusal-requires
     array-share-prefix-line
-    slice-aggregate-copy
-    copy-requires
+    slice-aggregate-put
+    put-requires
     same-length
     returns)

@@ -9,11 +9,11 @@ use Rattle.answerlines.proofs.test_line.Tie as tie
 enum-told : tie.Need-enum-told
 enum-told c = search needs
 
-slice-aggregate-copy : tie.Need-slice-aggregate-copy
-slice-aggregate-copy c = search needs
+slice-aggregate-put : tie.Need-slice-aggregate-put
+slice-aggregate-put c = search needs
 
-copy-requires : tie.Need-copy-requires
-copy-requires c κs = search needs
+put-requires : tie.Need-put-requires
+put-requires c κs = search needs
 
 enum-known-a : tie.Need-enum-known-a
 enum-known-a c = search needs
@@ -26,7 +26,7 @@ same-length c = search needs
 
 returns : tie.Need-returns
 unfolding bytes line
-returns c = let w = c .before .before in passed-line _ _ _ _ (w .before .before .before .enum-told .given .1) (w .copy .ensures)
+returns c = let w = c .before .before in passed-line _ _ _ _ (w .before .before .before .enum-told .given .1) (w .put .ensures)
 
 same-length-2 : tie.Need-same-length-2
 same-length-2 c = search needs
@@ -39,8 +39,8 @@ test-line-spec =
     tie.close
     (tie.spec
     enum-told
-    slice-aggregate-copy
-    copy-requires
+    slice-aggregate-put
+    put-requires
     enum-known-a
     refusal-line-requires
     same-length

@@ -1,15 +1,21 @@
--- `compiled::signal_in` meets its contract: that is the byte of the route which is asked for.
+-- `compiled::signal_in` meets its contract: past the bounds no signal stands, and within them the byte of the route says so.
 -- Assumes nothing.
 use borrow.Author.Needs.{needs}
-use Rattle.compiled.proofs.Table.{signal-is}
+use Rattle.compiled.proofs.Table.{signal-no-train, signal-no-section, signal-within}
 use Rattle.compiled.proofs.signal_in.Statement.{statement}
 use Rattle.compiled.proofs.signal_in.Tie as tie
+
+returns : tie.Need-returns
+returns c = let a = c .before .args in λ r h. signal-no-train r (a .t) (a .x) (c .if1 .taken)
+
+returns-2 : tie.Need-returns-2
+returns-2 c = let a = c .before .before .args in λ r h. signal-no-section r (a .t) (a .x) (c .before .if1 .left) (c .if2 .taken)
 
 route-in-requires : tie.Need-route-in-requires
 route-in-requires c κs = search needs
 
-returns : tie.Need-returns
-returns c = λ r h lt lx. signal-is r _ _ (c .route-in .ensures r h lt lx)
+returns-3 : tie.Need-returns-3
+returns-3 c = let lt = c .before .before .if1 .left in let lx = c .before .if2 .left in λ r h. signal-within r _ _ lt _ lx (c .route-in .ensures r h lt lx)
 
 pub signal-in-spec : {M : Type 1} → statement M
-signal-in-spec = tie.close (tie.spec route-in-requires returns)
+signal-in-spec = tie.close (tie.spec returns returns-2 route-in-requires returns-3)

@@ -1,7 +1,7 @@
 -- `moves::held_in` meets its contract: the table says so of that section.
 -- Assumes nothing.
 use borrow.Author.Needs.{needs}
-use Rattle.moves.proofs.Moving.{train-small, section-small, held-is}
+use Rattle.moves.proofs.Moving.{held-is}
 use Rattle.moves.proofs.held_in.Statement.{statement}
 use Rattle.moves.proofs.held_in.Tie as tie
 
@@ -12,9 +12,7 @@ signal-in-requires : tie.Need-signal-in-requires
 signal-in-requires c κs = search needs
 
 returns : tie.Need-returns
-returns c =
-    let x = c .before .section-at .ensures in
-    λ r p h l. held-is r p _ _ h _ _ l x _ (c .signal-in .ensures r (h .compiled) (train-small r p _ _ h _ _ l x) (section-small r p _ _ h _ _ l x))
+returns c = λ r p h. held-is r p _ _ h _ _ (c .before .section-at .ensures) _ (c .signal-in .ensures r (h .compiled))
 
 pub held-in-spec : {M : Type 1} → statement M
 held-in-spec = tie.close (tie.spec section-at-requires signal-in-requires returns)

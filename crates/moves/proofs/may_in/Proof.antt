@@ -1,7 +1,7 @@
 -- `moves::may_in` meets its contract: a train that is there and free, or whose signal is open.
 -- Assumes nothing.
 use borrow.Author.Needs.{needs}
-use Rattle.moves.proofs.Moving.{not-there, free-may, held-may}
+use Rattle.moves.proofs.Moving.{held-as, not-there, free-may, held-may}
 use Rattle.moves.proofs.may_in.Statement.{statement}
 use Rattle.moves.proofs.may_in.Tie as tie
 
@@ -24,10 +24,10 @@ open-in-requires : tie.Need-open-in-requires
 open-in-requires c κs = search needs
 
 returns-2 : tie.Need-returns-2
-returns-2 c = λ r p h. held-may r p _ _ h _ _ _ (c .before .before .before .before .before .before .trains-in .ensures r (h .compiled)) (c .before .before .before .before .before .if1 .left) _ (c .before .before .before .before .held-in .ensures r p h) _ _ _ (c .before .before .before .if2 .taken) (c .before .before .end-in .ensures r p h) (c .before .index-of .ensures) (c .open-in .ensures r p h)
+returns-2 c = λ r p h. held-may r p _ _ h _ _ _ (c .before .before .before .before .before .before .trains-in .ensures r (h .compiled)) (c .before .before .before .before .before .if1 .left) _ (λ l. held-as r p _ _ h _ l _ (c .before .before .before .before .held-in .ensures r p h)) _ _ _ (c .before .before .before .if2 .taken) (c .before .before .end-in .ensures r p h) (c .before .index-of .ensures) (c .open-in .ensures r p h)
 
 returns-3 : tie.Need-returns-3
-returns-3 c = λ r p h. free-may r p _ _ h _ _ _ (c .before .before .before .trains-in .ensures r (h .compiled)) (c .before .before .if1 .left) _ (c .before .held-in .ensures r p h) (c .if2 .left)
+returns-3 c = λ r p h. free-may r p _ _ h _ _ _ (c .before .before .before .trains-in .ensures r (h .compiled)) (c .before .before .if1 .left) _ (λ l. held-as r p _ _ h _ l _ (c .before .held-in .ensures r p h)) (c .if2 .left)
 
 pub may-in-spec : {M : Type 1} → statement M
 may-in-spec =

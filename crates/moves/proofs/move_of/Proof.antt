@@ -1,43 +1,17 @@
--- `moves::move_of` meets its contract: the point that the train meets lies as the entry says, and no other matters.
+-- `moves::move_of` meets its contract, by the placement.
 -- Assumes nothing.
 use borrow.Author.Needs.{needs}
-use Rattle.moves.proofs.Moving.{not-allowed, there-if, allowed}
 use Rattle.moves.proofs.move_of.Statement.{statement}
 use Rattle.moves.proofs.move_of.Tie as tie
 
 placement-of-requires : tie.Need-placement-of-requires
 placement-of-requires c κs = search needs
 
-may-in-requires : tie.Need-may-in-requires
-may-in-requires c κs = search needs
-
-point-in-requires : tie.Need-point-in-requires
-point-in-requires c κs = search needs
-
-cast-bit-at : tie.Need-cast-bit-at
-cast-bit-at c = search needs
-
-bit-at-requires : tie.Need-bit-at-requires
-bit-at-requires c κs = search needs
-
-outcome-of-requires : tie.Need-outcome-of-requires
-outcome-of-requires c κs = search needs
+move-in-requires : tie.Need-move-in-requires
+move-in-requires c κs = search needs
 
 returns : tie.Need-returns
-returns c = λ r h. let m = c .before .before .before .before in let on = (m .before .placement-of .ensures r h) in let l = there-if r _ _ _ on _ _ _ (m .may-in .ensures r _ on) (c .before .before .before .if1 .taken) in allowed r _ _ _ on _ _ _ (m .may-in .ensures r _ on) _ _ (c .outcome-of .result) (c .before .before .before .if1 .taken) (c .before .before .point-in .ensures r _ on l) (c .before .bit-at .ensures) (c .outcome-of .ensures r _ on l)
-
-returns-2 : tie.Need-returns-2
-returns-2 c = λ r h. let m = c .before in let on = (m .before .placement-of .ensures r h) in not-allowed r _ _ _ on _ _ _ (m .may-in .ensures r _ on) (c .if1 .left)
+returns c = λ r h. c .move-in .ensures r _ (c .before .placement-of .ensures r h)
 
 pub move-of-spec : {M : Type 1} → statement M
-move-of-spec =
-    tie.close
-    (tie.spec
-    placement-of-requires
-    may-in-requires
-    point-in-requires
-    cast-bit-at
-    bit-at-requires
-    outcome-of-requires
-    returns
-    returns-2)
+move-of-spec = tie.close (tie.spec placement-of-requires move-in-requires returns)

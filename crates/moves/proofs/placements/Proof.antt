@@ -1,6 +1,8 @@
 -- `moves::placements` meets its contract, by the counts in the table.
 -- Assumes nothing.
+use mathlib.Core.Path.{_∙_}
 use borrow.Author.Needs.{needs}
+use Rattle.moves.proofs.Coding.{stride-is}
 use Rattle.moves.proofs.Placing.{placements-are, few-trains}
 use Rattle.moves.proofs.placements.Statement.{statement}
 use Rattle.moves.proofs.placements.Tie as tie
@@ -15,7 +17,7 @@ power-requires : tie.Need-power-requires
 power-requires c κs = search needs
 
 returns : tie.Need-returns
-returns c = λ r h. placements-are r _ _ _ (c .before .before .sections-in .ensures r h) (c .before .trains-in .ensures r h) (c .power .ensures (few-trains r _ h _ (c .before .trains-in .ensures r h)))
+returns c = λ r h. placements-are r _ _ _ (c .before .before .sections-in .ensures r h) (c .before .trains-in .ensures r h) (c .power .ensures ∙ stride-is _ _ (few-trains r _ h _ (c .before .trains-in .ensures r h)))
 
 pub placements-spec : {M : Type 1} → statement M
 placements-spec = tie.close (tie.spec sections-in-requires trains-in-requires power-requires returns)

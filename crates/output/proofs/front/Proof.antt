@@ -1,24 +1,23 @@
--- `output::front` meets its contract: the part that is written lies within the buffer.
+-- `output::front` meets its contract, by what was put.
 -- Assumes nothing.
-use native.Mathlib.Omega.{arith}
-use lib.ListN.{length-take}
 use borrow.Author.Needs.{needs}
-use borrow.Author.Tests.{le-leb, lt-leb}
 use Rattle.output.proofs.front.Statement.{statement}
 use Rattle.output.proofs.front.Tie as tie
 
-slice-aggregate-write-all : tie.Need-slice-aggregate-write-all
-slice-aggregate-write-all c = simp length-take (omega arith)
+enum-known-put : tie.Need-enum-known-put
+enum-known-put c = search needs
 
-write-all-requires : tie.Need-write-all-requires
-write-all-requires c κs = search needs
+write-first-requires : tie.Need-write-first-requires
+write-first-requires c κs = search needs
+
+enum-told : tie.Need-enum-told
+enum-told c = search needs
 
 returns : tie.Need-returns
-returns c = rw (le-leb _ _ (c .before .before .if1 .taken))
+returns c = rw (c .before .before .put .given .1) (c .write-first .ensures)
 
 returns-2 : tie.Need-returns-2
-returns-2 c = rw (lt-leb _ _ (c .if1 .left))
+returns-2 c = search needs
 
 pub front-spec : {M : Type 1} → statement M
-front-spec =
-    tie.close (tie.spec slice-aggregate-write-all write-all-requires returns returns-2)
+front-spec = tie.close (tie.spec enum-known-put write-first-requires enum-told returns returns-2)

@@ -1,53 +1,60 @@
--- `plancheck::check` is safe, and its constants are the definitions': the buffer has room for every line that may be put there.
+-- `plancheck::check` meets its contract: the buffer has room for every line that may be put there, so none is refused.
 -- Assumes nothing.
+use mathlib.Core.Path.{_≡_, refl}
+use mathlib.Core.Bool.{true}
+use mathlib.Core.List.{List}
+use Prim.Native.Nat.{ℕ, _≤_}
+use lib.ListN.{length}
+use borrow.Author.Tests.{le-leb}
+use Rattle.casefile.specs.declared.Written.{Written}
+use Rattle.casefile.specs.declared.Written.the-variants.{Bytes, Refused}
+use Rattle.answerlines.specs.Lines.{Puts}
+use Rattle.answerlines.proofs.Puts.{puts-whole, puts-never}
+use Rattle.output.specs.Front.{hasFront}
 use borrow.Author.Needs.{needs}
-use native.Mathlib.Omega.{arith}
-use lib.ListN.{length-take}
-use Rattle.answerlines.proofs.Puts.{puts-few}
 use Rattle.plancheck.proofs.check.Statement.{statement}
 use Rattle.plancheck.proofs.check.Tie as tie
 
-slice-aggregate-read-full : tie.Need-slice-aggregate-read-full
-slice-aggregate-read-full c = search needs
+front-whole : {Output : List ℕ → Type 0} (most : ℕ) (old new : List ℕ) (w : Written) → Puts Output most old w new → most ≤ length old → hasFront w new ≡ true
+front-whole most old new (Bytes n) p h = le-leb n (length new) (puts-whole p n refl .within)
+front-whole most old new (Refused f) p h = puts-never p h f refl
 
-read-full-requires : tie.Need-read-full-requires
-read-full-requires c κs = search needs
+slice-aggregate-open-read : tie.Need-slice-aggregate-open-read
+slice-aggregate-open-read c = search needs
 
-array-share-prefix-plan : tie.Need-array-share-prefix-plan
-array-share-prefix-plan c = search needs
+open-read-requires : tie.Need-open-read-requires
+open-read-requires c κs = search needs
 
-slice-aggregate-check-line : tie.Need-slice-aggregate-check-line
-slice-aggregate-check-line c = search needs
+check-files-requires : tie.Need-check-files-requires
+check-files-requires c κs = search needs
 
-slice-aggregate-check-line-2 : tie.Need-slice-aggregate-check-line-2
-slice-aggregate-check-line-2 c = search needs
+front-requires : tie.Need-front-requires
+front-requires c κs = search needs
 
-check-line-requires : tie.Need-check-line-requires
-check-line-requires c κs = search needs
+same-length : tie.Need-same-length
+same-length c = search needs
 
-array-share-prefix-line : tie.Need-array-share-prefix-line
-array-share-prefix-line c = omega (arith, puts-few (c .before .check-line .ensures))
+same-length-2 : tie.Need-same-length-2
+same-length-2 c = search needs
 
-slice-aggregate-write-all : tie.Need-slice-aggregate-write-all
-slice-aggregate-write-all c = simp length-take (omega (arith, puts-few (c .before .before .check-line .ensures)))
-
-write-all-requires : tie.Need-write-all-requires
-write-all-requires c κs = search needs
+same-length-3 : tie.Need-same-length-3
+same-length-3 c = search needs
 
 returns : tie.Need-returns
-returns c = search needs
+returns c =
+    let k = c .before .before .before .before .before .before .before .before in
+    let a = k .before .before .before .before .before .before .before .before .before in
+    (k .check-files .ensures, front-whole _ _ _ _ (k .check-files .ensures .put) (a .pre .2))
 
 pub check-spec : {M : Type 1} → statement M
 check-spec =
     tie.close
     (tie.spec
-    slice-aggregate-read-full
-    read-full-requires
-    array-share-prefix-plan
-    slice-aggregate-check-line
-    slice-aggregate-check-line-2
-    check-line-requires
-    array-share-prefix-line
-    slice-aggregate-write-all
-    write-all-requires
+    slice-aggregate-open-read
+    open-read-requires
+    check-files-requires
+    front-requires
+    same-length
+    same-length-2
+    same-length-3
     returns)

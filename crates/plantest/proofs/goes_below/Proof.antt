@@ -1,30 +1,55 @@
--- `plantest::goes_below` meets its contract, by whether the train may move.
+-- `plantest::goes_below` meets its contract, by what the train's move ends in.
 -- Assumes nothing.
-use borrow.Author.Needs.{needs}
+use native.Mathlib.Omega.{arith}
+use mathlib.Core.Path.{_≡_, refl}
+use mathlib.Core.List.{[], _∷_}
+use mathlib.Core.Logic.{inl, inr}
+use mathlib.Core.Option.{none}
+use types.Run.{OneOf}
+use denote.Enum.Declared.{declared, tagOf}
+use Rattle.laws.proofs.Bools.{some-none}
+use Rattle.moves.proofs.Move.{enum}
+use Rattle.moves.specs.declared.Move.{Move}
+use Rattle.moves.specs.declared.Move.the-variants.{NotAllowed, Derails, Collides, At}
+use Rattle.moves.specs.Answers.{ended}
 use Rattle.plantest.proofs.Testing.{stays-below, moves-below}
+use borrow.Author.Needs.{needs}
 use Rattle.plantest.proofs.goes_below.Statement.{statement}
 use Rattle.plantest.proofs.goes_below.Tie as tie
 
-may-move-requires : tie.Need-may-move-requires
-may-move-requires c κs = search needs
+-- every other answer is of a move
+moved : (o : Move) → OneOf (1 ∷ 2 ∷ 3 ∷ []) (tagOf (declared enum) o) → ¬ (ended o ≡ none)
+moved NotAllowed (inl e) = absurd (omega (arith, e))
+moved NotAllowed (inr (inl e)) = absurd (omega (arith, e))
+moved NotAllowed (inr (inr e)) = absurd (omega (arith, e))
+moved Derails h = λ e. some-none refl e
+moved Collides h = λ e. some-none refl e
+moved (At q) h = λ e. some-none refl e
 
-move-of-requires : tie.Need-move-of-requires
-move-of-requires c κs = search needs
+move-in-requires : tie.Need-move-in-requires
+move-in-requires c κs = search needs
+
+enum-told : tie.Need-enum-told
+enum-told c = search needs
 
 is-below-requires : tie.Need-is-below-requires
 is-below-requires c κs = search needs
 
 returns : tie.Need-returns
 returns c =
-    λ r h.
-    let a = c .before .before .before .before .before .args in
-    moves-below r (a .figures .now) (a .p) (a .v) (a .n) (a .t) _ (c .before .before .before .may-move .ensures r h) (c .before .move-of .result) _ (c .before .before .if1 .taken) (c .before .move-of .ensures r h) (c .is-below .ensures)
+    λ r p on.
+    let k = c .before in
+    let m = k .before in
+    let a = m .before .before .args in
+    moves-below r (a .figures .now) p (a .v) (a .n) (a .t) (m .move-in .result) (m .move-in .ensures r p on) _ (moved (m .move-in .result) (k .match .keys2)) (c .is-below .ensures)
 
 returns-2 : tie.Need-returns-2
 returns-2 c =
-    λ r h.
-    let a = c .before .before .before .args in
-    stays-below r (a .figures .now) (a .p) (a .v) (a .n) (a .t) _ (c .before .may-move .ensures r h) (c .if1 .left)
+    λ r p on.
+    let m = c .before .before in
+    let a = m .before .before .args in
+    stays-below r (a .figures .now) p (a .v) (a .n) (a .t) (m .move-in .result) (m .move-in .ensures r p on) (c .enum-told .given .1)
 
 pub goes-below-spec : {M : Type 1} → statement M
-goes-below-spec = tie.close (tie.spec may-move-requires move-of-requires is-below-requires returns returns-2)
+goes-below-spec =
+    tie.close (tie.spec move-in-requires enum-told is-below-requires returns returns-2)

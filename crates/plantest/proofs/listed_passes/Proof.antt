@@ -24,8 +24,8 @@ entry-at-requires c κs = search needs
 opens-signalled-requires : tie.Need-opens-signalled-requires
 opens-signalled-requires c κs = search needs
 
-is-home-requires : tie.Need-is-home-requires
-is-home-requires c κs = search needs
+home-in-requires : tie.Need-home-in-requires
+home-in-requires c κs = search needs
 
 returns-2 : tie.Need-returns-2
 returns-2 c =
@@ -36,7 +36,7 @@ returns-2 c =
     let a = w .before .before .before .before .args in
     let on = w .before .placement-of .ensures r h in
     home-passes r (a .figures .now) (a .settings .now) (a .p) (a .n) _ (w .lost-in .ensures r _ on) (e .before .if1 .left) _ (e .entry-at .ensures) _ (o .opens-signalled .ensures r _ on) (c .before .before .if2 .taken) _
-    (c .before .is-home .ensures r h) (c .if3 .taken)
+    (c .before .home-in .ensures r _ on) (c .if3 .taken)
 
 keeps-requires : tie.Need-keeps-requires
 keeps-requires c κs = search needs
@@ -51,7 +51,7 @@ returns-3 c =
     let a = w .before .before .before .before .args in
     let on = w .before .placement-of .ensures r h in
     kept-passes r (a .figures .now) (a .settings .now) (a .p) (a .n) _ (w .lost-in .ensures r _ on) (e .before .if1 .left) _ (e .entry-at .ensures) _ (o .opens-signalled .ensures r _ on) (i .before .if2 .taken) _
-    (i .is-home .ensures r h) _ (c .before .if3 .left) (c .keeps .ensures r h)
+    (i .home-in .ensures r _ on) _ (c .before .if3 .left) (c .keeps .ensures r _ on)
 
 returns-4 : tie.Need-returns-4
 returns-4 c =
@@ -72,7 +72,7 @@ listed-passes-spec =
     returns
     entry-at-requires
     opens-signalled-requires
-    is-home-requires
+    home-in-requires
     returns-2
     keeps-requires
     returns-3

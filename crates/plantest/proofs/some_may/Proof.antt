@@ -4,39 +4,39 @@ use native.Mathlib.Omega.{arith}
 use borrow.Author.Needs.{needs}
 use mathlib.Core.Path.{_≡_, refl, sym, _∙_}
 use mathlib.Core.Bool.{false}
-use Prim.Native.Nat.{_-_, _≤_}
+use Prim.Native.Nat.{ℕ, _-_, _≤_}
 use Rattle.laws.specs.Below.{anyBelow}
 use Rattle.laws.proofs.Below.{any-next}
 use Rattle.railway.specs.declared.Railway.{Railway}
 use Rattle.game.specs.Game.{may}
 use Rattle.game.specs.Moves.{gameOf}
 use Rattle.tables.specs.Entries.{settingAt}
-use Rattle.compiled.specs.Table.{Compiled}
+use Rattle.moves.specs.Steps.{On}
 use Rattle.plantest.proofs.Testing.{one-of, none-of}
 use Rattle.plantest.proofs.some_may.Statement.{statement}
 use Rattle.plantest.proofs.some_may.Tie as tie
 
 abbrev Inv-loop : tie.InvT-loop
-Inv-loop table p v k t₀ t = (t ≤ k) × ((r : Railway) → Compiled r table → anyBelow (may (gameOf r) p (settingAt r p v)) t ≡ false)
+Inv-loop table q v k t₀ t = (t ≤ k) × ((r : Railway) (p : ℕ) → On r p table q → anyBelow (may (gameOf r) p (settingAt r p v)) t ≡ false)
 
 abbrev μ-loop : tie.MeasureT-loop
-μ-loop table p v k t₀ t = k - t
+μ-loop table q v k t₀ t = k - t
 
 trains-in-requires : tie.Need-trains-in-requires Inv-loop μ-loop
 trains-in-requires c κs = search needs
 
 loop-holds : tie.Need-loop-holds Inv-loop μ-loop
 unfolding anyBelow
-loop-holds c = (omega arith, λ r h. refl)
+loop-holds c = (omega arith, λ r p on. refl)
 
-may-move-requires : tie.Need-may-move-requires Inv-loop μ-loop
-may-move-requires c κs = search needs
+may-in-requires : tie.Need-may-in-requires Inv-loop μ-loop
+may-in-requires c κs = search needs
 
 returns : tie.Need-returns Inv-loop μ-loop
 returns c =
-    λ r h.
+    λ r p on.
     let l = c .before .before .before in
-    one-of (l .before .trains-in .ensures r h) _ (l .loop .t) (c .before .before .loop-test .taken) (sym (c .before .may-move .ensures r h) ∙ c .if1 .taken)
+    one-of (l .before .trains-in .ensures r (on .compiled)) _ (l .loop .t) (c .before .before .loop-test .taken) (sym (c .before .may-in .ensures r p on) ∙ c .if1 .taken)
 
 add-t : tie.Need-add-t Inv-loop μ-loop
 add-t c = omega arith
@@ -45,13 +45,13 @@ loop-less : tie.Need-loop-less Inv-loop μ-loop
 loop-less c = omega arith
 
 loop-again : tie.Need-loop-again Inv-loop μ-loop
-loop-again c = let l = c .before .before .before in (omega arith, λ r h. any-next _ _ (l .loop .inv .1 r h) (sym (c .before .may-move .ensures r h) ∙ c .if1 .left))
+loop-again c = let l = c .before .before .before in (omega arith, λ r p on. any-next _ _ (l .loop .inv .1 r p on) (sym (c .before .may-in .ensures r p on) ∙ c .if1 .left))
 
 returns-2 : tie.Need-returns-2 Inv-loop μ-loop
 returns-2 c =
-    λ r h.
+    λ r p on.
     let l = c .before in
-    none-of (l .before .trains-in .ensures r h) _ (l .loop .t) (l .loop .inv .0) (c .loop-test .left) (l .loop .inv .1 r h)
+    none-of (l .before .trains-in .ensures r (on .compiled)) _ (l .loop .t) (l .loop .inv .0) (c .loop-test .left) (l .loop .inv .1 r p on)
 
 pub some-may-spec : {M : Type 1} → statement M
 some-may-spec =
@@ -61,7 +61,7 @@ some-may-spec =
     μ-loop
     trains-in-requires
     loop-holds
-    may-move-requires
+    may-in-requires
     returns
     add-t
     loop-less

@@ -1,116 +1,86 @@
--- `planwriter::plan_lines` meets its contract. The loop's invariant: the lines put so far, and those from the place reached on, are the plan's, and
--- the buffer is as long as it was. It ends, for each line leaves fewer bytes of the plan. Assumes nothing.
-use borrow.Author.Needs.{needs}
-use native.Mathlib.Omega.{arith}
-use mathlib.Core.Path.{_≡_, refl, _∙_}
+-- `planwriter::plan_lines` meets its contract: there is room for all lines, so one call gives them, and no answer but a line can come.
+-- Assumes nothing.
+use mathlib.Core.Path.{_≡_, ap}
 use mathlib.Core.Bool.{false}
-use mathlib.Core.List.{[], _∷_}
-use mathlib.Core.Logic.{inl, inr}
-use Prim.Native.Nat.{ℕ, _-_, _≤_}
-use lib.ListN.{length, replicate, length-take}
-use types.Run.{OneOf}
-use denote.Enum.Declared.{declared, tagOf}
 use denote.Ref.{now}
-use Rattle.plan.proofs.Emitted.{enum}
-use Rattle.plan.specs.declared.Emitted.{Emitted}
-use Rattle.plan.specs.declared.Emitted.the-variants.{Line, End, NoPlan, Refused}
-use Rattle.plan.specs.Lines.{mostLineBytes}
-use Rattle.plan.specs.Text.{planText}
 use Rattle.plan.specs.Emitter.{isLine}
-use Rattle.planwriter.proofs.Lines.{Put, Onward, bufferOf, begins, finished, goes-on}
+use Rattle.planwriter.proofs.Whole.{at-once, no-other}
+use borrow.Author.Needs.{needs}
 use Rattle.planwriter.proofs.plan_lines.Statement.{statement}
 use Rattle.planwriter.proofs.plan_lines.Tie as tie
 
--- what is left beside a line
-no-line : (a : Emitted) → OneOf (1 ∷ 2 ∷ 3 ∷ []) (tagOf (declared enum) a) → isLine a ≡ false
-no-line (Line n next) (inl e) = absurd (omega (arith, e))
-no-line (Line n next) (inr (inl e)) = absurd (omega (arith, e))
-no-line (Line n next) (inr (inr e)) = absurd (omega (arith, e))
-no-line End h = refl
-no-line NoPlan h = refl
-no-line (Refused f) h = refl
+-- the emitter's call, from behind it, and what was lent
+abbrev emitted : tie.After-slice-known2 → tie.After-emit-lines
+emitted c = c .before .before
 
--- the buffer of a line
-room : mostLineBytes ≤ length {A = ℕ} (replicate mostLineBytes 0)
-room = omega arith
+abbrev start : tie.After-emit-lines → tie.Start
+start e = e .before .before .before .before .before
 
-abbrev Inv-loop : tie.InvT-loop
-Inv-loop r figures settings text₀ place₀ at₀ bytes₀ text place at bytes = Put r figures settings text₀ text place at bytes × (length text ≡ length text₀)
+-- the answer is a line
+other : (c : tie.After-slice-known2) → isLine (emitted c .emit-lines .result) ≡ false → {A : Type 0} → A
+other c no-line =
+    let e = emitted c in
+    let st = start e in
+    let a = st .args in
+    no-other (a .r) (now (a .figures)) (now (a .settings)) (now (a .out)) _ _ (st .pre .0) (st .pre .1) (e .emit-lines .ensures) no-line
 
-abbrev μ-loop : tie.MeasureT-loop
-μ-loop r figures settings text₀ place₀ at₀ bytes₀ text place at bytes = length (planText r figures settings) - bytes
+emit-lines-requires : tie.Need-emit-lines-requires
+emit-lines-requires c κs = search needs
 
--- what was lent
-abbrev start : tie.At-loop Inv-loop μ-loop → tie.Start Inv-loop μ-loop
-start l = l .before .before .before .before
+enum-known-n : tie.Need-enum-known-n
+enum-known-n c = search needs
 
--- a line was put
-onward : (k : tie.After-known-told Inv-loop μ-loop)
-    → (let e = k .before .before .before .before in let l = e .before .before in let a = start l .args in let given = k .before .emitted .given .0 in
-    Onward (a .r) (now (a .figures)) (now (a .settings)) (now (a .text)) (l .loop .text) (l .loop .at) (l .loop .bytes) (given .0) (bufferOf (e .emit-line .ensures)) (given .1 .0))
-onward k =
-    let e = k .before .before .before .before in
-    let l = e .before .before in
-    goes-on _ _ _ _ _ (l .loop .place) (l .loop .at) (l .loop .bytes) (l .loop .inv .0) _ _ _ (e .emit-line .ensures) room _ _ (k .before .emitted .given .1)
+enum-told : tie.Need-enum-told
+enum-told c = search needs
 
-loop-holds : tie.Need-loop-holds Inv-loop μ-loop
-loop-holds c = let s = c .before .before .before in let a = s .args in (begins (a .r) (now (a .figures)) (now (a .settings)) (now (a .text)) (s .pre), refl)
+enum-told-2 : tie.Need-enum-told-2
+enum-told-2 c = search needs
 
-slice-aggregate-emit-line : tie.Need-slice-aggregate-emit-line Inv-loop μ-loop
-slice-aggregate-emit-line c = search needs
+enum-told-3 : tie.Need-enum-told-3
+enum-told-3 c = search needs
 
-emit-line-requires : tie.Need-emit-line-requires Inv-loop μ-loop
-emit-line-requires c κs = search needs
+same-length : tie.Need-same-length
+same-length c = search needs
 
-enum-known-emitted : tie.Need-enum-known-emitted Inv-loop μ-loop
-enum-known-emitted c = search needs
-
-same-length : tie.Need-same-length Inv-loop μ-loop
-same-length c = c .before .before .before .before .loop .inv .1
-
-returns : tie.Need-returns Inv-loop μ-loop
+returns : tie.Need-returns
 returns c =
-    let e = c .before .before in
-    let l = e .before .before in
-    finished _ _ _ _ _ (l .loop .place) (l .loop .at) (l .loop .bytes) (l .loop .inv .0) _ _ _ (e .emit-line .ensures) room (no-line (e .emit-line .result) (c .match .keys2))
+    let e = emitted (c .before .before .before) in
+    let st = start e in
+    let a = st .args in
+    at-once (a .r) (now (a .figures)) (now (a .settings)) (now (a .out)) _ _ (st .pre .0) (st .pre .1) (e .emit-lines .ensures) _ _ (c .before .n .given .1)
 
-array-share-prefix-line : tie.Need-array-share-prefix-line Inv-loop μ-loop
-array-share-prefix-line c = let o = onward (c .before) in o .fits
+same-length-2 : tie.Need-same-length-2
+same-length-2 c = search needs
 
-slice-aggregate-bytes : tie.Need-slice-aggregate-bytes Inv-loop μ-loop
-slice-aggregate-bytes c = let o = onward (c .before .before) in let m = o .fits in simp length-take (omega (arith, m))
+returns-2 : tie.Need-returns-2
+returns-2 c = other (c .before .before) (ap isLine (c .enum-told .given .1))
 
-bytes-requires : tie.Need-bytes-requires Inv-loop μ-loop
-bytes-requires c κs = search needs
+same-length-3 : tie.Need-same-length-3
+same-length-3 c = search needs
 
-add-bytes : tie.Need-add-bytes Inv-loop μ-loop
-add-bytes c = let o = onward (c .before .before .before .before .before) in let m = o .small in omega (arith, m)
+returns-3 : tie.Need-returns-3
+returns-3 c = other (c .before .before) (ap isLine (c .enum-told2 .given .1))
 
-loop-less : tie.Need-loop-less Inv-loop μ-loop
-loop-less c = let o = onward (c .before .before .before .before .before) in let s = o .some in let w = o .within in omega (arith, s, w)
+same-length-4 : tie.Need-same-length-4
+same-length-4 c = search needs
 
-loop-again : tie.Need-loop-again Inv-loop μ-loop
-loop-again c =
-    let b = c .before .before in
-    let k = b .before .before .before in
-    let l = k .before .before .before .before .before .before in
-    (onward k .put _ _ (b .bytes .ensures), b .bytes .kept .0 ∙ l .loop .inv .1)
+returns-4 : tie.Need-returns-4
+returns-4 c = other (c .before .before) (ap isLine (c .enum-told3 .given .1))
 
 pub plan-lines-spec : {M : Type 1} → statement M
 plan-lines-spec =
     tie.close
     (tie.spec
-    Inv-loop
-    μ-loop
-    loop-holds
-    slice-aggregate-emit-line
-    emit-line-requires
-    enum-known-emitted
+    emit-lines-requires
+    enum-known-n
+    enum-told
+    enum-told-2
+    enum-told-3
     same-length
     returns
-    array-share-prefix-line
-    slice-aggregate-bytes
-    bytes-requires
-    add-bytes
-    loop-less
-    loop-again)
+    same-length-2
+    returns-2
+    same-length-3
+    returns-3
+    same-length-4
+    returns-4)

@@ -11,7 +11,8 @@ use Rattle.game.specs.Setting.{free}
 use Rattle.game.proofs.Accepted.{facts}
 use Rattle.tables.specs.Tables.{figureIn}
 use Rattle.tables.specs.Find.{findMet}
-use Rattle.moves.specs.Steps.{sectionIn, On}
+use Rattle.placement.specs.ByValue.{sectionIn}
+use Rattle.moves.specs.Steps.{On}
 use Rattle.settings.specs.Answers.{firstKeeping}
 use Rattle.settings.specs.Routes.{Asked}
 use Rattle.settings.proofs.Trying.{lost-none, found-first, trains-few, points-few, asked}

@@ -1,5 +1,6 @@
 -- `settings::good_at_plus` meets its contract: a train that is held, or whose point lies at minus, is not looked at.
 -- Assumes nothing.
+use Rattle.moves.proofs.Moving.{held-as}
 use Rattle.settings.proofs.Routes.{held-good, minus-good, plus-good}
 use borrow.Author.Needs.{needs}
 use Rattle.settings.proofs.good_at_plus.Statement.{statement}
@@ -9,7 +10,7 @@ held-in-requires : tie.Need-held-in-requires
 held-in-requires c κs = search needs
 
 returns : tie.Need-returns
-returns c = let a = c .before .before .before .args in λ r p on e l. held-good r p _ _ (c .before .held-in .ensures r p on l) _ (a .n) (a .bits) (c .if1 .taken)
+returns c = let a = c .before .before .before .args in λ r p on e l. held-good r p _ _ (held-as r p _ _ on _ l _ (c .before .held-in .ensures r p on)) _ (a .n) (a .bits) (c .if1 .taken)
 
 point-in-requires : tie.Need-point-in-requires
 point-in-requires c κs = search needs
@@ -28,13 +29,13 @@ returns-2 c =
     let m = c .before .before .before in
     let h = m .before .before in
     λ r p on e l.
-    plus-good r p _ _ (h .held-in .ensures r p on l) _ _ _ _ _ (m .point-in .ensures r p on l) (c .before .before .bit-at .ensures) (m .before .if1 .left) _ (c .before .if2 .taken) (c .ends-below .ensures r p on e l)
+    plus-good r p _ _ (held-as r p _ _ on _ l _ (h .held-in .ensures r p on)) _ _ _ _ _ (m .point-in .ensures r p on l) (c .before .before .bit-at .ensures) (m .before .if1 .left) _ (c .before .if2 .taken) (c .ends-below .ensures r p on e l)
 
 returns-3 : tie.Need-returns-3
 returns-3 c =
     let m = c .before .before in
     let h = m .before .before in
-    λ r p on e l. minus-good r p _ _ (h .held-in .ensures r p on l) _ (h .before .before .args .n) _ _ _ (m .point-in .ensures r p on l) (c .before .bit-at .ensures) (m .before .if1 .left) (c .if2 .left)
+    λ r p on e l. minus-good r p _ _ (held-as r p _ _ on _ l _ (h .held-in .ensures r p on)) _ (h .before .before .args .n) _ _ _ (m .point-in .ensures r p on l) (c .before .bit-at .ensures) (m .before .if1 .left) (c .if2 .left)
 
 pub good-at-plus-spec : {M : Type 1} → statement M
 good-at-plus-spec =

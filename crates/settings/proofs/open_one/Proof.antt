@@ -6,7 +6,7 @@ use Prim.Native.Nat.{ℕ, _-_, _≤_}
 use mathlib.Core.Bool.{false}
 use mathlib.Core.Option.{none}
 use mathlib.Core.List.{List}
-use Rattle.moves.specs.declared.Placement.{Placement}
+use Rattle.placement.specs.declared.Placement.{Placement}
 use mathlib.Core.Path.{_≡_, refl, sym, _∙_, ap}
 use lib.Dec.{eqb}
 use Rattle.laws.specs.Below.{anyBelow}

@@ -10,7 +10,8 @@ use Rattle.laws.proofs.Below.{all-next, all-each, all-but}
 use Rattle.railway.specs.declared.Railway.{Railway}
 use Rattle.tables.specs.Tables.{figureIn}
 use Rattle.game.specs.Placement.{codeOn}
-use Rattle.moves.specs.Steps.{sectionIn, On}
+use Rattle.placement.specs.ByValue.{sectionIn}
+use Rattle.moves.specs.Steps.{On}
 use Rattle.settings.specs.Routes.{goodAtPlus}
 use Rattle.settings.proofs.Routes.{all-at-minus}
 use Rattle.settings.proofs.plus_holds.Statement.{statement}

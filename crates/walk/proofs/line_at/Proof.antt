@@ -1,8 +1,8 @@
--- `walk::line_at` meets its contract: the kind and the count stay, and the line has the number that is due.
+-- `walk::line_at` meets its contract: the line has the number that is due.
 -- Assumes nothing.
 use borrow.Author.Needs.{needs}
 use denote.Ref.{now}
-use Rattle.walk.proofs.Turns.{line-read}
+use Rattle.walk.proofs.Turns.{line-due}
 use Rattle.walk.proofs.line_at.Statement.{statement}
 use Rattle.walk.proofs.line_at.Tie as tie
 
@@ -13,7 +13,7 @@ one-line-requires : tie.Need-one-line-requires
 one-line-requires c κs = search needs
 
 returns : tie.Need-returns
-returns c = let n = c .before in let a = n .before .before .before .before .args in line-read (now (a .text)) _ (a .w) _ (n .number-due .ensures) _ (c .one-line .ensures)
+returns c = let n = c .before in let a = n .before .before .before .args in line-due (now (a .text)) _ (a .w) _ (n .number-due .ensures) (c .one-line .ensures)
 
 pub line-at-spec : {M : Type 1} → statement M
 line-at-spec = tie.close (tie.spec number-due-requires one-line-requires returns)

@@ -1,9 +1,9 @@
--- `checker::Checker::take` meets its contract: the case is refused, or the line entered as it was read.
+-- `checker::Checker::take` meets its contract: the case is refused, or the line taken or refused.
 -- Assumes nothing.
 use borrow.Author.Needs.{needs}
 use Rattle.checker.specs.Answers.{checking}
-use Rattle.cases.proofs.Opened.{opened-table}
-use Rattle.checker.proofs.Calling.{line-refused, line-small, line-entered}
+use Rattle.checker.proofs.Calling.{line-refused}
+use Rattle.checker.proofs.Fronts.{table-of, line-so}
 use Rattle.checker.proofs.Checker.take.Statement.{statement}
 use Rattle.checker.proofs.Checker.take.Tie as tie
 
@@ -19,17 +19,8 @@ refused-requires c κs = search needs
 enum-told : tie.Need-enum-told
 enum-told c = search needs
 
-read-line-requires : tie.Need-read-line-requires
-read-line-requires c κs = search needs
-
-enter-requires : tie.Need-enter-requires
-enter-requires c κs =
-    let l = c .before .before in
-    let e = l .before .before .before in
-    let o = e .before .before in
-    let a = o .before .before .before .before .before .before .args in
-    let k = checking (a .self) (a .figures .now) (a .settings .now) in
-    line-small (a .r) k _ (o .open-case .ensures) (a .text .now) (e .enum-told .given .1) _ (l .read-line .ensures (a .r) (opened-table (o .open-case .ensures) (e .enum-told .given .1)))
+take-line-requires : tie.Need-take-line-requires
+take-line-requires c κs = let e = c .before .before .before .before in table-of (e .before .before .open-case .ensures) (e .enum-told .given .1)
 
 same-length : tie.Need-same-length
 same-length c = search needs
@@ -53,12 +44,10 @@ same-length-4 c = search needs
 returns-2 : tie.Need-returns-2
 returns-2 c =
     let n = c .before .before .before .before in
-    let l = n .before .before .before in
-    let e = l .before .before .before in
+    let e = n .before .before .before .before .before in
     let o = e .before .before in
     let a = o .before .before .before .before .before .before .args in
-    let k = checking (a .self) (a .figures .now) (a .settings .now) in
-    line-entered (a .r) k _ (o .open-case .ensures) (a .text .now) (e .enum-told .given .1) _ (l .read-line .ensures (a .r) (opened-table (o .open-case .ensures) (e .enum-told .given .1))) _ (n .enter .ensures)
+    line-so (a .r) (checking (a .self) (a .figures .now) (a .settings .now)) (a .text .now) (o .open-case .ensures) (e .enum-told .given .1) _ (n .take-line .ensures)
 
 pub take-spec : {M : Type 1} → statement M
 take-spec =
@@ -68,8 +57,7 @@ take-spec =
     enum-known-tested
     refused-requires
     enum-told
-    read-line-requires
-    enter-requires
+    take-line-requires
     same-length
     same-length-2
     returns

@@ -82,7 +82,7 @@ goes-on-meets : {M : Type 1} (𝓤 : URA M) (H : Heap 𝓤) (A : Atoms 𝓤) →
     → Meets 𝓤 H A goes.signature (WpFn 𝓤 H (𝓣 .C) (𝓣 .Λ) code.function) (goes.spec 𝓤 H A mem run)
 goes-on-meets 𝓤 H A W mem run 𝓣 known =
     walk-meets 𝓤 H A goes.ended stayed W (goes-none 𝓤 H A W 1 Readers yes (λ κs x f. refl), (goes-none 𝓤 H A W 1 (λ _. K.the-row) yes (λ κs x f. refl), tt)) (goes.clauses 𝓤 H A mem run) (WpFn 𝓤 H (𝓣 .C) (𝓣 .Λ) code.function) (WpFn-mono 𝓤 H (W .laws) 𝓣 code.function)
-    (walked 𝓤 H A goes.ended stayed (goes.clauses 𝓤 H A mem run) (WpFn 𝓤 H (𝓣 .C) (𝓣 .Λ) code.function) both-vals both-tell
+    (walked 𝓤 H A goes.ended stayed (goes.clauses 𝓤 H A mem run) (WpFn 𝓤 H (𝓣 .C) (𝓣 .Λ) code.function) (both-vals K.the-row (λ w. K′.lowered w ∷ [])) (both-tell K.the-row (λ w. K′.lowered w ∷ []) (K′.lowers .val-is))
     (λ κs qs bounds a g are. via 𝓤 _ (fst∗ 𝓤 _ (emp 𝓤)) (met (κs .0) (qs .0) (a .0) (a .1 .0) (K′.lowered (a .1 .0)) (are .0) (are .1 .0))))
   where
     met : (κ : Lft) (q : Share) (d : Reader) (w : Walk) (v : Val) → Is (Readers (κ, tt)) d (R′.lowered d ∷ []) → Is K.the-row w (v ∷ [])

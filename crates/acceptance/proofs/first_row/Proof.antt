@@ -1,0 +1,66 @@
+-- `acceptance::first_row` meets its contract: each row is asked once those before it have not applied.
+-- Assumes nothing.
+use borrow.Author.Needs.{needs}
+use mathlib.Core.Path.{sym, _∙_}
+use mathlib.Core.List.{List}
+use Rattle.railway.specs.Refusals.{Row}
+use Rattle.railway.specs.Rows.{rowsBy, countRow, looseRow, placeRow}
+use Rattle.acceptance.proofs.Testing.{passed, given-by, all-passed, Asked, none-asked, judged}
+use Rattle.acceptance.proofs.first_row.Statement.{statement}
+use Rattle.acceptance.proofs.first_row.Tie as tie
+
+-- the rows, and how many of them have been asked behind each test
+abbrev rows1 : tie.Else1 → List Row
+rows1 e = let a = e .before .before .args in rowsBy (countRow (a .r)) (a .unknown) (a .wrong) (looseRow (a .r)) (a .double) (placeRow (a .r))
+
+asked1 : (e : tie.Else1) → Asked (rows1 e) 1
+asked1 e = passed (none-asked (rows1 e)) (sym (e .before .counts-outside .ensures) ∙ e .if1 .left)
+
+asked2 : (e : tie.Else2) → Asked (rows1 (e .before)) 2
+asked2 e = passed (asked1 (e .before)) (e .if2 .left)
+
+asked3 : (e : tie.Else3) → Asked (rows1 (e .before .before)) 3
+asked3 e = passed (asked2 (e .before)) (e .if3 .left)
+
+asked4 : (e : tie.Else4) → Asked (rows1 (e .before .before .before .before)) 4
+unfolding looseRow
+asked4 e = passed (asked3 (e .before .before)) (sym (e .before .any-flaw .ensures) ∙ e .if4 .left)
+
+asked5 : (e : tie.Else5) → Asked (rows1 (e .before .before .before .before .before)) 5
+asked5 e = passed (asked4 (e .before)) (e .if5 .left)
+
+counts-outside-requires : tie.Need-counts-outside-requires
+counts-outside-requires c κs = search needs
+
+returns : tie.Need-returns
+returns c =
+    let a = c .before .before .args in
+    judged (given-by (none-asked (rowsBy (countRow (a .r)) (a .unknown) (a .wrong) (looseRow (a .r)) (a .double) (placeRow (a .r)))) (sym (c .before .counts-outside .ensures) ∙ c .if1 .taken))
+
+returns-2 : tie.Need-returns-2
+returns-2 c = judged (given-by (asked1 (c .before)) (c .if2 .taken))
+
+returns-3 : tie.Need-returns-3
+returns-3 c = judged (given-by (asked2 (c .before)) (c .if3 .taken))
+
+any-flaw-requires : tie.Need-any-flaw-requires
+any-flaw-requires c κs = search needs
+
+returns-4 : tie.Need-returns-4
+unfolding looseRow
+returns-4 c = judged (given-by (asked3 (c .before .before)) (sym (c .before .any-flaw .ensures) ∙ c .if4 .taken))
+
+returns-5 : tie.Need-returns-5
+returns-5 c = judged (given-by (asked4 (c .before)) (c .if5 .taken))
+
+places-shared-requires : tie.Need-places-shared-requires
+places-shared-requires c κs = search needs
+
+returns-6 : tie.Need-returns-6
+returns-6 c = judged (given-by (asked5 (c .before .before)) (sym (c .before .places-shared .ensures) ∙ c .if6 .taken))
+
+returns-7 : tie.Need-returns-7
+returns-7 c = judged (all-passed (passed (asked5 (c .before .before)) (sym (c .before .places-shared .ensures) ∙ c .if6 .left)))
+
+pub first-row-spec : {M : Type 1} → statement M
+first-row-spec = tie.close (tie.spec counts-outside-requires returns returns-2 returns-3 any-flaw-requires returns-4 returns-5 places-shared-requires returns-6 returns-7)

@@ -1,0 +1,171 @@
+-- What the statements on the case file are for: facts of yards and byte texts, drawn from them alone. Nothing rests on these; they hold the
+-- statements fast, for without one, or with a weaker one in its place, its fact is lost.
+-- Assumes nothing.
+use mathlib.Core.Path.{_≡_, refl, sym, _∙_, ap}
+use mathlib.Core.Bool.{true}
+use mathlib.Core.List.{List, [], _∷_, _++_, flatMap, List·Memᴰ·head}
+use mathlib.Core.Option.{none, some}
+use Prim.Native.Nat.{ℕ, zero, suc, _<_}
+use native.Mathlib.Omega.{arith}
+use lib.ListN.{length, take, replicate, length-replicate}
+use lib.Seq.{take-append-seam}
+use Rattle.laws.specs.Below.{anyBelow, listBelow, gatherBelow}
+use Rattle.laws.specs.Lists.{rises}
+use Rattle.laws.proofs.Bools.{clash}
+use Rattle.text.specs.Text.{digits, line, bytes}
+use Rattle.text.specs.Reading.{isDigit, byteAt, digitsAt, numberAt}
+use Rattle.railway.specs.declared.Side.the-variants.{Up, Down}
+use Rattle.railway.specs.declared.Leg.the-variants.{Stem, Plus, Minus}
+use Rattle.railway.specs.declared.End.the-variants.{Section}
+use Rattle.railway.specs.declared.Railway.{Railway}
+use Rattle.railway.specs.declared.Refusal.the-variants.{Length}
+use Rattle.railway.specs.Ends.{endAt}
+use Rattle.railway.specs.Refusals.{first}
+use Rattle.railway.specs.Record.{flagAt, joined, hasSignal, legsOf, trainOf, withJoin, withSignal, withLegs, withTrain}
+use Rattle.railway.specs.Rows.{unknownRow, joinRow, looseRow, placeRow, recordRefusal}
+use Rattle.railway.specs.Same.{SameRailway}
+use Rattle.railway.specs.Yards.{yardA, lineT}
+use Rattle.casefile.specs.Form.{section, port, JoinLine, SignalLine, Description, rising, spell, Describes}
+use Rattle.casefile.specs.Rows.{FormRow}
+use Rattle.casefile.specs.Given.{refused}
+use Rattle.casefile.specs.Writing.{descriptionOf, writtenText}
+use Rattle.casefile.specs.YardTexts.{textA}
+use Rattle.casefile.specs.Reading.{counted, while, sideFieldAt, legFieldAt, endFieldAt, headerAt, pointLineAt, joinLineAt, signalLineAt, trainLineAt, walk, read, caseAnswer}
+use Rattle.casefile.specs.Claims.{Signals, Sorted}
+use Rattle.casefile.proofs.Whole.{read-is-spelling, describes-one, form-decided}
+use Rattle.casefile.proofs.Longest.{long, long-described, lengths}
+use Rattle.casefile.proofs.Cut.{cut-decides}
+use Rattle.casefile.proofs.RoundTrip.{written-as-described, same-refusal, same-text, text-same}
+use Rattle.casefile.proofs.Order.{writer-sorts}
+
+-- WHAT YARD A'S TEXT SAYS, but for the order of its J and G lines
+abbrev pub sayingA : List JoinLine → List SignalLine → Description
+sayingA joins signals =
+    record {
+      sections = 3;
+      points = 1;
+      trains = 2;
+      legs = Down ∷ [];
+      joins = joins;
+      signals = signals;
+      roster = record { heading = Up; start = 2; destination = 3 } ∷ record { heading = Down; start = 3; destination = 1 } ∷ [];
+    }
+
+abbrev joinPlus : JoinLine
+joinPlus = record { one = section 1 Up; other = port 1 Plus }
+
+abbrev joinMinus : JoinLine
+joinMinus = record { one = section 2 Up; other = port 1 Minus }
+
+abbrev joinStem : JoinLine
+joinStem = record { one = section 3 Down; other = port 1 Stem }
+
+abbrev signal1d : SignalLine
+signal1d = record { number = 1; side = Down }
+
+abbrev signal2u : SignalLine
+signal2u = record { number = 2; side = Up }
+
+abbrev pub descriptionA : Description
+descriptionA = sayingA (joinPlus ∷ joinMinus ∷ joinStem ∷ []) (signal1d ∷ signal2u ∷ [])
+
+-- What is read is what is spelled: so Yard A's text says this,
+pub says-a : Describes (bytes textA) descriptionA
+unfolding bytes digits line isDigit byteAt digitsAt numberAt counted while sideFieldAt legFieldAt endFieldAt headerAt pointLineAt joinLineAt signalLineAt trainLineAt walk read
+says-a = read-is-spelling (bytes textA) descriptionA .0 refl
+
+-- and nothing else;
+pub says-a-only : (d : Description) → Describes (bytes textA) d → d ≡ descriptionA
+says-a-only d w = describes-one (bytes textA) d descriptionA w says-a
+
+-- and what is spelled is read, as in a text of 4,096 bytes, line for line.
+longest-read : read (spell (long 813 2)) ≡ some (long 813 2)
+longest-read = read-is-spelling (spell (long 813 2)) (long 813 2) .1 (long-described 813 2)
+
+-- A text whose last byte is missing says nothing; and where nothing is said, as in the empty text, nothing is read.
+end-missing : FormRow (bytes "H\t1\t0\t1\nT\t1\tu\t1\t1")
+unfolding bytes digits line isDigit byteAt digitsAt numberAt counted while sideFieldAt headerAt pointLineAt joinLineAt signalLineAt trainLineAt walk read
+end-missing = form-decided (bytes "H\t1\t0\t1\nT\t1\tu\t1\t1") .0 refl
+
+not-empty : (x : ℕ) (xs : List ℕ) → x ∷ xs ≡ [] → ⊥
+not-empty x xs e = let z : suc (length xs) ≡ 0 = ap length e in omega (arith, z)
+
+pub nothing-said : FormRow []
+unfolding spell line
+nothing-said d w = not-empty _ _ (w .spelling)
+
+nothing-read : read [] ≡ none
+nothing-read = form-decided [] .1 nothing-said
+
+-- TOO LONG. What follows 4,097 bytes changes nothing: it is 1.
+cut-front : (x rest : List ℕ) (n : ℕ) → length x ≡ n → take n (x ++ rest) ≡ x
+cut-front x rest n e = rw (← e) (take-append-seam x rest)
+
+refused-anyway : (rest : List ℕ) → caseAnswer (replicate 4097 0 ++ rest) ≡ refused Length
+refused-anyway rest =
+    sym (cut-decides (replicate 4097 0 ++ rest) 4097 (omega arith))
+    ∙ ap caseAnswer (cut-front (replicate 4097 0) rest 4097 (length-replicate {A = ℕ} 4097 0))
+    ∙ lengths .5
+
+-- WRITTEN. Yard A's record is written as its text,
+pub written-a : (writtenText yardA ≡ bytes textA) × (recordRefusal yardA ≡ none)
+unfolding bytes first digits line anyBelow listBelow gatherBelow endAt joined legsOf trainOf withJoin withSignal withLegs withTrain unknownRow joinRow looseRow placeRow recordRefusal flatMap rising spell descriptionOf writtenText
+written-a = (refl, refl)
+
+-- in which a G line names 1d, where it has a signal.
+signal-written : (d : Description) → Describes (writtenText yardA) d → Signals (d .signals) (Section (record { 0 = 0 }) Down)
+unfolding hasSignal withJoin withSignal withLegs withTrain
+signal-written d w =
+    let t = written-as-described yardA (written-a .1) in
+    rw (describes-one (writtenText yardA) d (t .0) w (t .1)) (t .2 .signals (Section (record { 0 = 0 }) Down) .0 refl)
+
+-- SORTED. No record is written with the signal at 2u before that at 1d, with the join at 2u before that at 1u, or with a port in front.
+unsorted : (text : List ℕ) (d : Description) → Describes text d → (Sorted d → ⊥) → (r : Railway) → recordRefusal r ≡ none → writtenText r ≡ text → ⊥
+unsorted text d w h r accepted e = h (writer-sorts r accepted d (rw e w))
+
+signals-turned : (r : Railway) → recordRefusal r ≡ none
+    → writtenText r ≡ bytes "H\t3\t1\t2\nP\t1\td\nJ\t1u\t1+\nJ\t2u\t1-\nJ\t3d\t1s\nG\t2u\nG\t1d\nT\t1\tu\t2\t3\nT\t2\td\t3\t1\n" → ⊥
+unfolding bytes digits line isDigit byteAt digitsAt numberAt counted while sideFieldAt legFieldAt endFieldAt headerAt pointLineAt joinLineAt signalLineAt trainLineAt walk read rises
+signals-turned =
+    let d = sayingA (joinPlus ∷ joinMinus ∷ joinStem ∷ []) (signal2u ∷ signal1d ∷ []) in
+    unsorted _ d (read-is-spelling _ d .0 refl) (λ s. clash (s .signals) refl)
+
+joins-turned : (r : Railway) → recordRefusal r ≡ none
+    → writtenText r ≡ bytes "H\t3\t1\t2\nP\t1\td\nJ\t2u\t1-\nJ\t1u\t1+\nJ\t3d\t1s\nG\t1d\nG\t2u\nT\t1\tu\t2\t3\nT\t2\td\t3\t1\n" → ⊥
+unfolding bytes digits line isDigit byteAt digitsAt numberAt counted while sideFieldAt legFieldAt endFieldAt headerAt pointLineAt joinLineAt signalLineAt trainLineAt walk read rises
+joins-turned =
+    let d = sayingA (joinMinus ∷ joinPlus ∷ joinStem ∷ []) (signal1d ∷ signal2u ∷ []) in
+    unsorted _ d (read-is-spelling _ d .0 refl) (λ s. clash (s .joins) refl)
+
+port-in-front : (r : Railway) → recordRefusal r ≡ none
+    → writtenText r ≡ bytes "H\t3\t1\t2\nP\t1\td\nJ\t1+\t1u\nJ\t2u\t1-\nJ\t3d\t1s\nG\t1d\nG\t2u\nT\t1\tu\t2\t3\nT\t2\td\t3\t1\n" → ⊥
+unfolding bytes digits line isDigit byteAt digitsAt numberAt counted while sideFieldAt legFieldAt endFieldAt headerAt pointLineAt joinLineAt signalLineAt trainLineAt walk read
+port-in-front =
+    let d = sayingA (record { one = port 1 Plus; other = section 1 Up } ∷ joinMinus ∷ joinStem ∷ []) (signal1d ∷ signal2u ∷ []) in
+    unsorted _ d (read-is-spelling _ d .0 refl) (λ s. let e : 2000 < 3 = s .first _ (List·Memᴰ·head refl) in omega (arith, e))
+
+-- THE SAME RAILWAY. A fourth train in Yard A's record, which has two, is not looked at: the record is accepted, and written as Yard A.
+abbrev fourth : Railway
+fourth = lineT 4 Up 9 9 yardA
+
+roster-same : (t : ℕ) → t < 2 → trainOf yardA t ≡ trainOf fourth t
+unfolding trainOf withJoin withSignal withLegs withTrain
+roster-same zero h = refl
+roster-same (suc zero) h = refl
+roster-same (suc (suc t)) h = absurd (omega (arith, h))
+
+fourth-same : SameRailway yardA fourth
+unfolding legsOf withJoin withSignal withLegs withTrain
+fourth-same =
+    record { sections = refl; points = refl; trains = refl; legs = λ n h. refl; joins = λ i h. refl; signals = λ i h. refl; roster = roster-same }
+
+fourth-accepted : recordRefusal fourth ≡ none
+fourth-accepted = sym (same-refusal yardA fourth fourth-same) ∙ written-a .1
+
+fourth-written : writtenText fourth ≡ bytes textA
+fourth-written = sym (same-text yardA fourth fourth-same) ∙ written-a .0
+
+-- Whatever accepted record is written as Yard A has a signal at 1d.
+signal-there : (r : Railway) → recordRefusal r ≡ none → writtenText r ≡ bytes textA → flagAt r 0 ≡ true
+unfolding withJoin withSignal withLegs withTrain
+signal-there r h e = text-same r yardA h (written-a .1) (e ∙ sym (written-a .0)) .signals 0 (omega arith)

@@ -1,0 +1,92 @@
+-- `emitter::due_lines` meets its contract: the call for one line, and behind its line all that have room.
+-- Assumes nothing.
+use native.Mathlib.Omega.{arith}
+use mathlib.Core.Path.{_≡_, refl}
+use mathlib.Core.Bool.{false}
+use mathlib.Core.List.{[], _∷_}
+use mathlib.Core.Logic.{inl, inr}
+use types.Run.{OneOf}
+use denote.Enum.Declared.{declared, tagOf}
+use denote.Ref.{now}
+use Rattle.plan.proofs.Emitted.{enum}
+use Rattle.plan.specs.declared.Emitted.{Emitted}
+use Rattle.plan.specs.declared.Emitted.the-variants.{Line, End, NoPlan, Refused}
+use Rattle.plan.specs.Emitter.{isLine}
+use Rattle.emitter.proofs.Putting.{due-none, due-top, due-more}
+use borrow.Author.Needs.{needs}
+use Rattle.emitter.proofs.due_lines.Statement.{statement}
+use Rattle.emitter.proofs.due_lines.Tie as tie
+
+-- what is left beside a line
+no-line : (a : Emitted) → OneOf (1 ∷ 2 ∷ 3 ∷ []) (tagOf (declared enum) a) → isLine a ≡ false
+no-line (Line n next) (inl e) = absurd (omega (arith, e))
+no-line (Line n next) (inr (inl e)) = absurd (omega (arith, e))
+no-line (Line n next) (inr (inr e)) = absurd (omega (arith, e))
+no-line End h = refl
+no-line NoPlan h = refl
+no-line (Refused f) h = refl
+
+emit-due-requires : tie.Need-emit-due-requires
+emit-due-requires c κs = search needs
+
+enum-known-first : tie.Need-enum-known-first
+enum-known-first c = search needs
+
+same-length : tie.Need-same-length
+same-length c = search needs
+
+returns : tie.Need-returns
+returns c =
+    λ r h ok.
+    let d = c .before .before .before in
+    let a = d .before .before .before .before .before .args in
+    due-none r (now (a .figures)) (now (a .settings)) (a .place) (now (a .out)) ok (d .emit-due .ensures r h) (no-line (d .emit-due .result) (c .match .keys2))
+
+enum-known-next : tie.Need-enum-known-next
+enum-known-next c = search needs
+
+enum-told : tie.Need-enum-told
+enum-told c = search needs
+
+same-length-2 : tie.Need-same-length-2
+same-length-2 c = search needs
+
+returns-2 : tie.Need-returns-2
+returns-2 c =
+    λ r h ok.
+    let k = c .before .before in
+    let d = k .before .before .before .before .before in
+    let a = d .before .before .before .before .before .args in
+    due-top r (now (a .figures)) (now (a .settings)) (a .place) (now (a .out)) ok (d .emit-due .ensures r h) _ _ (k .before .first .given .1) (c .enum-told .given .1)
+
+more-lines-requires : tie.Need-more-lines-requires
+more-lines-requires c κs = search needs
+
+same-length-3 : tie.Need-same-length-3
+same-length-3 c = search needs
+
+returns-3 : tie.Need-returns-3
+returns-3 c =
+    λ r h ok.
+    let m = c .before .before in
+    let n = m .before .before .before in
+    let k = n .before .before in
+    let d = k .before .before .before .before .before in
+    let a = d .before .before .before .before .before .args in
+    due-more r (now (a .figures)) (now (a .settings)) (a .place) (now (a .out)) ok (d .emit-due .ensures r h) _ _ (k .before .first .given .1) _ (n .next .given .1) (d .emit-due .kept .1 .1 .1 .1 .0) (λ whole. m .more-lines .ensures r whole h)
+
+pub due-lines-spec : {M : Type 1} → statement M
+due-lines-spec =
+    tie.close
+    (tie.spec
+    emit-due-requires
+    enum-known-first
+    same-length
+    returns
+    enum-known-next
+    enum-told
+    same-length-2
+    returns-2
+    more-lines-requires
+    same-length-3
+    returns-3)

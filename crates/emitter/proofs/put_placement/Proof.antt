@@ -1,0 +1,96 @@
+-- `emitter::put_placement` meets its contract: in place where any line has room, else by way of a buffer of its own.
+-- Assumes nothing.
+use native.Mathlib.Omega.{arith}
+use mathlib.Core.Path.{refl}
+use denote.Ref.{now}
+use Rattle.text.proofs.Appending.{front-fits, front-cut}
+use Rattle.emitter.proofs.Emitting.{placement-is}
+use Rattle.emitter.proofs.Putting.{placed-in-place, placed-copied}
+use borrow.Author.Needs.{needs}
+use Rattle.emitter.proofs.put_placement.Statement.{statement}
+use Rattle.emitter.proofs.put_placement.Tie as tie
+
+entry-at-requires : tie.Need-entry-at-requires
+entry-at-requires c κs = search needs
+
+entry-at-requires-2 : tie.Need-entry-at-requires-2
+entry-at-requires-2 c κs = search needs
+
+placement-of-requires : tie.Need-placement-of-requires
+placement-of-requires c κs = search needs
+
+trains-in-requires : tie.Need-trains-in-requires
+trains-in-requires c κs = search needs
+
+points-in-requires : tie.Need-points-in-requires
+points-in-requires c κs = search needs
+
+has-room-requires : tie.Need-has-room-requires
+has-room-requires c κs = search needs
+
+placement-line-requires : tie.Need-placement-line-requires
+placement-line-requires c κs = search needs
+
+same-length : tie.Need-same-length
+same-length c = search needs
+
+returns : tie.Need-returns
+returns c =
+    λ r h has.
+    let l = c .before .before in
+    let t = l .before .before in
+    let m = t .before .before in
+    let o = m .before .before .before in
+    let a = o .before .before .before .before .before .args in
+    let is = placement-is r (now (a .figures)) (now (a .settings)) (a .p) h has (o .before .entry-at .ensures) (omega arith) (o .entry-at2 .ensures) (m .before .before .placement-of .ensures r h) (m .before .trains-in .ensures r h) (m .points-in .ensures r h) in
+    placed-in-place r (now (a .figures)) (now (a .settings)) (a .p) (now (a .out)) (a .at) is (t .before .has-room .ensures) (t .if1 .taken) (l .placement-line .ensures)
+
+slice-aggregate-placement-line : tie.Need-slice-aggregate-placement-line
+slice-aggregate-placement-line c = search needs
+
+placement-line-requires-2 : tie.Need-placement-line-requires-2
+placement-line-requires-2 c κs = search needs
+
+array-share-prefix-text : tie.Need-array-share-prefix-text
+array-share-prefix-text c = front-fits (c .before .before .placement-line2 .ensures) (c .before .before .placement-line2 .kept .0)
+
+slice-aggregate-put-behind : tie.Need-slice-aggregate-put-behind
+slice-aggregate-put-behind c = front-cut (c .before .before .before .placement-line2 .ensures) (c .before .before .before .placement-line2 .kept .0)
+
+put-behind-requires : tie.Need-put-behind-requires
+put-behind-requires c κs = search needs
+
+same-length-2 : tie.Need-same-length-2
+same-length-2 c = search needs
+
+returns-2 : tie.Need-returns-2
+returns-2 c =
+    λ r h has.
+    let u = c .before .before in
+    let l = u .before .before .before .before in
+    let m = l .before .before .before .before in
+    let o = m .before .before .before in
+    let a = o .before .before .before .before .before .args in
+    let is = placement-is r (now (a .figures)) (now (a .settings)) (a .p) h has (o .before .entry-at .ensures) (omega arith) (o .entry-at2 .ensures) (m .before .before .placement-of .ensures r h) (m .before .trains-in .ensures r h) (m .points-in .ensures r h) in
+    placed-copied r (now (a .figures)) (now (a .settings)) (a .p) (now (a .out)) (a .at) is refl (l .placement-line2 .ensures) (u .put-behind .ensures)
+
+pub put-placement-spec : {M : Type 1} → statement M
+put-placement-spec =
+    tie.close
+    (tie.spec
+    entry-at-requires
+    entry-at-requires-2
+    placement-of-requires
+    trains-in-requires
+    points-in-requires
+    has-room-requires
+    placement-line-requires
+    same-length
+    returns
+    slice-aggregate-placement-line
+    placement-line-requires-2
+    array-share-prefix-text
+    slice-aggregate-put-behind
+    put-behind-requires
+    same-length-2
+    returns-2)

@@ -1,0 +1,77 @@
+-- The claims about whole plays at work: what each of them alone says of figures F and settings f in the smallest game of Inhabited, and
+-- what settings that agree have in common in Yard A. A claim that were taken away, or that said nothing, would be missed here. Assumes nothing.
+use mathlib.Core.Path.{_≡_, refl, sym, _∙_}
+use mathlib.Core.Logic.{inl, inr}
+use mathlib.Core.Bool.{Bool, true, false}
+use mathlib.Core.Option.{Option, none, some}
+use Prim.Native.Nat.{ℕ, zero, suc, _≤_}
+use native.Mathlib.Omega.{arith}
+use Rattle.laws.specs.Below.{allBelow, anyBelow, sumBelow, lowest}
+use Rattle.laws.proofs.Bools.{bool?, clash}
+use Rattle.railway.specs.Record.{joined, hasSignal, trainOf, withJoin, withSignal, withLegs, withTrain}
+use Rattle.railway.specs.Rows.{recordRefusal}
+use Rattle.railway.specs.Yards.{yardA}
+use Rattle.game.specs.Game.{at, Way, Choice, following, positional, may, play, homeAt, HomeWithin, ComesHome}
+use Rattle.game.specs.Claim.{Whole}
+use Rattle.game.specs.Placement.{codeOf, sectionsIn, standsOn}
+use Rattle.game.specs.Setting.{Setting, SameSetting, headsFor, held, mayMove}
+use Rattle.game.specs.Moves.{passes, occupied, moveOf, gameOf}
+use Rattle.game.specs.Local.{keepsTest}
+use Rattle.game.proofs.Figures.{figure-one, ended}
+use Rattle.game.proofs.Settle.{table, settle}
+use Rattle.game.proofs.Agreeing.{agreeing-alike}
+use Rattle.game.proofs.Inhabited.{small, small-whole, everywhere}
+
+module _ (F : ℕ → Option ℕ) (f : ℕ → Bool) (claims : Whole small F f) where
+  -- the figures: home has 0, the placement on the way 1, the lost one none
+  has-figures : (F 0 ≡ some 0) × (F 1 ≡ some 1) × (F 2 ≡ none)
+  unfolding table settle keepsTest anyBelow allBelow lowest
+  has-figures = (
+    figure-one small 0 (F 0) (some 0) (claims .figures 0 (omega arith)) (small-whole .figures 0 (omega arith)),
+    figure-one small 1 (F 1) (some 1) (claims .figures 1 (omega arith)) (small-whole .figures 1 (omega arith)),
+    figure-one small 2 (F 2) none (claims .figures 2 (omega arith)) (small-whole .figures 2 (omega arith)),
+  )
+
+  -- who follows f is home in time, so f lets the train move
+  lets-move : f 1 ≡ true
+  unfolding play lowest
+  lets-move = let h = claims .follow 1 1 (omega arith) (has-figures .1) (λ h p s. 0) in elim (bool? (f 1)) [ inl e ↦ e | inr e ↦ clash (h .2) (stays e (h .0) (h .1)) ]
+    where
+      stays : f 1 ≡ false → (m : ℕ) → m ≤ 1 → homeAt small (play small (following f) (λ h p s. 0) 1 m) ≡ false
+      stays e zero l = refl
+      stays e (suc zero) l = rw e
+      stays e (suc (suc m)) l = absurd (omega arith)
+
+  -- no way is home within no turn
+  not-at-once : (w : Way Bool) → (c : Choice Bool) × ¬ (HomeWithin small w c 1 0)
+  not-at-once w = let x = claims .not-sooner w 1 1 (omega arith) (has-figures .1) in (x .0, x .1 0 (omega arith))
+
+  -- no figure where the trains are lost, for no way comes home from there; and no way comes home where there is no figure
+  lost-none : F 2 ≡ none
+  lost-none = claims .none-exactly 2 (omega arith) .1 (λ w home. clash (home (λ h p s. 0) .1) (stays w (home (λ h p s. 0) .0)))
+    where
+      stays : (w : Way Bool) (m : ℕ) → homeAt small (play small w (λ h p s. 0) 2 m) ≡ false
+      stays w m = let e = ended small w (λ h p s. 0) 2 refl m in rw e
+
+  none-home : (w : Way Bool) → ¬ ((c : Choice Bool) → ComesHome small w c 2)
+  none-home w = claims .none-exactly 2 (omega arith) .0 lost-none w
+
+  -- the one choice names the only train, also where it may not move, and one that may; under it no way comes home where there is no figure
+  names-there : claims .one-choice .named 1 false ≡ 0
+  names-there = omega (arith, claims .one-choice .there 1 false (omega arith))
+
+  names-mover : may small 1 true (claims .one-choice .named 1 true) ≡ true
+  names-mover = claims .one-choice .moves 1 true 0 refl
+
+  never-home : (w : Way Bool) (m : ℕ) → homeAt small (play small w (positional (claims .one-choice .named)) 2 m) ≡ false
+  never-home w = claims .one-choice .beats w 2 (omega arith) lost-none
+
+-- SETTINGS THAT AGREE. Whatever else it says, a setting that has Yard A's point at plus and its signals open lets train 1 go at (2, 3), and from (1, 2)
+-- takes it to (3, 2).
+agreed : recordRefusal yardA ≡ none → (s : Setting) → SameSetting yardA everywhere s → (may (gameOf yardA) 7 s 0 ≡ true) × (moveOf yardA 3 s 0 ≡ at 5)
+unfolding mayMove held headsFor standsOn sectionsIn trainOf hasSignal withJoin withSignal withLegs withTrain moveOf passes occupied codeOf sumBelow joined anyBelow
+agreed accepted s same =
+    (sym (agreeing-alike yardA accepted everywhere s same 7 .same-trains 0) ∙ lets .0, sym (agreeing-alike yardA accepted everywhere s same 3 .same-ends 0 (lets .1)) ∙ lets .2)
+  where
+    lets : (may (gameOf yardA) 7 everywhere 0 ≡ true) × (may (gameOf yardA) 3 everywhere 0 ≡ true) × (moveOf yardA 3 everywhere 0 ≡ at 5)
+    lets = (refl, refl, refl)

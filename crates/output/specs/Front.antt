@@ -1,0 +1,14 @@
+-- What is written out of a buffer that a text was put into. Nothing of document 01 rests on this.
+-- Assumes nothing.
+use mathlib.Core.Bool.{Bool, false}
+use mathlib.Core.List.{List}
+use Prim.Native.Nat.{ℕ}
+use lib.Dec.{leb}
+use lib.ListN.{length}
+use Rattle.casefile.specs.declared.Written.{Written}
+use Rattle.casefile.specs.declared.Written.the-variants.{Bytes, Refused}
+
+-- The buffer has a front of as many bytes as the answer counts; a refusal has none.
+abbrev pub hasFront : Written → List ℕ → Bool
+hasFront (Bytes n) out = leb n (length out)
+hasFront (Refused f) out = false

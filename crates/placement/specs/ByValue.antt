@@ -1,0 +1,9 @@
+-- What is read off a placement by value. Nothing of document 01 rests on this file.
+-- Assumes nothing.
+use Prim.Native.Nat.{ℕ}
+use lib.ListN.{getD}
+use Rattle.placement.specs.declared.Placement.{Placement}
+
+-- The section of a train.
+abbrev pub sectionIn : Placement → ℕ → ℕ
+sectionIn q t = getD (q .sections) t 0

@@ -1,0 +1,29 @@
+-- `verdict::finish` meets its contract: bytes are left, or the lines taken are tested.
+-- Assumes nothing.
+use denote.Ref.{now}
+use borrow.Author.Needs.{needs}
+use Rattle.checker.specs.Answers.{checking}
+use Rattle.verdict.proofs.Pieces.{ends-left, ends-tested}
+use Rattle.verdict.proofs.finish.Statement.{statement}
+use Rattle.verdict.proofs.finish.Tie as tie
+
+not-taken-requires : tie.Need-not-taken-requires
+not-taken-requires c κs = search needs
+
+returns : tie.Need-returns
+returns c =
+    let t = c .before in
+    let a = t .before .before .before .before .args in
+    ends-left (a .r) (checking (a .checker) (now (a .figures)) (now (a .settings))) (now (a .rest)) _ (t .if1 .taken) (c .not-taken .ensures)
+
+test-requires : tie.Need-test-requires
+test-requires c κs = search needs
+
+returns-2 : tie.Need-returns-2
+returns-2 c =
+    let t = c .before in
+    let a = t .before .before .before .before .args in
+    ends-tested (a .r) (checking (a .checker) (now (a .figures)) (now (a .settings))) (now (a .rest)) _ _ (t .if1 .left) (c .test .ensures)
+
+pub finish-spec : {M : Type 1} → statement M
+finish-spec = tie.close (tie.spec not-taken-requires returns test-requires returns-2)

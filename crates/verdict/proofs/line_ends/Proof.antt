@@ -1,0 +1,59 @@
+-- `verdict::line_ends` meets its contract. The loop's invariant: up to the place reached there is no line end.
+-- Assumes nothing.
+use native.Mathlib.Omega.{arith}
+use Prim.Native.Nat.{_-_}
+use denote.Ref.{now}
+use lib.ListN.{length}
+use Rattle.verdict.proofs.Ends.{NotYet, not-yet, not-yet-next, found, not-found}
+use Rattle.verdict.proofs.line_ends.Statement.{statement}
+use Rattle.verdict.proofs.line_ends.Tie as tie
+
+abbrev Inv-loop : tie.InvT-loop
+Inv-loop text from at₀ at = NotYet text from at
+
+abbrev μ-loop : tie.MeasureT-loop
+μ-loop text from at₀ at = length text - at
+
+loop-holds : tie.Need-loop-holds Inv-loop μ-loop
+loop-holds c = let a = c .args in not-yet (now (a .text)) (a .from)
+
+shared-slice-read-if1 : tie.Need-shared-slice-read-if1 Inv-loop μ-loop
+shared-slice-read-if1 c = omega arith
+
+returns : tie.Need-returns Inv-loop μ-loop
+returns c =
+    let l = c .before .before .before in
+    let a = l .before .args in
+    found (now (a .text)) (a .from) (l .loop .at) (l .loop .inv) (c .before .before .loop-test .taken) (c .if1 .taken)
+
+add-at : tie.Need-add-at Inv-loop μ-loop
+add-at c = omega arith
+
+loop-less : tie.Need-loop-less Inv-loop μ-loop
+loop-less c = omega arith
+
+loop-again : tie.Need-loop-again Inv-loop μ-loop
+loop-again c =
+    let l = c .before .before .before in
+    let a = l .before .args in
+    not-yet-next (now (a .text)) (a .from) (l .loop .at) (l .loop .inv) (c .before .before .loop-test .taken) (c .if1 .left)
+
+returns-2 : tie.Need-returns-2 Inv-loop μ-loop
+returns-2 c =
+    let l = c .before in
+    let a = l .before .args in
+    not-found (now (a .text)) (a .from) (l .loop .at) (l .loop .inv) (c .loop-test .left)
+
+pub line-ends-spec : {M : Type 1} → statement M
+line-ends-spec =
+    tie.close
+    (tie.spec
+    Inv-loop
+    μ-loop
+    loop-holds
+    shared-slice-read-if1
+    returns
+    add-at
+    loop-less
+    loop-again
+    returns-2)

@@ -1,0 +1,61 @@
+-- What the statements on the writer are for: facts of Yard A as it is written, drawn from them alone. Nothing rests on these; they hold the
+-- statements fast, for without one, or with a weaker one in its place, its fact is lost. `w` is what a call answers, `after` the buffer that it leaves.
+-- Assumes nothing.
+use mathlib.Core.Path.{_≡_, sym, _∙_, ap}
+use mathlib.Core.Bool.{true}
+use mathlib.Core.List.{List}
+use mathlib.Core.Option.{some}
+use Prim.Native.Nat.{ℕ, _≤_}
+use native.Mathlib.Omega.{arith}
+use lib.ListN.{length, take, drop, replicate, length-replicate}
+use Rattle.text.specs.Text.{bytes}
+use Rattle.railway.specs.declared.Railway.{Railway}
+use Rattle.railway.specs.Record.{flagAt, withJoin, withSignal, withLegs, withTrain}
+use Rattle.railway.specs.Yards.{yardA}
+use Rattle.casefile.specs.declared.Written.{Written}
+use Rattle.casefile.specs.Form.{Description}
+use Rattle.casefile.specs.Writing.{writtenText, writtenNumber, writtenCount, WriterPost}
+use Rattle.casefile.specs.YardTexts.{textA}
+use Rattle.casefile.proofs.RoundTrip.{same-text}
+use Rattle.casefile.proofs.Uses.{says-a-only, written-a}
+use Rattle.writer.specs.Claims.{ReadBack}
+use Rattle.writer.proofs.Claims.{room-enough, bytes-read-back, refused-keeps}
+
+text-length : length (writtenText yardA) ≡ 68
+unfolding bytes
+text-length = ap length (written-a .0)
+
+-- WRITTEN. A buffer of 4,096 bytes has room for Yard A: 68 bytes are written.
+pub bytes-written : (w : Written) (after : List ℕ) → WriterPost yardA (replicate 4096 7) w after → writtenCount w ≡ some 68
+bytes-written w after p =
+    let l = length-replicate {A = ℕ} 4096 7 in
+    room-enough yardA (replicate 4096 7) w after p (written-a .1) (omega (arith, l)) ∙ ap (λ (n : ℕ). some n) text-length
+
+module _ (w : Written) (after : List ℕ) (p : WriterPost yardA (replicate 4096 7) w after) where
+  back : ReadBack yardA (replicate 4096 7) after 68
+  back = bytes-read-back yardA (replicate 4096 7) w after p 68 (bytes-written w after p)
+
+  -- They are Yard A's text, for so is written what is read back of them;
+  text-in-front : take 68 after ≡ bytes textA
+  text-in-front = sym (back .again) ∙ sym (same-text yardA (back .railway) (back .same)) ∙ written-a .0
+
+  -- so a text of two trains is accepted there,
+  trains-said : back .reads .description .trains ≡ 2
+  trains-said = ap (λ (d : Description). d .trains) (says-a-only (back .reads .description) (rw (← text-in-front) (back .reads .described)))
+
+  -- and its railway has a signal at 1d. The bytes behind them are as they were.
+  signal-read : flagAt (back .railway) 0 ≡ true
+  unfolding withJoin withSignal withLegs withTrain
+  signal-read = sym (back .same .signals 0 (omega arith))
+
+  behind-kept : drop 68 after ≡ replicate 4028 7
+  behind-kept = back .behind
+
+-- Never are more bytes answered than a case text may have, or than the buffer has.
+no-more : (r : Railway) (buffer : List ℕ) (w : Written) (after : List ℕ) → WriterPost r buffer w after → (n : ℕ) → writtenCount w ≡ some n
+    → (n ≤ 4096) × (n ≤ length buffer)
+no-more r buffer w after p n e = let b = bytes-read-back r buffer w after p n e in (b .short, b .within)
+
+-- REFUSED. Whoever gets 9 has the buffer as it was.
+space-keeps : (w : Written) (after : List ℕ) → WriterPost yardA (replicate 67 7) w after → writtenNumber w ≡ some 9 → after ≡ replicate 67 7
+space-keeps w after p e = refused-keeps yardA (replicate 67 7) w after p 9 e
