@@ -72,7 +72,7 @@ template <int K> struct Frontier {
         u32 plus = 0, met = 0;
         for (int t = 0; t < K; t++) {
             const Step& s = y.step[t][x[t]];
-            if (s.signal) continue;
+            if (!s.free) continue;
             if (met & s.point) return NONE;
             met |= s.point;
             if (figures[code + s.minus] < n) continue;
@@ -116,9 +116,9 @@ template <int K> struct Frontier {
         decode(q, x);
         for (int t = 0; t < K; t++) {
             taken |= u64(1) << x[t];
-            free += !y.step[t][x[t]].signal;
+            free += y.step[t][x[t]].free;
         }
-        for (int t = 0; t < K; t++) look_back(q, x, t, free > !y.step[t][x[t]].signal, taken, n);
+        for (int t = 0; t < K; t++) look_back(q, x, t, free > y.step[t][x[t]].free, taken, n);
     }
 
     void expand_stretch(u32 i, u32 n) {

@@ -27,7 +27,7 @@ struct Sweep {
         bool free = false;
         for (int t = 0; t < y.trains; t++) {
             const Step& s = y.step[t][x[t]];
-            if (s.signal) continue;
+            if (!s.free) continue;
             if (met & s.point) return NONE;
             free = true;
             met |= s.point;

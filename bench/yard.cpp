@@ -45,6 +45,7 @@ struct Track {
         auto change = [&](int to) { return to < 0 ? 0 : (to / 2 - end / 2) * stride; };
         Step s;
         s.signal = signal[end];
+        s.free = !s.signal;
         int to = joined[end];
         if (to < PORTS) {
             s.minus = s.plus = change(to);
@@ -74,9 +75,10 @@ Yard read_yard(std::string_view text) {
             int t = in.number() - 1, heading = in.field() == "u" ? 0 : 1;
             y.stride[t] = y.placements;
             y.start += (in.number() - 1) * y.stride[t];
-            y.home += (in.number() - 1) * y.stride[t];
+            int destination = in.number() - 1;
+            y.home += destination * y.stride[t];
             y.placements *= y.sections;
-            for (int x = 0; x < y.sections; x++) y.step[t][x] = track.step(2 * x + heading, (int32_t)y.stride[t]);
+            for (int x = 0; x < y.sections; x++) if (x != destination) y.step[t][x] = track.step(2 * x + heading, (int32_t)y.stride[t]);
         }
     }
     return y;

@@ -12,11 +12,12 @@ constexpr int SECTIONS = 48, TRAINS = 4;
 constexpr u32 NONE = 0xFFFFFFFF;                    // no figure; no setting found
 
 // A train leaves a section by the end it heads for. A change of 0 stands for a derailment, and for a way round into the train's own section:
-// neither ends nearer to home.
+// neither ends nearer to home. On its destination a train is parked: it is not free, and has no signal to open.
 struct Step {
     int32_t minus = 0, plus = 0;                    // the code's change with the point so set; both, where no point is met
     u32 point = 0;                                  // the bit of the point that is met, or 0
-    bool signal = false;                            // a signal stands there
+    bool free = false;                              // no signal stands there
+    bool signal = false;                            // one does
 };
 
 struct Yard {

@@ -1,7 +1,7 @@
 -- The table of a railway: each byte is what the record gives, as code writes it and as code reads it again. Writing goes test by test;
 -- reading finds the byte of a train, a section and a kind by its index, which determines them. Assumes nothing.
-use mathlib.Core.Path.{_≡_, refl, sym, _∙_}
-use mathlib.Core.Bool.{Bool, true, false, cond}
+use mathlib.Core.Path.{_≡_, refl, _∙_}
+use mathlib.Core.Bool.{Bool, true, false, cond, not, _&&_}
 use mathlib.Core.List.{List}
 use mathlib.Core.Option.{Option, none, some}
 use Prim.Native.Nat.{ℕ, _+_, _-_, _*_, _/_, _%_, _≤_, _<_}
@@ -32,7 +32,7 @@ use Rattle.acceptance.specs.Answers.{Judged}
 use Rattle.acceptance.proofs.Answers.{judged-refused, judged-accepted}
 use Rattle.game.specs.Moves.{through, behindPort, pastPoint, pastJoin, passes}
 use Rattle.game.proofs.Accepted.{facts}
-use Rattle.compiled.specs.Table.{routeBytes, countBytes, tableBytes, flagByte, pointByte, sectionByte, endOn, signalOn, routeByte, countByte, rosterByte, compiledByte, byteIn, Compiled, CompilePost}
+use Rattle.compiled.specs.Table.{routeBytes, countBytes, tableBytes, standByte, pointByte, sectionByte, endOn, parkedOn, within, standOn, heldOn, freeOn, routeByte, countByte, rosterByte, compiledByte, byteIn, Compiled, CompilePost}
 
 -- WRITING. Past a point and past a join
 module _ (r : Railway) where
@@ -55,17 +55,17 @@ module _ (r : Railway) where
   join-port plus j e n l x p q h = rw (p, q) h
 
   -- the four kinds
-  module _ (e : End) (j : ℕ) where
-    pub route-signal : (b : Bool) {c : Bool} {x : ℕ} → j ≡ 0 → b ≡ hasSignal r e → b ≡ c → x ≡ flagByte c → x ≡ routeByte r e j
+  module _ (parked : Bool) (e : End) (j : ℕ) where
+    pub route-signal : (b : Bool) (x : ℕ) → j ≡ 0 → b ≡ hasSignal r e → x ≡ standByte parked b → x ≡ routeByte r parked e j
     unfolding routeByte
-    route-signal b {c} {x} p h q k = let s : hasSignal r e ≡ c = sym h ∙ q in rw (eq-eqb j 0 p, s) k
+    route-signal b x p h k = rw (eq-eqb j 0 p, ← h) k
 
     module _ (not-signal : j ≡ 0 → ⊥) where
-      pub route-point : (x : ℕ) (to : Joined) → j ≡ 1 → to ≡ joined r e → x ≡ pointByte (pastJoin r (λ i. false) to .met) → x ≡ routeByte r e j
+      pub route-point : (x : ℕ) (to : Joined) → j ≡ 1 → to ≡ joined r e → x ≡ pointByte (pastJoin r (λ i. false) to .met) → x ≡ routeByte r parked e j
       unfolding routeByte passes
       route-point x to p t h = rw (ne-eqb j 0 not-signal, eq-eqb j 1 p, ← t) h
 
-      pub route-section : (x : ℕ) → (j ≡ 1 → ⊥) → x ≡ sectionByte (passes r (λ i. eqb j 3) e .reached) → x ≡ routeByte r e j
+      pub route-section : (x : ℕ) → (j ≡ 1 → ⊥) → x ≡ sectionByte (passes r (λ i. eqb j 3) e .reached) → x ≡ routeByte r parked e j
       unfolding routeByte
       route-section x p h = rw (ne-eqb j 0 not-signal, ne-eqb j 1 p) h
 
@@ -89,7 +89,7 @@ module _ (r : Railway) where
 
   -- the byte at an index
   module _ (i x : ℕ) where
-    pub for-route : (train : Train) → train ≡ trainOf r (i / 192) → i < routeBytes → x ≡ routeByte r (Section (record { 0 = i / 4 % 48 }) (train .heading)) (i % 4) → x ≡ compiledByte r i
+    pub for-route : (train : Train) → train ≡ trainOf r (i / 192) → i < routeBytes → x ≡ routeByte r (eqb (i / 4 % 48) (train .destination .0)) (Section (record { 0 = i / 4 % 48 }) (train .heading)) (i % 4) → x ≡ compiledByte r i
     unfolding compiledByte
     for-route train is l h = rw (lt-ltb i routeBytes l, ← is) h
 
@@ -123,11 +123,11 @@ module _ (r : Railway) (table : List ℕ) where
           let n : (771 + 4 * i + t - countBytes) % mostTrains ≡ t = omega arith in
           rw (le-ltb (771 + 4 * i + t) routeBytes (omega arith), le-ltb (771 + 4 * i + t) countBytes (omega arith), d, n)
 
-  pub route-there : (t x j y : ℕ) → Compiled r table → t < 4 → x < 48 → j < 4 → y ≡ byteIn table (4 * (48 * t + x) + j) → y ≡ routeByte r (endOn r t x) j
+  pub route-there : (t x j y : ℕ) → Compiled r table → t < 4 → x < 48 → j < 4 → y ≡ byteIn table (4 * (48 * t + x) + j) → y ≡ routeByte r (parkedOn r t x) (endOn r t x) j
   unfolding compiledByte
   route-there t x j y h lt lx lj e = byte-there (4 * (48 * t + x) + j) y h (omega arith) e ∙ is
     where
-      is : compiledByte r (4 * (48 * t + x) + j) ≡ routeByte r (endOn r t x) j
+      is : compiledByte r (4 * (48 * t + x) + j) ≡ routeByte r (parkedOn r t x) (endOn r t x) j
       is =
           let a : (4 * (48 * t + x) + j) / 192 ≡ t = omega arith in
           let b : (4 * (48 * t + x) + j) / 4 % 48 ≡ x = omega arith in
@@ -159,38 +159,52 @@ module _ (r : Railway) (t x : ℕ) where
   destination-is h = h
 
 -- what lies on a train's route, by name
-module _ (r : Railway) (e : End) (x : ℕ) where
-  signal-is : x ≡ routeByte r e 0 → eqb x 1 ≡ hasSignal r e
+module _ (r : Railway) (parked : Bool) (e : End) (x : ℕ) where
+  pub stand-is : x ≡ routeByte r parked e 0 → x ≡ standByte parked (hasSignal r e)
   unfolding routeByte
-  signal-is h = rw h (go (hasSignal r e))
-    where
-      go : (v : Bool) → eqb (flagByte v) 1 ≡ v
-      go true = refl
-      go false = refl
+  stand-is h = h
 
-  pub point-is : x ≡ routeByte r e 1 → x ≡ pointByte (passes r (λ n. false) e .met)
+  pub point-is : x ≡ routeByte r parked e 1 → x ≡ pointByte (passes r (λ n. false) e .met)
   unfolding routeByte
   point-is h = h
 
-  pub plus-is : (plus : Bool) → plus ≡ true → x ≡ routeByte r e 3 → x ≡ sectionByte (passes r (λ n. plus) e .reached)
+  pub plus-is : (plus : Bool) → plus ≡ true → x ≡ routeByte r parked e 3 → x ≡ sectionByte (passes r (λ n. plus) e .reached)
   unfolding routeByte
   plus-is plus b h = rw b h
 
-  pub minus-is : (plus : Bool) → plus ≡ false → x ≡ routeByte r e 2 → x ≡ sectionByte (passes r (λ n. plus) e .reached)
+  pub minus-is : (plus : Bool) → plus ≡ false → x ≡ routeByte r parked e 2 → x ≡ sectionByte (passes r (λ n. plus) e .reached)
   unfolding routeByte
   minus-is plus b h = rw b h
 
--- whether a signal stands there: none does for what no railway can have
+-- how a train stands: as if parked, for what no railway can have
 module _ (r : Railway) (t x : ℕ) where
-  pub signal-no-train : mostTrains ≤ t → false ≡ signalOn r t x
-  signal-no-train l = rw (le-ltb t mostTrains l)
+  pub stand-no-train : mostTrains ≤ t → 2 ≡ standOn r t x
+  stand-no-train l = rw (le-ltb t mostTrains l)
 
   module _ (lt : t < mostTrains) where
-    pub signal-no-section : mostSections ≤ x → false ≡ signalOn r t x
-    signal-no-section l = rw (lt-ltb t mostTrains lt, le-ltb x mostSections l)
+    pub stand-no-section : mostSections ≤ x → 2 ≡ standOn r t x
+    stand-no-section l = rw (lt-ltb t mostTrains lt, le-ltb x mostSections l)
 
-    pub signal-within : (b : ℕ) → x < mostSections → b ≡ routeByte r (endOn r t x) 0 → eqb b 1 ≡ signalOn r t x
-    signal-within b l h = rw (lt-ltb t mostTrains lt, lt-ltb x mostSections l) (signal-is r (endOn r t x) b h)
+    pub stand-within : (b : ℕ) → x < mostSections → b ≡ standByte (parkedOn r t x) (hasSignal r (endOn r t x)) → b ≡ standOn r t x
+    stand-within b l h = rw (lt-ltb t mostTrains lt, lt-ltb x mostSections l) h
+
+  pub held-is : (b : ℕ) → b ≡ standOn r t x → eqb b 1 ≡ heldOn r t x
+  held-is b h = rw h (go (within t x) (parkedOn r t x) (hasSignal r (endOn r t x)))
+    where
+      go : (w a v : Bool) → eqb (cond w (standByte a v) 2) 1 ≡ (w && (not a && v))
+      go true true v = refl
+      go true false true = refl
+      go true false false = refl
+      go false a v = refl
+
+  pub free-is : (b : ℕ) → b ≡ standOn r t x → eqb b 0 ≡ freeOn r t x
+  free-is b h = rw h (go (within t x) (parkedOn r t x) (hasSignal r (endOn r t x)))
+    where
+      go : (w a v : Bool) → eqb (cond w (standByte a v) 2) 0 ≡ (w && (not a && not v))
+      go true true v = refl
+      go true false true = refl
+      go true false false = refl
+      go false a v = refl
 
 -- a train that is not there
 module _ (r : Railway) (table : List ℕ) (i t : ℕ) (h : Compiled r table) (past : mostTrains ≤ t) where

@@ -2,7 +2,7 @@
 -- for its last record, what compiling a record promises: contracts cite it, and the laws in proofs/Table say that the bytes give what the record gives.
 -- Assumes nothing.
 use mathlib.Core.Path.{_≡_}
-use mathlib.Core.Bool.{Bool, true, false, cond, _&&_}
+use mathlib.Core.Bool.{Bool, true, false, cond, not, _&&_}
 use mathlib.Core.List.{List, [], _∷_}
 use mathlib.Core.Option.{Option, none, some}
 use Prim.Native.Nat.{ℕ, _+_, _-_, _*_, _/_, _%_, _<_}
@@ -36,10 +36,11 @@ tableBytes = countBytes + 3 * mostTrains
 abbrev pub noByte : ℕ
 noByte = 255
 
--- Whether a signal stands somewhere.
-abbrev pub flagByte : Bool → ℕ
-flagByte true = 1
-flagByte false = 0
+-- How a train stands: parked, held by a signal, or free.
+abbrev pub standByte : Bool → Bool → ℕ
+standByte true signal = 2
+standByte false true = 1
+standByte false false = 0
 
 -- The point that a train meets: the first, for more than one is never met.
 abbrev pub pointByte : List ℕ → ℕ
@@ -55,19 +56,31 @@ sectionByte (some x) = x
 abbrev pub endOn : Railway → ℕ → ℕ → End
 endOn r t x = Section (record { 0 = x }) (trainOf r t .heading)
 
+-- Section x is the destination of train t: there it is parked.
+abbrev pub parkedOn : Railway → ℕ → ℕ → Bool
+parkedOn r t x = eqb x (trainOf r t .destination .0)
+
 -- The table has bytes on train t and section x: some railway can have both.
 abbrev pub within : ℕ → ℕ → Bool
 within t x = ltb t mostTrains && ltb x mostSections
 
--- A signal stands at the end that train t heads for on section x.
-abbrev pub signalOn : Railway → ℕ → ℕ → Bool
-signalOn r t x = within t x && hasSignal r (endOn r t x)
+-- How train t stands on section x; as if parked, where the table has no byte on it.
+abbrev pub standOn : Railway → ℕ → ℕ → ℕ
+standOn r t x = cond (within t x) (standByte (parkedOn r t x) (hasSignal r (endOn r t x))) (standByte true false)
 
--- Of a train that leaves by end e: whether a signal stands there, the point that it meets, and the section that it enters with the point at
--- minus and at plus.
-unfoldable pub routeByte : Railway → End → ℕ → ℕ
-routeByte r e j =
-    cond (eqb j 0) (flagByte (hasSignal r e))
+-- It is held there: not parked, and a signal stands at the end that it heads for.
+abbrev pub heldOn : Railway → ℕ → ℕ → Bool
+heldOn r t x = within t x && (not (parkedOn r t x) && hasSignal r (endOn r t x))
+
+-- It is free there: not parked, and none does.
+abbrev pub freeOn : Railway → ℕ → ℕ → Bool
+freeOn r t x = within t x && (not (parkedOn r t x) && not (hasSignal r (endOn r t x)))
+
+-- Of a train that leaves by end e, parked or not: how it stands there, the point that it meets, and the section that it enters with the point
+-- at minus and at plus.
+unfoldable pub routeByte : Railway → Bool → End → ℕ → ℕ
+routeByte r parked e j =
+    cond (eqb j 0) (standByte parked (hasSignal r e))
     (cond (eqb j 1) (pointByte (passes r (λ n. false) e .met))
     (sectionByte (passes r (λ n. eqb j 3) e .reached)))
 
@@ -82,7 +95,7 @@ rosterByte r i t = cond (eqb i 0) (sideIndex (trainOf r t .heading)) (cond (eqb 
 -- The byte at index i.
 unfoldable pub compiledByte : Railway → ℕ → ℕ
 compiledByte r i =
-    cond (ltb i routeBytes) (routeByte r (endOn r (i / (4 * mostSections)) (i / 4 % mostSections)) (i % 4))
+    cond (ltb i routeBytes) (routeByte r (parkedOn r (i / (4 * mostSections)) (i / 4 % mostSections)) (endOn r (i / (4 * mostSections)) (i / 4 % mostSections)) (i % 4))
     (cond (ltb i countBytes) (countByte r (i - routeBytes)) (rosterByte r ((i - countBytes) / mostTrains) ((i - countBytes) % mostTrains)))
 
 -- The byte of a table at index i, and past its end.

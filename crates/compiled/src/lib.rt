@@ -9,7 +9,7 @@ ghost use Rattle.railway.specs.declared.Railway.{Railway};
 ghost use Rattle.railway.specs.Bounds.{mostSections, mostTrains};
 ghost use Rattle.railway.specs.Record.{trainOf};
 ghost use Rattle.game.specs.Moves.{through, behindPort, pastPoint, pastJoin, passes};
-ghost use Rattle.compiled.specs.Table.{tableBytes, pointByte, sectionByte, endOn, signalOn, routeByte, countByte, rosterByte, compiledByte, byteIn, Compiled, CompilePost};
+ghost use Rattle.compiled.specs.Table.{tableBytes, standByte, pointByte, sectionByte, endOn, parkedOn, standOn, heldOn, freeOn, routeByte, countByte, rosterByte, compiledByte, byteIn, Compiled, CompilePost};
 use railway::CaseAnswer;
 use railway::End;
 use railway::Joined;
@@ -39,6 +39,13 @@ pub type Table = [u8; TABLE];
 
 // What stands for no point and for no section.
 pub const NO_BYTE: u8 = 255;
+
+// How a train stands on a section: free, held by a signal, or parked, for it is its destination.
+const FREE: u8 = 0;
+
+const HELD: u8 = 1;
+
+const PARKED: u8 = 2;
 
 // What compiling a record gives: the answer of its test, and the table; all zero where the record is refused.
 pub struct Compilation {
@@ -80,7 +87,8 @@ fn byte_for(r: Railway, i: usize) -> u8
         let x = (i / 4 % SECTIONS) as u8;
         let train = r.train_of(t);
         let h = train.heading;
-        route_byte(r, End::Section(SectionNo(x), h), (i % 4) as u8)
+        let parked = x == train.destination.0;
+        route_byte(r, parked, End::Section(SectionNo(x), h), (i % 4) as u8)
     } else if i < ROSTER {
         count_byte(r, (i - COUNTS) as u8)
     } else {
@@ -97,15 +105,28 @@ pub fn section_from(r: Railway, e: End, plus: bool) -> u8
 }
 
 // One of the four bytes on a train that leaves by an end.
-fn route_byte(r: Railway, e: End, j: u8) -> u8
-    ensures { λ b. ⌜ b ≡ routeByte r e j ⌝ }
+fn route_byte(r: Railway, parked: bool, e: End, j: u8) -> u8
+    ensures { λ b. ⌜ b ≡ routeByte r parked e j ⌝ }
 {
     if j == 0 {
-        if r.has_signal(e) { 1 } else { 0 }
+        stand_byte(parked, r.has_signal(e))
     } else if j == 1 {
         point_met(r, r.joined(e))
     } else {
         section_from(r, e, j == 3)
+    }
+}
+
+// How a train stands that is parked or not, with a signal ahead or none.
+fn stand_byte(parked: bool, signal: bool) -> u8
+    ensures { λ b. ⌜ b ≡ standByte parked signal ⌝ }
+{
+    if parked {
+        PARKED
+    } else if signal {
+        HELD
+    } else {
+        FREE
     }
 }
 
@@ -265,17 +286,31 @@ fn roster_in(table: &Table, i: u8, t: u8) -> u8
     }
 }
 
-// Whether a signal stands at the end that a train heads for on a section. None does for a train or on a section that no railway can have.
-pub fn signal_in(table: &Table, t: u8, x: u8) -> bool
-    ensures { λ b. ⌜ ((r : Railway) → Compiled r (now (table .entry)) → b ≡ signalOn r t x) ⌝ }
+// Whether a train is held on a section: a signal stands at the end that it heads for, and it is not parked there.
+pub fn held_on(table: &Table, t: u8, x: u8) -> bool
+    ensures { λ b. ⌜ ((r : Railway) → Compiled r (now (table .entry)) → b ≡ heldOn r t x) ⌝ }
+{
+    stand_in(table, t, x) == HELD
+}
+
+// Whether a train is free on a section: no signal stands at the end that it heads for, and it is not parked there.
+pub fn free_on(table: &Table, t: u8, x: u8) -> bool
+    ensures { λ b. ⌜ ((r : Railway) → Compiled r (now (table .entry)) → b ≡ freeOn r t x) ⌝ }
+{
+    stand_in(table, t, x) == FREE
+}
+
+// How a train stands on a section. Where no railway can have the train or the section, nothing moves.
+fn stand_in(table: &Table, t: u8, x: u8) -> u8
+    ensures { λ b. ⌜ ((r : Railway) → Compiled r (now (table .entry)) → b ≡ standOn r t x) ⌝ }
 {
     if Railway::TRAINS <= t {
-        return false;
+        return PARKED;
     }
     if Railway::SECTIONS <= x {
-        return false;
+        return PARKED;
     }
-    route_in(table, t, x, 0) == 1
+    route_in(table, t, x, 0)
 }
 
 // The point that a train meets when it leaves a section; `NO_BYTE`: none.
@@ -299,7 +334,7 @@ pub fn section_past(table: &Table, t: u8, x: u8, plus: bool) -> u8
 // One of the four bytes on a train's route from a section.
 fn route_in(table: &Table, t: u8, x: u8, j: u8) -> u8
     requires { ⌜ j < 4 ⌝ }
-    ensures { λ b. ⌜ ((r : Railway) → Compiled r (now (table .entry)) → t < mostTrains → x < mostSections → b ≡ routeByte r (endOn r t x) j) ⌝ }
+    ensures { λ b. ⌜ ((r : Railway) → Compiled r (now (table .entry)) → t < mostTrains → x < mostSections → b ≡ routeByte r (parkedOn r t x) (endOn r t x) j) ⌝ }
 {
     byte_at(
         table,

@@ -25,7 +25,7 @@ use Rattle.railway.specs.Rows.{unknownRow, joinRow, looseRow, placeRow}
 use Rattle.railway.specs.Yards.{yardA}
 use Rattle.game.specs.Game.{at, may}
 use Rattle.game.specs.Placement.{codeOf, sectionsIn, placements, standsOn, startCode, shared}
-use Rattle.game.specs.Setting.{Setting, headsFor, held, mayMove, signalOpen}
+use Rattle.game.specs.Setting.{Setting, headsFor, held, mayMove, signalOpen, free}
 use Rattle.game.specs.Moves.{passes, occupied, moveOf, gameOf}
 use Rattle.game.proofs.Figures.{figure-one}
 use Rattle.tables.specs.declared.SolverAnswer.{SolverAnswer}
@@ -278,7 +278,7 @@ abbrev wide : Setting
 wide = record { plus = λ n. true; isOpen = λ i. true }
 
 moved-on : (entryOf yardA 7 wide ≡ 65537) × (shared yardA 7 ≡ false) × (cond (may (gameOf yardA) 7 wide 1) (some (moveOf yardA 7 wide 1)) none ≡ some (at 1))
-unfolding entryFrom fromBits signalOpen mayMove held headsFor standsOn sectionsIn shared trainOf hasSignal withJoin withSignal withLegs withTrain moveOf passes occupied codeOf sumBelow joined anyBelow
+unfolding entryFrom fromBits signalOpen mayMove free held headsFor standsOn sectionsIn shared trainOf hasSignal withJoin withSignal withLegs withTrain moveOf passes occupied codeOf sumBelow joined anyBelow
 moved-on = (refl, refl, refl)
 
 move-on : (κs : Lfts 0) (a : Dens κs compile.ps) (c : resT compile.r κs .Denot) (left : AtExit (endedOf 0 compile.ps compile.r) κs) → a .0 ≡ yardA → CompileLearnt κs a c left

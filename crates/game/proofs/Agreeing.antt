@@ -4,49 +4,78 @@
 -- Assumes nothing.
 use mathlib.Core.Path.{_≡_, refl, sym, _∙_, ap}
 use mathlib.Core.Logic.{inl, inr}
-use mathlib.Core.Bool.{Bool, true, false}
+use mathlib.Core.Bool.{Bool, true, false, not, _&&_}
 use Prim.Native.Nat.{ℕ, _<_}
 use borrow.Author.Tests.{ltb-true}
-use Rattle.laws.proofs.Bools.{bool?, either, or-left, or-right}
+use Rattle.laws.proofs.Bools.{bool?, clash, either, or-left, or-right, and-true, and-both}
 use Rattle.railway.specs.declared.End.{End}
 use Rattle.railway.specs.declared.End.the-variants.{Section, Port}
 use Rattle.railway.specs.declared.Joined.{Joined}
 use Rattle.railway.specs.declared.Joined.the-variants.{Nothing, With}
 use Rattle.railway.specs.declared.Railway.{Railway}
 use Rattle.railway.specs.Ends.{endIndex}
-use Rattle.railway.specs.Record.{joined}
+use Rattle.railway.specs.Record.{joined, hasSignal}
 use Rattle.railway.proofs.Lookups.{Flagged, signal-flag}
 use Rattle.game.specs.Claim.{Alike, OneChoice}
-use Rattle.game.specs.Setting.{Setting, SameSetting, headsFor, held, free, opensFor, mayMove}
+use Rattle.game.specs.Placement.{arrived}
+use Rattle.game.specs.Setting.{Setting, SameSetting, headsFor, held, free, opensFor, signalOpen, mayMove}
 use Rattle.game.specs.Moves.{Passage, pastJoin, passes, enters, moveOf, gameOf, AgreeingAlike}
 use Rattle.game.proofs.Accepted.{Known, Facts, facts}
 
 module _ (r : Railway) where
+  -- PARKED, on its destination, a train may not move, whatever is open: it is neither free nor held
+  pub may-parked : (p : ℕ) (s : Setting) (t : ℕ) → arrived r p t ≡ true → mayMove r p s t ≡ false
+  unfolding mayMove signalOpen held free
+  may-parked p s t a = rw a refl
+
+  pub parked-neither : (p t : ℕ) → arrived r p t ≡ true → (free r p t ≡ false) × (held r p t ≡ false)
+  unfolding held free
+  parked-neither p t a = (rw a, rw a)
+
   pub held-flag : (p t : ℕ) → held r p t ≡ true → Flagged r (headsFor r p t)
   unfolding held
-  held-flag p t h = signal-flag r (headsFor r p t) h
+  held-flag p t h = signal-flag r (headsFor r p t) (and-true (not (arrived r p t)) (hasSignal r (headsFor r p t)) h .1)
 
-  -- who may move: a free train always, another as its signal says
-  pub may-free : (p : ℕ) (s : Setting) (t : ℕ) → held r p t ≡ false → mayMove r p s t ≡ true
+  -- a train is not both free and held
+  pub held-not-free : (p t : ℕ) → held r p t ≡ true → free r p t ≡ false
+  unfolding held free
+  held-not-free p t h = go (arrived r p t) (hasSignal r (headsFor r p t)) h
+    where
+      go : (a b : Bool) → (not a && b) ≡ true → (not a && not b) ≡ false
+      go true b e = refl
+      go false true e = refl
+      go false false e = clash e refl
+
+  -- who may move: a free train always, a held one as its signal says, a parked one never
+  pub may-free : (p : ℕ) (s : Setting) (t : ℕ) → free r p t ≡ true → mayMove r p s t ≡ true
   unfolding mayMove
   may-free p s t h = rw h refl
 
   pub may-held : (p : ℕ) (s : Setting) (t : ℕ) → held r p t ≡ true → mayMove r p s t ≡ opensFor r p s t
-  unfolding mayMove
-  may-held p s t h = rw h
+  unfolding mayMove signalOpen
+  may-held p s t h = rw (held-not-free p t h, h)
+
+  pub may-neither : (p : ℕ) (s : Setting) (t : ℕ) → free r p t ≡ false → held r p t ≡ false → mayMove r p s t ≡ false
+  unfolding mayMove signalOpen
+  may-neither p s t f h = rw (f, h)
 
   pub may-same : (a b : Setting) → SameSetting r a b → (p t : ℕ) → mayMove r p a t ≡ mayMove r p b t
-  may-same a b same p t = elim (bool? (held r p t)) [
-    | inl h ↦ let f = held-flag p t h in may-held p a t h ∙ same .signals (endIndex (headsFor r p t)) (f .below) (f .flag) ∙ sym (may-held p b t h)
-    | inr h ↦ may-free p a t h ∙ sym (may-free p b t h)
+  may-same a b same p t = elim (bool? (free r p t)) [
+    | inl f ↦ may-free p a t f ∙ sym (may-free p b t f)
+    | inr f ↦ elim (bool? (held r p t)) [
+      | inl h ↦ let g = held-flag p t h in may-held p a t h ∙ same .signals (endIndex (headsFor r p t)) (g .below) (g .flag) ∙ sym (may-held p b t h)
+      | inr h ↦ may-neither p a t f h ∙ sym (may-neither p b t f h)
+    ]
   ]
 
   -- open signals only add moves
   pub may-more : (a b : Setting) → ((i : ℕ) → a .isOpen i ≡ true → b .isOpen i ≡ true) → (p t : ℕ) → mayMove r p a t ≡ true → mayMove r p b t ≡ true
-  unfolding mayMove
-  may-more a b more p t m = elim (either (free r p t) (opensFor r p a t) m) [
-    | inl f ↦ or-left (free r p t) (opensFor r p b t) f
-    | inr o ↦ or-right (free r p t) (opensFor r p b t) (more (endIndex (headsFor r p t)) o)
+  unfolding mayMove signalOpen
+  may-more a b more p t m = elim (either (free r p t) (signalOpen r p a t) m) [
+    | inl f ↦ or-left (free r p t) (signalOpen r p b t) f
+    | inr o ↦
+        let h = and-true (held r p t) (opensFor r p a t) o in
+        or-right (free r p t) (signalOpen r p b t) (and-both (held r p t) (opensFor r p b t) (h .0) (more (endIndex (headsFor r p t)) (h .1)))
   ]
 
 -- ways over the railway's points depend on nothing else

@@ -1,4 +1,5 @@
--- Moves and plays by computation: one line for each clause of document 01, "A turn", and what a way and a choice are handed. No theorem
+-- Moves and plays by computation: one line for each clause of document 01, "A turn", and of document 02, Q-2 (parked trains), and what a way
+-- and a choice are handed. No theorem
 -- rests on these; they show what the definitions say, where the theorem on whole plays would not notice a slip. Assumes nothing. In Yard A
 -- (three sections) placement (a, b) has code (a - 1) + 3 (b - 1): (2, 1) is 1, (3, 1) is 2, (1, 2) is 3, (3, 2) is 5, (1, 3) is 6, (2, 3)
 -- is 7.
@@ -18,9 +19,9 @@ use Rattle.railway.specs.Record.{joined, hasSignal, legsOf, trainOf, withJoin, 
 use Rattle.railway.specs.Rows.{unknownRow, joinRow, looseRow, placeRow, recordRefusal}
 use Rattle.game.specs.Game.{derailment, collision, lost, at, Turn, Way, Choice, lostByMove, standing, play}
 use Rattle.game.specs.Placement.{codeOf, sectionsIn, standsOn, sectionsOf, startCode, atHome, shared}
-use Rattle.game.specs.Setting.{Setting, headsFor, held, mayMove}
+use Rattle.game.specs.Setting.{Setting, headsFor, held, free, signalOpen, mayMove}
 use Rattle.game.specs.Moves.{passes, occupied, moveOf, gameOf}
-use Rattle.railway.specs.Yards.{yardH, lineP, lineJ, lineG, lineT, sec, port, yardA}
+use Rattle.railway.specs.Yards.{yardH, lineP, lineJ, lineG, lineT, sec, port, yardA, yardALess}
 
 -- THE YARDS. A loop: up from 1 a train gets back to 1 over the plus leg, and to 2 over the minus leg.
 abbrev loop : Railway
@@ -48,9 +49,14 @@ lines =
     (lineJ (sec 1 Up) (sec 2 Down)
     (yardH 9 0 3))))))))))
 
-yards : (recordRefusal yardA ≡ none) × (recordRefusal loop ≡ none) × (recordRefusal lines ≡ none) × (startCode yardA ≡ 7) × (startCode lines ≡ 513) × (sectionsOf lines 524 ≡ 2 ∷ 4 ∷ 6 ∷ [])
+-- One line of three sections: train 1 is to go up from 1 to 2, and train 2 down from 3 to 1. (2, 3) has code 7, and train 1 is parked there.
+abbrev inTheWay : Railway
+inTheWay = lineT 2 Down 3 1 (lineT 1 Up 1 2 (lineJ (sec 2 Up) (sec 3 Down) (lineJ (sec 1 Up) (sec 2 Down) (yardH 3 0 2))))
+
+yards : (recordRefusal yardA ≡ none) × (recordRefusal yardALess ≡ none) × (recordRefusal loop ≡ none) × (recordRefusal lines ≡ none) × (recordRefusal inTheWay ≡ none)
+    × (startCode yardA ≡ 7) × (startCode lines ≡ 513) × (sectionsOf lines 524 ≡ 2 ∷ 4 ∷ 6 ∷ []) × (sectionsOf inTheWay 7 ≡ 1 ∷ 2 ∷ [])
 unfolding recordRefusal first unknownRow joinRow looseRow placeRow anyBelow joined legsOf trainOf endAt withJoin withSignal withLegs withTrain startCode codeOf sumBelow listBelow sectionsIn
-yards = (refl, refl, refl, refl, refl, refl)
+yards = (refl, refl, refl, refl, refl, refl, refl, refl, refl)
 
 -- THE SETTINGS. All points at plus and all signals closed; all at minus and closed; all at minus and open.
 abbrev plus : Setting
@@ -62,10 +68,18 @@ shut = record { plus = λ n. false; isOpen = λ i. false }
 abbrev wide : Setting
 wide = record { plus = λ n. false; isOpen = λ i. true }
 
+-- The signal at 1d alone is open.
+abbrev first-open : Setting
+first-open = record { plus = λ n. false; isOpen = λ i. eqb i 0 }
+
 -- WHO MAY MOVE: held by a closed signal, let go by an open one; free without one.
-may : (mayMove yardA 7 shut 0 ≡ false) × (mayMove yardA 7 wide 0 ≡ true) × (mayMove yardA 7 shut 1 ≡ true) × (mayMove yardA 1 shut 1 ≡ false)
-unfolding mayMove held headsFor standsOn sectionsIn trainOf hasSignal withJoin withSignal withLegs withTrain
-may = (refl, refl, refl, refl)
+may : (mayMove yardA 7 shut 0 ≡ false) × (mayMove yardA 7 wide 0 ≡ true) × (mayMove yardA 7 shut 1 ≡ true)
+    -- on its destination, 1, train 2 may not: with a signal ahead, shut and open, and with none
+    × (mayMove yardA 1 shut 1 ≡ false) × (mayMove yardA 1 wide 1 ≡ false) × (mayMove yardALess 1 shut 1 ≡ false)
+    -- there it counts as having no signal, and is not free; on 2 it has none, and is
+    × (held yardA 1 1 ≡ false) × (free yardA 1 1 ≡ false) × (held yardA 3 1 ≡ false) × (free yardA 3 1 ≡ true)
+unfolding mayMove free held signalOpen headsFor standsOn sectionsIn trainOf hasSignal withJoin withSignal withLegs withTrain
+may = (refl, refl, refl, refl, refl, refl, refl, refl, refl, refl)
 
 -- MOVES
 moves :  -- from the stem, the point at plus and at minus
@@ -74,12 +88,12 @@ moves :  -- from the stem, the point at plus and at minus
     × (moveOf yardA 3 plus 0 ≡ at 5) × (moveOf yardA 1 shut 0 ≡ at 2)
     -- from a leg that the point does not lie for; where the track ends
     × (moveOf yardA 3 shut 0 ≡ lost derailment) × (moveOf yardA 7 plus 0 ≡ lost derailment) × (moveOf yardA 1 plus 1 ≡ lost derailment)
-    -- onto another train; round the loop
-    × (moveOf yardA 7 shut 1 ≡ lost collision) × (moveOf loop 2 shut 0 ≡ lost collision) × (moveOf loop 2 plus 0 ≡ at 2)
+    -- onto another train, also one that is parked; round the loop
+    × (moveOf yardA 7 shut 1 ≡ lost collision) × (moveOf inTheWay 7 shut 1 ≡ lost collision) × (moveOf loop 2 shut 0 ≡ lost collision) × (moveOf loop 2 plus 0 ≡ at 2)
     -- the points met: one, also where the train derails at it; none
     × (passes yardA (plus .plus) (sec 2 Up) .met ≡ 0 ∷ []) × (passes yardA (plus .plus) (sec 1 Down) .met ≡ []) × (passes lines (plus .plus) (sec 1 Up) .met ≡ [])
 unfolding moveOf passes occupied headsFor standsOn sectionsIn codeOf sumBelow trainOf joined anyBelow withJoin withSignal withLegs withTrain
-moves = (refl, refl, refl, refl, refl, refl, refl, refl, refl, refl, refl, refl, refl)
+moves = (refl, refl, refl, refl, refl, refl, refl, refl, refl, refl, refl, refl, refl, refl)
 
 -- PLAYS
 abbrev turned : ℕ → Setting → Option ℕ → Turn Setting
@@ -126,7 +140,16 @@ plays :  -- home in two turns, a setting for each anew; there the play has ended
     × (play (gameOf yardA) (always wide) (names 1) 7 3 ≡ lostByMove)
     × (play (gameOf yardA) (always wide) (names 1) 0 3 ≡ standing [] 0)
     × (play (gameOf yardA) (always wide) (names 1) 2 3 ≡ standing [] 2)
-    -- way and choice both look at the oldest turn, at every turn after it; and train 1 is moved on from its destination
-    × (play (gameOf lines) by-first names-by-first 513 3 ≡ standing (turned 513 shut (some 1) ∷ turned 522 wide (some 0) ∷ turned 523 wide (some 0) ∷ []) 524)
-unfolding play lowest moveOf passes occupied mayMove held headsFor standsOn sectionsIn codeOf sumBelow trainOf joined hasSignal allBelow anyBelow atHome shared withJoin withSignal withLegs withTrain
-plays = (refl, refl, refl, refl, refl, refl, refl, refl, refl, refl, refl)
+    -- way and choice both look at the oldest turn, at every turn after it; train 1, then parked, is named and stays
+    × (play (gameOf lines) by-first names-by-first 513 3 ≡ standing (turned 513 shut (some 1) ∷ turned 522 wide (some 0) ∷ turned 523 wide (some 1) ∷ []) 532)
+    -- parked from the start on, and named: the lowest that may moves
+    × (play (gameOf lines) (always wide) (names 0) 523 1 ≡ standing (turned 523 wide (some 1) ∷ []) 532)
+    -- parked, and all others held: nothing moves, with a signal open ahead of the parked train or with none
+    × (play (gameOf yardA) (always first-open) (names 1) 1 1 ≡ standing (turned 1 first-open none ∷ []) 1)
+    × (play (gameOf yardALess) (always shut) (names 1) 1 2 ≡ standing (turned 1 shut none ∷ turned 1 shut none ∷ []) 1)
+    -- a train enters its destination and stays there, though it is named again
+    × (play (gameOf yardALess) by-placement (names 1) 7 2 ≡ standing (turned 7 plus (some 1) ∷ turned 1 wide (some 0) ∷ []) 2)
+    -- into a parked train
+    × (play (gameOf inTheWay) (always shut) (names 0) 7 1 ≡ lostByMove)
+unfolding play lowest moveOf passes occupied mayMove free held signalOpen headsFor standsOn sectionsIn codeOf sumBelow trainOf joined hasSignal allBelow anyBelow atHome shared withJoin withSignal withLegs withTrain
+plays = (refl, refl, refl, refl, refl, refl, refl, refl, refl, refl, refl, refl, refl, refl, refl, refl)

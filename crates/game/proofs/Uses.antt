@@ -14,7 +14,7 @@ use Rattle.railway.specs.Yards.{yardA}
 use Rattle.game.specs.Game.{at, Way, Choice, following, positional, may, play, homeAt, HomeWithin, ComesHome}
 use Rattle.game.specs.Claim.{Whole}
 use Rattle.game.specs.Placement.{codeOf, sectionsIn, standsOn}
-use Rattle.game.specs.Setting.{Setting, SameSetting, headsFor, held, mayMove}
+use Rattle.game.specs.Setting.{Setting, SameSetting, headsFor, held, mayMove, free, signalOpen}
 use Rattle.game.specs.Moves.{passes, occupied, moveOf, gameOf}
 use Rattle.game.specs.Local.{keepsTest}
 use Rattle.game.proofs.Figures.{figure-one, ended}
@@ -69,7 +69,7 @@ module _ (F : ℕ → Option ℕ) (f : ℕ → Bool) (claims : Whole small F f) 
 -- SETTINGS THAT AGREE. Whatever else it says, a setting that has Yard A's point at plus and its signals open lets train 1 go at (2, 3), and from (1, 2)
 -- takes it to (3, 2).
 agreed : recordRefusal yardA ≡ none → (s : Setting) → SameSetting yardA everywhere s → (may (gameOf yardA) 7 s 0 ≡ true) × (moveOf yardA 3 s 0 ≡ at 5)
-unfolding mayMove held headsFor standsOn sectionsIn trainOf hasSignal withJoin withSignal withLegs withTrain moveOf passes occupied codeOf sumBelow joined anyBelow
+unfolding mayMove signalOpen free held headsFor standsOn sectionsIn trainOf hasSignal withJoin withSignal withLegs withTrain moveOf passes occupied codeOf sumBelow joined anyBelow
 agreed accepted s same =
     (sym (agreeing-alike yardA accepted everywhere s same 7 .same-trains 0) ∙ lets .0, sym (agreeing-alike yardA accepted everywhere s same 3 .same-ends 0 (lets .1)) ∙ lets .2)
   where

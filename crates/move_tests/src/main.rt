@@ -162,7 +162,8 @@ fn moves_of_a() {
     show_move(b"set leg, section taken", &t, 7, 65536, 0);
     show_move(b"leg not set", &t, 7, 65537, 0);
     show_move(b"set leg", &t, 1, 65536, 0);
-    show_move(b"end of track", &t, 1, 131072, 1);
+    show_move(b"end of track", &t, 3, 131072, 1);
+    show_move(b"parked", &t, 1, 131072, 1);
     show_move(b"no such train", &t, 7, 65536, 2);
 }
 
@@ -182,7 +183,7 @@ fn firsts_of_a() {
     show_first(b"(2,3) below 1", &t, &figures, 7, 1);
     show_first(b"(2,1) below 1: one opened", &t, &figures, 1, 1);
     show_first(
-        b"(2,1) below 1 without 1d: train 2 runs off",
+        b"(2,1) below 1 without 1d: train 2 is parked",
         &less,
         &figures,
         1,

@@ -2,7 +2,7 @@
 -- may be replaced by one with all points as that one lies. Assumes nothing.
 use mathlib.Core.Path.{_≡_, refl, sym, _∙_, ap}
 use mathlib.Core.Logic.{inl, inr}
-use mathlib.Core.Bool.{Bool, true, false, cond, _&&_}
+use mathlib.Core.Bool.{Bool, true, false, cond, not, _&&_}
 use mathlib.Core.List.{List}
 use mathlib.Core.Option.{Option, none, some}
 use Prim.Native.Nat.{ℕ, _+_, _*_, _^_, _≤_, _<_}
@@ -27,20 +27,21 @@ use Rattle.railway.specs.Bounds.{mostSections, mostTrains}
 use Rattle.railway.specs.Ends.{endIndex}
 use Rattle.railway.specs.Record.{joined, hasSignal, trainOf}
 use Rattle.game.specs.Game.{derailment, collision, lost, at, may}
-use Rattle.game.specs.Placement.{codeOf, sectionsOf, standsOn, codeOn}
-use Rattle.game.specs.Setting.{headsFor, held, mayMove}
+use Rattle.game.specs.Placement.{codeOf, sectionsOf, standsOn, codeOn, arrived}
+use Rattle.game.specs.Setting.{headsFor, held, free, opensFor, mayMove}
 use Rattle.game.specs.Moves.{Passage, through, pastPoint, pastJoin, passes, otherOn, occupied, codeWith, enters, moveOf, gameOf}
 use Rattle.game.proofs.Codes.{sections-length}
+use Rattle.game.proofs.Agreeing.{may-free, may-held, may-neither}
 use Rattle.game.proofs.Accepted.{Facts}
 use Rattle.game.proofs.Moves.{section-below, passes-below, sections-with, code-with-below}
 use Rattle.tables.specs.Entries.{opensIn, opensEnd, settingAt}
 use Rattle.tables.proofs.Exists.{few-placements}
-use Rattle.compiled.specs.Table.{noByte, pointByte, sectionByte, endOn, signalOn}
+use Rattle.compiled.specs.Table.{noByte, pointByte, sectionByte, endOn, parkedOn, heldOn, freeOn}
 use Rattle.placement.specs.declared.Placement.{Placement}
 use Rattle.moves.specs.declared.Move.{Move}
 use Rattle.moves.specs.Answers.{ended, moveUnder}
 use Rattle.placement.specs.ByValue.{sectionIn}
-use Rattle.moves.specs.Steps.{noCode, strideOf, codePut, On, movedTo, putIn, heldIn, otherIn, allAt}
+use Rattle.moves.specs.Steps.{noCode, strideOf, codePut, On, movedTo, putIn, heldIn, freeIn, otherIn, allAt}
 use Rattle.moves.proofs.Coding.{stride-is, put-there, code-move}
 use Rattle.moves.proofs.Placing.{table-facts, past-trains, put-section, sections-listed}
 
@@ -85,23 +86,32 @@ module _ (r : Railway) (p : ℕ) (table : List ℕ) (q : Placement) (on : On r p
     pub section-is : (b : ℕ) (plus : Bool) → b ≡ sectionByte (passes r (λ i. plus) (endOn r t x) .reached) → b ≡ sectionByte (passes r (λ i. plus) (headsFor r p t) .reached)
     section-is b plus h = rw end-on at h
 
-  -- WHO IS HELD, of any train: one that is not there stands on the first section.
-  pub held-is : (t x : ℕ) → x ≡ sectionIn q t → (b : Bool) → b ≡ signalOn r t x → b ≡ heldIn r p t
-  unfolding held
-  held-is t x e b h = h ∙ (rw (lt-ltb x mostSections small, end-is t x (trainOf r t .heading) e refl) (turn (ltb t mostTrains) (hasSignal r (headsFor r p t))))
-    where
-      small : x < mostSections
-      small = elim (lt? t (r .trains)) [
-        | inl l ↦ section-small t x l e
-        | inr l ↦ let z : 0 ≡ x = past-trains r table (on .compiled) p t l ∙ sym (e ∙ on .stands t) in rw (← z) (omega arith)
-      ]
+  -- HOW A TRAIN STANDS, any train: one that is not there stands on the first section.
+  module _ (t x : ℕ) (e : x ≡ sectionIn q t) where
+    some-section : x < mostSections
+    some-section = elim (lt? t (r .trains)) [
+      | inl l ↦ section-small t x l e
+      | inr l ↦ let z : 0 ≡ x = past-trains r table (on .compiled) p t l ∙ sym (e ∙ on .stands t) in rw (← z) (omega arith)
+    ]
 
-      turn : (a b : Bool) → ((a && true) && b) ≡ (a && b)
-      turn true b = refl
-      turn false b = refl
+    parked-on : parkedOn r t x ≡ arrived r p t
+    parked-on = ap (λ (y : ℕ). eqb y (trainOf r t .destination .0)) (e ∙ on .stands t)
 
-  pub held-as : (t : ℕ) → t < r .trains → (b : Bool) → b ≡ heldIn r p t → b ≡ held r p t
-  held-as t l b h = let few : ltb t mostTrains ≡ true = lt-ltb t mostTrains (omega (arith, facts-of .few-trains)) in rw few at h
+    within-is : (a b : Bool) → ((a && true) && b) ≡ (a && b)
+    within-is true b = refl
+    within-is false b = refl
+
+    pub held-is : (b : Bool) → b ≡ heldOn r t x → b ≡ heldIn r p t
+    unfolding held
+    held-is b h = h ∙ (rw (lt-ltb x mostSections some-section, parked-on, end-is t x (trainOf r t .heading) e refl) (within-is (ltb t mostTrains) (not (arrived r p t) && hasSignal r (headsFor r p t))))
+
+    pub free-is : (b : Bool) → b ≡ freeOn r t x → b ≡ freeIn r p t
+    unfolding free
+    free-is b h = h ∙ (rw (lt-ltb x mostSections some-section, parked-on, end-is t x (trainOf r t .heading) e refl) (within-is (ltb t mostTrains) (not (arrived r p t) && not (hasSignal r (headsFor r p t)))))
+
+  -- of a train that is there, what is said of one that can be there
+  pub as-there : (t : ℕ) → t < r .trains → (b c : Bool) → b ≡ (ltb t mostTrains && c) → b ≡ c
+  as-there t l b c h = let few : ltb t mostTrains ≡ true = lt-ltb t mostTrains (omega (arith, facts-of .few-trains)) in rw few at h
 
   -- WHO MAY MOVE under entry v.
   module _ (v : ℕ) where
@@ -122,17 +132,23 @@ module _ (r : Railway) (p : ℕ) (table : List ℕ) (q : Placement) (on : On r p
     pub not-there : (k t : ℕ) → k ≡ r .trains → k ≤ t → false ≡ may (gameOf r) p (settingAt r p v) t
     not-there k t e l = rw (le-ltb t (r .trains) (rw (sym e) l))
 
-    module _ (k t : ℕ) (e : k ≡ r .trains) (l : t < k) (h : Bool) (is : t < r .trains → h ≡ held r p t) where
+    module _ (k t : ℕ) (e : k ≡ r .trains) (l : t < k) (f : Bool) (free-as : t < r .trains → f ≡ free r p t) where
       pub is-there : t < r .trains
       is-there = rw (sym e) l
 
-      pub free-may : h ≡ false → true ≡ may (gameOf r) p (settingAt r p v) t
-      unfolding mayMove
-      free-may z = let f : held r p t ≡ false = sym (is is-there) ∙ z in rw (lt-ltb t (r .trains) is-there, f)
+      pub free-may : f ≡ true → true ≡ may (gameOf r) p (settingAt r p v) t
+      free-may z = let a : mayMove r p (settingAt r p v) t ≡ true = may-free r p (settingAt r p v) t (sym (free-as is-there) ∙ z) in rw (lt-ltb t (r .trains) is-there, a)
 
-      pub held-may : (b : Bool) (end : End) (i : ℕ) → h ≡ true → end ≡ headsFor r p t → i ≡ endIndex end → b ≡ settingAt r p v .isOpen i → b ≡ may (gameOf r) p (settingAt r p v) t
-      unfolding mayMove
-      held-may b end i z a d g = let f : held r p t ≡ true = sym (is is-there) ∙ z in rw (lt-ltb t (r .trains) is-there, f) (g ∙ ap (λ (j : ℕ). settingAt r p v .isOpen j) (d ∙ ap endIndex a))
+      module _ (z : f ≡ false) (h : Bool) (held-as : t < r .trains → h ≡ held r p t) where
+        pub held-may : (b : Bool) (end : End) (i : ℕ) → h ≡ true → end ≡ headsFor r p t → i ≡ endIndex end → b ≡ settingAt r p v .isOpen i → b ≡ may (gameOf r) p (settingAt r p v) t
+        held-may b end i y a d g =
+            let m : mayMove r p (settingAt r p v) t ≡ opensFor r p (settingAt r p v) t = may-held r p (settingAt r p v) t (sym (held-as is-there) ∙ y) in
+            rw (lt-ltb t (r .trains) is-there, m) (g ∙ ap (λ (j : ℕ). settingAt r p v .isOpen j) (d ∙ ap endIndex a))
+
+        pub parked-may : h ≡ false → false ≡ may (gameOf r) p (settingAt r p v) t
+        parked-may y =
+            let m : mayMove r p (settingAt r p v) t ≡ false = may-neither r p (settingAt r p v) t (sym (free-as is-there) ∙ z) (sym (held-as is-there) ∙ y) in
+            rw (lt-ltb t (r .trains) is-there, m)
 
   -- WHAT A MOVE ENDS IN.
   module _ (t x : ℕ) where

@@ -8,7 +8,7 @@ use lib.Dec.{ltb, eqb}
 use Rattle.railway.specs.declared.Railway.{Railway}
 use Rattle.railway.specs.Bounds.{mostTrains}
 use Rattle.game.specs.Placement.{standsOn}
-use Rattle.game.specs.Setting.{Setting, held}
+use Rattle.game.specs.Setting.{Setting, held, free}
 use Rattle.compiled.specs.Table.{Compiled}
 use Rattle.placement.specs.declared.Placement.{Placement}
 use Rattle.placement.specs.ByValue.{sectionIn}
@@ -46,6 +46,10 @@ putIn q t x u = cond (ltb t mostTrains) (movedTo q t x u) (sectionIn q u)
 -- Train t is held; one past the most is not.
 abbrev pub heldIn : Railway → ℕ → ℕ → Bool
 heldIn r p t = ltb t mostTrains && held r p t
+
+-- Train t is free; one past the most is not.
+abbrev pub freeIn : Railway → ℕ → ℕ → Bool
+freeIn r p t = ltb t mostTrains && free r p t
 
 -- Train u, another than t, stands on section x.
 abbrev pub otherIn : Placement → ℕ → ℕ → ℕ → Bool

@@ -16,7 +16,7 @@ ghost use Rattle.tables.specs.Entries.{opensIn, opensEnd, settingAt};
 ghost use Rattle.compiled.specs.Table.{pointByte, sectionByte, Compiled};
 ghost use Rattle.placement.specs.ByValue.{sectionIn};
 ghost use Rattle.moves.specs.Answers.{homeCode, ended, moveUnder};
-ghost use Rattle.moves.specs.Steps.{strideOf, codePut, On, movedTo, putIn, heldIn, otherIn, allAt};
+ghost use Rattle.moves.specs.Steps.{strideOf, codePut, On, movedTo, putIn, heldIn, freeIn, otherIn, allAt};
 use compiled::Table;
 use placement::Placement;
 use placement::TRAIN_BITS;
@@ -299,18 +299,28 @@ pub fn may_in(table: &Table, q: Placement, v: u32, t: u8) -> bool
     if compiled::trains_in(table) <= t {
         return false;
     }
+    if free_in(table, q, t) {
+        return true;
+    }
     if held_in(table, q, t) {
         open_in(table, q, v, railway::index_of(end_in(table, q, t)))
     } else {
-        true
+        false
     }
 }
 
-// A signal stands at the end that the train heads for; none does for a train that no railway can have.
+// The train is free: no signal stands at the end that it heads for, and it is not parked. A train that no railway can have is not.
+pub fn free_in(table: &Table, q: Placement, t: u8) -> bool
+    ensures { λ b. ⌜ ((r : Railway) (p : ℕ) → On r p (now (table .entry)) q → b ≡ freeIn r p t) ⌝ }
+{
+    compiled::free_on(table, t, section_at(q, t))
+}
+
+// The train is held: a signal stands at the end that it heads for, and it is not parked. A train that no railway can have is not.
 pub fn held_in(table: &Table, q: Placement, t: u8) -> bool
     ensures { λ b. ⌜ ((r : Railway) (p : ℕ) → On r p (now (table .entry)) q → b ≡ heldIn r p t) ⌝ }
 {
-    compiled::signal_in(table, t, section_at(q, t))
+    compiled::held_on(table, t, section_at(q, t))
 }
 
 // The signal at the section end of this index is open by entry v.

@@ -23,7 +23,7 @@ use Rattle.railway.specs.Record.{joined, hasSignal, legsOf, trainOf, withJoin, 
 use Rattle.railway.specs.Rows.{unknownRow, joinRow, looseRow, placeRow}
 use Rattle.game.specs.Local.{keepsTest}
 use Rattle.game.specs.Placement.{codeOf, sectionsIn, standsOn, startCode, atHome, shared}
-use Rattle.game.specs.Setting.{headsFor, held, mayMove}
+use Rattle.game.specs.Setting.{headsFor, held, mayMove, free, signalOpen}
 use Rattle.game.specs.Moves.{passes, occupied, moveOf}
 use Rattle.railway.specs.Yards.{yardH, lineJ, lineG, lineT, sec, yardA, yardOne, yardTwo}
 use Rattle.tables.specs.Entries.{entryFrom}
@@ -124,6 +124,9 @@ scripts =
     ∷ script yardA 9 ("plan\t2\n" gets 0 ∷ "2\t1\t1\t1\t-\n" gets 0 ∷ "3\t1\t0\t0\t-\n" gets 0 ∷ "2\t3\t2\t0\t-\n" gets 0 ∷ []) 11
     ∷ script yardA 9 ("plan\t2\n" gets 0 ∷ "2\t1\t1\t0\t-\n" gets 0 ∷ "3\t1\t0\t0\t-\n" gets 0 ∷ "2\t3\t2\t0\t+\n" gets 0 ∷ []) 11
     ∷ script yardA 9 ("plan\t2\n" gets 0 ∷ "2\t1\t1\t1\t-\n" gets 0 ∷ "3\t1\t0\t0\t-\n" gets 0 ∷ "1\t3\t9\t0\t-\n" gets 0 ∷ "2\t3\t2\t0\t+\n" gets 0 ∷ []) 11
+    -- a parked train opened, which has no signal to open: on the way, and at home
+    ∷ script yardA 9 ("plan\t2\n" gets 0 ∷ "2\t1\t1\t12\t-\n" gets 0 ∷ "3\t1\t0\t0\t-\n" gets 0 ∷ "2\t3\t2\t0\t+\n" gets 0 ∷ []) 11
+    ∷ script yardA 9 ("plan\t2\n" gets 0 ∷ "2\t1\t1\t1\t-\n" gets 0 ∷ "3\t1\t0\t2\t+\n" gets 0 ∷ "2\t3\t2\t0\t+\n" gets 0 ∷ []) 11
     -- at home, a train opened that has no signal
     ∷ script yardA 9 ("plan\t2\n" gets 0 ∷ "2\t1\t1\t1\t-\n" gets 0 ∷ "3\t1\t0\t1\t-\n" gets 0 ∷ "2\t3\t2\t0\t+\n" gets 0 ∷ []) 11
     -- two trains on a section, in a placement whose only move ends at home; the same plan without it
@@ -146,7 +149,7 @@ scripts =
     ∷ []
 
 as-said : all holds scripts ≡ true
-unfolding all numbers bytes callLines takeLine testPlan caseRefusal tablesShort first unknownRow joinRow looseRow placeRow endAt joined hasSignal legsOf trainOf withJoin withSignal withLegs withTrain allBelow anyBelow sumBelow whichBelow listBelow lowest fromBits any readLine guess fields valueOf sameText spell line digits fits entryFrom codeOf testHolds placementPasses listedSetting keepsTest sectionsIn standsOn startCode atHome shared headsFor held mayMove passes occupied moveOf
+unfolding all numbers bytes callLines takeLine testPlan caseRefusal tablesShort first unknownRow joinRow looseRow placeRow endAt joined hasSignal legsOf trainOf withJoin withSignal withLegs withTrain allBelow anyBelow sumBelow whichBelow listBelow lowest fromBits any readLine guess fields valueOf sameText spell line digits fits entryFrom codeOf testHolds placementPasses listedSetting keepsTest sectionsIn standsOn startCode atHome shared headsFor mayMove free held signalOpen passes occupied moveOf
 as-said = refl
 
 -- THE EMITTER in Yard A, with its tables: the first line, the last line with bytes past it, a buffer that is too short, the end, a place past

@@ -24,7 +24,7 @@ use Rattle.railway.specs.Record.{joined, hasSignal, legsOf, trainOf, withJoin, 
 use Rattle.railway.specs.Rows.{unknownRow, joinRow, looseRow, placeRow}
 use Rattle.game.specs.Local.{keepsTest}
 use Rattle.game.specs.Placement.{codeOf, sectionsIn, placements, standsOn, startCode, atHome, shared}
-use Rattle.game.specs.Setting.{headsFor, held, mayMove}
+use Rattle.game.specs.Setting.{headsFor, held, mayMove, free, signalOpen}
 use Rattle.game.specs.Moves.{passes, occupied, moveOf}
 use Rattle.railway.specs.Yards.{yardA}
 use Rattle.tables.specs.declared.SolverAnswer.the-variants.{Figure}
@@ -115,7 +115,7 @@ pub computed :
     × (testPlan yardA (firstAlone .end) .answer ≡ Refused PlanFault)
     × (Pass ≡ testPlan yardA (handedCalls .end) .answer)
     × (all (λ l. leb (length l) (length widest)) (planTexts yardA figsA setsA) ≡ true)
-unfolding longEnough planTexts planLines lineFor ownTexts othersRefused bytes callLines takeLine testPlan caseRefusal tablesShort first unknownRow joinRow looseRow placeRow endAt joined hasSignal legsOf trainOf withJoin withSignal withLegs withTrain allBelow anyBelow sumBelow whichBelow listBelow fromBits any all readLine guess fields valueOf sameText spell line digits fits entryFrom codeOf testHolds placementPasses listedSetting keepsTest sectionsIn standsOn startCode atHome shared headsFor held mayMove passes occupied moveOf
+unfolding longEnough planTexts planLines lineFor ownTexts othersRefused bytes callLines takeLine testPlan caseRefusal tablesShort first unknownRow joinRow looseRow placeRow endAt joined hasSignal legsOf trainOf withJoin withSignal withLegs withTrain allBelow anyBelow sumBelow whichBelow listBelow fromBits any all readLine guess fields valueOf sameText spell line digits fits entryFrom codeOf testHolds placementPasses listedSetting keepsTest sectionsIn standsOn startCode atHome shared headsFor mayMove free held signalOpen passes occupied moveOf
 computed = (refl, refl, refl, refl, refl, refl, refl, refl)
 
 -- so demand 3 speaks of calls that there are: the emitter's with a buffer for each line, and with one of the most bytes, which is handed on

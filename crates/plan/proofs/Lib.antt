@@ -1,3 +1,4 @@
+pub mod Arrived
 pub mod Reading
 pub mod Lengths
 pub mod Steps

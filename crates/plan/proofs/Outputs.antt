@@ -11,10 +11,10 @@ use Rattle.railway.specs.declared.Railway.{Railway}
 use Rattle.railway.specs.Record.{trainOf, withJoin, withSignal, withLegs, withTrain}
 use Rattle.railway.specs.Rows.{recordRefusal}
 use Rattle.game.specs.Placement.{codeOf, sectionsIn, startCode}
-use Rattle.railway.specs.Yards.{yardA, yardOne, yardOneDown}
+use Rattle.railway.specs.Yards.{yardA, yardALess, yardOne, yardOneDown}
 use Rattle.tables.specs.Tables.{Filled}
 use Rattle.tables.specs.KnownYards.{planA, planOne}
-use Rattle.tables.proofs.KnownYards.{figsA, setsA, zeros, yardA-accepted, yardA-filled, one-filled, one-down-filled, known-figures}
+use Rattle.tables.proofs.KnownYards.{figsA, setsA, zeros, yardA-accepted, yardA-filled, yardALess-filled, one-filled, one-down-filled, known-figures}
 use Rattle.plan.specs.Lines.{spell}
 use Rattle.plan.specs.Text.{lineFor, planLines, planTexts, planText}
 use Rattle.plan.specs.Outputs.{Writes, KnownYardsHold}
@@ -24,9 +24,9 @@ use Rattle.plan.proofs.Plan.{texts-one}
 writes : (r : Railway) (s : String) (figs sets : List ℕ) → recordRefusal r ≡ none → Filled r figs sets → planText r figs sets ≡ bytes s → Writes r (some s)
 writes r s figs sets a f e = λ figs′ sets′ g. ap flatten (texts-one r a figs′ sets′ figs sets g f) ∙ e
 
-computed : (planText yardA figsA setsA ≡ bytes planA) × (planText yardOne (0 ∷ []) zeros ≡ bytes planOne) × (planText yardOneDown (0 ∷ []) zeros ≡ bytes planOne)
+computed : (planText yardA figsA setsA ≡ bytes planA) × (planText yardALess figsA setsA ≡ bytes planA) × (planText yardOne (0 ∷ []) zeros ≡ bytes planOne) × (planText yardOneDown (0 ∷ []) zeros ≡ bytes planOne)
 unfolding flatten bytes planTexts planLines lineFor spell digits line sumBelow whichBelow listBelow sectionsIn startCode codeOf trainOf withJoin withSignal withLegs withTrain
-computed = (refl, refl, refl)
+computed = (refl, refl, refl, refl)
 
 -- FIGURES AND TEXTS
 pub known-yards : KnownYardsHold
@@ -46,10 +46,10 @@ known-yards =
                 (
                   tt,
                   (
-                    tt,
+                    writes yardALess planA figsA setsA (yardALess-filled .0) (yardALess-filled .1) (computed .1),
                     (
-                      writes yardOne planOne (0 ∷ []) zeros (one-filled .0) (one-filled .1) (computed .1),
-                      (writes yardOneDown planOne (0 ∷ []) zeros (one-down-filled .0) (one-down-filled .1) (computed .2), (tt, (tt, (tt, (tt, tt))))),
+                      writes yardOne planOne (0 ∷ []) zeros (one-filled .0) (one-filled .1) (computed .2),
+                      (writes yardOneDown planOne (0 ∷ []) zeros (one-down-filled .0) (one-down-filled .1) (computed .3), (tt, (tt, (tt, (tt, tt))))),
                     ),
                   ),
                 ),

@@ -29,7 +29,7 @@ use Rattle.railway.specs.Yards.{yardA}
 use Rattle.game.specs.Game.{Choice, following, HomeWithin}
 use Rattle.game.specs.Local.{keepsTest}
 use Rattle.game.specs.Placement.{codeOf, sectionsIn, placements, standsOn, startCode, atHome, shared}
-use Rattle.game.specs.Setting.{Setting, headsFor, held, mayMove}
+use Rattle.game.specs.Setting.{Setting, headsFor, held, mayMove, free, signalOpen}
 use Rattle.game.specs.Moves.{passes, occupied, moveOf, gameOf}
 use Rattle.tables.specs.Entries.{entryFrom}
 use Rattle.tables.specs.Tables.{noFigure, tablesShort, caseRefusal}
@@ -209,7 +209,7 @@ abbrev pub otherTexts : String → List (List ℕ)
 otherTexts first = bytes first ∷ bytes "2\t1\t8\t1\t-\n" ∷ bytes "3\t1\t7\t0\t+\n" ∷ bytes "2\t3\t9\t0\t+\n" ∷ []
 
 forms : Form yardA (otherTexts "plan\t9\n") 9 otherLines × Form yardA (otherTexts "plan\t8\n") 8 otherLines × (testHolds yardA 9 (byLines yardA otherLines) ≡ true) × (testHolds yardA 8 (byLines yardA otherLines) ≡ false)
-unfolding bytes all rises spell line digits fits allBelow anyBelow sumBelow whichBelow listBelow codeOf testHolds placementPasses listedSetting lineOn keepsTest sectionsIn standsOn startCode atHome shared headsFor held mayMove passes occupied moveOf joined hasSignal trainOf withJoin withSignal withLegs withTrain
+unfolding bytes all rises spell line digits fits allBelow anyBelow sumBelow whichBelow listBelow codeOf testHolds placementPasses listedSetting lineOn keepsTest sectionsIn standsOn startCode atHome shared headsFor held mayMove signalOpen free passes occupied moveOf joined hasSignal trainOf withJoin withSignal withLegs withTrain
 forms = (record { spelled = refl; fit = refl; rising = refl }, record { spelled = refl; fit = refl; rising = refl }, refl, refl)
 
 passed : Test yardA 9 (byLines yardA otherLines)

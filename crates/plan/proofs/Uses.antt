@@ -21,7 +21,7 @@ use Rattle.railway.specs.Rows.{unknownRow, joinRow, looseRow, placeRow}
 use Rattle.railway.specs.Yards.{yardA, headOn}
 use Rattle.game.specs.Game.{Game, Way, Choice, lostByMove, standing, following, positional, may, home, over, step, play, homeAt, HomeWithin, ComesHome, Position}
 use Rattle.game.specs.Placement.{codeOf, sectionsIn, standsOn, startCode, atHome, shared}
-use Rattle.game.specs.Setting.{Setting, SameSetting, headsFor, held, mayMove}
+use Rattle.game.specs.Setting.{Setting, SameSetting, headsFor, held, mayMove, free, signalOpen}
 use Rattle.game.specs.Moves.{gameOf}
 use Rattle.game.proofs.Turns.{home-over, may-train}
 use Rattle.game.proofs.Figures.{figure-one, ended}
@@ -145,7 +145,7 @@ module _ (a : SolverAnswer) (figs sets : List ℕ) (d : Demand3 yardA a figs set
   -- `plays .one-choice`: at (2, 3) with all signals closed it names train 2, the only one that may move; at (2, 1), where none may, one that is there; the
   -- same under all settings that agree in the yard; and it wins from (1, 3) against every way
   names-two : d .plays .one-choice .named 7 shut ≡ 1
-  unfolding mayMove held headsFor standsOn sectionsIn trainOf hasSignal withJoin withSignal withLegs withTrain
+  unfolding mayMove signalOpen free held headsFor standsOn sectionsIn trainOf hasSignal withJoin withSignal withLegs withTrain
   names-two = go (d .plays .one-choice .named 7 shut) (d .plays .one-choice .moves 7 shut 1 refl)
     where
       go : (t : ℕ) → may (gameOf yardA) 7 shut t ≡ true → t ≡ 1

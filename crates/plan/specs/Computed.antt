@@ -16,7 +16,7 @@ abbrev pub isFigure : ℕ → Option ℕ → Bool
 isFigure m none = false
 isFigure m (some n) = eqb n m
 
--- Train t is closed at placement p, or a signal stands at the end that it heads for.
+-- Train t is closed at placement p, or has a signal to open there.
 abbrev pub trainSignalled : Railway → Listing → ℕ → ℕ → Bool
 trainSignalled r L p t = not (L .opens p t) || held r p t
 

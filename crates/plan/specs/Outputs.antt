@@ -1,5 +1,5 @@
--- What document 01, "Yards to try", says of its yards, as one statement over one table (tables/KnownYards `knownFigures`): the known figures, and the plan
--- texts that it writes out. Assumes nothing.
+-- What document 01, "Yards to try", says of its yards, with parking (document 02, Q-2), as one statement over one table (tables/KnownYards
+-- `knownFigures`): the known figures, and the plan texts that are written out. Assumes nothing.
 use mathlib.Core.Path.{_≡_}
 use mathlib.Core.List.{List, [], _∷_}
 use mathlib.Core.Option.{Option, none, some}

@@ -33,7 +33,7 @@ pub record Test (r : Railway) (m : ℕ) (L : Listing) : Type 0 where
   pub start : L .figure (startCode r) ≡ some m
   -- in a listed placement every train has its section to itself
   pub apart : (p n : ℕ) → p < placements r → L .figure p ≡ some n → shared r p ≡ false
-  -- in a listed placement a train that is opened stands before a signal
+  -- in a listed placement a train that is opened has a signal to open: it is not parked, and one stands ahead of it
   pub signalled : (p n t : ℕ) → p < placements r → L .figure p ≡ some n → t < r .trains → L .opens p t ≡ true → held r p t ≡ true
   -- in a listed placement that is not home somebody may move, and nobody can but to a placement that is listed with a smaller figure
   pub kept : (p n : ℕ) → p < placements r → L .figure p ≡ some n → atHome r p ≡ false → Keeps (gameOf r) (L .figure) p (listedSetting r L p) n

@@ -6,6 +6,6 @@ use Rattle.railway.specs.declared.Railway.{Railway}
 use Rattle.game.specs.Setting.{held}
 use Rattle.tables.specs.Entries.{opensIn}
 
--- Train t is not open in entry v, or a signal stands at the end that it heads for in placement p.
+-- Train t is not open in entry v, or has a signal to open in placement p.
 abbrev pub signalledIn : Railway → ℕ → ℕ → ℕ → Bool
 signalledIn r p v t = not (opensIn v t) || held r p t

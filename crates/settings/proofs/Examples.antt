@@ -14,7 +14,7 @@ use Rattle.laws.specs.Bits.{fromBits}
 use Rattle.railway.specs.Record.{joined, hasSignal, trainOf, withJoin, withSignal, withLegs, withTrain}
 use Rattle.game.specs.Local.{keepsTest}
 use Rattle.game.specs.Placement.{codeOf, sectionsIn, standsOn, shared}
-use Rattle.game.specs.Setting.{headsFor, held, mayMove}
+use Rattle.game.specs.Setting.{headsFor, held, mayMove, free, signalOpen}
 use Rattle.game.specs.Moves.{passes, occupied, moveOf}
 use Rattle.tables.specs.Entries.{settingAt, entryFrom}
 use Rattle.tables.specs.Find.{tryOpen, firstFound, find}
@@ -72,7 +72,7 @@ firsts =
     first yardA ofA 7 2 (some 1)
     ∷ first yardA ofA 7 1 none
     ∷ first yardA ofA 1 1 (some 65536)
-    ∷ first yardALess ofA 1 1 none
+    ∷ first yardALess ofA 1 1 (some 65536)
     ∷ first yardA zeros 6 1 none
     ∷ first yardA zeros 0 1 none
     ∷ first bothFree zeros 3 1 none
@@ -90,5 +90,5 @@ abbrev given : First → Option ℕ
 given x = firstKeeping (x .yard) (figureIn (x .figures)) (x .code) (x .figure)
 
 pub firsts-hold : map given firsts ≡ map (λ x. x .entry) firsts
-unfolding firstKeeping find tryOpen firstFound keepsTest settingAt entryFrom fromBits lowest moveOf passes occupied mayMove held headsFor standsOn sectionsIn codeOf sumBelow trainOf joined hasSignal allBelow anyBelow shared withJoin withSignal withLegs withTrain
+unfolding firstKeeping find tryOpen firstFound keepsTest settingAt entryFrom fromBits lowest moveOf passes occupied mayMove free held signalOpen headsFor standsOn sectionsIn codeOf sumBelow trainOf joined hasSignal allBelow anyBelow shared withJoin withSignal withLegs withTrain
 firsts-hold = refl

@@ -80,35 +80,29 @@ module _ (r : Railway) (p : ℕ) (table : List ℕ) (q : Placement) (on : On r p
         turned false = sym near
 
 -- WHO IS FREE
-module _ (r : Railway) (p t : ℕ) (h : Bool) (is : h ≡ held r p t) where
-  pub free-as : free r p t ≡ not h
-  free-as = ap not (sym is)
-
-  pub free-is : h ≡ false → free r p t ≡ true
-  free-is e = rw (sym is ∙ e)
-
-  pub free-not : h ≡ true → free r p t ≡ false
-  free-not e = rw (sym is ∙ e)
+module _ (r : Railway) (p t : ℕ) (f : Bool) (is : f ≡ free r p t) where
+  pub free-as : {b : Bool} → f ≡ b → free r p t ≡ b
+  free-as e = sym is ∙ e
 
   module _ (F : ℕ → Option ℕ) (n : ℕ) where
-    pub held-fails : h ≡ true → false ≡ failsAtMinus r F p n t
-    held-fails e = rw (free-not e)
+    pub stays-fails : f ≡ false → false ≡ failsAtMinus r F p n t
+    stays-fails e = rw (free-as e)
 
-    pub free-fails : (b : Bool) → h ≡ false → b ≡ endsBelow r F p n false t → not b ≡ failsAtMinus r F p n t
-    free-fails b e g = rw (free-is e, g)
+    pub free-fails : (b : Bool) → f ≡ true → b ≡ endsBelow r F p n false t → not b ≡ failsAtMinus r F p n t
+    free-fails b e g = rw (free-as e, g)
 
-    pub held-good : (bits : ℕ) → h ≡ true → true ≡ goodAtPlus r F p n bits t
-    held-good bits e = rw (free-not e)
+    pub stays-good : (bits : ℕ) → f ≡ false → true ≡ goodAtPlus r F p n bits t
+    stays-good bits e = rw (free-as e)
 
-    module _ (bits x : ℕ) (v : Bool) (met : x ≡ pointMet r p t) (bit-is : v ≡ bit bits x) (e : h ≡ false) where
+    module _ (bits x : ℕ) (v : Bool) (met : x ≡ pointMet r p t) (bit-is : v ≡ bit bits x) (e : f ≡ true) where
       lies : bit bits (pointMet r p t) ≡ v
       lies = rw (← met) (sym bit-is)
 
       pub minus-good : v ≡ false → true ≡ goodAtPlus r F p n bits t
-      minus-good g = rw (free-is e, lies ∙ g)
+      minus-good g = rw (free-as e, lies ∙ g)
 
       pub plus-good : (b : Bool) → v ≡ true → b ≡ endsBelow r F p n true t → b ≡ goodAtPlus r F p n bits t
-      plus-good b g k = rw (free-is e, lies ∙ g, k)
+      plus-good b g k = rw (free-as e, lies ∙ g, k)
 
 -- with no point at plus there is nothing to see
 pub all-at-minus : (r : Railway) (F : ℕ → Option ℕ) (p n bits : ℕ) → bits ≡ 0 → true ≡ allBelow (goodAtPlus r F p n bits) (r .trains)
@@ -160,14 +154,15 @@ module _ (r : Railway) (table : List ℕ) (q : Placement) (c k m : ℕ) (F : ℕ
     module _ (t bits : ℕ) (inv : NeedsTo r m F n p t bits) (b : Bool) (is : b ≡ failsAtMinus r F p n t) where
       -- train t as it is asked: whether it needs a point
       asks : (x : ℕ) → x < mostPoints → needsPlus r F p n (λ u. false) x t ≡ (b && eqb (pointMet r p t) x)
-      asks x l = rw (meets-is r p t x l, is) (turn (free r p t) (eqb (pointMet r p t) x) (endsBelow r F p n false t))
+      asks x l = rw (meets-is r p t x l, is) (turn (free r p t) (held r p t) (eqb (pointMet r p t) x) (endsBelow r F p n false t))
         where
-          turn : (f e g : Bool) → ((f || false) && (e && not g)) ≡ ((f && not g) && e)
-          turn true true true = refl
-          turn true true false = refl
-          turn true false true = refl
-          turn true false false = refl
-          turn false e g = refl
+          turn : (f h e g : Bool) → ((f || h && false) && (e && not g)) ≡ ((f && not g) && e)
+          turn true h true true = refl
+          turn true h true false = refl
+          turn true h false true = refl
+          turn true h false false = refl
+          turn false true e g = refl
+          turn false false e g = refl
 
       next : (x : ℕ) → ((y : ℕ) → y < mostPoints → (b && eqb (pointMet r p t) y) ≡ eqb x y) → withBit bits x m ≡ fromBits (λ y. anyBelow (needsPlus r F p n (λ u. false) y) (t + 1)) m
       unfolding anyBelow

@@ -13,7 +13,7 @@ use lib.Dec.{eqb}
 use borrow.Author.Tests.{lt-ltb, eqb-true, eq-eqb, ne-eqb, not-true}
 use Rattle.laws.specs.Below.{allBelow, anyBelow}
 use Rattle.laws.specs.Bits.{bit, fromBits}
-use Rattle.laws.proofs.Bools.{bool?, option?, lt?, eq?, clash, some-none, some-one, and-true, and-both, same-bool}
+use Rattle.laws.proofs.Bools.{bool?, option?, lt?, eq?, clash, some-none, some-one, and-true, and-both, and-off, same-bool}
 use Rattle.laws.proofs.Below.{all-same, any-same, all-at, all-of, all-but, any-at, any-of, any-false, none-any}
 use Rattle.laws.proofs.Bits.{bits-same, bits-plain, bits-none, bit-none, low-bit}
 use Rattle.railway.specs.declared.Railway.{Railway}
@@ -47,7 +47,7 @@ module _ (r : Railway) (ok : Facts r) (p : ℕ) (apart : shared r p ≡ false) (
   -- A TRY with some trains open
   module _ (opens : ℕ → Bool) where
     abbrev moving : ℕ → Bool
-    moving t = free r p t || opens t
+    moving t = free r p t || held r p t && opens t
 
     -- the points that it puts at plus
     abbrev plusBits : ℕ
@@ -71,7 +71,7 @@ module _ (r : Railway) (ok : Facts r) (p : ℕ) (apart : shared r p ≡ false) (
         let o : fromBits opens (r .trains) < 65536 = bits-small opens (r .trains) (omega (arith, ok .few-trains)) in
         rw (entry-is, z) (sym (bit-high (plusBits + 65536 * fromBits opens (r .trains)) noByte (omega (arith, plus-small)) (omega arith)) ∙ bit-high plusBits noByte (omega (arith, plus-small)) (omega arith))
 
-    may-is : (t : ℕ) → t < r .trains → may (gameOf r) p (settingAt r p (metEntry r F p n opens)) t ≡ (free r p t || opens t)
+    may-is : (t : ℕ) → t < r .trains → may (gameOf r) p (settingAt r p (metEntry r F p n opens)) t ≡ (free r p t || held r p t && opens t)
     unfolding metEntry
     may-is t l = rw (lt-ltb t (r .trains) l) (setting-may r p apart (ok .few-points) (somePlus r F p n opens) opens t l)
 
@@ -92,14 +92,14 @@ module _ (r : Railway) (ok : Facts r) (p : ℕ) (apart : shared r p ≡ false) (
 
     -- it keeps the figure if somebody may move and all who may end below it
     abbrev goodIf : ℕ → Bool
-    goodIf t = not (free r p t || opens t) || good t
+    goodIf t = not (free r p t || held r p t && opens t) || good t
 
-    keeps-is : entryKeeps r F p n (metEntry r F p n opens) ≡ (anyBelow (λ t. free r p t || opens t) (r .trains) && allBelow goodIf (r .trains))
+    keeps-is : entryKeeps r F p n (metEntry r F p n opens) ≡ (anyBelow (λ t. free r p t || held r p t && opens t) (r .trains) && allBelow goodIf (r .trains))
     unfolding keepsTest
     keeps-is =
-        let a : anyBelow (may (gameOf r) p tried) (r .trains) ≡ anyBelow (λ t. free r p t || opens t) (r .trains) = any-same _ _ (r .trains) may-is in
+        let a : anyBelow (may (gameOf r) p tried) (r .trains) ≡ anyBelow (λ t. free r p t || held r p t && opens t) (r .trains) = any-same _ _ (r .trains) may-is in
         let g : allBelow (goesBelow (gameOf r) F p tried n) (r .trains) ≡ allBelow goodIf (r .trains) =
-        all-same _ _ (r .trains) (λ t l. ap (λ (x : Bool). not x || isBelow n (figureOf F (moveOf r p tried t))) (may-is t l) ∙ ap (λ (x : Bool). not (free r p t || opens t) || x) (good-is t)) in
+        all-same _ _ (r .trains) (λ t l. ap (λ (x : Bool). not x || isBelow n (figureOf F (moveOf r p tried t))) (may-is t l) ∙ ap (λ (x : Bool). not (free r p t || held r p t && opens t) || x) (good-is t)) in
         rw (a, g)
 
     try-found : entryKeeps r F p n (metEntry r F p n opens) ≡ true → tryMet r F p n opens ≡ some (metEntry r F p n opens)
@@ -111,7 +111,7 @@ module _ (r : Railway) (ok : Facts r) (p : ℕ) (apart : shared r p ≡ false) (
     try-none e = rw e
 
     -- the point of a train that may move and does not end below n at minus is at plus
-    needed-lies : (t : ℕ) → t < r .trains → (free r p t || opens t) ≡ true → endsBelow r F p n false t ≡ false → pointMet r p t < r .points → bit (fromBits (somePlus r F p n opens) (r .points)) (pointMet r p t) ≡ true
+    needed-lies : (t : ℕ) → t < r .trains → (free r p t || held r p t && opens t) ≡ true → endsBelow r F p n false t ≡ false → pointMet r p t < r .points → bit (fromBits (somePlus r F p n opens) (r .points)) (pointMet r p t) ≡ true
     needed-lies t l e g m =
         let x : ℕ = pointMet r p t in
         let meets : meetsPoint r p t x ≡ true = meets-is r p t x (omega (arith, ok .few-points)) ∙ eq-eqb x x refl in
@@ -129,7 +129,7 @@ module _ (r : Railway) (ok : Facts r) (p : ℕ) (apart : shared r p ≡ false) (
             let w = any-at (free r p) (r .trains) some-free in
             let o : Setting = settingAt r p (x .0) in
             let kept : Keeps (gameOf r) F p o n = find-sound r F p n (x .0) (x .1) in
-            let c = try-finds r F p n (λ t. false) (pointBits r o) (closed-small r ok p F n o kept) (keeps-closed r ok p F n o kept (w .0) (w .1) (not-true (held r p (w .0)) (w .2))) in
+            let c = try-finds r F p n (λ t. false) (pointBits r o) (closed-small r ok p F n o kept) (keeps-closed r ok p F n o kept (w .0) (w .1) (w .2)) in
             some-none (met-try r ok p apart F n (λ t. false) ∙ c .1 .found) e
       ]
     ]
@@ -140,12 +140,13 @@ module _ (r : Railway) (ok : Facts r) (p : ℕ) (apart : shared r p ≡ false) (
     closed-entry : metEntry r F p n (λ t. false) ≡ fromBits (somePlus r F p n (λ t. false)) (r .points)
     closed-entry = entry-is (λ t. false) ∙ (let z : 0 ≡ fromBits (λ t. false) (r .trains) = bits-none (r .trains) in rw (← z) (omega arith))
 
-    free-moving : anyBelow (λ t. free r p t || false) (r .trains) ≡ true
-    free-moving = any-same (λ t. free r p t || false) (free r p) (r .trains) (λ t l. off (free r p t)) ∙ some-free
+    free-moving : anyBelow (λ t. free r p t || held r p t && false) (r .trains) ≡ true
+    free-moving = any-same (λ t. free r p t || held r p t && false) (free r p) (r .trains) (λ t l. off (free r p t) (held r p t)) ∙ some-free
       where
-        off : (b : Bool) → (b || false) ≡ b
-        off true = refl
-        off false = refl
+        off : (b h : Bool) → (b || h && false) ≡ b
+        off true h = refl
+        off false true = refl
+        off false false = refl
 
     -- a train that fails however its points lie
     fails-closed : (t : ℕ) → t < r .trains → failsAnyway r F p n t ≡ true → entryKeeps r F p n (metEntry r F p n (λ t. false)) ≡ false
@@ -155,7 +156,7 @@ module _ (r : Railway) (ok : Facts r) (p : ℕ) (apart : shared r p ≡ false) (
         let far : pointMet r p t ≡ noByte = eqb-true (pointMet r p t) noByte (a .1) in
         let out : bit (plusBits (λ t. false)) (pointMet r p t) ≡ false = rw far (bit-past (plusBits (λ t. false)) (plus-small (λ t. false))) in
         let bad : goodIf (λ t. false) t ≡ false = rw (b .0, out) (not-true (endsBelow r F p n false t) (b .1)) in
-        keeps-is (λ t. false) ∙ (rw (sym (all-but (goodIf (λ t. false)) (r .trains) t l bad)) (off (anyBelow (λ t. free r p t || false) (r .trains))))
+        keeps-is (λ t. false) ∙ (rw (sym (all-but (goodIf (λ t. false)) (r .trains) t l bad)) (off (anyBelow (λ t. free r p t || held r p t && false) (r .trains))))
       where
         bit-past : (b : ℕ) → b < 65536 → bit b noByte ≡ false
         bit-past b l = sym (bit-high b noByte (omega arith) (omega arith))
@@ -167,7 +168,7 @@ module _ (r : Railway) (ok : Facts r) (p : ℕ) (apart : shared r p ≡ false) (
     -- no such train: what is left to see is who has a point at plus
     none-fails-good : anyBelow (failsAnyway r F p n) (r .trains) ≡ false → (t : ℕ) → t < r .trains → goodIf (λ t. false) t ≡ goodAtPlus r F p n (plusBits (λ t. false)) t
     none-fails-good none-lost t l = elim (bool? (free r p t)) [
-      | inr f ↦ rw f
+      | inr f ↦ rw (f, and-off (held r p t))
       | inl f ↦ elim (bool? (bit (plusBits (λ t. false)) (pointMet r p t))) [
         | inl e ↦ rw (f, e)
         | inr e ↦ rw (f, e) (below f e)
@@ -215,16 +216,29 @@ module _ (r : Railway) (ok : Facts r) (p : ℕ) (apart : shared r p ≡ false) (
   -- NO TRAIN FREE: with no signal open nobody may move
   module _ (none-free : anyBelow (free r p) (r .trains) ≡ false) where
     pub closed-none : none ≡ tryMet r F p n (λ t. false)
-    closed-none = sym (try-none (λ t. false) (keeps-is (λ t. false) ∙ (rw (none-any (λ t. free r p t || false) (r .trains) (λ t l. rw (any-false (free r p) (r .trains) none-free t l))))))
+    closed-none = sym (try-none (λ t. false) (keeps-is (λ t. false) ∙ (rw (none-any (λ t. free r p t || held r p t && false) (r .trains) (λ t l. rw (any-false (free r p) (r .trains) none-free t l, and-off (held r p t)))))))
+
+    -- a parked train has nothing to open
+    pub open-parked : (u : ℕ) → held r p u ≡ false → none ≡ tryMet r F p n (eqb u)
+    open-parked u h = sym (try-none (eqb u) (keeps-is (eqb u) ∙ (rw (none-any (λ t. free r p t || held r p t && eqb u t) (r .trains) (λ t l. nobody t l)))))
+      where
+        nobody : (t : ℕ) → t < r .trains → (free r p t || held r p t && eqb u t) ≡ false
+        nobody t l = rw (any-false (free r p) (r .trains) none-free t l) (elim (bool? (eqb u t)) [
+          | inl z ↦ let e : u ≡ t = eqb-true u t z in rw (← e, h)
+          | inr z ↦ rw z (and-off (held r p t))
+        ])
 
     -- with one train open all hangs on that train
-    module _ (u : ℕ) (there : u < r .trains) where
-      alone : (t : ℕ) → t < r .trains → (free r p t || eqb u t) ≡ eqb u t
-      alone t l = rw (any-false (free r p) (r .trains) none-free t l)
+    module _ (u : ℕ) (there : u < r .trains) (its : held r p u ≡ true) where
+      alone : (t : ℕ) → t < r .trains → (free r p t || held r p t && eqb u t) ≡ eqb u t
+      alone t l = rw (any-false (free r p) (r .trains) none-free t l) (elim (bool? (eqb u t)) [
+        | inl z ↦ let e : u ≡ t = eqb-true u t z in rw (z, ← e, its)
+        | inr z ↦ rw z (and-off (held r p t))
+      ])
 
       one-keeps : entryKeeps r F p n (metEntry r F p n (eqb u)) ≡ good (eqb u) u
       one-keeps =
-          let a : anyBelow (λ t. free r p t || eqb u t) (r .trains) ≡ true = any-of (λ t. free r p t || eqb u t) (r .trains) u there (alone u there ∙ eq-eqb u u refl) in
+          let a : anyBelow (λ t. free r p t || held r p t && eqb u t) (r .trains) ≡ true = any-of (λ t. free r p t || held r p t && eqb u t) (r .trains) u there (alone u there ∙ eq-eqb u u refl) in
           keeps-is (eqb u) ∙ (rw a (same-bool (allBelow (goodIf (eqb u)) (r .trains)) (good (eqb u) u) to from))
         where
           mine : goodIf (eqb u) u ≡ good (eqb u) u
@@ -246,12 +260,12 @@ module _ (r : Railway) (ok : Facts r) (p : ℕ) (apart : shared r p ≡ false) (
           to : somePlus r F p n (eqb u) x ≡ true → (eqb (pointMet r p u) x && not (endsBelow r F p n false u)) ≡ true
           to e =
               let w = any-at (needsPlus r F p n (eqb u) x) (r .trains) e in
-              let a = and-true (free r p (w .0) || eqb u (w .0)) _ (w .2) in
+              let a = and-true (free r p (w .0) || held r p (w .0) && eqb u (w .0)) _ (w .2) in
               let z : u ≡ w .0 = eqb-true u (w .0) (sym (alone (w .0) (w .1)) ∙ a .0) in
               rw z (rw (meets-is r p (w .0) x l) at (a .1))
 
           from : (eqb (pointMet r p u) x && not (endsBelow r F p n false u)) ≡ true → somePlus r F p n (eqb u) x ≡ true
-          from e = any-of (needsPlus r F p n (eqb u) x) (r .trains) u there (and-both (free r p u || eqb u u) _ (alone u there ∙ eq-eqb u u refl) (rw (meets-is r p u x l) e))
+          from e = any-of (needsPlus r F p n (eqb u) x) (r .trains) u there (and-both (free r p u || held r p u && eqb u u) _ (alone u there ∙ eq-eqb u u refl) (rw (meets-is r p u x l) e))
 
       open-entry : (b : ℕ) → b ≡ fromBits (somePlus r F p n (eqb u)) (r .points) → b + 65536 * 2 ^ u ≡ metEntry r F p n (eqb u)
       open-entry b e = (rw (e, ← (one-bit u (r .trains) there))) ∙ sym (entry-is (eqb u))

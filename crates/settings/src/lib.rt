@@ -7,7 +7,7 @@ ghost use lib.Dec.{eqb};
 ghost use Rattle.laws.specs.Below.{anyBelow, allBelow};
 ghost use Rattle.railway.specs.declared.Railway.{Railway};
 ghost use Rattle.railway.specs.Bounds.{mostPoints, mostTrains};
-ghost use Rattle.game.specs.Setting.{free};
+ghost use Rattle.game.specs.Setting.{held, free};
 ghost use Rattle.tables.specs.Tables.{figureIn};
 ghost use Rattle.tables.specs.Find.{tryMet, findMet};
 ghost use Rattle.compiled.specs.Table.{Compiled};
@@ -68,7 +68,7 @@ fn some_free(table: &Table, q: Placement, k: u8) -> bool
 {
     let mut t: u8 = 0;
     while t < k {
-        if !moves::held_in(table, q, t) {
+        if moves::free_in(table, q, t) {
             return true;
         }
         t += 1;
@@ -141,10 +141,11 @@ fn plus_bits(table: &Table, figures: &[u32], q: Placement, c: u32, n: u32, k: u8
 fn needs_plus(table: &Table, figures: &[u32], q: Placement, c: u32, n: u32, t: u8) -> bool
     ensures { λ b. ⌜ ((r : Railway) (p : ℕ) → On r p (now (table .entry)) q → c ≡ codeOn r (sectionIn q) → t < r .trains → b ≡ failsAtMinus r (figureIn (now (figures .entry))) p n t) ⌝ }
 {
-    if moves::held_in(table, q, t) {
-        return false;
+    if moves::free_in(table, q, t) {
+        !ends_below(table, figures, q, c, n, t, false)
+    } else {
+        false
     }
-    !ends_below(table, figures, q, c, n, t, false)
 }
 
 // A number of k bits with bit x set.
@@ -187,7 +188,7 @@ fn plus_holds(
     true
 }
 
-// Train t is held, or its point is not among these, or its move ends below the figure with the point at plus.
+// Train t is not free, or its point is not among these, or its move ends below the figure with the point at plus.
 fn good_at_plus(
     table: &Table,
     figures: &[u32],
@@ -199,12 +200,13 @@ fn good_at_plus(
 ) -> bool
     ensures { λ b. ⌜ ((r : Railway) (p : ℕ) → On r p (now (table .entry)) q → c ≡ codeOn r (sectionIn q) → t < r .trains → b ≡ goodAtPlus r (figureIn (now (figures .entry))) p n bits t) ⌝ }
 {
-    if moves::held_in(table, q, t) {
-        return true;
-    }
-    let x = moves::point_in(table, q, t);
-    if placement::bit_at(bits, x as u32) {
-        ends_below(table, figures, q, c, n, t, true)
+    if moves::free_in(table, q, t) {
+        let x = moves::point_in(table, q, t);
+        if placement::bit_at(bits, x as u32) {
+            ends_below(table, figures, q, c, n, t, true)
+        } else {
+            true
+        }
     } else {
         true
     }
@@ -226,10 +228,22 @@ fn open_one(table: &Table, figures: &[u32], q: Placement, c: u32, n: u32, k: u8,
     Found::Nothing
 }
 
-// Train u open, and its point as it needs it, if that keeps the figure.
+// Train u open, if it is held; a parked train has nothing to open.
 fn open_train(table: &Table, figures: &[u32], q: Placement, c: u32, n: u32, m: u8, u: u8) -> Found
     requires { ⌜ (u < mostTrains) × (m ≤ mostPoints) ⌝ }
     ensures { λ f. ⌜ ((r : Railway) (p : ℕ) → Asked r p (now (table .entry)) q c (r .trains) m → anyBelow (free r p) (r .trains) ≡ false → u < r .trains → entryFound f ≡ tryMet r (figureIn (now (figures .entry))) p n (eqb u)) ⌝ }
+{
+    if moves::held_in(table, q, u) {
+        open_held(table, figures, q, c, n, m, u)
+    } else {
+        Found::Nothing
+    }
+}
+
+// A held train u open, and its point as it needs it, if that keeps the figure.
+fn open_held(table: &Table, figures: &[u32], q: Placement, c: u32, n: u32, m: u8, u: u8) -> Found
+    requires { ⌜ (u < mostTrains) × (m ≤ mostPoints) ⌝ }
+    ensures { λ f. ⌜ ((r : Railway) (p : ℕ) → Asked r p (now (table .entry)) q c (r .trains) m → anyBelow (free r p) (r .trains) ≡ false → u < r .trains → held r p u ≡ true → entryFound f ≡ tryMet r (figureIn (now (figures .entry))) p n (eqb u)) ⌝ }
 {
     let open = FIRST_TRAIN * (1u32 << u);
     if ends_below(table, figures, q, c, n, u, false) {

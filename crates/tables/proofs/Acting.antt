@@ -14,10 +14,10 @@ use Rattle.railway.specs.Rows.{recordRefusal}
 use Rattle.game.specs.Game.{may}
 use Rattle.game.specs.Claim.{Alike}
 use Rattle.game.specs.Placement.{shared}
-use Rattle.game.specs.Setting.{Setting, held, mayMove, signalOpen}
+use Rattle.game.specs.Setting.{Setting, held, free, mayMove, signalOpen}
 use Rattle.game.specs.Moves.{gameOf}
 use Rattle.game.proofs.Accepted.{facts}
-use Rattle.game.proofs.Agreeing.{may-free, may-held, move-same}
+use Rattle.game.proofs.Agreeing.{may-free, may-held, may-neither, move-same}
 use Rattle.tables.specs.Entries.{trainBits, settingAt, entryOf, EntryActs}
 use Rattle.tables.proofs.Entries.{setting-plus, setting-may}
 
@@ -27,9 +27,12 @@ module _ (r : Railway) (accepted : recordRefusal r ≡ none) (p : ℕ) (apart : 
 
   may-entry : (t : ℕ) → t < r .trains → mayMove r p (settingAt r p (entryOf r p s)) t ≡ mayMove r p s t
   unfolding signalOpen
-  may-entry t l = setting-may r p apart few (s .plus) (signalOpen r p s) t l ∙ elim (bool? (held r p t)) [
-    | inl h ↦ rw h (sym (may-held r p s t h))
-    | inr h ↦ rw h (sym (may-free r p s t h))
+  may-entry t l = setting-may r p apart few (s .plus) (signalOpen r p s) t l ∙ elim (bool? (free r p t)) [
+    | inl f ↦ rw f (sym (may-free r p s t f))
+    | inr f ↦ elim (bool? (held r p t)) [
+      | inl h ↦ rw (f, h) (sym (may-held r p s t h))
+      | inr h ↦ rw (f, h) (sym (may-neither r p s t f h))
+    ]
   ]
 
   same : (t : ℕ) → may (gameOf r) p s t ≡ may (gameOf r) p (settingAt r p (entryOf r p s)) t

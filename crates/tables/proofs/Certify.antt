@@ -153,7 +153,7 @@ module _ (r : Railway) (accepted : recordRefusal r â‰¡ none) (figs sets : List â
     entry none v (is-lost s) = refl
     entry none v (no-figure s h x) = refl
     entry (some f) v (is-home s h) = refl
-    entry (some f) v (has-figure j w s h x y) = let b : Best r ok p F (suc j) v = find-best r ok p F (suc j) v x in (b .plans, b .itself s)
+    entry (some f) v (has-figure j w s h x y) = let b : Best r ok p F (suc j) v = find-best r ok p F (suc j) s v x in (b .plans, b .itself)
 
   certified-solved : Solved (gameOf r) (figureIn figs) (settingIn r sets)
   certified-solved =

@@ -23,7 +23,7 @@ use Rattle.railway.specs.Ends.{endIndex}
 use Rattle.railway.proofs.Ends.{index-one, numbered-of}
 use Rattle.game.specs.Placement.{standsOn, standsWith, sharesLower, shared}
 use Rattle.game.specs.Setting.{headsFor, held, free, opensFor, mayMove, signalOpen}
-use Rattle.game.proofs.Agreeing.{held-flag, may-free, may-held}
+use Rattle.game.proofs.Agreeing.{held-flag}
 use Rattle.tables.specs.Entries.{trainBits, opensIn, opensEnd, settingAt, entryFrom, entryOf}
 -- (Examples is named so that it is checked before: a wrong definition then shows at a computed value.)
 use Rattle.tables.proofs.Examples as Examples
@@ -114,16 +114,14 @@ module _ (r : Railway) (p : ℕ) where
         ]) ∙ sym y
       ]
 
-      -- who may move: the free trains and the open ones
-      pub setting-may : (t : ℕ) → t < r .trains → mayMove r p (settingAt r p (entryFrom r plus opens)) t ≡ (free r p t || opens t)
-      setting-may t l = elim (bool? (held r p t)) [
-        | inl y ↦ may-held r p (settingAt r p (entryFrom r plus opens)) t y ∙ setting-for t l y ∙ rw y
-        | inr y ↦ may-free r p (settingAt r p (entryFrom r plus opens)) t y ∙ rw y
-      ]
-
       pub setting-signal : (t : ℕ) → t < r .trains → signalOpen r p (settingAt r p (entryFrom r plus opens)) t ≡ (held r p t && opens t)
       unfolding signalOpen
       setting-signal t l = elim (bool? (held r p t)) [ inl y ↦ rw y (setting-for t l y) | inr y ↦ rw y ]
+
+      -- who may move: the free trains, and the held ones that are open
+      pub setting-may : (t : ℕ) → t < r .trains → mayMove r p (settingAt r p (entryFrom r plus opens)) t ≡ (free r p t || held r p t && opens t)
+      unfolding mayMove
+      setting-may t l = ap (λ (b : Bool). free r p t || b) (setting-signal t l)
 
       pub entry-again : ((t : ℕ) → t < r .trains → opens t ≡ true → held r p t ≡ true) → entryOf r p (settingAt r p (entryFrom r plus opens)) ≡ entryFrom r plus opens
       entry-again h =

@@ -23,7 +23,7 @@ use Rattle.tables.proofs.Unique.{plan-one}
 
 module _ (r : Railway) (accepted : recordRefusal r ≡ none) (p : ℕ) (apart : shared r p ≡ false) (F : ℕ → Option ℕ) (n : ℕ) where
   planned : (v : ℕ) → find r F p n ≡ some v → Planned r F p n v
-  planned v e = let b : Best r (facts r accepted) p F n v = find-best r (facts r accepted) p F n v e in (b .plans, b .itself apart)
+  planned v e = let b : Best r (facts r accepted) p F n v = find-best r (facts r accepted) p F n apart v e in (b .plans, b .itself)
 
   found : (v : ℕ) → Planned r F p n v → find r F p n ≡ some v
   found v x =

@@ -22,7 +22,7 @@ use Rattle.game.specs.Game.{Outcome, lost, derailment, at as reaches}
 use Rattle.game.specs.Placement.{codeOf, sectionsIn, standsOn}
 use Rattle.game.specs.Setting.{Setting, headsFor, held, signalOpen}
 use Rattle.game.specs.Moves.{passes, occupied, moveOf}
-use Rattle.railway.specs.Yards.{yardH, lineP, lineJ, lineG, lineT, sec, port, yardA}
+use Rattle.railway.specs.Yards.{yardH, lineP, lineJ, lineG, lineT, sec, port, yardA, headOn}
 use Rattle.tables.specs.declared.SolverAnswer.the-variants.{Refused, Unsolvable, Figure}
 use Rattle.tables.specs.Entries.{settingAt, entryFrom, entryOf}
 use Rattle.tables.specs.Tables.{figureIn, tablesShort, caseRefusal, openSignals, lowestOpen, pointBits, noLater}
@@ -51,7 +51,8 @@ refusals :
 unfolding caseRefusal tablesShort first unknownRow joinRow looseRow placeRow endAt joined hasSignal legsOf trainOf withJoin withSignal withLegs withTrain anyBelow
 refusals = (refl, refl, refl, refl, refl, refl, refl, refl, refl, refl)
 
--- ENTRIES AND FIGURES. In Yard A's placement of code 1 both trains are held, in that of code 7 train 2 is free.
+-- ENTRIES AND FIGURES. In Yard A's placement of code 1 train 1 is held and train 2 parked, in that of code 7 train 2 is free; head on, in
+-- that of code 2, both are held.
 abbrev at : ℕ → ℕ → Setting
 at p v = settingAt yardA p v
 
@@ -66,14 +67,16 @@ firstOpen = record { plus = λ n. false; isOpen = λ i. eqb i 0 }
 entries :
     (entryFrom yardA (λ n. true) (eqb 1) ≡ 131073)
     × (entryOf yardA 1 (at 1 65536) ≡ 65536)
-    × (entryOf yardA 1 (at 1 131073) ≡ 131073)
-    × (entryOf yardA 1 allOpen ≡ 196608)
+    × (entryOf yardA 1 (at 1 131073) ≡ 1)
+    × (entryOf headOn 2 (settingAt headOn 2 131072) ≡ 131072)
+    × (entryOf yardA 1 allOpen ≡ 65536)
+    × (entryOf headOn 2 allOpen ≡ 196608)
     × (entryOf yardA 7 firstOpen ≡ 0)
     × (openSignals yardA allOpen ≡ 2)
     × (openSignals yardA firstOpen ≡ 1)
     × (openSignals yardA (at 1 1) ≡ 0)
     × (lowestOpen yardA 1 allOpen ≡ 0)
-    × (lowestOpen yardA 1 firstOpen ≡ 1)
+    × (lowestOpen yardA 1 firstOpen ≡ 2)
     × (lowestOpen yardA 7 firstOpen ≡ 2)
     × (figureIn (0 ∷ []) 0 ≡ some 0)
     × (figureIn (0 ∷ []) 1 ≡ none)
@@ -81,7 +84,7 @@ entries :
     × (upTo 2 (some 3) ≡ none)
     × (upTo 3 (some 3) ≡ some 3)
 unfolding settingAt entryFrom openSignals lowestOpen signalOpen held hasSignal headsFor standsOn sectionsIn trainOf withJoin withSignal withLegs withTrain anyBelow countBelow lowest fromBits
-entries = (refl, refl, refl, refl, refl, refl, refl, refl, refl, refl, refl, refl, refl, refl, refl, refl)
+entries = (refl, refl, refl, refl, refl, refl, refl, refl, refl, refl, refl, refl, refl, refl, refl, refl, refl, refl)
 
 -- THE PLAN'S ORDER in the placement of code 1: fewer signals before all else, the lowest train before point bits, then the smallest of these
 abbrev before : ℕ → ℕ → Bool

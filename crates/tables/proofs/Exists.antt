@@ -79,9 +79,9 @@ module _ (r : Railway) (accepted : recordRefusal r ≡ none) where
       let away : home (gameOf r) p ≡ false = not-true (home (gameOf r) p) (λ y. let z : _≡_ {A = Option ℕ} (some (suc n)) (some 0) = sym e ∙ agrees .home-zero p l y in let w : suc n ≡ 0 = cc in omega arith) in
       let apart : shared r p ≡ false = not-true (shared r p) (λ y. some-none e (agrees .lost-none p l y)) in
       let x : (v : ℕ) × (find r G p (suc n) ≡ some v) = find-complete r G p (suc n) ok (settingAt r p (W p)) (agrees .kept p (suc n) l e away) in
-      let b : Best r ok p G (suc n) (x .0) = find-best r ok p G (suc n) (x .0) (x .1) in
+      let b : Best r ok p G (suc n) (x .0) = find-best r ok p G (suc n) apart (x .0) (x .1) in
       let v : W p ≡ x .0 = entry-found p (suc n) (x .0) e (x .1) in
-      rw v (b .plans, b .itself apart)
+      rw v (b .plans, b .itself)
 
   pub solution : Solution r
   solution =

@@ -2,20 +2,20 @@
 -- end. So of a setting that keeps a figure any part of the open signals keeps it too, as long as some train may still move: where a train
 -- is free no signal need be open, and else that of one train is enough. Assumes nothing.
 use mathlib.Core.Path.{_≡_, refl, sym, _∙_}
-use mathlib.Core.Logic.{_⊎_, inl, inr}
+use mathlib.Core.Logic.{_⊎_}
 use mathlib.Core.Bool.{Bool, true, false}
 use mathlib.Core.Option.{Option}
 use Prim.Native.Nat.{ℕ, _^_, _<_}
 use lib.Dec.{ltb, eqb}
-use borrow.Author.Tests.{lt-ltb, eqb-true, eq-eqb, not-true}
+use borrow.Author.Tests.{lt-ltb, eqb-true, eq-eqb}
 use Rattle.laws.specs.Bits.{bit}
-use Rattle.laws.proofs.Bools.{clash, either, or-right, and-both}
+use Rattle.laws.proofs.Bools.{clash, either, or-right, and-true, and-both}
 use Rattle.laws.proofs.Bits.{bits-plain, bits-below}
 use Rattle.railway.specs.declared.Railway.{Railway}
 use Rattle.railway.specs.Ends.{endIndex}
 use Rattle.game.specs.Game.{may}
 use Rattle.game.specs.Claim.{Keeps}
-use Rattle.game.specs.Setting.{Setting, headsFor, held, free, opensFor, mayMove}
+use Rattle.game.specs.Setting.{Setting, headsFor, held, free, opensFor, mayMove, signalOpen}
 use Rattle.game.specs.Moves.{gameOf}
 use Rattle.game.proofs.Turns.{may-train, may-allowed}
 use Rattle.game.proofs.Accepted.{Facts}
@@ -30,16 +30,16 @@ FewerOpen s o = (i : ℕ) → s .isOpen i ≡ true → o .isOpen i ≡ true
 
 -- WHO MAY MOVE: a free train, and one whose signal is open
 module _ (r : Railway) (p : ℕ) where
-  pub may-cases : (s : Setting) (t : ℕ) → may (gameOf r) p s t ≡ true → (held r p t ≡ false) ⊎ (opensFor r p s t ≡ true)
+  pub may-cases : (s : Setting) (t : ℕ) → may (gameOf r) p s t ≡ true → (free r p t ≡ true) ⊎ (signalOpen r p s t ≡ true)
   unfolding mayMove
-  may-cases s t m = elim (either (free r p t) (opensFor r p s t) (may-allowed (gameOf r) p s t m)) [ inl f ↦ inl (not-true (held r p t) f) | inr y ↦ inr y ]
+  may-cases s t m = either (free r p t) (signalOpen r p s t) (may-allowed (gameOf r) p s t m)
 
-  pub free-may : (s : Setting) (t : ℕ) → t < r .trains → held r p t ≡ false → may (gameOf r) p s t ≡ true
+  pub free-may : (s : Setting) (t : ℕ) → t < r .trains → free r p t ≡ true → may (gameOf r) p s t ≡ true
   free-may s t l e = and-both (ltb t (r .trains)) (mayMove r p s t) (lt-ltb t (r .trains) l) (may-free r p s t e)
 
-  pub open-may : (s : Setting) (t : ℕ) → t < r .trains → opensFor r p s t ≡ true → may (gameOf r) p s t ≡ true
+  pub open-may : (s : Setting) (t : ℕ) → t < r .trains → signalOpen r p s t ≡ true → may (gameOf r) p s t ≡ true
   unfolding mayMove
-  open-may s t l e = and-both (ltb t (r .trains)) (mayMove r p s t) (lt-ltb t (r .trains) l) (or-right (free r p t) (opensFor r p s t) e)
+  open-may s t l e = and-both (ltb t (r .trains)) (mayMove r p s t) (lt-ltb t (r .trains) l) (or-right (free r p t) (signalOpen r p s t) e)
 
   pub more-may : (s o : Setting) → FewerOpen s o → (t : ℕ) → may (gameOf r) p s t ≡ true → may (gameOf r) p o t ≡ true
   more-may s o fewer t m =
@@ -61,14 +61,16 @@ module _ (r : Railway) (ok : Facts r) (p : ℕ) (F : ℕ → Option ℕ) (n : �
     same-points : (opens : ℕ → Bool) → SamePoints r (settingAt r p (entryFrom r (bit (pointBits r o)) opens) .plus) (o .plus)
     same-points opens i l = setting-plus r (ok .few-points) (bit (pointBits r o)) opens p i l ∙ bits-plain (o .plus) (r .points) i l
 
-    pub keeps-closed : (t : ℕ) → t < r .trains → held r p t ≡ false → Keeps (gameOf r) F p (settingAt r p (entryFrom r (bit (pointBits r o)) (λ u. false))) n
+    pub keeps-closed : (t : ℕ) → t < r .trains → free r p t ≡ true → Keeps (gameOf r) F p (settingAt r p (entryFrom r (bit (pointBits r o)) (λ u. false))) n
     keeps-closed t l f =
         let s : Setting = settingAt r p (entryFrom r (bit (pointBits r o)) (λ u. false)) in
         keeps-fewer s o (same-points (λ u. false)) (λ i y. clash y (closed-open r (ok .few-points) (bit (pointBits r o)) p i)) t (free-may r p s t l f) k
 
-    pub keeps-one : (t : ℕ) → t < r .trains → opensFor r p o t ≡ true → Keeps (gameOf r) F p (settingAt r p (entryFrom r (bit (pointBits r o)) (eqb t))) n
+    pub keeps-one : (t : ℕ) → t < r .trains → signalOpen r p o t ≡ true → Keeps (gameOf r) F p (settingAt r p (entryFrom r (bit (pointBits r o)) (eqb t))) n
+    unfolding signalOpen
     keeps-one t l e =
+        let h = and-true (held r p t) (opensFor r p o t) e in
         let s : Setting = settingAt r p (entryFrom r (bit (pointBits r o)) (eqb t)) in
         let one : (i : ℕ) → s .isOpen i ≡ eqb i (endIndex (headsFor r p t)) = one-open r (ok .few-points) (bit (pointBits r o)) p t l in
-        keeps-fewer s o (same-points (eqb t)) (λ i y. let z : i ≡ endIndex (headsFor r p t) = eqb-true i (endIndex (headsFor r p t)) (sym (one i) ∙ y) in rw z e) t
-        (open-may r p s t l (one (endIndex (headsFor r p t)) ∙ eq-eqb (endIndex (headsFor r p t)) (endIndex (headsFor r p t)) refl)) k
+        keeps-fewer s o (same-points (eqb t)) (λ i y. let z : i ≡ endIndex (headsFor r p t) = eqb-true i (endIndex (headsFor r p t)) (sym (one i) ∙ y) in rw z (h .1)) t
+        (open-may r p s t l (and-both (held r p t) (opensFor r p s t) (h .0) (one (endIndex (headsFor r p t)) ∙ eq-eqb (endIndex (headsFor r p t)) (endIndex (headsFor r p t)) refl))) k

@@ -19,7 +19,7 @@ use Rattle.railway.specs.Record.{joined, hasSignal, legsOf, trainOf, withJoin, 
 use Rattle.railway.specs.Rows.{unknownRow, joinRow, looseRow, placeRow, recordRefusal}
 use Rattle.game.specs.Local.{keepsTest}
 use Rattle.game.specs.Placement.{codeOf, sectionsIn, placements, standsOn, startCode, atHome, shared}
-use Rattle.game.specs.Setting.{headsFor, held, mayMove}
+use Rattle.game.specs.Setting.{headsFor, held, mayMove, free, signalOpen}
 use Rattle.game.specs.Moves.{passes, occupied, moveOf}
 use Rattle.railway.specs.Yards.{yardA, yardALess, yardOne, yardOneDown, upOneTwo, upTwoOne, upTwoOneHeld, headOn}
 use Rattle.tables.specs.Entries.{settingAt, entryFrom}
@@ -39,29 +39,26 @@ filled {r} {figs} {sets} s = certify r (s .accepted) figs sets (s .passes)
 abbrev N : ℕ
 N = noFigure
 
--- the tables of Yard A, by code
+-- the tables of Yard A, by code; without its signal at 1d they are the same, for that signal stands ahead of a parked train alone
 abbrev pub figsA : List ℕ
 figsA = N ∷ 1 ∷ 0 ∷ N ∷ N ∷ N ∷ N ∷ 2 ∷ N ∷ []
 
 abbrev pub setsA : List ℕ
 setsA = 0 ∷ 65536 ∷ 0 ∷ 0 ∷ 0 ∷ 0 ∷ 0 ∷ 1 ∷ 0 ∷ []
 
-abbrev figsALess : List ℕ
-figsALess = N ∷ N ∷ 0 ∷ N ∷ N ∷ N ∷ N ∷ N ∷ N ∷ []
-
 -- in the order of the yards in specs/; where no setting is needed, zeros
 abbrev pub zeros : List ℕ
 zeros = 0 ∷ 0 ∷ 0 ∷ 0 ∷ 0 ∷ 0 ∷ 0 ∷ 0 ∷ 0 ∷ []
 
 sure : Sure yardA figsA setsA
-    × Sure yardALess figsALess zeros
+    × Sure yardALess figsA setsA
     × Sure yardOne (0 ∷ []) zeros
     × Sure yardOneDown (0 ∷ []) zeros
     × Sure upOneTwo (1 ∷ 0 ∷ []) zeros
     × Sure upTwoOne (0 ∷ N ∷ []) zeros
     × Sure upTwoOneHeld (0 ∷ N ∷ []) zeros
     × Sure headOn (N ∷ 0 ∷ N ∷ N ∷ []) zeros
-unfolding recordRefusal first unknownRow joinRow looseRow placeRow endAt joined hasSignal legsOf trainOf withJoin withSignal withLegs withTrain allBelow anyBelow sumBelow lowest fromBits certified keepsTest sectionsIn standsOn codeOf atHome shared headsFor held mayMove passes occupied moveOf settingAt entryFrom tryOpen firstFound find
+unfolding recordRefusal first unknownRow joinRow looseRow placeRow endAt joined hasSignal legsOf trainOf withJoin withSignal withLegs withTrain allBelow anyBelow sumBelow lowest fromBits certified keepsTest sectionsIn standsOn codeOf atHome shared headsFor mayMove free held signalOpen passes occupied moveOf settingAt entryFrom tryOpen firstFound find
 sure = (
   record { accepted = refl; passes = refl },
   record { accepted = refl; passes = refl },
@@ -80,7 +77,10 @@ yardA-accepted = sure .0 .accepted
 pub yardA-filled : Filled yardA figsA setsA
 yardA-filled = filled (sure .0)
 
--- so are those of one section, and of the yard with trains head on
+-- so is it without its signal at 1d, with the same tables; so are those of one section, and of the yard with trains head on
+pub yardALess-filled : (recordRefusal yardALess ≡ none) × Filled yardALess figsA setsA
+yardALess-filled = (sure .1 .accepted, filled (sure .1))
+
 pub one-filled : (recordRefusal yardOne ≡ none) × Filled yardOne (0 ∷ []) zeros
 one-filled = (sure .2 .accepted, filled (sure .2))
 

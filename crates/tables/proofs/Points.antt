@@ -27,7 +27,7 @@ use Rattle.game.specs.Game.{Outcome, may}
 use Rattle.game.specs.Claim.{Below, figureOf, Keeps}
 use Rattle.game.specs.Local.{isBelow}
 use Rattle.game.specs.Placement.{shared}
-use Rattle.game.specs.Setting.{Setting, headsFor, free, mayMove}
+use Rattle.game.specs.Setting.{Setting, headsFor, held, free, mayMove}
 use Rattle.game.specs.Moves.{Passage, through, pastPoint, pastJoin, passes, enters, moveOf, gameOf}
 use Rattle.game.proofs.Turns.{below-is, is-below, may-train, may-allowed, keeps-test, test-keeps}
 use Rattle.game.proofs.Accepted.{Known, Facts}
@@ -101,7 +101,7 @@ module _ (r : Railway) (ok : Facts r) (p : ℕ) where
     goes s t = isBelow n (figureOf F (moveOf r p s t))
 
     abbrev moving : ℕ → Bool
-    moving t = free r p t || opens t
+    moving t = free r p t || held r p t && opens t
 
     -- who may move does not depend on the points
     moving-of : (plus : ℕ → Bool) (t : ℕ) → may (gameOf r) p (setting plus) t ≡ true → (t < r .trains) × (moving t ≡ true)

@@ -183,8 +183,8 @@ module _ (r : Railway) (accepted : recordRefusal r ≡ none) where
     plan-step p f v f′ v′ b l e x (stays ef ev h) =
         rw (ef, ev) (entry-carry r ok (figureIn figs) (figureIn figs′) p l (figureEntry f) v (λ m em. onward m) (λ m em. backward m (let d = down n (figureIn figs) before p m l (e ∙ em) in omega (arith, d .1))) x)
     plan-step p f v f′ v′ b l e x (gains none-there o ef h) =
-        let best : Best r ok p (figureIn figs) (suc n) v′ = find-best r ok p (figureIn figs) (suc n) v′ h in
-        let y : IsPlanEntry r (figureIn figs) p (some (suc n)) v′ = (best .plans, best .itself (or-false (shared r p) (atHome r p) o .0)) in
+        let best : Best r ok p (figureIn figs) (suc n) v′ = find-best r ok p (figureIn figs) (suc n) (or-false (shared r p) (atHome r p) o .0) v′ h in
+        let y : IsPlanEntry r (figureIn figs) p (some (suc n)) v′ = (best .plans, best .itself) in
         rw (ef, new-figure) (entry-carry r ok (figureIn figs) (figureIn figs′) p l (some (suc n)) v′ (λ m em. onward m) (λ m em. backward m (let z : suc n ≡ m = cc in omega arith)) y)
 
     pub next-round : RoundTables r (suc n) figs′ sets′

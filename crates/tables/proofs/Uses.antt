@@ -17,7 +17,7 @@ use Rattle.railway.specs.Yards.{yardA}
 use Rattle.game.specs.Game.{at, Way, positional, may, play, homeAt}
 use Rattle.game.specs.Claim.{Keeps, Alike}
 use Rattle.game.specs.Placement.{codeOf, sectionsIn, standsOn, atHome, shared}
-use Rattle.game.specs.Setting.{Setting, headsFor, held, mayMove}
+use Rattle.game.specs.Setting.{Setting, headsFor, held, mayMove, free, signalOpen}
 use Rattle.game.specs.Moves.{passes, occupied, moveOf, gameOf}
 use Rattle.game.proofs.Accepted.{facts}
 use Rattle.tables.specs.declared.SolverAnswer.{SolverAnswer}
@@ -58,7 +58,7 @@ none-keeps found exact = exact .finds-nothing .0 (finds-nothing found exact)
 -- ALL SETTINGS. Whatever else it says, a setting whose entry at (2, 3) has the point at plus and train 1 open lets train 1 go, and takes train 2 to
 -- section 1.
 entry-lets : (may (gameOf yardA) 7 (settingAt yardA 7 65537) 0 ≡ true) × (may (gameOf yardA) 7 (settingAt yardA 7 65537) 1 ≡ true) × (moveOf yardA 7 (settingAt yardA 7 65537) 1 ≡ at 1)
-unfolding settingAt mayMove held headsFor standsOn sectionsIn trainOf hasSignal withJoin withSignal withLegs withTrain moveOf passes occupied codeOf sumBelow joined anyBelow
+unfolding settingAt mayMove signalOpen free held headsFor standsOn sectionsIn trainOf hasSignal withJoin withSignal withLegs withTrain moveOf passes occupied codeOf sumBelow joined anyBelow
 entry-lets = (refl, refl, refl)
 
 acts-so : (s : Setting) → entryOf yardA 7 s ≡ 65537 → (may (gameOf yardA) 7 s 0 ≡ true) × (moveOf yardA 7 s 1 ≡ at 1)

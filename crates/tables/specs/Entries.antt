@@ -40,7 +40,7 @@ settingAt r p v = settingFrom r p (bit v) (opensIn v)
 unfoldable pub entryFrom : Railway → (ℕ → Bool) → (ℕ → Bool) → ℕ
 entryFrom r plus opens = fromBits plus (r .points) + 2 ^ trainBits * fromBits opens (r .trains)
 
--- The entry of a whole setting at placement p. Signals that no train heads for leave no trace in it.
+-- The entry of a whole setting at placement p. Signals that no train heads for, or only a parked one, leave no trace in it.
 abbrev pub entryOf : Railway → ℕ → Setting → ℕ
 entryOf r p s = entryFrom r (s .plus) (signalOpen r p s)
 

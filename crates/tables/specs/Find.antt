@@ -8,7 +8,7 @@ use Rattle.laws.specs.Below.{anyBelow, lowest, orElse}
 use Rattle.laws.specs.Lists.{any}
 use Rattle.laws.specs.Bits.{bit}
 use Rattle.railway.specs.declared.Railway.{Railway}
-use Rattle.game.specs.Setting.{Setting, headsFor, free}
+use Rattle.game.specs.Setting.{Setting, headsFor, held, free}
 use Rattle.game.specs.Moves.{passes, moveOf, gameOf}
 use Rattle.game.specs.Claim.{figureOf}
 use Rattle.game.specs.Local.{isBelow, keepsTest}
@@ -45,7 +45,7 @@ meetsPoint r p t q = any (eqb q) (passes r (atMinus .plus) (headsFor r p t) .met
 
 -- Train t may move with these trains open, and the point q that it meets must not lie at minus.
 abbrev pub needsPlus : Railway → (ℕ → Option ℕ) → ℕ → ℕ → (ℕ → Bool) → ℕ → ℕ → Bool
-needsPlus r F p n opens q t = (free r p t || opens t) && (meetsPoint r p t q && not (isBelow n (figureOf F (moveOf r p atMinus t))))
+needsPlus r F p n opens q t = (free r p t || held r p t && opens t) && (meetsPoint r p t q && not (isBelow n (figureOf F (moveOf r p atMinus t))))
 
 -- The points that some train needs at plus; the others lie at minus.
 abbrev pub somePlus : Railway → (ℕ → Option ℕ) → ℕ → ℕ → (ℕ → Bool) → ℕ → Bool

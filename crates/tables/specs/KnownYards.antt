@@ -1,5 +1,5 @@
--- What document 01, "Yards to try", gives as known of its yards, as one table: figures, and the plan's text where it is written out. Here is
--- what the figures say; what the texts say, and the statement for the whole, is in Outputs of crate plan, which knows a plan's text.
+-- What document 01, "Yards to try", gives as known of its yards, with parking (document 02, Q-2), as one table: figures, and the plan's text
+-- where it is written out. Here is what the figures say; what the texts say, and the statement for the whole, is in Outputs of crate plan, which knows a plan's text.
 -- Assumes nothing.
 use mathlib.Core.Path.{_≡_}
 use mathlib.Core.Bool.{Bool, true, false, _&&_}
@@ -38,7 +38,7 @@ started r xs f = record { yard = r; ofStart = true; sections = xs; figure = f; t
 abbrev pub startedWith : Railway → List ℕ → ℕ → String → KnownFigure
 startedWith r xs n text = record { yard = r; ofStart = true; sections = xs; figure = some n; text = some text }
 
--- What Yard A gives.
+-- What Yard A gives, with its signal at 1d and without it.
 abbrev pub planA : String
 planA = "plan\t2\n2\t1\t1\t1\t-\n3\t1\t0\t0\t-\n2\t3\t2\t0\t+\n"
 
@@ -55,7 +55,7 @@ knownFigures =
     ∷ placed yardA (1 ∷ 3 ∷ []) none
     ∷ placed yardA (3 ∷ 2 ∷ []) none
     ∷ placed yardA (1 ∷ 1 ∷ []) none
-    ∷ started yardALess (2 ∷ 3 ∷ []) none
+    ∷ startedWith yardALess (2 ∷ 3 ∷ []) 2 planA
     ∷ startedWith yardOne (1 ∷ []) 0 planOne
     ∷ startedWith yardOneDown (1 ∷ []) 0 planOne
     ∷ started upOneTwo (1 ∷ []) (some 1)

@@ -36,7 +36,7 @@ roster-byte-requires : tie.Need-roster-byte-requires
 roster-byte-requires c κs = search needs
 
 returns : tie.Need-returns
-returns c = for-route (c .before .before .before .args .r) _ _ _ (c .before .train-of .ensures) (c .before .before .if1 .taken) (c .route-byte .ensures)
+returns c = for-route (c .before .before .before .before .args .r) _ _ _ (c .before .before .train-of .ensures) (c .before .before .before .if1 .taken) (c .route-byte .ensures)
 
 returns-2 : tie.Need-returns-2
 returns-2 c = for-count (c .before .before .before .args .r) _ _ (c .before .before .if1 .left) (c .before .if2 .taken) (c .count-byte .ensures)

@@ -9,7 +9,7 @@ route-in-requires : tie.Need-route-in-requires
 route-in-requires c κs = search needs
 
 returns : tie.Need-returns
-returns c = λ r h lt lx. point-is r _ _ (c .route-in .ensures r h lt lx)
+returns c = λ r h lt lx. point-is r _ _ _ (c .route-in .ensures r h lt lx)
 
 pub point-past-spec : {M : Type 1} → statement M
 point-past-spec = tie.close (tie.spec route-in-requires returns)

@@ -12,10 +12,10 @@ route-in-requires-2 : tie.Need-route-in-requires-2
 route-in-requires-2 c κs = search needs
 
 returns : tie.Need-returns
-returns c = λ r h lt lx. plus-is r _ _ _ (c .before .if1 .taken) (c .route-in .ensures r h lt lx)
+returns c = λ r h lt lx. plus-is r _ _ _ _ (c .before .if1 .taken) (c .route-in .ensures r h lt lx)
 
 returns-2 : tie.Need-returns-2
-returns-2 c = λ r h lt lx. minus-is r _ _ _ (c .before .if1 .left) (c .route-in2 .ensures r h lt lx)
+returns-2 c = λ r h lt lx. minus-is r _ _ _ _ (c .before .if1 .left) (c .route-in2 .ensures r h lt lx)
 
 pub section-past-spec : {M : Type 1} → statement M
 section-past-spec = tie.close (tie.spec route-in-requires route-in-requires-2 returns returns-2)

@@ -1,7 +1,7 @@
 -- `moves::may_in` meets its contract: a train that is there and free, or whose signal is open.
 -- Assumes nothing.
 use borrow.Author.Needs.{needs}
-use Rattle.moves.proofs.Moving.{held-as, not-there, free-may, held-may}
+use Rattle.moves.proofs.Moving.{as-there, not-there, free-may, held-may, parked-may}
 use Rattle.moves.proofs.may_in.Statement.{statement}
 use Rattle.moves.proofs.may_in.Tie as tie
 
@@ -10,6 +10,12 @@ trains-in-requires c κs = search needs
 
 returns : tie.Need-returns
 returns c = λ r p h. not-there r p _ _ h _ _ _ (c .before .trains-in .ensures r (h .compiled)) (c .if1 .taken)
+
+free-in-requires : tie.Need-free-in-requires
+free-in-requires c κs = search needs
+
+returns-2 : tie.Need-returns-2
+returns-2 c = λ r p h. free-may r p _ _ h _ _ _ (c .before .before .before .trains-in .ensures r (h .compiled)) (c .before .before .if1 .left) _ (λ l. as-there r p _ _ h _ l _ _ (c .before .free-in .ensures r p h)) (c .if2 .taken)
 
 held-in-requires : tie.Need-held-in-requires
 held-in-requires c κs = search needs
@@ -23,11 +29,19 @@ index-of-requires c κs = search needs
 open-in-requires : tie.Need-open-in-requires
 open-in-requires c κs = search needs
 
-returns-2 : tie.Need-returns-2
-returns-2 c = λ r p h. held-may r p _ _ h _ _ _ (c .before .before .before .before .before .before .trains-in .ensures r (h .compiled)) (c .before .before .before .before .before .if1 .left) _ (λ l. held-as r p _ _ h _ l _ (c .before .before .before .before .held-in .ensures r p h)) _ _ _ (c .before .before .before .if2 .taken) (c .before .before .end-in .ensures r p h) (c .before .index-of .ensures) (c .open-in .ensures r p h)
-
 returns-3 : tie.Need-returns-3
-returns-3 c = λ r p h. free-may r p _ _ h _ _ _ (c .before .before .before .trains-in .ensures r (h .compiled)) (c .before .before .if1 .left) _ (λ l. held-as r p _ _ h _ l _ (c .before .held-in .ensures r p h)) (c .if2 .left)
+returns-3 c =
+    let i = c .before .before .before in
+    let f = i .before .before in
+    λ r p h.
+    held-may r p _ _ h _ _ _ (f .before .before .before .trains-in .ensures r (h .compiled)) (f .before .before .if1 .left) _ (λ l. as-there r p _ _ h _ l _ _ (f .before .free-in .ensures r p h)) (f .if2 .left) _ (λ l. as-there r p _ _ h _ l _ _ (i .before .held-in .ensures r p h))
+    _ _ _ (i .if3 .taken) (c .before .before .end-in .ensures r p h) (c .before .index-of .ensures) (c .open-in .ensures r p h)
+
+returns-4 : tie.Need-returns-4
+returns-4 c =
+    let f = c .before .before in
+    λ r p h.
+    parked-may r p _ _ h _ _ _ (f .before .before .before .trains-in .ensures r (h .compiled)) (f .before .before .if1 .left) _ (λ l. as-there r p _ _ h _ l _ _ (f .before .free-in .ensures r p h)) (f .if2 .left) _ (λ l. as-there r p _ _ h _ l _ _ (c .before .held-in .ensures r p h)) (c .if3 .left)
 
 pub may-in-spec : {M : Type 1} → statement M
 may-in-spec =
@@ -35,9 +49,11 @@ may-in-spec =
     (tie.spec
     trains-in-requires
     returns
+    free-in-requires
+    returns-2
     held-in-requires
     end-in-requires
     index-of-requires
     open-in-requires
-    returns-2
-    returns-3)
+    returns-3
+    returns-4)

@@ -1,7 +1,7 @@
 -- `plantest::train_signalled` meets its contract, by whether the train is open.
 -- Assumes nothing.
 use borrow.Author.Needs.{needs}
-use Rattle.moves.proofs.Moving.{held-as}
+use Rattle.moves.proofs.Moving.{as-there}
 use Rattle.plantest.proofs.Testing.{open-signalled, closed-signalled}
 use Rattle.plantest.proofs.train_signalled.Statement.{statement}
 use Rattle.plantest.proofs.train_signalled.Tie as tie
@@ -16,7 +16,7 @@ held-in-requires : tie.Need-held-in-requires
 held-in-requires c κs = search needs
 
 returns : tie.Need-returns
-returns c = λ r p on l. open-signalled r p _ _ _ (c .before .before .bit-at .ensures) _ (c .before .if1 .taken) (held-as r p _ _ on _ l _ (c .held-in .ensures r p on))
+returns c = λ r p on l. open-signalled r p _ _ _ (c .before .before .bit-at .ensures) _ (c .before .if1 .taken) (as-there r p _ _ on _ l _ _ (c .held-in .ensures r p on))
 
 returns-2 : tie.Need-returns-2
 returns-2 c = λ r p on l. let a = c .before .before .args in closed-signalled r p (a .v) (a .t) _ (c .before .bit-at .ensures) (c .if1 .left)

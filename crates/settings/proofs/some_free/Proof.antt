@@ -3,13 +3,13 @@
 use native.Mathlib.Omega.{arith}
 use Prim.Native.Nat.{ℕ, _-_, _≤_}
 use mathlib.Core.Bool.{false}
-use mathlib.Core.Path.{_≡_, refl, _∙_}
+use mathlib.Core.Path.{_≡_, refl}
 use Rattle.laws.specs.Below.{anyBelow}
 use Rattle.laws.proofs.Below.{any-next, any-one, any-none}
 use Rattle.railway.specs.declared.Railway.{Railway}
 use Rattle.game.specs.Setting.{free}
 use Rattle.moves.specs.Steps.{On}
-use Rattle.moves.proofs.Moving.{held-as}
+use Rattle.moves.proofs.Moving.{as-there}
 use Rattle.settings.proofs.Routes.{free-as}
 use borrow.Author.Needs.{needs}
 use Rattle.settings.proofs.some_free.Statement.{statement}
@@ -25,11 +25,11 @@ loop-holds : tie.Need-loop-holds Inv-loop μ-loop
 unfolding anyBelow
 loop-holds c = (omega arith, λ r p h e. refl)
 
-held-in-requires : tie.Need-held-in-requires Inv-loop μ-loop
-held-in-requires c κs = search needs
+free-in-requires : tie.Need-free-in-requires Inv-loop μ-loop
+free-in-requires c κs = search needs
 
 returns : tie.Need-returns Inv-loop μ-loop
-returns c = λ r p h e. let l = c .before .before .before in let lt = rw e at (c .before .before .loop-test .taken) in any-one (free r p) (r .trains) (l .loop .t) lt (free-as r p _ _ (held-as r p _ _ h _ lt _ (c .before .held-in .ensures r p h)) ∙ c .if1 .taken)
+returns c = λ r p h e. let l = c .before .before .before in let lt = rw e at (c .before .before .loop-test .taken) in any-one (free r p) (r .trains) (l .loop .t) lt (free-as r p _ _ (as-there r p _ _ h _ lt _ _ (c .before .free-in .ensures r p h)) (c .if1 .taken))
 
 add-t : tie.Need-add-t Inv-loop μ-loop
 add-t c = omega arith
@@ -38,7 +38,7 @@ loop-less : tie.Need-loop-less Inv-loop μ-loop
 loop-less c = omega arith
 
 loop-again : tie.Need-loop-again Inv-loop μ-loop
-loop-again c = let l = c .before .before .before in (omega arith, λ r p h e. any-next (free r p) _ (l .loop .inv .1 r p h e) (free-as r p _ _ (held-as r p _ _ h _ (rw e at (c .before .before .loop-test .taken)) _ (c .before .held-in .ensures r p h)) ∙ c .if1 .left))
+loop-again c = let l = c .before .before .before in (omega arith, λ r p h e. any-next (free r p) _ (l .loop .inv .1 r p h e) (free-as r p _ _ (as-there r p _ _ h _ (rw e at (c .before .before .loop-test .taken)) _ _ (c .before .free-in .ensures r p h)) (c .if1 .left)))
 
 returns-2 : tie.Need-returns-2 Inv-loop μ-loop
 returns-2 c = λ r p h e. let l = c .before in any-none (free r p) (r .trains) (l .loop .t) (l .loop .inv .1 r p h e) (rw e at (l .loop .inv .0)) (rw e at (c .loop-test .left))
@@ -50,7 +50,7 @@ some-free-spec =
     Inv-loop
     μ-loop
     loop-holds
-    held-in-requires
+    free-in-requires
     returns
     add-t
     loop-less
