@@ -67,7 +67,7 @@ Yard read_yard(std::string_view text) {
     Track track;
     Lines in{text};
     while (!in.rest.empty()) switch (in.field()[0]) {
-        case 'H': y.sections = in.number(); in.field(); y.trains = in.number(); break;
+        case 'H': y.sections = in.number(); y.points = in.number(); y.trains = in.number(); break;
         case 'P': in.field(); in.field(); break;    // the joins say all that moves depend on
         case 'J': { int a = in.end(), b = in.end(); track.join(a, b); break; }
         case 'G': track.signal[in.end()] = true; break;

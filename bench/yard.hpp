@@ -21,7 +21,7 @@ struct Step {
 };
 
 struct Yard {
-    int sections = 0, trains = 0;
+    int sections = 0, points = 0, trains = 0;
     u32 placements = 1, start = 0, home = 0;        // how many codes; the codes of start and destinations
     u32 stride[TRAINS] = {};                        // what a section counts in the code
     Step step[TRAINS][SECTIONS];

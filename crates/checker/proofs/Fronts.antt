@@ -1,10 +1,10 @@
 -- The lines in front of a text: those taken so far and those from the place reached on make all that are taken. Assumes nothing.
-use mathlib.Core.Path.{_≡_, refl, sym, _∙_, ap}
+use mathlib.Core.Path.{_≡_, refl, sym, _∙_, ap, subst}
 use mathlib.Core.List.{List, [], _∷_}
 use mathlib.Core.Option.{none, some}
-use Prim.Native.Nat.{ℕ, _+_, _-_, _≤_}
+use Prim.Native.Nat.{ℕ, _+_, _≤_}
 use native.Mathlib.Omega.{arith}
-use lib.ListN.{length, take, drop, drop-of-length-le, length-take, length-drop}
+use lib.ListN.{length, drop, drop-of-length-le}
 use Rattle.railway.specs.declared.Railway.{Railway}
 use Rattle.railway.specs.declared.Refusal.{Refusal}
 use Rattle.railway.specs.declared.CaseAnswer.the-variants as tested
@@ -16,7 +16,9 @@ use Rattle.plan.specs.declared.FrontAnswer.{FrontAnswer}
 use Rattle.plan.specs.declared.FrontAnswer.the-variants.{Took, Refused}
 use Rattle.plan.specs.Reading.{readLine}
 use Rattle.plan.specs.Checker.{Checking, Left, left, takeLine}
+use Rattle.plan.specs.FirstLine.{lineBytes, firstOf}
 use Rattle.plan.specs.Several.{linesOf, Front, noFront, frontBehind, frontOf, frontNumber, takeFront, FrontPost}
+use Rattle.plan.proofs.FirstLine.{first-length}
 use Rattle.plan.proofs.Emits.{none-refused}
 use Rattle.plan.proofs.Rules.{check-rule}
 use Rattle.plan.proofs.Steps.{line-steps}
@@ -91,31 +93,37 @@ module _ (r : Railway) (text : List ℕ) where
         let e : linesOf (drop at text) ≡ [] = ap linesOf (drop-of-length-le text past) ∙ no-lines in
         ap frontTaken (sym (behind-none at c) ∙ ap (frontBehind at) (sym (ap (λ (ls : List (List ℕ)). frontOf r ls c) e ∙ none-left r c)) ∙ f .same)
 
-    module _ (end : ℕ) (l : LineAt text at end) (w : Left LineAnswer) (is : w ≡ takeLine r c (take (end - at) (drop at text))) where
-      lines-here : frontOf r (linesOf (drop at text)) c ≡ frontOf r (take (end - at) (drop at text) ∷ linesOf (drop end text)) c
+    module _ (l : LineAt text at) (w : Left LineAnswer) (is : w ≡ takeLine r c (firstOf (drop at text))) where
+      -- the place behind it
+      abbrev behind : ℕ
+      behind = at + lineBytes (drop at text)
+
+      lines-here : frontOf r (linesOf (drop at text)) c ≡ frontOf r (firstOf (drop at text) ∷ linesOf (drop behind text)) c
       lines-here = ap (λ (ls : List (List ℕ)). frontOf r ls c) (l .lines)
 
       -- the next is refused
       pub fronting-stop : (g : Refusal) → w .answer ≡ LineRefused g → left (Took at) (w .checking) ≡ frontTaken whole
       fronting-stop g e =
-          let a : takeLine r c (take (end - at) (drop at text)) .answer ≡ LineRefused g = sym (ap (λ (x : Left LineAnswer). x .answer) is) ∙ e in
-          let k : w .checking ≡ c = ap (λ (x : Left LineAnswer). x .checking) is ∙ check-rule r c .line-leaves (take (end - at) (drop at text)) g a in
+          let a : takeLine r c (firstOf (drop at text)) .answer ≡ LineRefused g = sym (ap (λ (x : Left LineAnswer). x .answer) is) ∙ e in
+          let k : w .checking ≡ c = ap (λ (x : Left LineAnswer). x .checking) is ∙ check-rule r c .line-leaves (firstOf (drop at text)) g a in
           ap (left (Took at)) k
-          ∙ ap frontTaken (sym (behind-none at c) ∙ ap (frontBehind at) (sym (lines-here ∙ one-refused r (take (end - at) (drop at text)) (linesOf (drop end text)) c g a)) ∙ f .same)
+          ∙ ap frontTaken (sym (behind-none at c) ∙ ap (frontBehind at) (sym (lines-here ∙ one-refused r (firstOf (drop at text)) (linesOf (drop behind text)) c g a)) ∙ f .same)
 
       -- it is taken
-      pub fronting-next : w .answer ≡ Taken → length (w .checking .figs) ≡ length (c .figs) → length (w .checking .sets) ≡ length (c .sets) → Fronting r text whole end (w .checking)
-      fronting-next e long₁ long₂ =
-          let t : takeLine r c (take (end - at) (drop at text)) ≡ left Taken (w .checking) = sym is ∙ (λ i. left (e i) (w .checking)) in
-          let n : length (take (end - at) (drop at text)) ≡ end - at = simp (length-take, length-drop) (omega (arith, l .onward, l .within)) in
-          let z : at + length (take (end - at) (drop at text)) ≡ end = omega (arith, n, l .onward) in
+      fronting-behind : w .answer ≡ Taken → length (w .checking .figs) ≡ length (c .figs) → length (w .checking .sets) ≡ length (c .sets) → Fronting r text whole behind (w .checking)
+      fronting-behind e long₁ long₂ =
+          let t : takeLine r c (firstOf (drop at text)) ≡ left Taken (w .checking) = sym is ∙ (λ i. left (e i) (w .checking)) in
+          let z : at + length (firstOf (drop at text)) ≡ behind = ap (λ (m : ℕ). at + m) (first-length (drop at text)) in
           let k = case-none r (c .figs) (c .sets) .0 (f .fine) in
           record {
             fine = none-refused r (w .checking .figs) (w .checking .sets) (k .0) (rw long₁ (k .1 .figures)) (rw long₂ (k .1 .settings));
-            same = ap (λ (m : ℕ). frontBehind m (frontOf r (linesOf (drop end text)) (w .checking))) (sym z)
-                ∙ sym (behind-twice at (length (take (end - at) (drop at text))) (frontOf r (linesOf (drop end text)) (w .checking)))
-                ∙ ap (frontBehind at) (sym (lines-here ∙ one-taken r (take (end - at) (drop at text)) (linesOf (drop end text)) c (w .checking) t)) ∙ f .same;
+            same = ap (λ (m : ℕ). frontBehind m (frontOf r (linesOf (drop behind text)) (w .checking))) (sym z)
+                ∙ sym (behind-twice at (length (firstOf (drop at text))) (frontOf r (linesOf (drop behind text)) (w .checking)))
+                ∙ ap (frontBehind at) (sym (lines-here ∙ one-taken r (firstOf (drop at text)) (linesOf (drop behind text)) c (w .checking) t)) ∙ f .same;
           }
+
+      pub fronting-next : (end : ℕ) → end ≡ behind → w .answer ≡ Taken → length (w .checking .figs) ≡ length (c .figs) → length (w .checking .sets) ≡ length (c .sets) → Fronting r text whole end (w .checking)
+      fronting-next end here e long₁ long₂ = subst (λ (m : ℕ). Fronting r text whole m (w .checking)) (sym here) (fronting-behind e long₁ long₂)
 
 -- THE CALL FOR SEVERAL
 module _ (r : Railway) (c : Checking) (text : List ℕ) {o : Compilation} (opened : CasePost r (c .figs) (c .sets) o) where

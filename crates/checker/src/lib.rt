@@ -2,7 +2,7 @@
 // again, takes the checker by value and hands the next one back beside its answer. What is refused leaves checker and tables as they were.
 ghost use mathlib.Core.Path.{_≡_};
 ghost use mathlib.Core.List.{List, _++_};
-ghost use Prim.Native.Nat.{ℕ, _+_, _≤_, _<_};
+ghost use Prim.Native.Nat.{ℕ, _≤_, _<_};
 ghost use lib.ListN.{length, drop, set, replicate};
 ghost use mathlib.Core.Option.{none};
 ghost use Rattle.railway.specs.declared.Railway.{Railway};
@@ -17,7 +17,6 @@ ghost use Rattle.plan.specs.Promises.{LinePost, TestPost, FreshPost};
 ghost use Rattle.checker.specs.declared.Checker.{Checker};
 ghost use Rattle.checker.specs.Answers.{checking, took, tookFront};
 ghost use Rattle.checker.specs.Steps.{takesStart, takesPlacement, takesRead, takenWith, CodeSmall, SomeTable, frontTaken};
-ghost use Rattle.checker.specs.Lengths.{lineBytes};
 use compiled::Table;
 use plan::CheckerState;
 use plan::FrontAnswer;
@@ -149,8 +148,9 @@ impl Checker {
         let mut checker = self;
         let mut at: usize = 0;
         while at < text.len() {
-            let end = line_end(text, at);
-            let taken = checker.take_line(table, &text[at..end], figures, settings);
+            let read = planreader::read_at(table, text, at);
+            let line = read.line;
+            let taken = checker.enter(line, figures, settings);
             let answer = taken.answer;
             checker = taken.checker;
             if let LineAnswer::Refused(_) = answer {
@@ -159,7 +159,7 @@ impl Checker {
                     checker: checker,
                 };
             }
-            at = end;
+            at = read.end;
         }
         FrontReply {
             answer: FrontAnswer::Took(at),
@@ -307,18 +307,4 @@ fn fill(table: &mut [u32], n: u32, v: u32)
         table[i as usize] = v;
         i += 1;
     }
-}
-
-// The end of the line that begins at a place: behind its line end, or the end of the text.
-fn line_end(text: &[u8], at: usize) -> usize
-    ensures { λ e. ⌜ e ≡ at + lineBytes (drop at (now (text .entry))) ⌝ }
-{
-    let mut end = at;
-    while end < text.len() {
-        if text[end] == b'\n' {
-            return end + 1;
-        }
-        end += 1;
-    }
-    end
 }

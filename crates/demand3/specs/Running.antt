@@ -102,8 +102,7 @@ SolvedHolds =
     → SolveLearnt κs a answer left → Demand3 (a .0) answer (now (left .1 .0)) (now (left .1 .1 .0))
 
 -- DEMAND 3, of the calls that run: the whole holds of what the solver answers and leaves, and where it speaks of the emitter's calls and the checker's, one
--- after the other, it speaks of the contracts of `emit_line`, `fresh`, `take` and `test`, which ask nothing and are met. So are those of the calls for
--- several lines, each defined by the calls for one (plan/Several).
+-- after the other, it speaks of the contracts of `emit_line` and `emit_lines`, `fresh`, `take`, `take_front` and `test`, which ask nothing and are met.
 pub record Demand3Runs : Type 2 where
   pub whole : SolvedHolds
   pub solver : SolverRuns

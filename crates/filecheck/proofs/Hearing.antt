@@ -2,11 +2,11 @@
 -- Assumes nothing.
 use mathlib.Core.Path.{_≡_, refl, sym, _∙_, ap, subst}
 use mathlib.Core.Bool.{Bool, true, false, cond, not, _&&_}
-use mathlib.Core.List.{List, [], _++_, append-nil}
+use mathlib.Core.List.{List, _++_}
 use Prim.Native.Nat.{ℕ, suc, _+_, _-_, _≤_, _<_}
 use native.Mathlib.Omega.{arith}
 use lib.Dec.{ltb}
-use lib.ListN.{length, take, drop, drop-of-length-le, length-append, length-drop, length-take}
+use lib.ListN.{length, take, drop, length-append, length-drop, length-take}
 use lib.Seq.{length-take-le, take-add, take-at}
 use borrow.Author.Tests.{ltb-true}
 use Rattle.laws.proofs.Bools.{clash, and-true}
@@ -87,17 +87,18 @@ module _ (r : Railway) (size : ℕ) (start : Checking) (plan : List ℕ) (at hav
         (subst (λ (l : List ℕ). EndPost r c l a) (sym (drop-take at have plan (w .behind))) q),
   )
 
--- ONE PIECE: what was there stays in front of what is read behind it
-pub more-read : (plan rest : List ℕ) (have n : ℕ) → have ≤ length plan → length rest ≡ length (take (length plan - have) (drop have plan)) → n ≤ length rest
-    → MoreRead plan have n (take have plan ++ (rest ++ drop (length plan - have) (drop have plan)))
-more-read plan rest have n l same m =
-    let f : length (take have plan) ≡ have = length-take-le have plan l in
+-- ONE PIECE: what was there stays in front of what is read behind it, and so does what stands behind the piece
+pub more-read : (plan piece : List ℕ) (have end n : ℕ) → have ≤ end → end ≤ length plan → length piece ≡ length (take (end - have) (drop have plan)) → n ≤ length piece
+    → MoreRead plan have n (take have plan ++ (piece ++ drop (end - have) (drop have plan)))
+more-read plan piece have end n l within same m =
+    let rest = drop (end - have) (drop have plan) in
+    let f : length (take have plan) ≡ have = length-take-le have plan (omega arith) in
     let k : length (drop have plan) ≡ length plan - have = length-drop have plan in
-    let e : length rest ≡ length plan - have = same ∙ length-take-le (length plan - have) (drop have plan) (omega (arith, k)) in
-    let d : drop (length plan - have) (drop have plan) ≡ [] = drop-of-length-le (drop have plan) {i = length plan - have} (omega (arith, k)) in
-    let a : length (take have plan ++ (rest ++ drop (length plan - have) (drop have plan))) ≡ length plan =
-    rw d (rw (append-nil rest) (length-append (take have plan) rest ∙ omega (arith, f, e, l))) in
-    record { within = omega (arith, a, m, e, l); as-long = a; stays = take-at (take have plan) (rest ++ drop (length plan - have) (drop have plan)) have f }
+    let e : length piece ≡ end - have = same ∙ length-take-le (end - have) (drop have plan) (omega (arith, k)) in
+    let d : length rest ≡ length (drop have plan) - (end - have) = length-drop (end - have) (drop have plan) in
+    let b : length (piece ++ rest) ≡ length piece + length rest = length-append piece rest in
+    let a : length (take have plan ++ (piece ++ rest)) ≡ length plan = length-append (take have plan) (piece ++ rest) ∙ omega (arith, f, b, e, d, k) in
+    record { within = omega (arith, a, m, e); as-long = a; stays = take-at (take have plan) (piece ++ rest) have f }
 
 pub still-stops : (stopped : Bool) (n : ℕ) → stopped ≡ false → ltb 0 n ≡ (not stopped && ltb 0 n)
 still-stops true n e = clash refl e

@@ -16,6 +16,10 @@ use railway::CaseAnswer;
 use railway::Railway;
 use verdict::ENTRIES;
 
+// So many bytes of a plan are asked for at once at most. A longer one comes in several pieces though all of it is there, so that a run on a file goes
+// through the loop more than once.
+const PIECE: usize = 4096;
+
 // How many bytes were read into either buffer, and what was put into the third.
 pub struct Heard {
     pub case: usize,
@@ -177,12 +181,24 @@ fn not_refused(made: CaseAnswer) -> bool {
     }
 }
 
-// One read behind the bytes that are there: how many came.
+// One read behind the bytes that are there, a piece at most: how many came.
 fn read_more(file: i32, plan: &mut [u8], have: usize) -> usize
     requires { ⌜ have ≤ length (now plan) ⌝ }
     ensures { λ n. ⌜ MoreRead (now (plan .entry)) have n (now (plan .exit)) ⌝ }
 {
-    let rest = &mut plan[have..];
-    let got = libc::read(file, rest);
-    io::count(got, rest)
+    let end = piece_end(have, plan.len());
+    let piece = &mut plan[have..end];
+    let got = libc::read(file, piece);
+    io::count(got, piece)
+}
+
+// Where a piece ends that begins here, in a buffer of so many bytes.
+fn piece_end(have: usize, bytes: usize) -> usize
+    requires { ⌜ have ≤ bytes ⌝ }
+    ensures { λ end. ⌜ (have ≤ end) × (end ≤ bytes) ⌝ }
+{
+    if bytes - have < PIECE {
+        return bytes;
+    }
+    have + PIECE
 }

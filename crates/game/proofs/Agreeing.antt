@@ -1,6 +1,5 @@
--- Settings that agree on the railway are alike: they let the same trains move, to the same ends, and the one choice names the same train
--- under both. A train looks at its own signal, if it has one, and its way at points of the railway; a setting is asked nowhere else. And
--- open signals only add moves.
+-- Settings that agree on the railway are alike: they let the same trains move, to the same ends. A train looks at its own signal, if it
+-- has one, and its way at points of the railway; a setting is asked nowhere else. And open signals only add moves.
 -- Assumes nothing.
 use mathlib.Core.Path.{_≡_, refl, sym, _∙_, ap}
 use mathlib.Core.Logic.{inl, inr}
@@ -16,7 +15,7 @@ use Rattle.railway.specs.declared.Railway.{Railway}
 use Rattle.railway.specs.Ends.{endIndex}
 use Rattle.railway.specs.Record.{joined, hasSignal}
 use Rattle.railway.proofs.Lookups.{Flagged, signal-flag}
-use Rattle.game.specs.Claim.{Alike, OneChoice}
+use Rattle.game.specs.Claim.{Alike}
 use Rattle.game.specs.Placement.{arrived}
 use Rattle.game.specs.Setting.{Setting, SameSetting, headsFor, held, free, opensFor, signalOpen, mayMove}
 use Rattle.game.specs.Moves.{Passage, pastJoin, passes, enters, moveOf, gameOf, AgreeingAlike}
@@ -102,13 +101,6 @@ module _ (r : Railway) (ok : Facts r) where
         same-trains = λ t. let e : mayMove r p a t ≡ mayMove r p b t = may-same r a b same p t in rw e;
         same-ends = λ t m. move-same a b (same .points) p t;
       }
-
-  -- the one choice names a train of the railway, and the same under settings that agree
-  pub choice-there : (Without : ℕ → Type 0) (c : OneChoice (gameOf r) Without) (p : ℕ) (s : Setting) → c .named p s < r .trains
-  choice-there Without c p s = c .there p s (ok .one-train)
-
-  pub choice-agrees : (Without : ℕ → Type 0) (c : OneChoice (gameOf r) Without) (p : ℕ) (a b : Setting) → SameSetting r a b → c .named p a ≡ c .named p b
-  choice-agrees Without c p a b same = c .alike p a b (alike a b same p)
 
 pub agreeing-alike : AgreeingAlike
 agreeing-alike r accepted a b same p = alike r (facts r accepted) a b same p

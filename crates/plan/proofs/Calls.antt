@@ -3,18 +3,22 @@
 use mathlib.Core.Path.{_≡_, refl}
 use mathlib.Core.Bool.{false}
 use mathlib.Core.List.{List, [], _∷_}
-use mathlib.Core.Option.{none, some}
+use mathlib.Core.Option.{Option, none, some}
 use Prim.Native.Nat.{ℕ}
 use lib.ListN.{take}
 use Rattle.laws.proofs.Bools.{clash}
 use Rattle.railway.specs.declared.Railway.{Railway}
+use Rattle.railway.specs.declared.Refusal.{Refusal}
+use Rattle.railway.specs.Refusals.{numberOf}
+use Rattle.tables.specs.Tables.{caseRefusal}
 use Rattle.plan.specs.declared.PlanPlace.{PlanPlace}
 use Rattle.plan.specs.declared.Emitted.{Emitted}
 use Rattle.plan.specs.declared.Emitted.the-variants.{Line, End, NoPlan, Refused}
 use Rattle.plan.specs.Emitter.{isLine, Wrote, emitLine}
 use Rattle.plan.specs.Checker.{Checking, takeLine, LineCalls, callLines}
 use Rattle.plan.specs.Promises.{EmitterPost}
-use Rattle.plan.specs.Calls.{Emission, Emitting, unasked, wrote, stopped, Taking, no-more, one-more}
+use Rattle.plan.specs.Several.{linesOf, frontOf, frontNumber, frontLeaves, takeFront, FrontPost}
+use Rattle.plan.specs.Calls.{Emission, Emitting, unasked, wrote, stopped, Taking, no-more, one-more, FrontCalls, onwardFront, TakingFronts}
 use Rattle.plan.proofs.Promises.{emits-so, takes-so}
 
 -- THE EMITTER. The calls after one that left this, by the place from which they start.
@@ -67,3 +71,27 @@ taking r [] c = no-more c
 taking r (l ∷ ls) c =
     one-more c (takeLine r c l .checking) (takeLine r c l .answer) l ls (callLines r ls (takeLine r c l .checking)) (takes-so r c l (takeLine r c l) refl)
     (taking r ls (takeLine r c l .checking))
+
+-- SEVERAL LINES A CALL, of the checker
+unfoldable pub callFronts : Railway → List (List ℕ) → Checking → FrontCalls
+callFronts r [] c = record { answers = []; end = c }
+callFronts r (text ∷ texts) c = onwardFront (takeFront r c text .answer) (callFronts r texts (takeFront r c text .checking))
+
+pub fronts-one : (r : Railway) (c : Checking) (texts : List (List ℕ)) (u : FrontCalls) → TakingFronts r c texts u → u ≡ callFronts r texts c
+unfolding callFronts
+fronts-one r c [] u (no-more _) = refl
+fronts-one r c (l ∷ ls) u (one-more _ c′ a _ _ v p more) = rw (← p .answer, ← p .checking, fronts-one r c′ ls v more)
+
+front-so : (r : Railway) (c : Checking) (text : List ℕ) → FrontPost r c text (takeFront r c text .answer) (takeFront r c text .checking)
+unfolding takeFront
+front-so r c text = record { answer = refl; numbered = go (caseRefusal r (c .figs) (c .sets)); checking = refl }
+  where
+    go : (o : Option Refusal) → frontNumber (frontLeaves c (frontOf r (linesOf text) c) o .answer) ≡ numberOf o
+    go none = refl
+    go (some f) = refl
+
+pub fronts : (r : Railway) (texts : List (List ℕ)) (c : Checking) → TakingFronts r c texts (callFronts r texts c)
+unfolding callFronts
+fronts r [] c = no-more c
+fronts r (l ∷ ls) c =
+    one-more c (takeFront r c l .checking) (takeFront r c l .answer) l ls (callFronts r ls (takeFront r c l .checking)) (front-so r c l) (fronts r ls (takeFront r c l .checking))

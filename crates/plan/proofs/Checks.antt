@@ -126,6 +126,10 @@ module _ (r : Railway) (a : recordRefusal r ≡ none) where
   unrefused : (ds : List PlacementLine) (c : Checking) → Tables ds c → caseRefusal r (c .figs) (c .sets) ≡ none
   unrefused ds c t = none-refused r (c .figs) (c .sets) a (t .figs .long) (t .sets .long)
 
+  pub unrefused-holds : (taken : List (List ℕ)) (c : Checking) → Holds taken c → caseRefusal r (c .figs) (c .sets) ≡ none
+  unrefused-holds taken c (unbegun e s t) = unrefused [] c t
+  unrefused-holds taken c (begun m ds f s t) = unrefused ds c t
+
   -- A CALL for one more line takes it, if with it the lines are in form; else it is refused as plan form and leaves all as it was
   pub data Call (taken : List (List ℕ)) (text : List ℕ) (c : Checking) (x : Left LineAnswer) : Type 0 where
     took : x .answer ≡ Taken → InForm r (taken ++ (text ∷ [])) → Holds (taken ++ (text ∷ [])) (x .checking) → Call taken text c x

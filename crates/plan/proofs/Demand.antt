@@ -20,23 +20,26 @@ use Rattle.tables.specs.Tables.{figureIn, caseRefusal, Filled}
 use Rattle.tables.specs.Solver.{SolverLeaves}
 use Rattle.tables.proofs.Plays.{filled-whole}
 use Rattle.plan.specs.declared.PlanPlace.the-variants.{Top}
-use Rattle.plan.specs.declared.Emitted.the-variants.{End}
+use Rattle.plan.specs.declared.Emitted.the-variants.{End, NoPlan}
 use Rattle.plan.specs.declared.LineAnswer.{LineAnswer}
 use Rattle.plan.specs.declared.TestAnswer.{TestAnswer}
 use Rattle.plan.specs.Lines.{PlanLine, spell, fits, mostLineBytes}
-use Rattle.plan.specs.Text.{planLines, planTexts}
+use Rattle.plan.specs.Text.{planLines, planTexts, planText}
 use Rattle.plan.specs.Emitter.{Wrote}
 use Rattle.plan.specs.Checker.{Checking, Left, takeLine, testPlan, LineCalls, onward, callLines, isTaken, takenTexts}
 use Rattle.plan.specs.Promises.{TestPost, FreshPost}
-use Rattle.plan.specs.Calls.{Emission, EmittingInto, longEnough, Taking}
+use Rattle.plan.specs.Several.{linesOf}
+use Rattle.plan.specs.Calls.{Emission, EmittingInto, longEnough, Taking, Writing, EmittingLines, FrontCalls, TakingFronts}
 use Rattle.plan.specs.Checked.{InForm, Passing}
-use Rattle.plan.specs.Demand3.{Handed, ownTexts, othersRefused, Passed, Demand3Holds}
+use Rattle.plan.specs.Demand3.{Handed, ownTexts, othersRefused, Passed, HandedFront, frontText, ownBytes, endsLine, othersLeft, PassedFronts, Demand3Holds}
 use Rattle.plan.proofs.Lengths.{lines-short}
 use Rattle.plan.proofs.Calls.{emitting-one, taking-one}
 use Rattle.plan.proofs.Emits.{none-refused, emits, emits-into, emits-none}
+use Rattle.plan.proofs.Several.{lines-none}
 use Rattle.plan.proofs.Forms.{form-front}
 use Rattle.plan.proofs.Fresh.{fresh-made}
 use Rattle.plan.proofs.Checks.{Holds, Call, took, refused, call, ran, answers, fresh-holds}
+use Rattle.plan.proofs.SeveralCalls.{writes-plan, plan-lines, passed-fronts}
 use Rattle.plan.proofs.Plan.{plan-fits, plan-passes}
 
 module _ (r : Railway) (accepted : recordRefusal r ≡ none) where
@@ -136,6 +139,17 @@ module _ (r : Railway) (accepted : recordRefusal r ≡ none) (figs sets : List �
   checks-plan lent₁ lent₂ made c i j fresh hs u calls own others test c′ p =
       passed-calls r accepted lent₁ lent₂ made c i j fresh hs u calls (subst (Passing r) (sym own) (plan-passes r accepted figs sets filled n start)) others test c′ p
 
+  -- several lines a call
+  lines-plan : (buffer : List ℕ) (w : Writing) → EmittingLines r figs sets Top buffer w → mostLineBytes ≤ length buffer → w ≡ record { text = planText r figs sets; last = End }
+  lines-plan buffer w calls long = writes-plan r figs sets unrefused n start buffer w calls (plan-fits-in r accepted figs sets buffer (plan-fits r accepted figs sets filled n start) long)
+
+  fronts-plan : (lent₁ lent₂ : List ℕ) (made : CaseAnswer) (c : Checking) → placements r ≤ length lent₁ → placements r ≤ length lent₂ → FreshPost r lent₁ lent₂ made c
+      → (hs : List HandedFront) (u : FrontCalls) → TakingFronts r c (map frontText hs) u → ownBytes hs ≡ planText r figs sets → all (λ h. endsLine (h .own)) hs ≡ true
+      → othersLeft hs (u .answers) ≡ true → (test : TestAnswer) (c′ : Checking) → TestPost r (u .end) test c′ → PassedFronts hs (u .answers) test
+  fronts-plan lent₁ lent₂ made c i j fresh hs u calls own cut others test c′ p =
+      let lines : linesOf (ownBytes hs) ≡ planTexts r figs sets = ap linesOf own ∙ plan-lines r figs sets in
+      passed-fronts r accepted lent₁ lent₂ made c i j fresh hs u calls (subst (Passing r) (sym lines) (plan-passes r accepted figs sets filled n start)) cut others test c′ p
+
 pub demand3-holds : Demand3Holds
 demand3-holds r a figs sets figs′ sets′ accepted lf ls post =
     let unrefused : caseRefusal r figs sets ≡ none = none-refused r figs sets accepted lf ls in
@@ -158,5 +172,17 @@ demand3-holds r a figs sets figs′ sets′ accepted lf ls post =
       chain = λ n start buffer e emitted long lent₁ lent₂ made c i j fresh hs u calls own others test c′ p. (
           let w : e ≡ record { lines = planTexts r figs′ sets′; last = some End } = into-plan r accepted figs′ sets′ filled still n start buffer e emitted long in
           (ap (λ (x : Emission). x .last) w, checks-plan r accepted figs′ sets′ filled still n start lent₁ lent₂ made c i j fresh hs u calls (own ∙ ap (λ (x : Emission). x .lines) w) others test c′ p)
+          );
+      emits-lines = lines-plan r accepted figs′ sets′ filled still;
+      emits-lines-none = λ start place b b′ e p. (
+          let w = lines-none r figs′ sets′ place b NoPlan (emits-none r figs′ sets′ still start place b) refl in
+          (p .answer ∙ ap (λ (x : Wrote). x .answer) (sym w), p .buffer ∙ ap (λ (x : Wrote). x .buffer) (sym w))
+          );
+      checks-fronts = fronts-plan r accepted figs′ sets′ filled still;
+      chain-lines = λ n start buffer w emitted long lent₁ lent₂ made c i j fresh hs u calls own cut others test c′ p. (
+          let e : w ≡ record { text = planText r figs′ sets′; last = End } = lines-plan r accepted figs′ sets′ filled still n start buffer w emitted long in (
+            ap (λ (x : Writing). x .last) e,
+            fronts-plan r accepted figs′ sets′ filled still n start lent₁ lent₂ made c i j fresh hs u calls (own ∙ ap (λ (x : Writing). x .text) e) cut others test c′ p,
+          )
           );
     }

@@ -3,7 +3,7 @@
 -- is, so that a line that fitted into the first fits into it later. Assumes nothing.
 use mathlib.Core.Path.{_≡_, refl, sym, _∙_, ap, subst}
 use mathlib.Core.Logic.{inl, inr}
-use mathlib.Core.Bool.{true}
+use mathlib.Core.Bool.{true, false}
 use mathlib.Core.List.{List, [], _∷_, _++_, map}
 use mathlib.Core.Option.{none, some}
 use Prim.Native.Nat.{ℕ, zero, suc, _≤_, _<_}
@@ -11,19 +11,20 @@ use native.Mathlib.Omega.{arith}
 use lib.ListN.{length, getD, take, drop, length-append, length-drop}
 use lib.Seq.{take-append-seam}
 use lib.Dec.{leb}
-use borrow.Author.Tests.{leb-true, le-ltb}
+use borrow.Author.Tests.{leb-true, lt-ltb, le-ltb}
 use Rattle.laws.specs.Below.{whichBelow}
 use Rattle.laws.specs.Lists.{all}
 use Rattle.laws.proofs.Bools.{option?, clash, and-true}
 use Rattle.laws.proofs.Which.{fromOn, next-none, next-some, from-zero}
 use Rattle.railway.specs.declared.Railway.{Railway}
+use Rattle.railway.specs.declared.Refusal.the-variants.{Space}
 use Rattle.railway.specs.Rows.{recordRefusal}
 use Rattle.game.specs.Placement.{placements, startCode}
 use Rattle.tables.specs.Tables.{noFigure, figureIn, caseRefusal}
 use Rattle.tables.proofs.Refusals.{case-none}
 use Rattle.plan.specs.declared.PlanPlace.{PlanPlace}
 use Rattle.plan.specs.declared.PlanPlace.the-variants.{Top, From}
-use Rattle.plan.specs.declared.Emitted.the-variants.{Line, End, NoPlan}
+use Rattle.plan.specs.declared.Emitted.the-variants.{Line, End, NoPlan, Refused}
 use Rattle.plan.specs.Lines.{startLine, placementLine, spell}
 use Rattle.plan.specs.Text.{hasFigure, lineFor, planLines, planTexts}
 use Rattle.plan.specs.Emitter.{isLine, Wrote, leaves, nextCode, due, emitLine}
@@ -45,6 +46,10 @@ no-buffers (l ∷ ls) e = clash e refl
 -- what is written where a line fits into the buffer
 put-line : (l : List ℕ) (next : PlanPlace) (b : List ℕ) → length l ≤ length b → lineWritten l next b ≡ record { answer = Line (length l) next; buffer = l ++ drop (length l) b }
 put-line l next b h = rw (le-ltb (length b) (length l) h)
+
+-- and where it does not: no line
+no-room : (l : List ℕ) (next : PlanPlace) (b : List ℕ) {w : Wrote} → w ≡ lineWritten l next b → length b < length l → isLine (w .answer) ≡ false
+no-room l next b e h = let k : lineWritten l next b ≡ leaves (Refused Space) b = rw (lt-ltb (length b) (length l) h) in ap (λ (x : Wrote). isLine (x .answer)) (e ∙ k)
 
 module _ (r : Railway) (figs sets : List ℕ) (unrefused : caseRefusal r figs sets ≡ none) where
   -- none is answered where the start has no figure
@@ -72,16 +77,22 @@ module _ (r : Railway) (figs sets : List ℕ) (unrefused : caseRefusal r figs se
     textsFrom Top = startText ∷ texts 0
     textsFrom (From c) = texts c
 
-    -- A CALL: the end where no lines are left; else the first of them, if it fits into the buffer, and the others are those from the next place on
+    -- A CALL: the end where no lines are left; else the first of them, if it fits into the buffer (and no line, if not), and the others are those from the
+    -- next place on
     pub data Call (place : PlanPlace) (b : List ℕ) : List (List ℕ) → Type 0 where
       ends : emitLine r figs sets place b ≡ leaves End b → Call place b []
-      writes : (l : List ℕ) (next : PlanPlace) → (length l ≤ length b → emitLine r figs sets place b ≡ record { answer = Line (length l) next; buffer = l ++ drop (length l) b }) → Call place b (l ∷ textsFrom next)
+      writes : (l : List ℕ) (next : PlanPlace) → (length l ≤ length b → emitLine r figs sets place b ≡ record { answer = Line (length l) next; buffer = l ++ drop (length l) b })
+          → (length b < length l → isLine (emitLine r figs sets place b .answer) ≡ false) → Call place b (l ∷ textsFrom next)
 
     pub call : (place : PlanPlace) (b : List ℕ) → Call place b (textsFrom place)
-    call Top b = writes startText (From 0) (λ h. emit-at Top b ∙ put-line startText (From 0) b h)
+    call Top b = writes startText (From 0) (λ h. emit-at Top b ∙ put-line startText (From 0) b h) (λ h. no-room startText (From 0) b (emit-at Top b) h)
     call (From c) b = elim (option? (nextCode r figs c)) [
       | inl x ↦ rw (next-none (fromOn (hasFigure figs) c) (placements r) x) (ends (emit-at (From c) b ∙ rw x))
-      | inr x ↦ rw (next-some (hasFigure figs) (placements r) c (x .0) (x .1)) (writes (textFor (x .0)) (From (suc (x .0))) (λ h. emit-at (From c) b ∙ (rw (x .1) (put-line (textFor (x .0)) (From (suc (x .0))) b h))))
+      | inr x ↦ (
+          let is : emitLine r figs sets (From c) b ≡ lineWritten (textFor (x .0)) (From (suc (x .0))) b = emit-at (From c) b ∙ rw (x .1) in
+          rw (next-some (hasFigure figs) (placements r) c (x .0) (x .1))
+          (writes (textFor (x .0)) (From (suc (x .0))) (λ h. is ∙ put-line (textFor (x .0)) (From (suc (x .0))) b h) (λ h. no-room (textFor (x .0)) (From (suc (x .0))) b is h))
+          )
     ]
 
     -- ALL CALLS, with a buffer each
@@ -98,7 +109,7 @@ module _ (r : Railway) (figs sets : List ℕ) (unrefused : caseRefusal r figs se
             → ((next : PlanPlace) → longEnough (textsFrom next) bs ≡ true → emission r figs sets bs next ≡ Whole (textsFrom next))
             → goOn (emitLine r figs sets place b .buffer) (emitLine r figs sets place b .answer) (emission r figs sets bs) ≡ Whole ls
         go [] (ends c) e rest = rw c
-        go (l ∷ ls) (writes k next c) e rest =
+        go (l ∷ ls) (writes k next c _) e rest =
             let h = enough l (textsFrom next) b bs e in
             rw (c (h .0), take-append-seam l (drop (length l) b), rest next (h .1))
 
@@ -128,7 +139,7 @@ module _ (r : Railway) (figs sets : List ℕ) (unrefused : caseRefusal r figs se
         go : (ls : List (List ℕ)) → Call place b ls → Fit b ls → (Fit b′ (textsFrom next) → rest ≡ Whole (textsFrom next))
             → record { lines = take n b′ ∷ rest .lines; last = rest .last } ≡ Whole ls
         go [] (ends c) fit more = clash refl (ap isLine (p .answer ∙ ap (λ (x : Wrote). x .answer) c))
-        go (l ∷ ls) (writes _ to c) fit more =
+        go (l ∷ ls) (writes _ to c _) fit more =
             let h = fitting b l (textsFrom to) fit in
             let w = c (h .here) in
             let a : Line n next ≡ Line (length l) to = p .answer ∙ ap (λ (x : Wrote). x .answer) w in
@@ -140,7 +151,7 @@ module _ (r : Railway) (figs sets : List ℕ) (unrefused : caseRefusal r figs se
       where
         go : (ls : List (List ℕ)) → Call place b ls → Fit b ls → record { lines = []; last = some a } ≡ Whole ls
         go [] (ends c) fit = rw (p .answer, c)
-        go (l ∷ ls) (writes _ to c) fit = clash (ap isLine (p .answer ∙ ap (λ (x : Wrote). x .answer) (c (fitting b l (textsFrom to) fit .here)))) i
+        go (l ∷ ls) (writes _ to c _) fit = clash (ap isLine (p .answer ∙ ap (λ (x : Wrote). x .answer) (c (fitting b l (textsFrom to) fit .here)))) i
 
     -- there are such calls: as many as there are lines, and one
     into : (k : ℕ) (place : PlanPlace) (b : List ℕ) → length (textsFrom place) < k → Fit b (textsFrom place) → EmittingInto r figs sets place b (Whole (textsFrom place))
@@ -151,7 +162,7 @@ module _ (r : Railway) (figs sets : List ℕ) (unrefused : caseRefusal r figs se
             → ((next : PlanPlace) (b′ : List ℕ) → length (textsFrom next) < k → Fit b′ (textsFrom next) → EmittingInto r figs sets next b′ (Whole (textsFrom next)))
             → EmittingInto r figs sets place b (Whole ls)
         go [] (ends c) m fit more = stopped place End b b refl (emits-so r figs sets place b (leaves End b) (sym c))
-        go (l ∷ ls) (writes _ to c) m fit more =
+        go (l ∷ ls) (writes _ to c _) m fit more =
             let h = fitting b l (textsFrom to) fit in
             let b′ : List ℕ = l ++ drop (length l) b in
             subst (EmittingInto r figs sets place b)

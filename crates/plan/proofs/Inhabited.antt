@@ -3,14 +3,14 @@
 -- Assumes nothing.
 use mathlib.Core.Path.{_≡_, refl, sym, _∙_, ap}
 use mathlib.Core.Bool.{true, false}
-use mathlib.Core.List.{List, [], _∷_, _++_, map}
+use mathlib.Core.List.{List, [], _∷_, _++_, map, flatten}
 use mathlib.Core.Option.{none, some}
 use Prim.Native.Nat.{ℕ, _≤_}
 use Prim.Native.String.{String}
 use native.Mathlib.Omega.{arith}
 use lib.Dec.{leb}
 use lib.ListN.{length, replicate, List·getD-eq-default}
-use Rattle.laws.specs.Below.{allBelow, anyBelow, sumBelow, whichBelow, listBelow}
+use Rattle.laws.specs.Below.{allBelow, anyBelow, lowest, sumBelow, whichBelow, listBelow}
 use Rattle.laws.specs.Bits.{fromBits}
 use Rattle.laws.specs.Lists.{any, all}
 use Rattle.text.specs.Text.{digits, line, bytes}
@@ -32,22 +32,25 @@ use Rattle.tables.specs.Entries.{entryFrom}
 use Rattle.tables.specs.Tables.{noFigure, figureIn, tablesShort, caseRefusal}
 use Rattle.tables.specs.Solver.{Kept, SolverPost}
 use Rattle.tables.proofs.KnownYards.{figsA, setsA, yardA-accepted, yardA-filled}
-use Rattle.plan.specs.declared.PlanPlace.the-variants.{Top}
-use Rattle.plan.specs.declared.Emitted.the-variants.{End}
+use Rattle.plan.specs.declared.PlanPlace.the-variants.{Top, From}
+use Rattle.plan.specs.declared.Emitted.the-variants.{Line, End}
 use Rattle.plan.specs.declared.CheckerState.the-variants.{Fresh}
 use Rattle.plan.specs.declared.TestAnswer.the-variants.{Pass, Refused}
 use Rattle.plan.specs.Lines.{spell, fits, mostLineBytes}
 use Rattle.plan.specs.Text.{lineFor, planLines, planTexts}
-use Rattle.plan.specs.Calls.{Emitting, EmittingInto, longEnough, Taking}
+use Rattle.plan.specs.Emitter.{emitLine}
+use Rattle.plan.specs.Several.{runFrom, emitLines, linesOf, frontOf, takeFront}
+use Rattle.plan.specs.Calls.{Emitting, EmittingInto, longEnough, Taking, EmittingLines, wrote, stopped, TakingFronts}
 use Rattle.plan.specs.Test.{listedSetting}
 use Rattle.plan.specs.Reading.{guess, readLine}
 use Rattle.plan.specs.Computed.{placementPasses, testHolds}
 use Rattle.plan.specs.Checker.{Checking, freshChecking, freshened, takeLine, testPlan, LineCalls, callLines, takenTexts}
 use Rattle.plan.specs.Checked.{Passing, Failing}
 use Rattle.plan.specs.Promises.{TestPost, FreshPost}
-use Rattle.plan.specs.Demand3.{Handed, ownTexts, othersRefused, Demand3}
+use Rattle.plan.specs.Demand3.{Handed, ownTexts, othersRefused, HandedFront, frontText, ownBytes, endsLine, othersLeft, Demand3}
 use Rattle.plan.proofs.Promises.{tests-so}
-use Rattle.plan.proofs.Calls.{emission, emitting, taking}
+use Rattle.plan.proofs.Calls.{emission, emitting, taking, callFronts, fronts}
+use Rattle.plan.proofs.Several.{lines-so}
 use Rattle.plan.proofs.Emits.{none-refused, into-whole}
 use Rattle.plan.proofs.Checks.{checked-holds}
 use Rattle.plan.proofs.Fresh.{fresh-all}
@@ -74,7 +77,8 @@ pub demand : Demand3 yardA (Figure 2) figsA setsA
 demand = demand3-holds yardA (Figure 2) lent lent figsA setsA yardA-accepted (omega (arith, nine)) (omega (arith, nine)) post
 
 -- What is computed: the plan's lines, with refused lines among those handed in; the plan's text; buffers that are long enough for it; the start has a
--- figure; the first line alone fails the test; and each line fits into a buffer of the most bytes.
+-- figure; the first line alone fails the test; each line fits into a buffer of the most bytes; and for several lines a call: the whole text, texts that have
+-- it in front, cut at a line's end, what is taken of them, and the calls that write it.
 abbrev stray : String → Handed
 stray s = record { own = false; text = bytes s }
 
@@ -86,6 +90,16 @@ handed = stray "2\t1\t1\t1\t-\n" ∷ ours "plan\t2\n" ∷ stray "plan\t2\n" ∷ 
 
 abbrev pub linesA : List (List ℕ)
 linesA = bytes "plan\t2\n" ∷ bytes "2\t1\t1\t1\t-\n" ∷ bytes "3\t1\t0\t0\t-\n" ∷ bytes "2\t3\t2\t0\t+\n" ∷ []
+
+-- the plan in two texts, the first with the beginning of a line behind it, the second with a line that is refused
+abbrev pub handedFronts : List HandedFront
+handedFronts =
+    record { own = bytes "plan\t2\n2\t1\t1\t1\t-\n"; other = bytes "3\t1" }
+    ∷ record { own = bytes "3\t1\t0\t0\t-\n2\t3\t2\t0\t+\n"; other = bytes "plan\t2\n" }
+    ∷ []
+
+abbrev pub textA : List ℕ
+textA = bytes "plan\t2\n2\t1\t1\t1\t-\n3\t1\t0\t0\t-\n2\t3\t2\t0\t+\n"
 
 abbrev pub buffers : List (List ℕ)
 buffers = replicate 5 (replicate 10 7)
@@ -115,8 +129,16 @@ pub computed :
     × (testPlan yardA (firstAlone .end) .answer ≡ Refused PlanFault)
     × (Pass ≡ testPlan yardA (handedCalls .end) .answer)
     × (all (λ l. leb (length l) (length widest)) (planTexts yardA figsA setsA) ≡ true)
-unfolding longEnough planTexts planLines lineFor ownTexts othersRefused bytes callLines takeLine testPlan caseRefusal tablesShort first unknownRow joinRow looseRow placeRow endAt joined hasSignal legsOf trainOf withJoin withSignal withLegs withTrain allBelow anyBelow sumBelow whichBelow listBelow fromBits any all readLine guess fields valueOf sameText spell line digits fits entryFrom codeOf testHolds placementPasses listedSetting keepsTest sectionsIn standsOn startCode atHome shared headsFor mayMove free held signalOpen passes occupied moveOf
-computed = (refl, refl, refl, refl, refl, refl, refl, refl)
+    × (flatten linesA ≡ textA)
+    × (ownBytes handedFronts ≡ textA)
+    × (all (λ h. endsLine (h .own)) handedFronts ≡ true)
+    × (othersLeft handedFronts (callFronts yardA (map frontText handedFronts) madeFresh .answers) ≡ true)
+    × (othersLeft (record { own = textA; other = [] } ∷ []) (callFronts yardA (textA ∷ []) madeFresh .answers) ≡ true)
+    × (endsLine textA ≡ true)
+    × (emitLines yardA figsA setsA Top widest ≡ record { answer = Line 37 (From 8); buffer = textA ++ replicate 8 7 })
+    × (emitLines yardA figsA setsA (From 8) (textA ++ replicate 8 7) ≡ record { answer = End; buffer = textA ++ replicate 8 7 })
+unfolding lowest flatten ownBytes endsLine othersLeft callFronts takeFront frontOf linesOf emitLines runFrom emitLine longEnough planTexts planLines lineFor ownTexts othersRefused bytes callLines takeLine testPlan caseRefusal tablesShort first unknownRow joinRow looseRow placeRow endAt joined hasSignal legsOf trainOf withJoin withSignal withLegs withTrain allBelow anyBelow sumBelow whichBelow listBelow fromBits any all readLine guess fields valueOf sameText spell line digits fits entryFrom codeOf testHolds placementPasses listedSetting keepsTest sectionsIn standsOn startCode atHome shared headsFor mayMove free held signalOpen passes occupied moveOf
+computed = (refl, refl, refl, refl, refl, refl, refl, refl, refl, refl, refl, refl, refl, refl, refl, refl)
 
 -- so demand 3 speaks of calls that there are: the emitter's with a buffer for each line, and with one of the most bytes, which is handed on
 emits : Emitting yardA figsA setsA Top buffers (emission yardA figsA setsA buffers Top)
@@ -127,6 +149,13 @@ unrefused = none-refused yardA figsA setsA yardA-accepted (omega (arith, nine)) 
 
 emits-into : EmittingInto yardA figsA setsA Top widest (record { lines = planTexts yardA figsA setsA; last = some End }) × (mostLineBytes ≤ length widest)
 emits-into = (into-whole yardA figsA setsA unrefused 2 (computed .4) widest (computed .7), omega arith)
+
+-- for several lines a call: one writes them all, and the next one answers that the plan has ended
+emits-lines : EmittingLines yardA figsA setsA Top widest (record { text = textA; last = End })
+unfolding bytes
+emits-lines =
+    wrote Top (From 8) 37 widest (textA ++ replicate 8 7) (record { text = []; last = End }) (lines-so yardA figsA setsA Top widest _ (sym (computed .14)))
+    (stopped (From 8) End (textA ++ replicate 8 7) (textA ++ replicate 8 7) refl (lines-so yardA figsA setsA (From 8) (textA ++ replicate 8 7) _ (sym (computed .15))))
 
 -- and the checker's, from tables made fresh, with lines among the plan's that it refuses, and then the test
 unrefused-lent : caseRefusal yardA lent wider ≡ none
@@ -152,3 +181,7 @@ passing = plan-passes yardA yardA-accepted figsA setsA yardA-filled 2 (computed 
 
 failing : Failing yardA (takenTexts (firstAlone .answers) (bytes "plan\t2\n" ∷ []))
 failing = checked-holds yardA yardA-accepted (freshChecking 9 9) (fresh-all yardA 9 9 (omega (arith, nine)) (omega (arith, nine))) (bytes "plan\t2\n" ∷ []) .faulty .0 (computed .5)
+
+-- and its calls for the lines in front of texts
+checks-fronts : TakingFronts yardA madeFresh (map frontText handedFronts) (callFronts yardA (map frontText handedFronts) madeFresh)
+checks-fronts = fronts yardA (map frontText handedFronts) madeFresh

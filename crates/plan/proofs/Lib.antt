@@ -1,5 +1,6 @@
 pub mod Arrived
 pub mod Reading
+pub mod FirstLine
 pub mod Lengths
 pub mod Steps
 pub mod Numbers
@@ -11,6 +12,7 @@ pub mod Tested
 pub mod Forms
 pub mod Fresh
 pub mod Checks
+pub mod SeveralCalls
 pub mod Plan
 pub mod Demand
 pub mod Outputs

@@ -23,7 +23,7 @@ use Rattle.text.proofs.Decimal.{digit-is, digits-are, decimal-plain, value-deci
 use Rattle.text.proofs.Lines.{same-is, same-self, cut-line}
 use Rattle.railway.specs.declared.Railway.{Railway}
 use Rattle.tables.specs.Tables.{noFigure}
-use Rattle.plan.specs.Lines.{PlacementLine, PlanLine, startLine, placementLine, orByte, trainDigit, openField, sign, pointField, sectionField, planWord, spell, fits, Spells}
+use Rattle.plan.specs.Lines.{PlacementLine, PlanLine, startLine, placementLine, orByte, trainDigit, openField, sign, pointField, sectionField, planWord, lineFields, spell, fits, Spells}
 use Rattle.plan.specs.Reading.{guessPlacement, guess, readIf, readLine}
 use Rattle.plan.specs.Checked.{ReadsLine}
 
@@ -86,6 +86,11 @@ last-plain d =
     rw (decimal-plain (d .figure))
     (rw (or-plain (byte "0") (map trainDigit (whichBelow (λ t. getD (d .opens) t false) (length (d .opens)))) refl (trains-plain (whichBelow (λ t. getD (d .opens) t false) (length (d .opens)))))
     (rw (or-plain (byte ".") (map sign (d .plus)) refl (signs-plain (d .plus)))))
+
+pub fields-plain : (l : PlanLine) → all (all isPlain) (lineFields l) ≡ true
+unfolding bytes all isPlain
+fields-plain (startLine n) = rw (decimal-plain n)
+fields-plain (placementLine d) = all-append (all isPlain) (map sectionField (d .sections)) (lastFields d) (sections-plain (d .sections)) (last-plain d)
 
 -- a line is cut into its fields
 cut-placement : (xs : List ℕ) (d : PlacementLine) → fields (line (map sectionField xs ++ lastFields d)) ≡ map sectionField xs ++ lastFields d

@@ -50,10 +50,10 @@ unfolding spell
 spell-some l = line-some (lineFields l)
 
 -- the same answer has the same parts
-same-bytes : {n m : ℕ} {x y : PlanPlace} → Line n x ≡ Line m y → n ≡ m
+pub same-bytes : {n m : ℕ} {x y : PlanPlace} → Line n x ≡ Line m y → n ≡ m
 same-bytes e = cc
 
-same-next : {n m : ℕ} {x y : PlanPlace} → Line n x ≡ Line m y → x ≡ y
+pub same-next : {n m : ℕ} {x y : PlanPlace} → Line n x ≡ Line m y → x ≡ y
 same-next e = cc
 
 not-top : {c : ℕ} → From c ≡ Top → ⊥
@@ -110,7 +110,7 @@ module _ (r : Railway) (figs sets : List ℕ) where
       }
 
   -- the first call writes no line: its answer is the whole call's
-  first-none : (b : List ℕ) (run : Run) (a : Emitted) → isLine a ≡ false → runWrote b run a ≡ leaves a b
+  pub first-none : (b : List ℕ) (run : Run) (a : Emitted) → isLine a ≡ false → runWrote b run a ≡ leaves a b
   first-none b run (Line n next) e = clash refl e
   first-none b run End e = refl
   first-none b run NoPlan e = refl
@@ -128,7 +128,7 @@ module _ (r : Railway) (figs sets : List ℕ) where
   lines-some place next n old e = rw e refl
 
   -- ONE CALL of a run
-  run-none : (most : ℕ) (place : PlanPlace) (b : List ℕ) → isLine (emitLine r figs sets place b .answer) ≡ false → runFrom r figs sets most place b ≡ noRun place b
+  pub run-none : (most : ℕ) (place : PlanPlace) (b : List ℕ) → isLine (emitLine r figs sets place b .answer) ≡ false → runFrom r figs sets most place b ≡ noRun place b
   unfolding runFrom
   run-none zero place b e = refl
   run-none (suc most) place b e = go (emitLine r figs sets place b .answer) e
@@ -250,11 +250,11 @@ module _ (r : Railway) (figs sets : List ℕ) where
       ]
 
 -- WHERE THERE IS ROOM all lines from a place on are written
-flatten-first : (l : List ℕ) (ls : List (List ℕ)) → flatten (l ∷ ls) ≡ l ++ flatten ls
+pub flatten-first : (l : List ℕ) (ls : List (List ℕ)) → flatten (l ∷ ls) ≡ l ++ flatten ls
 unfolding flatten
 flatten-first l ls = refl
 
-flatten-none : flatten {A = ℕ} [] ≡ []
+pub flatten-none : flatten {A = ℕ} [] ≡ []
 unfolding flatten
 flatten-none = refl
 
@@ -275,16 +275,16 @@ ran-one b l text run k =
     }
 
 module _ (r : Railway) (figs sets : List ℕ) (unrefused : caseRefusal r figs sets ≡ none) (n : ℕ) (start : figureIn figs (startCode r) ≡ some n) where
-  abbrev from : PlanPlace → List (List ℕ)
+  abbrev pub from : PlanPlace → List (List ℕ)
   from = textsFrom r figs sets unrefused n start
 
   -- a line that has room, and the run behind it
-  record Stepped (place next : PlanPlace) (l b : List ℕ) : Type 0 where
-    byte : 1 ≤ length l
-    answer : emitLine r figs sets place b .answer ≡ Line (length l) next
-    ran : (most : ℕ) → runFrom r figs sets (suc most) place b ≡ runBehind (length l) l (runFrom r figs sets most next (drop (length l) b))
+  pub record Stepped (place next : PlanPlace) (l b : List ℕ) : Type 0 where
+    pub byte : 1 ≤ length l
+    pub answer : emitLine r figs sets place b .answer ≡ Line (length l) next
+    pub ran : (most : ℕ) → runFrom r figs sets (suc most) place b ≡ runBehind (length l) l (runFrom r figs sets most next (drop (length l) b))
 
-  stepped : (place next : PlanPlace) (l b : List ℕ) → emitLine r figs sets place b ≡ record { answer = Line (length l) next; buffer = l ++ drop (length l) b } → Stepped place next l b
+  pub stepped : (place next : PlanPlace) (l b : List ℕ) → emitLine r figs sets place b ≡ record { answer = Line (length l) next; buffer = l ++ drop (length l) b } → Stepped place next l b
   stepped place next l b e =
       let a : emitLine r figs sets place b .answer ≡ Line (length l) next = ap (λ (w : Wrote). w .answer) e in
       record {
@@ -300,7 +300,7 @@ module _ (r : Railway) (figs sets : List ℕ) (unrefused : caseRefusal r figs se
     where
       go : (ls : List (List ℕ)) → Call r figs sets unrefused n start place b ls → length (flatten ls) ≤ length b → Ran b (flatten ls) (runFrom r figs sets zero place b)
       go [] (ends e) room = rw (run-none r figs sets zero place b (ap (λ (w : Wrote). isLine (w .answer)) e)) (ran-none place b)
-      go (l ∷ ls) (writes _ next e) room =
+      go (l ∷ ls) (writes _ next e _) room =
           let k : length (flatten (l ∷ ls)) ≡ length l + length (flatten ls) = ap length (flatten-first l ls) ∙ length-append l (flatten ls) in
           absurd (omega (arith, stepped place next l b (e (omega (arith, k, room))) .byte, k, room, m))
   run-whole (suc most) place b m room = go (from place) (call r figs sets unrefused n start place b) room (run-whole most)
@@ -309,7 +309,7 @@ module _ (r : Railway) (figs sets : List ℕ) (unrefused : caseRefusal r figs se
           → ((next : PlanPlace) (b : List ℕ) → length b ≤ most → length (flatten (from next)) ≤ length b → Ran b (flatten (from next)) (runFrom r figs sets most next b))
           → Ran b (flatten ls) (runFrom r figs sets (suc most) place b)
       go [] (ends e) room more = rw (run-none r figs sets (suc most) place b (ap (λ (w : Wrote). isLine (w .answer)) e)) (ran-none place b)
-      go (l ∷ ls) (writes _ next e) room more =
+      go (l ∷ ls) (writes _ next e _) room more =
           let k : length (flatten (l ∷ from next)) ≡ length l + length (flatten (from next)) = ap length (flatten-first l (from next)) ∙ length-append l (flatten (from next)) in
           let s : Stepped place next l b = stepped place next l b (e (omega (arith, k, room))) in
           let d : length (drop (length l) b) ≡ length b - length l = length-drop (length l) b in
@@ -326,7 +326,7 @@ module _ (r : Railway) (figs sets : List ℕ) (unrefused : caseRefusal r figs se
         where
           textsAt : ℕ → List (List ℕ)
           textsAt c = from (From c)
-      go (l ∷ ls) (writes _ next e) p room =
+      go (l ∷ ls) (writes _ next e _) p room =
           let k : length (flatten (l ∷ ls)) ≡ length l + length (flatten ls) = ap length (flatten-first l ls) ∙ length-append l (flatten ls) in
           let s : Stepped Top next l b = stepped Top next l b (e (omega (arith, k, room))) in
           rw (s .answer) refl

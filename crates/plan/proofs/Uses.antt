@@ -3,7 +3,7 @@
 -- nothing, would be missed. Code 7 is (2, 3), the start; 6 is (1, 3), and 0 is (1, 1), which have no figure. Assumes nothing.
 use mathlib.Core.Path.{_≡_, refl, sym, _∙_, ap}
 use mathlib.Core.Bool.{true, false}
-use mathlib.Core.List.{List, [], _∷_, map}
+use mathlib.Core.List.{List, [], _∷_, _++_, map, flatten, append-nil}
 use mathlib.Core.Option.{none, some}
 use Prim.Native.Nat.{ℕ, zero, suc, _≤_, _<_}
 use native.Mathlib.Omega.{arith}
@@ -37,18 +37,20 @@ use Rattle.plan.specs.declared.PlanPlace.the-variants.{Top}
 use Rattle.plan.specs.declared.Emitted.{Emitted}
 use Rattle.plan.specs.declared.Emitted.the-variants.{End, NoPlan}
 use Rattle.plan.specs.declared.LineAnswer.{LineAnswer}
+use Rattle.plan.specs.declared.FrontAnswer.the-variants.{Took}
 use Rattle.plan.specs.declared.TestAnswer.{TestAnswer}
 use Rattle.plan.specs.declared.TestAnswer.the-variants.{Pass}
 use Rattle.plan.specs.Lines.{spell, fits}
-use Rattle.plan.specs.Text.{planTexts}
+use Rattle.plan.specs.Text.{planTexts, planText}
 use Rattle.plan.specs.Reading.{guess, readLine}
 use Rattle.plan.specs.Checker.{Checking, takeLine, LineCalls, callLines, isTaken}
 use Rattle.plan.specs.Promises.{EmitterPost, TestPost, FreshPost}
-use Rattle.plan.specs.Calls.{Emission, Emitting, EmittingInto, longEnough, Taking}
-use Rattle.plan.specs.Demand3.{Handed, ownTexts, othersRefused, Demand3}
-use Rattle.plan.proofs.Calls.{taking-one}
+use Rattle.plan.specs.Several.{EmitLinesPost}
+use Rattle.plan.specs.Calls.{Emission, Emitting, EmittingInto, longEnough, Taking, Writing, EmittingLines, FrontCalls, TakingFronts}
+use Rattle.plan.specs.Demand3.{Handed, ownTexts, othersRefused, frontText, ownBytes, othersLeft, Demand3}
+use Rattle.plan.proofs.Calls.{taking-one, callFronts, fronts-one}
 use Rattle.plan.proofs.Plan.{texts-one}
-use Rattle.plan.proofs.Inhabited.{nine, lent, buffers, widest, linesA, handed, wider, madeFresh, made-fresh, computed}
+use Rattle.plan.proofs.Inhabited.{nine, lent, buffers, widest, linesA, textA, handed, handedFronts, wider, madeFresh, made-fresh, computed}
 
 -- a play that is home stays there
 home-stays : {S : Type 0} (g : Game S) (w : Way S) (c : Choice S) (x : Position S) → homeAt g x ≡ true → homeAt g (step g w c x) ≡ true
@@ -183,6 +185,13 @@ module _ (a : SolverAnswer) (figs sets : List ℕ) (d : Demand3 yardA a figs set
   writes-into : (e : Emission) → EmittingInto yardA figs sets Top widest e → e ≡ four
   writes-into e calls = d .emits-into 2 at-start widest e calls (omega arith) ∙ ap (λ (ls : List (List ℕ)). record { lines = ls; last = some End }) lines-are
 
+  -- `emits-lines`: calls for several lines each, into that buffer, write the text of those lines, and end
+  text-is : planText yardA figs sets ≡ textA
+  text-is = ap flatten lines-are ∙ computed .8
+
+  writes-text : (buffer : List ℕ) (w : Writing) → EmittingLines yardA figs sets Top buffer w → 45 ≤ length buffer → w ≡ record { text = textA; last = End }
+  writes-text buffer w calls long = d .emits-lines 2 at-start buffer w calls long ∙ ap (λ (t : List ℕ). record { text = t; last = End }) text-is
+
   -- THE CHECKER, from two tables of 9 and 12 entries made fresh
   module _ (made : CaseAnswer) (c : Checking) (fresh : FreshPost yardA lent wider made c) (test : TestAnswer) (c′ : Checking) where
     is-fresh : c ≡ madeFresh
@@ -215,6 +224,34 @@ module _ (a : SolverAnswer) (figs sets : List ℕ) (d : Demand3 yardA a figs set
           let x = d .chain 2 at-start buffer e emitted long lent wider made c (omega (arith, nine)) (omega (arith, nine)) fresh (behindEmpty (e .lines)) u calls (own-are (e .lines)) empty-refused test c′ tested in
           (x .0, x .1 .passes)
 
+    -- `checks-fronts`: of two texts with the plan's lines in front it takes 17 and 20 bytes, and the test answers pass
+    module _ (u : FrontCalls) (calls : TakingFronts yardA c (map frontText handedFronts) u) (tested : TestPost yardA (u .end) test c′) where
+      left-over : othersLeft handedFronts (u .answers) ≡ true
+      left-over = let s : u ≡ callFronts yardA (map frontText handedFronts) madeFresh = rw is-fresh at (fronts-one yardA c (map frontText handedFronts) u calls) in rw s (computed .11)
+
+      takes-fronts : (u .answers ≡ Took 17 ∷ Took 20 ∷ []) × (test ≡ Pass)
+      unfolding bytes
+      takes-fronts =
+          let x = d .checks-fronts 2 at-start lent wider made c (omega (arith, nine)) (omega (arith, nine)) fresh handedFronts u calls (computed .9 ∙ sym text-is) (computed .10) left-over test c′ tested in
+          (x .taken, x .passes)
+
+    -- `chain-lines`: whatever text the emitter's calls gave is handed on as one; the calls have come to the end, all 37 bytes are taken, and the test answers pass
+    module _ (buffer : List ℕ) (w : Writing) (emitted : EmittingLines yardA figs sets Top buffer w) (long : 45 ≤ length buffer)
+        (u : FrontCalls) (calls : TakingFronts yardA c (map frontText (record { own = w .text; other = [] } ∷ [])) u) (tested : TestPost yardA (u .end) test c′) where
+      text-given : w .text ≡ textA
+      text-given = ap (λ (x : Writing). x .text) (writes-text buffer w emitted long)
+
+      all-own : othersLeft (record { own = w .text; other = [] } ∷ []) (u .answers) ≡ true
+      all-own =
+          let s : u ≡ callFronts yardA ((w .text ++ []) ∷ []) madeFresh = rw is-fresh at (fronts-one yardA c ((w .text ++ []) ∷ []) u calls) in
+          rw (s, append-nil (w .text), text-given) (computed .12)
+
+      text-handed-on : (w .last ≡ End) × (u .answers ≡ Took 37 ∷ []) × (test ≡ Pass)
+      unfolding bytes ownBytes all
+      text-handed-on =
+          let x = d .chain-lines 2 at-start buffer w emitted long lent wider made c (omega (arith, nine)) (omega (arith, nine)) fresh (record { own = w .text; other = [] } ∷ []) u calls (append-nil (w .text)) (rw (text-given, computed .13) refl) all-own test c′ tested in
+          (x .0, x .1 .taken ∙ ap (λ (t : List ℕ). Took (length t) ∷ []) text-given, x .1 .passes)
+
 -- WITHOUT A PLAN: in the yard with trains head on
 module _ (a : SolverAnswer) (figs sets : List ℕ) (d : Demand3 headOn a figs sets) where
   no-figure : figureIn figs (startCode headOn) ≡ none
@@ -228,3 +265,7 @@ module _ (a : SolverAnswer) (figs sets : List ℕ) (d : Demand3 headOn a figs se
   -- `emits-none`: every call answers that there is no plan, and leaves the buffer
   emits-no-plan : (place : PlanPlace) (b b′ : List ℕ) (e : Emitted) → EmitterPost headOn figs sets place b e b′ → (e ≡ NoPlan) × (b′ ≡ b)
   emits-no-plan = d .emits-none no-figure
+
+  -- `emits-lines-none`: those for several lines too
+  emits-no-lines : (place : PlanPlace) (b b′ : List ℕ) (e : Emitted) → EmitLinesPost headOn figs sets place b e b′ → (e ≡ NoPlan) × (b′ ≡ b)
+  emits-no-lines = d .emits-lines-none no-figure

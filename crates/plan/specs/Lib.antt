@@ -11,5 +11,6 @@ pub mod Checked
 pub mod Demand3
 pub mod Outputs
 pub mod Reading
+pub mod FirstLine
 pub mod Computed
 pub mod Steps

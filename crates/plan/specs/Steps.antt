@@ -51,6 +51,7 @@ pub record PutAt : Type 0 where
   pub buffer : List ℕ
   pub at : ℕ
 
+-- What is put there: the line, if it has room, and the cursor behind it; else nothing, and the cursor as it was.
 abbrev pub putAt : List ℕ → List ℕ → ℕ → PutAt
 putAt l buffer at =
     cond (ltb (length buffer) (at + length l))

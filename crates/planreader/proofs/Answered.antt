@@ -1,54 +1,57 @@
--- The answers, by what the walk has taken and what the comparison has said. A line that fits and spells the text is the line that the walk takes;
--- so no line is read where nothing is taken or what is taken is spelled otherwise, and else the line that is taken. Assumes nothing.
-use Prim.Native.Nat.{ℕ, suc, _≤_, _<_}
+-- The answers, by what the walk has read. What it reads whole is spelled there and fits, so that it is the first line of the text from the place on; and where
+-- it stops no line that fits is spelled, for that would be walked whole. Assumes nothing.
+use Prim.Native.Nat.{ℕ, zero, suc, _+_, _^_, _≤_, _<_}
 use mathlib.Core.Path.{_≡_, refl, sym, _∙_, ap}
 use mathlib.Core.Logic.{inl, inr}
 use mathlib.Core.Bool.{Bool, true, false}
-use mathlib.Core.List.{List, [], _∷_, _++_, map}
+use mathlib.Core.List.{List, [], _∷_, _++_, map, append-assoc, append-nil}
 use mathlib.Core.Option.{none, some}
 use native.Mathlib.Omega.{arith}
 use lib.Dec.{ltb}
-use lib.ListN.{length, getD, drop}
+use lib.ListN.{length, getD, drop, length-append, length-drop, take-append-drop}
+use lib.Seq.{take-all}
 use borrow.Author.Tests.{lt-ltb, ltb-true, eq-eqb}
 use Rattle.laws.specs.Below.{listBelow}
 use Rattle.laws.specs.Lists.{all}
-use Rattle.laws.specs.Bits.{bit}
-use Rattle.laws.proofs.Bools.{clash, option?, and-true}
+use Rattle.laws.proofs.Bools.{option?, some-none, and-true}
 use Rattle.laws.proofs.Below.{listed, list-length}
-use Rattle.laws.proofs.Lists.{all-each, of-four}
+use Rattle.laws.proofs.Lists.{all-each}
 use Rattle.text.specs.Text.{byte, decimal, tab, lineEnd, line, bytes}
-use Rattle.text.specs.Reading.{isDigit, Got, bad, got, sameText}
+use Rattle.text.specs.Reading.{isDigit, Got, bad, got, byteAt}
 use Rattle.text.proofs.Decimal.{digit-is, digits-are, digits-begin}
-use Rattle.text.proofs.Lines.{same-is, same-self}
-use Rattle.text.proofs.Walking.{bad-got}
+use Rattle.text.proofs.Walking.{Lies, bad-got, here, byte-sound, byte-complete}
 use Rattle.railway.specs.declared.Railway.{Railway}
-use Rattle.railway.specs.Bounds.{mostSections}
+use Rattle.railway.specs.Bounds.{mostSections, mostTrains}
 use Rattle.railway.specs.Rows.{recordRefusal}
 use Rattle.railway.proofs.Accepted.{Bounded, accepted-facts}
 use Rattle.game.specs.Placement.{codeOf, codeOn}
 use Rattle.tables.specs.Tables.{noFigure}
-use Rattle.tables.specs.Entries.{opensIn}
-use Rattle.tables.proofs.Entries.{entry-plus, entry-opens}
-use Rattle.plan.specs.Lines.{PlacementLine, PlanLine, startLine, placementLine, sectionField, spell, fits, Spells, mostLineBytes, lineCode}
+use Rattle.tables.specs.Entries.{trainBits, entryFrom}
+use Rattle.plan.specs.Lines.{PlacementLine, PlanLine, startLine, placementLine, sectionField, spell, fits, lineCode}
 use Rattle.plan.specs.Checker.{lineEntry}
 use Rattle.plan.specs.Reading.{readLine}
-use Rattle.plan.proofs.Reading.{lastFields, list-is, fits-parts, reads-line}
-use Rattle.plan.proofs.Lengths.{lines-short}
+use Rattle.plan.specs.FirstLine.{lineBytes, firstOf}
+use Rattle.plan.proofs.Reading.{lastFields, fits-parts, reads, reads-line}
+use Rattle.plan.proofs.FirstLine.{SpelledFirst, spelled-first}
+use Rattle.plan.proofs.Several.{spell-some}
 use Rattle.placement.specs.declared.Placement.{Placement}
 use Rattle.placement.specs.ByValue.{sectionIn}
-use Rattle.planlines.specs.Spelling.{lineOf}
+use Rattle.planreader.specs.declared.LineAt.{LineAt}
 use Rattle.planreader.specs.declared.LineRead.the-variants.{NoLine, Start, Placed}
 use Rattle.planreader.specs.Answers.{answerFor}
-use Rattle.planreader.specs.Walk.{BeginsLikeStart, sectionsAt, figureAt, entryAt}
+use Rattle.planreader.specs.Places.{ReadAt}
+use Rattle.planreader.specs.Walk.{BeginsLikeStart, wordAt, sectionsAt, figureAt, entryAt}
+use Rattle.planreader.proofs.Fields.{weigh, weighed}
 use Rattle.planreader.proofs.Taking.{sections-below, figure-below}
-use Rattle.planreader.proofs.Complete.{figure-complete, Walked, walked}
+use Rattle.planreader.proofs.Sound.{byte-end, word-sound, piece, sections-sound, figure-sound, Entry, entry-sound}
+use Rattle.planreader.proofs.Complete.{word-complete, figure-complete, last-fields, Walked, walked}
 
--- two readings of one place
-same-value : {A : Type 0} {g : Got A} {x y : A} {b c : ℕ} → g ≡ got x b → g ≡ got y c → (x ≡ y) × (b ≡ c)
-same-value p q = (cc, cc)
+-- two readings of one place end at one cursor
+same-cursor : {A : Type 0} {g : Got A} {x y : A} {b c : ℕ} → g ≡ got x b → g ≡ got y c → b ≡ c
+same-cursor p q = cc
 
 -- A LINE FOR A PLACEMENT begins with a digit
-first-digit : (x : ℕ) (rest : List ℕ) → suc x < 10000000000 → BeginsLikeStart (decimal (suc x) ++ rest) → ⊥
+first-digit : (x : ℕ) (rest : List ℕ) → suc x < 10000000000 → getD (decimal (suc x) ++ rest) 0 0 ≡ byte "p" → ⊥
 unfolding all
 first-digit x rest l e =
     let b = digits-begin 10 (suc x) (omega arith) (omega arith) in
@@ -57,144 +60,220 @@ first-digit x rest l e =
     let f : b .head ≡ byte "p" = rw (b .is) at e in
     omega arith
 
-first-section : (xs : List ℕ) (d : PlacementLine) (s : ℕ) → s ≤ mostSections → 1 ≤ length xs → all (λ x. ltb x s) xs ≡ true → BeginsLikeStart (line (map sectionField xs ++ lastFields d)) → ⊥
+first-section : (xs : List ℕ) (d : PlacementLine) (rest : List ℕ) (s : ℕ) → s ≤ mostSections → 1 ≤ length xs → all (λ x. ltb x s) xs ≡ true
+    → getD (line (map sectionField xs ++ lastFields d) ++ rest) 0 0 ≡ byte "p" → ⊥
 unfolding line all
-first-section [] d s l n a e = omega arith
-first-section (x ∷ []) d s l n a e = let h = ltb-true x s (and-true (ltb x s) true a .0) in first-digit x (tab ∷ line (lastFields d)) (omega arith) e
-first-section (x ∷ y ∷ xs) d s l n a e =
+first-section [] d rest s l n a e = omega arith
+first-section (x ∷ []) d rest s l n a e =
+    let h = ltb-true x s (and-true (ltb x s) true a .0) in
+    first-digit x ((tab ∷ line (lastFields d)) ++ rest) (omega arith) (ap (λ (t : List ℕ). getD t 0 0) (sym (append-assoc (decimal (suc x)) (tab ∷ line (lastFields d)) rest)) ∙ e)
+first-section (x ∷ y ∷ xs) d rest s l n a e =
     let h = ltb-true x s (and-true (ltb x s) (all (λ x. ltb x s) (y ∷ xs)) a .0) in
-    first-digit x (tab ∷ line (map sectionField (y ∷ xs) ++ lastFields d)) (omega arith) e
+    first-digit x ((tab ∷ line (map sectionField (y ∷ xs) ++ lastFields d)) ++ rest) (omega arith)
+    (ap (λ (t : List ℕ). getD t 0 0) (sym (append-assoc (decimal (suc x)) (tab ∷ line (map sectionField (y ∷ xs) ++ lastFields d)) rest)) ∙ e)
 
-module _ (r : Railway) (ok : recordRefusal r ≡ none) (text : List ℕ) where
+-- its sections, one after the other, are in front of its other fields
+sections-spelled : (k x y z w : ℕ) (rest : List ℕ) (d : PlacementLine) → k ≤ mostTrains
+    → line (map sectionField (listBelow (λ t. getD (x ∷ y ∷ z ∷ w ∷ []) t 0) k) ++ lastFields d) ++ rest ≡ piece k 0 x (piece k 1 y (piece k 2 z (piece k 3 w (line (lastFields d) ++ rest))))
+unfolding line listBelow
+sections-spelled zero x y z w rest d l = refl
+sections-spelled (suc zero) x y z w rest d l = append-assoc (sectionField x) (tab ∷ line (lastFields d)) rest
+sections-spelled (suc (suc zero)) x y z w rest d l =
+    append-assoc (sectionField x) (tab ∷ line (sectionField y ∷ lastFields d)) rest
+    ∙ ap (λ (t : List ℕ). sectionField x ++ (tab ∷ t)) (append-assoc (sectionField y) (tab ∷ line (lastFields d)) rest)
+sections-spelled (suc (suc (suc zero))) x y z w rest d l =
+    append-assoc (sectionField x) (tab ∷ line (sectionField y ∷ sectionField z ∷ lastFields d)) rest
+    ∙ ap (λ (t : List ℕ). sectionField x ++ (tab ∷ t)) (append-assoc (sectionField y) (tab ∷ line (sectionField z ∷ lastFields d)) rest
+    ∙ ap (λ (t : List ℕ). sectionField y ++ (tab ∷ t)) (append-assoc (sectionField z) (tab ∷ line (lastFields d)) rest))
+sections-spelled (suc (suc (suc (suc zero)))) x y z w rest d l =
+    append-assoc (sectionField x) (tab ∷ line (sectionField y ∷ sectionField z ∷ sectionField w ∷ lastFields d)) rest
+    ∙ ap (λ (t : List ℕ). sectionField x ++ (tab ∷ t)) (append-assoc (sectionField y) (tab ∷ line (sectionField z ∷ sectionField w ∷ lastFields d)) rest
+    ∙ ap (λ (t : List ℕ). sectionField y ++ (tab ∷ t)) (append-assoc (sectionField z) (tab ∷ line (sectionField w ∷ lastFields d)) rest
+    ∙ ap (λ (t : List ℕ). sectionField z ++ (tab ∷ t)) (append-assoc (sectionField w) (tab ∷ line (lastFields d)) rest)))
+sections-spelled (suc (suc (suc (suc (suc k))))) x y z w rest d l = absurd (omega arith)
+
+-- and the bits of its other fields make its entry
+entry-weighed : (r : Railway) (ps os : List Bool) → length ps ≡ r .points → length os ≡ r .trains → weigh 1 ps + weigh (2 ^ trainBits) os ≡ entryFrom r (λ n. getD ps n false) (λ t. getD os t false)
+unfolding entryFrom
+entry-weighed r ps os a b = rw (weighed 1 ps, weighed (2 ^ trainBits) os, a, b) (omega arith)
+
+-- THE WORD of the first line, with the tab behind it
+abbrev pub firstWord : List ℕ
+firstWord = byte "p" ∷ byte "l" ∷ byte "a" ∷ byte "n" ∷ tab ∷ []
+
+start-spelled : (n : ℕ) (rest : List ℕ) → spell (startLine n) ++ rest ≡ firstWord ++ (decimal n ++ (lineEnd ∷ rest))
+unfolding bytes spell line
+start-spelled n rest = ap (λ (l : List ℕ). firstWord ++ l) (append-assoc (decimal n) (lineEnd ∷ []) rest)
+
+module _ (r : Railway) (ok : recordRefusal r ≡ none) (text : List ℕ) (at : ℕ) where
   bounds : Bounded (r .sections) (r .points) (r .trains)
   bounds = accepted-facts r ok .bounds
 
   few-sections : r .sections < noFigure
   few-sections = omega (arith, bounds .few-sections)
 
-  -- NO LINE, where none that fits spells the text
-  none-read : ((l : PlanLine) → Spells r text l → ⊥) → NoLine ≡ answerFor r (readLine r text)
-  none-read h = elim (option? (readLine r text)) [
-    | inl e ↦ rw e
-    | inr x ↦ absurd (h (x .0) (reads-line r few-sections text (x .0) .0 (x .1)))
-  ]
+  -- a line that fits is spelled at the place, and this is behind it
+  abbrev Spelled : PlanLine → List ℕ → Type 0
+  Spelled l rest = drop at text ≡ spell l ++ rest
 
-  -- a text of more bytes than a line can have is no line
-  pub too-long : mostLineBytes < length text → NoLine ≡ answerFor r (readLine r text)
-  too-long l = none-read (λ x p. let s = lines-short r ok x (p .fit) in let n : length (spell x) ≡ length text = ap length (p .spelled) in omega arith)
+  -- NO LINE, where none that fits is spelled at the place
+  no-line : ((l : PlanLine) (rest : List ℕ) → fits r l ≡ true → Spelled l rest → ⊥) → (x : LineAt) → x .line ≡ NoLine → ReadAt r text at x
+  no-line h x e =
+      record {
+        line = elim (option? (readLine r (firstOf (drop at text)))) [
+          | inl f ↦ rw f e
+          | inr y ↦
+              let p = reads-line r few-sections (firstOf (drop at text)) (y .0) .0 (y .1) in
+              absurd (h (y .0) (drop (lineBytes (drop at text)) (drop at text)) (p .fit)
+              (sym (take-append-drop (lineBytes (drop at text)) (drop at text)) ∙ ap (λ (t : List ℕ). t ++ drop (lineBytes (drop at text)) (drop at text)) (sym (p .spelled))))
+        ];
+        end = λ n. absurd (n e);
+      }
 
-  -- a line that is compared: it fits, so it is short, and the comparison says whether it spells the text
-  module _ (l : PlanLine) (fit : fits r l ≡ true) {b : Bool} (said : length (spell l) ≤ mostLineBytes → b ≡ sameText (spell l) text) where
-    said-true : b ≡ true → Spells r text l
-    said-true e = record { fit = fit; spelled = same-is (spell l) text (sym (said (lines-short r ok l fit)) ∙ e) }
+  -- A LINE that fits is spelled there
+  a-line : (l : PlanLine) → fits r l ≡ true → (x : LineAt) → Spelled l (drop (x .end) text) → x .end ≤ length text → x .line ≡ answerFor r (some l) → ReadAt r text at x
+  a-line l fit x is inside e =
+      let f = spelled-first (drop at text) (drop (x .end) text) l is in
+      let n : length (drop at text) ≡ length (spell l) + length (drop (x .end) text) = ap length is ∙ length-append (spell l) (drop (x .end) text) in
+      record {
+        line = e ∙ ap (answerFor r) (sym (ap (readLine r) (f .line) ∙ reads r few-sections l fit));
+        end = λ h. omega (arith, f .bytes, n, length-drop at text, length-drop (x .end) text, spell-some l, inside);
+      }
 
-    said-false : {A : Type 0} → b ≡ false → spell l ≡ text → A
-    said-false e p = clash (ap (sameText (spell l)) (sym p) ∙ same-self (spell l)) (sym (said (lines-short r ok l fit)) ∙ e)
+  -- THE FIRST LINE
+  module _ (first : BeginsLikeStart text at) where
+    start-only : {A : Type 0} → ((n : ℕ) (rest : List ℕ) → n < noFigure → Lies text at (firstWord ++ (decimal n ++ (lineEnd ∷ rest))) → A)
+        → (l : PlanLine) (rest : List ℕ) → fits r l ≡ true → Spelled l rest → A
+    unfolding spell fits
+    start-only h (startLine n) rest fit is = h n rest (ltb-true n noFigure fit) (record { text = is ∙ start-spelled n rest })
+    start-only h (placementLine d) rest fit is =
+        let f = fits-parts r d fit in
+        let lies : Lies text at (spell (placementLine d) ++ rest) = record { text = is } in
+        absurd (first-section (d .sections) d rest (r .sections) (bounds .few-sections) (omega (arith, f .each-train, bounds .some-train)) (f .there) (sym (here lies) ∙ first))
 
-    read-so : b ≡ true → readLine r text ≡ some l
-    read-so e = reads-line r few-sections text l .1 (said-true e)
+    module _ (x : LineAt) where
+      pub no-word : wordAt text firstWord at ≡ bad → x .line ≡ NoLine → ReadAt r text at x
+      no-word e = no-line (start-only (λ n rest l t. bad-got e (word-complete text firstWord (decimal n ++ (lineEnd ∷ rest)) at t .is))) x
 
-  -- THE FIRST LINE: its figure stands behind the word and a tab
-  abbrev behindWord : ℕ
-  behindWord = 5
+      module _ {u c₁ : ℕ} (e₁ : wordAt text firstWord at ≡ got u c₁) where
+        -- the figure stands behind the word
+        figure-lies : (n : ℕ) (rest : List ℕ) → Lies text at (firstWord ++ (decimal n ++ (lineEnd ∷ rest))) → Lies text c₁ (decimal n ++ (lineEnd ∷ rest))
+        figure-lies n rest t =
+            let w = word-complete text firstWord (decimal n ++ (lineEnd ∷ rest)) at t in
+            rw (same-cursor e₁ (w .is)) (w .left)
 
-  module _ (first : BeginsLikeStart text) where
-    start-taken : (n : ℕ) → Spells r text (startLine n) → (c : ℕ) × (figureAt text behindWord ≡ got n c)
-    unfolding bytes spell line isDigit fits
-    start-taken n p =
-        let x = figure-complete text (lineEnd ∷ []) n behindWord refl (ltb-true n noFigure (p .fit)) (record { text = ap (drop behindWord) (sym (p .spelled)) }) in
-        (x .cursor, x .is)
+        pub no-start-figure : figureAt text c₁ ≡ bad → x .line ≡ NoLine → ReadAt r text at x
+        unfolding isDigit
+        no-start-figure e = no-line (start-only (λ n rest l t. bad-got e (figure-complete text (lineEnd ∷ rest) n c₁ refl l (figure-lies n rest t) .is))) x
 
-    start-only : {A : Type 0} → ((n : ℕ) → Spells r text (startLine n) → A) → (l : PlanLine) → Spells r text l → A
-    unfolding spell
-    start-only h (startLine n) p = h n p
-    start-only h (placementLine d) p =
-        let f = fits-parts r d (p .fit) in
-        absurd (first-section (d .sections) d (r .sections) (bounds .few-sections) (omega (arith, f .each-train, bounds .some-train)) (f .there) (ap (λ (t : List ℕ). getD t 0 0) (p .spelled) ∙ first))
+        module _ {n c₂ : ℕ} (e₂ : figureAt text c₁ ≡ got n c₂) where
+          pub no-start-end : byteAt text lineEnd c₂ ≡ bad → x .line ≡ NoLine → ReadAt r text at x
+          unfolding isDigit
+          no-start-end e =
+              no-line (start-only (λ m rest l t.
+              let f = figure-complete text (lineEnd ∷ rest) m c₁ refl l (figure-lies m rest t) in
+              bad-got e (byte-complete text lineEnd c₂ rest (rw (same-cursor e₂ (f .is)) (f .left)) .is))) x
 
-    pub start-none : figureAt text behindWord ≡ bad → NoLine ≡ answerFor r (readLine r text)
-    start-none e = none-read (start-only (λ n p. bad-got e (start-taken n p .1)))
-
-    module _ (n c : ℕ) (e : figureAt text behindWord ≡ got n c) {b : Bool} (said : length (spell (startLine n)) ≤ mostLineBytes → b ≡ sameText (spell (startLine n)) text) where
-      start-fits : fits r (startLine n) ≡ true
-      unfolding fits
-      start-fits = lt-ltb n noFigure (figure-below text behindWord n c e)
-
-      pub start-there : b ≡ true → Start n ≡ answerFor r (readLine r text)
-      start-there y = rw (read-so (startLine n) start-fits said y)
-
-      pub start-other : b ≡ false → NoLine ≡ answerFor r (readLine r text)
-      start-other y = none-read (start-only (λ x p. said-false (startLine n) start-fits said y (ap (λ (z : ℕ). spell (startLine z)) (same-value e (start-taken x p .1) .0) ∙ p .spelled)))
+          pub start-read : {y : ℕ} → byteAt text lineEnd c₂ ≡ got y (x .end) → x .line ≡ Start n → ReadAt r text at x
+          unfolding fits
+          start-read {y} e₃ =
+              a-line (startLine n) (lt-ltb n noFigure (figure-below text c₁ n c₂ e₂)) x
+              (word-sound text firstWord at u c₁ e₁ ∙ ap (λ (l : List ℕ). firstWord ++ l) (figure-sound text c₁ n c₂ e₂ ∙ ap (λ (l : List ℕ). decimal n ++ l) (byte-sound text lineEnd c₂ y (x .end) (omega arith) e₃)) ∙ sym (start-spelled n (drop (x .end) text)))
+              (byte-end text lineEnd c₂ y (x .end) (omega arith) e₃)
 
   -- A LINE FOR A PLACEMENT, by the counts that code has
-  module _ (first : BeginsLikeStart text → ⊥) {s k m : ℕ} (es : s ≡ r .sections) (em : m ≡ r .points) (ek : k ≡ r .trains) where
-    abbrev Takes : PlacementLine → Type 0
-    Takes d = Walked text s k m d (lineEntry r d)
+  module _ (first : BeginsLikeStart text at → ⊥) {s k m : ℕ} (es : s ≡ r .sections) (em : m ≡ r .points) (ek : k ≡ r .trains) (x : LineAt) where
+    placed-only : {A : Type 0} → (Walked text s k m at → A) → (l : PlanLine) (rest : List ℕ) → fits r l ≡ true → Spelled l rest → A
+    placed-only h (startLine n) rest fit is =
+        let lies : Lies text at (firstWord ++ (decimal n ++ (lineEnd ∷ rest))) = record { text = is ∙ start-spelled n rest } in
+        absurd (first (here lies))
+    placed-only h (placementLine d) rest fit is = h (rw (es, em, ek) (walked r bounds text at d rest fit is))
 
-    takes : (d : PlacementLine) → Spells r text (placementLine d) → Takes d
-    takes d p = rw (es, em, ek) (walked r bounds text d p)
+    pub no-sections : sectionsAt text s k at ≡ bad → x .line ≡ NoLine → ReadAt r text at x
+    no-sections e = no-line (placed-only (λ w. bad-got e (w .sections))) x
 
-    placed-only : {A : Type 0} → ((d : PlacementLine) → Spells r text (placementLine d) → Takes d → A) → (l : PlanLine) → Spells r text l → A
-    unfolding bytes spell line
-    placed-only h (startLine n) p = absurd (first (ap (λ (t : List ℕ). getD t 0 0) (sym (p .spelled))))
-    placed-only h (placementLine d) p = h d p (takes d p)
+    module _ {a b c d c₁ : ℕ} (e₁ : sectionsAt text s k at ≡ got (a ∷ b ∷ c ∷ d ∷ []) c₁) where
+      figure-at : (w : Walked text s k m at) → figureAt text c₁ ≡ got (w .number) (w .two)
+      figure-at w = rw (same-cursor e₁ (w .sections)) (w .figure)
 
-    pub no-sections : sectionsAt text s k ≡ bad → NoLine ≡ answerFor r (readLine r text)
-    no-sections e = none-read (placed-only (λ d p x. bad-got e (x .sections)))
-
-    module _ {qs : List ℕ} {c₁ : ℕ} (e₁ : sectionsAt text s k ≡ got qs c₁) where
-      pub no-figure : figureAt text c₁ ≡ bad → NoLine ≡ answerFor r (readLine r text)
-      no-figure e = none-read (placed-only (λ d p x. let z = same-value e₁ (x .sections) in bad-got e (rw (sym (z .1)) at (x .figure))))
+      pub no-figure : figureAt text c₁ ≡ bad → x .line ≡ NoLine → ReadAt r text at x
+      no-figure e = no-line (placed-only (λ w. bad-got e (figure-at w))) x
 
       module _ {n c₂ : ℕ} (e₂ : figureAt text c₁ ≡ got n c₂) where
-        -- the figure that a line has is the one that was read, and the next cursor too
-        figure-same : (d : PlacementLine) (x : Takes d) → (n ≡ d .figure) × (c₂ ≡ x .two)
-        figure-same d x = let z = same-value e₁ (x .sections) in same-value e₂ (rw (sym (z .1)) at (x .figure))
+        pub no-entry : entryAt text k m c₂ ≡ bad → x .line ≡ NoLine → ReadAt r text at x
+        no-entry e = no-line (placed-only (λ w. bad-got e (ap (entryAt text k m) (same-cursor e₂ (figure-at w)) ∙ w .entry))) x
 
-        pub no-entry : entryAt text m c₂ ≡ bad → NoLine ≡ answerFor r (readLine r text)
-        no-entry e = none-read (placed-only (λ d p x. bad-got e (rw (sym (figure-same d x .1)) at (x .entry))))
+        module _ {v : ℕ} (e₃ : entryAt text k m c₂ ≡ got v (x .end)) (q : Placement) (is : q .sections ≡ a ∷ b ∷ c ∷ d ∷ []) where
+          got-entry : Entry text k m c₂ v (x .end)
+          got-entry = entry-sound text k m c₂ v (x .end) e₃
 
-        module _ {v c₃ : ℕ} (e₃ : entryAt text m c₂ ≡ got v c₃) (q : Placement) (is : q .sections ≡ qs) where
+          few : k ≤ mostTrains
+          few = omega (arith, bounds .few-trains)
+
           abbrev taken : PlacementLine
-          taken = lineOf k m q n v
-
-          entry-same : (d : PlacementLine) → Takes d → v ≡ lineEntry r d
-          entry-same d x = same-value e₃ (rw (sym (figure-same d x .1)) at (x .entry)) .0
-
-          -- a line that spells the text is the line taken
-          taken-is : (d : PlacementLine) → Spells r text (placementLine d) → Takes d → taken ≡ d
-          taken-is d p x =
-              let f = fits-parts r d (p .fit) in
-              let w = is ∙ same-value e₁ (x .sections) .0 in
-              let xs : listBelow (sectionIn q) k ≡ d .sections =
-              list-is (sectionIn q) (d .sections) k 0 (f .each-train ∙ sym ek)
-              (λ t l. ap (λ (u : List ℕ). getD u t 0) w ∙ of-four (λ t u. u ≡ getD (d .sections) t 0) 0 (getD (d .sections) 0 0) (getD (d .sections) 1 0) (getD (d .sections) 2 0) (getD (d .sections) 3 0) refl refl refl refl t (omega (arith, bounds .few-trains))) in
-              let os : listBelow (opensIn v) k ≡ d .opens =
-              list-is (opensIn v) (d .opens) k false (f .opened ∙ sym ek)
-              (λ t l. ap (λ (u : ℕ). opensIn u t) (entry-same d x) ∙ entry-opens r (bounds .few-points) (λ n. getD (d .plus) n false) (λ t. getD (d .opens) t false) t (rw (← ek) l)) in
-              let ps : listBelow (bit v) m ≡ d .plus =
-              list-is (bit v) (d .plus) m false (f .pointed ∙ sym em)
-              (λ t l. ap (λ (u : ℕ). bit u t) (entry-same d x) ∙ entry-plus r (bounds .few-points) (λ n. getD (d .plus) n false) (λ t. getD (d .opens) t false) t (rw (← em) l)) in
-              rw (xs, os, ps, figure-same d x .0)
+          taken = record { sections = listBelow (sectionIn q) k; figure = n; opens = got-entry .opens; plus = got-entry .points }
 
           each-there : all (λ x. ltb x (r .sections)) (listBelow (sectionIn q) k) ≡ true
           each-there =
               all-each (λ x. ltb x (r .sections)) (listBelow (sectionIn q) k)
               (λ x i. let g = listed (sectionIn q) k x i in
-              let h = sections-below text s k c₁ qs e₁ (omega (arith, bounds .few-trains)) (g .index) (g .below) in
-              let e : x ≡ getD qs (g .index) 0 = g .is ∙ ap (λ (u : List ℕ). getD u (g .index) 0) is in
+              let h = sections-below text s k at c₁ (a ∷ b ∷ c ∷ d ∷ []) e₁ few (g .index) (g .below) in
+              let e : x ≡ getD (a ∷ b ∷ c ∷ d ∷ []) (g .index) 0 = g .is ∙ ap (λ (u : List ℕ). getD u (g .index) 0) is in
               lt-ltb x (r .sections) (omega arith))
 
           taken-fits : fits r (placementLine taken) ≡ true
           unfolding fits
-          taken-fits = rw (list-length (sectionIn q) k, list-length (opensIn v) k, list-length (bit v) m, each-there, lt-ltb n noFigure (figure-below text c₁ n c₂ e₂), eq-eqb k (r .trains) ek, eq-eqb m (r .points) em)
+          taken-fits =
+              rw (list-length (sectionIn q) k, each-there, lt-ltb n noFigure (figure-below text c₁ n c₂ e₂), got-entry .each-train, got-entry .each-point, eq-eqb k (r .trains) ek, eq-eqb m (r .points) em)
 
-          module _ {b : Bool} (said : length (spell (placementLine taken)) ≤ mostLineBytes → b ≡ sameText (spell (placementLine taken)) text) where
-            pub other-spelling : b ≡ false → NoLine ≡ answerFor r (readLine r text)
-            other-spelling y = none-read (placed-only (λ d p x. said-false (placementLine taken) taken-fits said y (ap (λ (z : PlacementLine). spell (placementLine z)) (taken-is d p x) ∙ p .spelled)))
+          taken-spelled : Spelled (placementLine taken) (drop (x .end) text)
+          unfolding spell
+          taken-spelled =
+              sections-sound text s k at a b c d c₁ e₁
+              ∙ ap (λ (t : List ℕ). piece k 0 a (piece k 1 b (piece k 2 c (piece k 3 d t))))
+              (figure-sound text c₁ n c₂ e₂ ∙ ap (λ (t : List ℕ). decimal n ++ t) (got-entry .spelled) ∙ sym (last-fields taken (drop (x .end) text)))
+              ∙ sym (ap (λ (qs : List ℕ). line (map sectionField (listBelow (λ t. getD qs t 0) k) ++ lastFields taken) ++ drop (x .end) text) is ∙ sections-spelled k a b c d (drop (x .end) text) taken few)
 
-            pub placement-read : b ≡ true → (p : ℕ) → p ≡ codeOn r (sectionIn q) → Placed p n v ≡ answerFor r (readLine r text)
-            placement-read y p ep =
-                let c : lineCode r taken ≡ codeOn r (sectionIn q) = ap (λ (j : ℕ). codeOf (r .sections) (listBelow (sectionIn q) j)) ek in
-                let z : v ≡ lineEntry r taken = entry-same taken (takes taken (said-true (placementLine taken) taken-fits said y)) in
-                rw (read-so (placementLine taken) taken-fits said y, ep, c) (ap (Placed (codeOn r (sectionIn q)) n) z)
+          taken-entry : v ≡ lineEntry r taken
+          taken-entry = got-entry .bits ∙ entry-weighed r (got-entry .points) (got-entry .opens) (got-entry .each-point ∙ em) (got-entry .each-train ∙ ek)
+
+          pub placement-read : (p : ℕ) → p ≡ codeOn r (sectionIn q) → x .line ≡ Placed p n v → ReadAt r text at x
+          placement-read p ep e =
+              let c : lineCode r taken ≡ codeOn r (sectionIn q) = ap (λ (j : ℕ). codeOf (r .sections) (listBelow (sectionIn q) j)) ek in
+              a-line (placementLine taken) taken-fits x taken-spelled (got-entry .inside) (e ∙ (rw (ep, c) (ap (Placed (codeOn r (sectionIn q)) n) taken-entry)))
+
+-- A TEXT HANDED IN AS A LINE is one if the line that begins it ends where it does
+not-none : (r : Railway) (l : PlanLine) → answerFor r (some l) ≡ NoLine → ⊥
+not-none r (startLine n) e = let z : _≡_ {A = ℕ} 0 1 = cc in omega arith
+not-none r (placementLine d) e = let z : _≡_ {A = ℕ} 0 1 = cc in omega arith
+
+module _ (r : Railway) (ok : recordRefusal r ≡ none) (text : List ℕ) (x : LineAt) (h : ReadAt r text 0 x) where
+  -- a line is its own first line
+  own-first : (l : PlanLine) → readLine r text ≡ some l → SpelledFirst text l × (spell l ≡ text)
+  own-first l e = let p = reads-line r (few-sections r ok text 0) text l .0 e in (spelled-first text [] l (sym (p .spelled) ∙ sym (append-nil (spell l))), p .spelled)
+
+  read-some : (l : PlanLine) → readLine r (firstOf text) ≡ some l → (x .line ≡ answerFor r (some l)) × (x .end ≡ lineBytes text)
+  read-some l e =
+      let a : x .line ≡ answerFor r (some l) = h .line ∙ ap (answerFor r) e in
+      (a, h .end (λ n. not-none r l (sym a ∙ n)) ∙ omega arith)
+
+  pub line-whole : x .end ≡ length text → x .line ≡ answerFor r (readLine r text)
+  line-whole e = elim (option? (readLine r (firstOf text))) [
+    | inl f ↦ elim (option? (readLine r text)) [
+      | inl g ↦ h .line ∙ (rw (f, g))
+      | inr y ↦ let w = own-first (y .0) (y .1) in some-none (ap (readLine r) (w .0 .line ∙ w .1) ∙ y .1) f
+    ]
+    | inr y ↦
+        let w = read-some (y .0) (y .1) in
+        let t : firstOf text ≡ text = take-all (lineBytes text) text (omega (arith, w .1, e)) in
+        h .line ∙ ap (λ (l : List ℕ). answerFor r (readLine r l)) t
+  ]
+
+  pub line-part : (x .end ≡ length text → ⊥) → NoLine ≡ answerFor r (readLine r text)
+  line-part n = elim (option? (readLine r text)) [
+    | inl f ↦ rw f
+    | inr y ↦
+        let w = own-first (y .0) (y .1) in
+        let b = w .0 .bytes in
+        absurd (n (read-some (y .0) (ap (readLine r) (w .0 .line ∙ w .1) ∙ y .1) .1 ∙ b ∙ ap length (w .1)))
+  ]

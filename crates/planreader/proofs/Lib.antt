@@ -1,4 +1,5 @@
+pub mod Fields
 pub mod Taking
+pub mod Sound
 pub mod Complete
-pub mod Compared
 pub mod Answered

@@ -1,12 +1,14 @@
--- The plan's text by one call, where the buffer has room for every text. Assumes nothing.
-use mathlib.Core.Path.{_≡_, sym, _∙_, ap}
+-- The plan's text by one call, where the buffer has room for every text: the lent one, or one of the call's own. Assumes nothing.
+use mathlib.Core.Path.{_≡_, refl, sym, _∙_, ap}
 use mathlib.Core.Bool.{false}
-use mathlib.Core.List.{List}
+use mathlib.Core.List.{List, _++_}
 use mathlib.Core.Option.{some}
 use Prim.Native.Nat.{ℕ, _≤_}
 use native.Mathlib.Omega.{arith}
-use lib.ListN.{length, take, replicate, length-replicate}
+use lib.ListN.{length, take, drop, replicate, length-replicate}
 use Rattle.laws.proofs.Bools.{clash}
+use Rattle.text.specs.Appending.{bytesAfter, cursorAfter, Appended}
+use Rattle.text.proofs.Appending.{front-bytes, front-cursor}
 use Rattle.railway.specs.declared.Railway.{Railway}
 use Rattle.plan.specs.declared.PlanPlace.{PlanPlace}
 use Rattle.plan.specs.declared.PlanPlace.the-variants.{Top}
@@ -17,14 +19,21 @@ use Rattle.plan.specs.Emitter.{lineGiven, isLine}
 use Rattle.plan.specs.Several.{emitLines, EmitLinesPost, WroteWhole}
 use Rattle.plan.proofs.Several.{emits-whole}
 use Rattle.casefile.specs.declared.Written.{Written}
+use Rattle.casefile.specs.declared.Written.the-variants.{Bytes}
 use Rattle.answerlines.specs.Lines.{PutPost, FrontIs}
-use Rattle.answerlines.proofs.Puts.{front-whole}
+use Rattle.answerlines.proofs.Puts.{put-written, front-whole}
 use Rattle.planwriter.specs.Solved.{Solved}
 use Rattle.planwriter.specs.Written.{textBytes}
 use Rattle.planwriter.proofs.Sizes.{plan-short}
 
 same-some : {n m : ℕ} → some n ≡ some m → n ≡ m
 same-some e = cc
+
+-- a text that stands in front of a buffer, with what was behind it, has been written there
+stands-so : (text old new : List ℕ) (n : ℕ) → length text ≤ length old → new ≡ text ++ drop (length text) old → n ≡ length text → Appended old 0 text new n
+stands-so text old new n room stands count =
+    let p : Appended old 0 text (bytesAfter old 0 text) (cursorAfter old 0 text) = record { bytes = refl; cursor = refl } in
+    record { bytes = stands ∙ sym (front-bytes p room); cursor = count ∙ sym (front-cursor p room) }
 
 module _ (r : Railway) (figs sets old new : List ℕ) (a : Emitted) (s : Solved r figs sets) (room : textBytes ≤ length old) (post : EmitLinesPost r figs sets Top old a new) where
   enough : length (planText r figs sets) ≤ length old
@@ -36,8 +45,11 @@ module _ (r : Railway) (figs sets old new : List ℕ) (a : Emitted) (s : Solved 
   bytes-are : lineGiven a ≡ some (length (planText r figs sets))
   bytes-are = ap lineGiven (post .answer) ∙ whole .bytes
 
-  pub at-once : (n : ℕ) (next : PlanPlace) → a ≡ Line n next → FrontIs (λ text. text ≡ planText r figs sets) n new
-  at-once n next e = front-whole (planText r figs sets) _ (post .buffer ∙ whole .text) (same-some (sym (ap lineGiven e) ∙ bytes-are))
+  pub at-once : (n : ℕ) (next : PlanPlace) → a ≡ Line n next → FrontIs (λ text. text ≡ planText r figs sets) n new × Appended old 0 (planText r figs sets) new n
+  at-once n next e =
+      let stands = post .buffer ∙ whole .text in
+      let count : n ≡ length (planText r figs sets) = same-some (sym (ap lineGiven e) ∙ bytes-are) in
+      (front-whole (planText r figs sets) _ stands count, stands-so (planText r figs sets) old new n enough stands count)
 
   -- no other answer is given
   pub no-other : {A : Type 0} → isLine a ≡ false → A
@@ -49,3 +61,10 @@ own-room own blank = let size = ap length blank ∙ length-replicate {A = ℕ} t
 
 pub put-whole : {text own old new : List ℕ} {n : ℕ} {w : Written} → FrontIs (λ t. t ≡ text) n own → PutPost (take n own) old w new → PutPost text old w new
 put-whole h p = rw (h .output) at p
+
+-- WHERE IT IS TO STAND there is room, too
+pub put-in-place : (r : Railway) (figs sets : List ℕ) → Solved r figs sets → {old new : List ℕ} {n : ℕ} → textBytes ≤ length old → Appended old 0 (planText r figs sets) new n
+    → PutPost (planText r figs sets) old (Bytes n) new
+put-in-place r figs sets s {old} {new} {n} room h =
+    let fits : length (planText r figs sets) ≤ length old = omega (arith, plan-short r figs sets s, room) in
+    rw (front-cursor h fits) (put-written (planText r figs sets) old fits new n h)

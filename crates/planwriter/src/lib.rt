@@ -3,6 +3,7 @@
 ghost use mathlib.Core.Path.{_≡_};
 ghost use Prim.Native.Nat.{_≤_};
 ghost use lib.ListN.{length};
+ghost use Rattle.text.specs.Appending.{Appended};
 ghost use Rattle.plan.specs.Text.{planText};
 ghost use Rattle.answerlines.specs.Lines.{PutPost, Puts, FrontIs};
 ghost use Rattle.planwriter.specs.Written.{RailwayOutput, CaseOutput, textBytes};
@@ -44,8 +45,20 @@ fn railway_text(r: Railway, text: &mut [u8]) -> Written
     }
 }
 
-// The plan, made in a buffer of the call's own and put from there.
+// The plan: written where it is to stand, if there is room for every text.
 fn plan_text(r: Railway, figures: &[u32], settings: &[u32], text: &mut [u8]) -> Written
+    requires { ⌜ Solved r (now figures) (now settings) ⌝ }
+    ensures { λ w. ⌜ PutPost (planText r (now (figures .entry)) (now (settings .entry))) (now (text .entry)) w (now (text .exit)) ⌝ }
+{
+    if text.len() < TEXT {
+        return own_text(r, figures, settings, text);
+    }
+    let n = plan_lines(r, figures, settings, text);
+    Written::Bytes(n)
+}
+
+// The plan, made in a buffer of the call's own and put from there.
+fn own_text(r: Railway, figures: &[u32], settings: &[u32], text: &mut [u8]) -> Written
     requires { ⌜ Solved r (now figures) (now settings) ⌝ }
     ensures { λ w. ⌜ PutPost (planText r (now (figures .entry)) (now (settings .entry))) (now (text .entry)) w (now (text .exit)) ⌝ }
 {
@@ -59,6 +72,7 @@ fn plan_lines(r: Railway, figures: &[u32], settings: &[u32], out: &mut [u8]) -> 
     requires { ⌜ Solved r (now figures) (now settings) ⌝ }
     requires { ⌜ textBytes ≤ length (now out) ⌝ }
     ensures { λ n. ⌜ FrontIs (λ text. text ≡ planText r (now (figures .entry)) (now (settings .entry))) n (now (out .exit)) ⌝ }
+    ensures { λ n. ⌜ Appended (now (out .entry)) 0 (planText r (now (figures .entry)) (now (settings .entry))) (now (out .exit)) n ⌝ }
 {
     match emitter::emit_lines(r, figures, settings, PlanPlace::Top, out) {
         Emitted::Line(n, _) => n,

@@ -53,10 +53,11 @@ yardALess =
 abbrev pub yardA : Railway
 yardA = lineG (sec 1 Down) yardALess
 
--- One section, and one train that starts at home; it heads up, or down.
+-- One section, and one train that starts at home; it heads up.
 abbrev pub yardOne : Railway
 yardOne = lineT 1 Up 1 1 (yardH 1 0 1)
 
+-- The same for a train that heads down.
 abbrev pub yardOneDown : Railway
 yardOneDown = lineT 1 Down 1 1 (yardH 1 0 1)
 

@@ -1,1 +1,3 @@
 pub mod Answering
+pub mod Plans
+pub mod Uses

@@ -1,7 +1,8 @@
 // What the solver answers and leaves in the tables: document 01's yards, then other accepted cases, then one that is refused. Standard input is
-// records (crate framed), each a case text. For each: the number that the exported call answers, and the first code's entries; the answer, then
-// by rising code the figure (`none` for no figure) and the setting; then what comes of tables just long enough and one entry shorter, and of
-// records that are refused. Every entry that the solver is lent holds a mark before the call.
+// records (crate framed), each a case text. For each: the number that the exported call answers, and the first code's entries; what the exported
+// calls for a plan answer, with bytes, places and states that they leave; the answer, then by rising code the figure (`none` for no figure) and the
+// setting; then what comes of tables just long enough and one entry shorter, and of records that are refused. Every entry that the solver is lent
+// holds a mark before the call.
 use libc::STDOUT_FILENO;
 use railway::CaseAnswer;
 use railway::Railway;
@@ -10,6 +11,11 @@ use tables::NO_FIGURE;
 use tables::SolverAnswer;
 
 const MARK: u32 = 7;
+
+// The bytes of a buffer for a plan's lines, and how often it is lent at most.
+const ROOM: usize = 128;
+
+const TURNS: u32 = 1024;
 
 fn main() {
     let mut turns: u64 = 0;
@@ -57,6 +63,100 @@ fn exported(text: &[u8]) {
     io::print_decimal(STDOUT_FILENO, n as u64);
     io::write_all(STDOUT_FILENO, b"\n");
     entry(0, figures[0], settings[0]);
+    planned(text, &figures, &settings);
+}
+
+// The exported calls for a plan: its lines, some at a time, handed to a check as they come; then the test.
+fn planned(text: &[u8], figures: &[u32], settings: &[u32]) {
+    let mut listed = [MARK; ENTRIES];
+    let mut set = [MARK; ENTRIES];
+    let mut state = [MARK; 3];
+    let n = solver_api::begin_check(text, &mut state, &mut listed, &mut set);
+    stated(b"check begins", n, state[0], state[1]);
+    lines(text, figures, settings, &mut state, &mut listed, &mut set);
+    let tested = solver_api::test_plan(text, &state, &listed, &set);
+    stated(b"test", tested, state[0], state[1]);
+}
+
+fn lines(
+    text: &[u8],
+    figures: &[u32],
+    settings: &[u32],
+    state: &mut [u32; 3],
+    listed: &mut [u32],
+    set: &mut [u32],
+) {
+    let mut place: u64 = 0;
+    let mut turns: u32 = 0;
+    while turns < TURNS {
+        if part(text, figures, settings, &mut place, state, listed, set) {
+            turns += 1;
+        } else {
+            return;
+        }
+    }
+}
+
+// As many lines as have room; answers whether there were any.
+fn part(
+    text: &[u8],
+    figures: &[u32],
+    settings: &[u32],
+    place: &mut u64,
+    state: &mut [u32; 3],
+    listed: &mut [u32],
+    set: &mut [u32],
+) -> bool {
+    let mut out = [0u8; ROOM];
+    let mut bytes: usize = 0;
+    let answer = solver_api::write_plan_lines(text, figures, settings, place, &mut out, &mut bytes);
+    let next = *place;
+    numbers(b"lines written", answer, bytes as u64, next);
+    let mut taken: usize = 0;
+    let refused = handed(text, state, &out, bytes, listed, set, &mut taken);
+    numbers(
+        b"bytes handed in and taken",
+        refused,
+        bytes as u64,
+        taken as u64,
+    );
+    let figure = state[1];
+    let lowest = state[2];
+    stated(b"figure and lowest code", refused, figure, lowest);
+    answer == 0
+}
+
+// The lines that were written, handed to the check.
+fn handed(
+    text: &[u8],
+    state: &mut [u32; 3],
+    out: &[u8],
+    bytes: usize,
+    listed: &mut [u32],
+    set: &mut [u32],
+    taken: &mut usize,
+) -> u8 {
+    if bytes <= out.len() {
+        return solver_api::take_plan_lines(text, state, &out[..bytes], listed, set, taken);
+    }
+    0
+}
+
+// An answer's number, and two numbers of the state that it leaves.
+fn stated(label: &[u8], answer: u8, one: u32, other: u32) {
+    numbers(label, answer, one as u64, other as u64);
+}
+
+// An answer's number, and two numbers that it leaves.
+fn numbers(label: &[u8], answer: u8, one: u64, other: u64) {
+    io::write_all(STDOUT_FILENO, label);
+    io::write_all(STDOUT_FILENO, b"\t");
+    io::print_decimal(STDOUT_FILENO, answer as u64);
+    io::write_all(STDOUT_FILENO, b"\t");
+    io::print_decimal(STDOUT_FILENO, one);
+    io::write_all(STDOUT_FILENO, b"\t");
+    io::print_decimal(STDOUT_FILENO, other);
+    io::write_all(STDOUT_FILENO, b"\n");
 }
 
 fn accepted(r: Railway) {

@@ -14,6 +14,8 @@ use Rattle.laws.specs.Below.{gatherBelow}
 use Rattle.laws.proofs.Bools.{lt?}
 use Rattle.text.specs.Text.{digits, decimal, line}
 use Rattle.text.specs.Appending.{next, bytesAfter, cursorAfter, Appended, StandsWhole}
+-- (Decimal is named so that it is checked before: a wrong spelling then shows at a number.)
+use Rattle.text.proofs.Decimal as Decimal
 
 -- NOTHING, and one byte, with room or without
 module _ (out : List ℕ) (at : ℕ) where

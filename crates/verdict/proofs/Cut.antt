@@ -10,7 +10,7 @@ use Prim.Native.Nat.{ℕ, zero, suc, _+_, _-_, _*_, _≤_, _<_}
 use native.Mathlib.Omega.{arith}
 use lib.Dec.{eqb, ltb}
 use lib.ListN.{length, take, drop, length-replicate}
-use lib.Seq.{length-take-le, take-nil, take-take}
+use lib.Seq.{take-nil, take-take}
 use borrow.Author.Tests.{ltb-false}
 use Rattle.laws.proofs.Bools.{bool?, lt?}
 use Rattle.text.specs.Text.{lineEnd}
@@ -36,17 +36,14 @@ use Rattle.plan.proofs.Checks.{code-in}
 use Rattle.plan.proofs.Lengths.{lines-short}
 use Rattle.plan.proofs.Reading.{reads-line}
 use Rattle.plan.proofs.Steps.{line-steps}
+use Rattle.plan.specs.FirstLine.{lineBytes, firstOf}
 use Rattle.plan.specs.Several.{linesOf}
+use Rattle.plan.proofs.FirstLine.{first-line, first-length}
 use Rattle.verdict.specs.Verdict.{checkLines}
-use Rattle.checker.specs.Lengths.{lineBytes}
 use Rattle.verdict.specs.Claims.{CutDecides}
-use Rattle.checker.proofs.Lines.{first-line, line-within}
 use Rattle.verdict.proofs.Calls.{one-line, still-fine, refused-case}
 
 -- A TEXT THAT IS CUT. Its first line is kept whole, or is all that the cut leaves.
-abbrev pub firstOf : List ℕ → List ℕ
-firstOf text = take (lineBytes text) text
-
 abbrev pub behindFirst : List ℕ → List ℕ
 behindFirst text = drop (lineBytes text) text
 
@@ -70,9 +67,6 @@ drop-take zero n l le = let e : n - 0 ≡ n = omega arith in rw e refl
 drop-take (suc m) zero l le = absurd (omega (arith, le))
 drop-take (suc m) (suc n) [] le = sym (take-nil {A = ℕ} (suc n - suc m))
 drop-take (suc m) (suc n) (x ∷ xs) le = let e : suc n - suc m ≡ n - m = omega arith in rw e (drop-take m n xs (omega (arith, le)))
-
-pub first-length : (text : List ℕ) → length (firstOf text) ≡ lineBytes text
-first-length text = length-take-le (lineBytes text) text (line-within text)
 
 -- cut behind its first line, a text is that line and what is left of the others
 first-kept : (n b : ℕ) (bs : List ℕ) → lineBytes (b ∷ bs) ≤ suc n → linesOf (b ∷ take n bs) ≡ firstOf (b ∷ bs) ∷ linesOf (take (suc n - lineBytes (b ∷ bs)) (behindFirst (b ∷ bs)))

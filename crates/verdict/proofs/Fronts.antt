@@ -25,15 +25,15 @@ use Rattle.plan.specs.declared.LineAnswer.the-variants.{Taken, Refused}
 use Rattle.plan.specs.Lines.{PlanLine, lineFields, spell}
 use Rattle.plan.specs.Reading.{readLine}
 use Rattle.plan.specs.Checker.{Checking, Left, left, takeLine, callLines, isTaken}
+use Rattle.plan.specs.FirstLine.{lineBytes, firstOf}
 use Rattle.plan.specs.Several.{linesOf, Front, noFront, frontBehind, frontOf}
 use Rattle.plan.specs.Steps.{takes}
+use Rattle.plan.proofs.FirstLine.{first-line, line-within, line-not-empty, first-length}
 use Rattle.plan.proofs.Steps.{line-steps}
-use Rattle.checker.specs.Lengths.{lineBytes}
-use Rattle.checker.proofs.Lines.{first-line, line-within, line-not-empty}
 use Rattle.checker.proofs.Fronts.{no-lines, none-left, one-taken, one-refused, behind-twice, zero-behind}
 use Rattle.verdict.specs.Pieces.{hasLineEnd, whole}
 use Rattle.verdict.proofs.Calls.{still-fine}
-use Rattle.verdict.proofs.Cut.{firstOf, behindFirst, first-length, spells}
+use Rattle.verdict.proofs.Cut.{behindFirst, spells}
 
 -- LINE ENDS in a text that is made of two
 ended-front : (l s : List ℕ) → hasLineEnd l ≡ true → hasLineEnd (l ++ s) ≡ true

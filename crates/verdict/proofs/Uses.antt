@@ -1,6 +1,6 @@
 -- What is claimed of a check, drawn upon for Yard A: its plan's text passes, whole and in pieces; a text that lacks its last line end is out of form;
--- its first line alone fails; a record without sections is refused whatever the text; what `plancheck` writes for these, byte for byte; and how many
--- bytes decide. Assumes nothing.
+-- its first line alone fails; a record without sections is refused whatever the text, and Yard A never with 9; what `plancheck` writes for these, byte
+-- for byte; and how many bytes decide. Assumes nothing.
 use mathlib.Core.Path.{_≡_, refl, _∙_, ap}
 use mathlib.Core.Bool.{Bool, true, false}
 use mathlib.Core.List.{List, [], _∷_, _++_}
@@ -10,11 +10,11 @@ use native.Mathlib.Omega.{arith}
 use lib.ListN.{length, drop, take, length-replicate}
 use Rattle.laws.specs.Below.{allBelow, sumBelow, whichBelow, listBelow}
 use Rattle.laws.specs.Lists.{any, all, rises}
-use Rattle.laws.proofs.Bools.{clash, not-true}
+use Rattle.laws.proofs.Bools.{clash, not-true, some-none}
 use Rattle.text.specs.Text.{digits, line, bytes}
 use Rattle.railway.specs.declared.Railway.{Railway}
 use Rattle.railway.specs.declared.CaseAnswer.{CaseAnswer}
-use Rattle.railway.specs.declared.Refusal.the-variants.{Form, Count, PlanForm, PlanFault}
+use Rattle.railway.specs.declared.Refusal.the-variants.{Form, Count, Space, PlanForm, PlanFault}
 use Rattle.railway.specs.Refusals.{first, number}
 use Rattle.railway.specs.Record.{emptyRailway, joined, hasSignal, legsOf, trainOf, withJoin, withSignal, withLegs, withTrain}
 use Rattle.railway.specs.Yards.{yardA}
@@ -108,6 +108,17 @@ no-sections = refl
 pub refused-record : (plan : List ℕ) (a : TestAnswer) → PlanPost emptyRailway plan a → a ≡ Refused Count
 refused-record plan a p = case-holds emptyRailway plan a p Count (λ e. absurd (omega (arith, ap number e))) (λ e. absurd (omega (arith, ap number e))) .1 no-sections
 
+-- and no text is answered 9 in Yard A, for which the tables are long enough
+unrefused : checkRefusal yardA ≡ none
+unrefused =
+    let n : placements yardA ≤ length (fresh .figs) = rw (length-replicate {A = ℕ} entries noFigure) room in
+    let m : placements yardA ≤ length (fresh .sets) = rw (length-replicate {A = ℕ} entries 0) room in
+    none-refused yardA (fresh .figs) (fresh .sets) yardA-accepted n m
+
+not-nine : (plan : List ℕ) (a : TestAnswer) → PlanPost yardA plan a → ¬ (a ≡ Refused Space)
+not-nine plan a p e =
+    some-none (case-holds yardA plan a p Space (λ q. absurd (omega (arith, ap number q))) (λ q. absurd (omega (arith, ap number q))) .0 e) unrefused
+
 -- PIECE BY PIECE, from tables of the programs' length, whatever stood in them
 module _ (figs sets : List ℕ) (made : CaseAnswer) (start : Checking) (e₁ : length figs ≡ entries) (e₂ : length sets ≡ entries) (p : FreshPost yardA figs sets made start) where
   decided : (text : List ℕ) (at : ℕ) (c : Checking) (stopped : Bool) → Coming yardA start text at c stopped → Decided yardA start text at c stopped
@@ -118,10 +129,7 @@ module _ (figs sets : List ℕ) (made : CaseAnswer) (start : Checking) (e₁ : l
   passes-in-pieces at c stopped calls a q = passes a (decided planA at c stopped calls .answer a q)
 
   fine : caseRefusal yardA (start .figs) (start .sets) ≡ none
-  fine =
-      let n : placements yardA ≤ length (fresh .figs) = rw (length-replicate {A = ℕ} entries noFigure) room in
-      let m : placements yardA ≤ length (fresh .sets) = rw (length-replicate {A = ℕ} entries 0) room in
-      made-so yardA figs sets made start e₁ e₂ p .same ∙ none-refused yardA (fresh .figs) (fresh .sets) yardA-accepted n m
+  fine = made-so yardA figs sets made start e₁ e₂ p .same ∙ unrefused
 
   -- a line that is none stops the calls when it has come whole, and not before
   not-read : readLine yardA (bytes "no line\n") ≡ none

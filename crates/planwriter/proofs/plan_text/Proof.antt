@@ -1,44 +1,33 @@
--- `planwriter::plan_text` meets its contract: the plan stands whole in the call's own buffer, which has room for every text.
+-- `planwriter::plan_text` meets its contract: a buffer with room for every text has room for this one, and a shorter one is left to `own_text`.
 -- Assumes nothing.
-use mathlib.Core.Path.{refl}
-use native.Mathlib.Omega.{arith}
-use lib.ListN.{length-take}
-use Rattle.planwriter.proofs.Whole.{own-room, put-whole}
+use Rattle.planwriter.proofs.Whole.{put-in-place}
 use borrow.Author.Needs.{needs}
 use Rattle.planwriter.proofs.plan_text.Statement.{statement}
 use Rattle.planwriter.proofs.plan_text.Tie as tie
 
-slice-aggregate-plan-lines : tie.Need-slice-aggregate-plan-lines
-slice-aggregate-plan-lines c = search needs
-
-plan-lines-requires : tie.Need-plan-lines-requires
-plan-lines-requires c κs = (c .before .before .before .before .pre, own-room _ refl)
-
-array-share-prefix-own : tie.Need-array-share-prefix-own
-array-share-prefix-own c = search needs
-
-slice-aggregate-put : tie.Need-slice-aggregate-put
-slice-aggregate-put c = let h = c .before .before .plan-lines .ensures .within in simp length-take (omega (arith, h))
-
-put-requires : tie.Need-put-requires
-put-requires c κs = search needs
+own-text-requires : tie.Need-own-text-requires
+own-text-requires c κs = search needs
 
 same-length : tie.Need-same-length
 same-length c = search needs
 
 returns : tie.Need-returns
-returns c =
+returns c = search needs
+
+plan-lines-requires : tie.Need-plan-lines-requires
+plan-lines-requires c κs = search needs
+
+same-length-2 : tie.Need-same-length-2
+same-length-2 c = search needs
+
+returns-2 : tie.Need-returns-2
+returns-2 c =
     let p = c .before .before in
-    put-whole (p .before .before .before .before .plan-lines .ensures) (p .put .ensures)
+    let e = p .before .before in
+    let s = e .before .before .before .before in
+    put-in-place (s .args .r) (s .args .figures .now) (s .args .settings .now) (s .pre) (e .if1 .left) (p .plan-lines .ensures .1)
 
 pub plan-text-spec : {M : Type 1} → statement M
 plan-text-spec =
     tie.close
-    (tie.spec
-    slice-aggregate-plan-lines
-    plan-lines-requires
-    array-share-prefix-own
-    slice-aggregate-put
-    put-requires
-    same-length
-    returns)
+    (tie.spec own-text-requires same-length returns plan-lines-requires same-length-2 returns-2)

@@ -1,5 +1,5 @@
 -- `checker::Checker::take_lines` meets its contract. The loop's invariant: the lines taken so far, and those that are taken from the place reached on,
--- are all that are taken. The place is where a line begins, so each turn hands in a whole line.
+-- are all that are taken. The place is where a line begins, so each turn reads a whole line; and what is taken was read, so that its end is known.
 -- Assumes nothing.
 use borrow.Author.Needs.{needs}
 use native.Mathlib.Omega.{arith}
@@ -7,14 +7,15 @@ use mathlib.Core.Path.{_≡_, refl, _∙_}
 use mathlib.Core.Option.{none}
 use Prim.Native.Nat.{_-_}
 use denote.Ref.{now}
-use lib.ListN.{length}
+use lib.ListN.{length, drop}
 use Rattle.railway.specs.declared.Railway.{Railway}
 use Rattle.tables.specs.Tables.{caseRefusal}
 use Rattle.compiled.specs.Table.{Compiled}
+use Rattle.plan.specs.FirstLine.{firstOf}
 use Rattle.plan.specs.Several.{linesOf, frontOf}
 use Rattle.checker.specs.Answers.{checking}
-use Rattle.checker.proofs.Lines.{LineAt, line-at}
-use Rattle.checker.proofs.Fronts.{Fronting, fronting-start, fronting-over, fronting-stop, fronting-next}
+use Rattle.checker.proofs.Lines.{LineAt, line-at, taken-end}
+use Rattle.checker.proofs.Fronts.{some-small, line-taken, Fronting, fronting-start, fronting-over, fronting-stop, fronting-next}
 use Rattle.checker.proofs.Checker.take_lines.Statement.{statement}
 use Rattle.checker.proofs.Checker.take_lines.Tie as tie
 
@@ -27,69 +28,77 @@ Inv-loop table text figures₀ settings₀ checker₀ at₀ figures settings che
 abbrev μ-loop : tie.MeasureT-loop
 μ-loop table text figures₀ settings₀ checker₀ at₀ figures settings checker at = length text - at
 
--- what was lent
+-- what was lent, and the line that is read
 abbrev start : tie.At-loop Inv-loop μ-loop → tie.Start Inv-loop μ-loop
 start l = l .before .before .before .before
 
-line : (c : tie.After-line-end Inv-loop μ-loop) → LineAt (now (start (c .before .before) .args .text)) (c .before .before .loop .at) (c .line-end .result)
-line c = line-at (now (start (c .before .before) .args .text)) (c .before .before .loop .at) (c .line-end .result) (c .before .loop-test .taken) (c .line-end .ensures)
+line : (i : tie.In-loop Inv-loop μ-loop) → LineAt (now (start (i .before) .args .text)) (i .before .loop .at)
+line i = line-at (now (start (i .before) .args .text)) (i .before .loop .at) (i .loop-test .taken)
 
 loop-holds : tie.Need-loop-holds Inv-loop μ-loop
 loop-holds c = let a = c .before .before .before .args in (refl, refl, λ r h fine. fronting-start r (now (a .text)) (checking (a .self) (a .figures .now) (a .settings .now)) fine)
 
-line-end-requires : tie.Need-line-end-requires Inv-loop μ-loop
-line-end-requires c κs = search needs
+read-at-requires : tie.Need-read-at-requires Inv-loop μ-loop
+read-at-requires c κs = search needs
 
-sub-take-line : tie.Need-sub-take-line Inv-loop μ-loop
-sub-take-line c = let l = line c in omega (arith, l .onward)
-
-part-take-line-start : tie.Need-part-take-line-start Inv-loop μ-loop
-part-take-line-start c = let l = line c in omega (arith, l .onward)
-
-part-take-line-end : tie.Need-part-take-line-end Inv-loop μ-loop
-part-take-line-end c = let l = line c in l .within
-
-take-line-requires : tie.Need-take-line-requires Inv-loop μ-loop
-take-line-requires c κs = start (c .before .before .before .before .before) .pre
+enter-requires : tie.Need-enter-requires Inv-loop μ-loop
+enter-requires c κs =
+    let n = c .before .before in
+    let l = n .before .before in
+    let s = start l in
+    some-small (s .pre) (firstOf (drop (l .loop .at) (now (s .args .text)))) _ (λ r h. n .read-at .ensures r h .line)
 
 enum-told : tie.Need-enum-told Inv-loop μ-loop
 enum-told c = search needs
 
 same-length : tie.Need-same-length Inv-loop μ-loop
-same-length c = let t = c .before .before .before .before .before .before .before in t .take-line .kept .1 .1 .1 .0 ∙ t .before .before .before .before .before .before .loop .inv .0
+same-length c = let t = c .before .before .before .before .before .before .before in t .enter .kept .1 .1 .0 ∙ t .before .before .before .before .before .loop .inv .0
 
 same-length-2 : tie.Need-same-length-2 Inv-loop μ-loop
-same-length-2 c = let t = c .before .before .before .before .before .before .before in t .take-line .kept .1 .1 .1 .1 .0 ∙ t .before .before .before .before .before .before .loop .inv .1
+same-length-2 c = let t = c .before .before .before .before .before .before .before in t .enter .kept .1 .1 .1 .0 ∙ t .before .before .before .before .before .loop .inv .1
 
 returns : tie.Need-returns Inv-loop μ-loop
 returns c =
     λ r h fine.
     let t = c .before .before .before .before .before .before .before in
-    let n = t .before .before .before .before in
+    let n = t .before .before .before in
     let l = n .before .before in
-    let a = start l .args in
+    let text = now (start l .args .text) in
+    let k = checking (l .loop .checker) (l .loop .figures) (l .loop .settings) in
     let f = l .loop .inv .2 r h fine in
-    fronting-stop r (now (a .text)) _ (l .loop .at) (checking (l .loop .checker) (l .loop .figures) (l .loop .settings)) f (n .line-end .result) (line n) _ (t .take-line .ensures r h (f .fine)) _ (c .enum-told .given .1)
+    let w = line-taken r k (firstOf (drop (l .loop .at) text)) _ _ (f .fine) (n .read-at .ensures r h .line) (t .enter .ensures) in
+    fronting-stop r text _ (l .loop .at) k f (line (n .before)) _ w _ (c .enum-told .given .1)
 
 enum-told-2 : tie.Need-enum-told-2 Inv-loop μ-loop
 enum-told-2 c = search needs
 
 loop-less : tie.Need-loop-less Inv-loop μ-loop
-loop-less c = let l = line (c .before .before .before .before .before .before .before .before .before .before .before) in omega (arith, l .onward, l .within)
+loop-less c =
+    let t = c .before .before .before .before .before .before .before in
+    let n = t .before .before .before in
+    let l = n .before .before in
+    let s = start l in
+    let k = checking (l .loop .checker) (l .loop .figures) (l .loop .settings) in
+    let here = line (n .before) in
+    omega (arith, taken-end (n .read-at .ensures (s .pre .railway) (s .pre .compiled)) k _ _ (t .enter .ensures) (c .enum-told2 .given .1), here .some, here .within)
 
 loop-again : tie.Need-loop-again Inv-loop μ-loop
 loop-again c =
     let t = c .before .before .before .before .before .before .before in
-    let n = t .before .before .before .before in
+    let n = t .before .before .before in
     let l = n .before .before in
-    let a = start l .args in
-    let long₁ = t .take-line .kept .1 .1 .1 .0 in
-    let long₂ = t .take-line .kept .1 .1 .1 .1 .0 in (
+    let text = now (start l .args .text) in
+    let k = checking (l .loop .checker) (l .loop .figures) (l .loop .settings) in
+    let long₁ = t .enter .kept .1 .1 .0 in
+    let long₂ = t .enter .kept .1 .1 .1 .0 in (
       long₁ ∙ l .loop .inv .0,
       long₂ ∙ l .loop .inv .1,
       λ r h fine.
           let f = l .loop .inv .2 r h fine in
-          fronting-next r (now (a .text)) _ (l .loop .at) (checking (l .loop .checker) (l .loop .figures) (l .loop .settings)) f (n .line-end .result) (line n) _ (t .take-line .ensures r h (f .fine)) (c .enum-told2 .given .1) long₁ long₂,
+          let read = n .read-at .ensures r h in
+          let w = line-taken r k (firstOf (drop (l .loop .at) text)) _ _ (f .fine) (read .line) (t .enter .ensures) in
+          let end = taken-end read k _ _ (t .enter .ensures) (c .enum-told2 .given .1) in
+          fronting-next r text _ (l .loop .at) k f (line (n .before)) _ w _ end (c .enum-told2 .given .1) long₁ long₂,
     )
 
 same-length-3 : tie.Need-same-length-3 Inv-loop μ-loop
@@ -112,11 +121,8 @@ take-lines-spec =
     Inv-loop
     μ-loop
     loop-holds
-    line-end-requires
-    sub-take-line
-    part-take-line-start
-    part-take-line-end
-    take-line-requires
+    read-at-requires
+    enter-requires
     enum-told
     same-length
     same-length-2

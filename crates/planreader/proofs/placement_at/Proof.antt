@@ -1,0 +1,148 @@
+-- `planreader::placement_at` meets its contract: sections, figure and entry, and the code of the placement.
+-- Assumes nothing.
+use borrow.Author.Needs.{needs}
+use native.Mathlib.Omega.{arith}
+use mathlib.Core.Path.{refl, sym, _∙_, ap}
+use Rattle.text.specs.Answers.{numberGot}
+use Rattle.planreader.specs.Walk.{sectionsGot}
+use Rattle.planreader.proofs.Taking.{figure-below}
+use Rattle.planreader.proofs.Sound.{entry-small}
+use Rattle.planreader.proofs.Answered.{no-sections, no-figure, no-entry, placement-read}
+use Rattle.planreader.proofs.placement_at.Statement.{statement}
+use Rattle.planreader.proofs.placement_at.Tie as tie
+
+sections-in-requires : tie.Need-sections-in-requires
+sections-in-requires c κs = search needs
+
+points-in-requires : tie.Need-points-in-requires
+points-in-requires c κs = search needs
+
+trains-in-requires : tie.Need-trains-in-requires
+trains-in-requires c κs = search needs
+
+sections-at-requires : tie.Need-sections-at-requires
+sections-at-requires c κs = search needs
+
+enum-known-x : tie.Need-enum-known-x
+enum-known-x c = search needs
+
+enum-told : tie.Need-enum-told
+enum-told c = search needs
+
+none-at-requires : tie.Need-none-at-requires
+none-at-requires c κs = search needs
+
+returns : tie.Need-returns
+returns c =
+    λ r h first.
+    let t = c .before in
+    let b1 = t .before .before in
+    no-sections r (h .accepted) _ _ first (b1 .before .before .before .sections-in .ensures r h) (b1 .before .before .points-in .ensures r h) (b1 .before .trains-in .ensures r h) _
+    (sym (b1 .sections-at .ensures) ∙ ap sectionsGot (t .enum-told .given .1)) (c .none-at .ensures)
+
+figure-at-requires : tie.Need-figure-at-requires
+figure-at-requires c κs = search needs
+
+enum-known-n : tie.Need-enum-known-n
+enum-known-n c = search needs
+
+enum-told-2 : tie.Need-enum-told-2
+enum-told-2 c = search needs
+
+none-at-requires-2 : tie.Need-none-at-requires-2
+none-at-requires-2 c κs = search needs
+
+returns-2 : tie.Need-returns-2
+returns-2 c =
+    λ r h first.
+    let t = c .before in
+    let b2 = t .before .before in
+    let k1 = b2 .before in
+    let b1 = k1 .before .before .before in
+    no-figure r (h .accepted) _ _ first (b1 .before .before .before .sections-in .ensures r h) (b1 .before .before .points-in .ensures r h) (b1 .before .trains-in .ensures r h) _
+    (sym (b1 .sections-at .ensures) ∙ ap sectionsGot (k1 .before .x .given .1))
+    (sym (b2 .figure-at .ensures) ∙ ap numberGot (t .enum-told2 .given .1)) (c .none-at2 .ensures)
+
+entry-at-requires : tie.Need-entry-at-requires
+entry-at-requires c κs = search needs
+
+enum-known-v : tie.Need-enum-known-v
+enum-known-v c = search needs
+
+enum-told-3 : tie.Need-enum-told-3
+enum-told-3 c = search needs
+
+none-at-requires-3 : tie.Need-none-at-requires-3
+none-at-requires-3 c κs = search needs
+
+returns-3 : tie.Need-returns-3
+returns-3 c =
+    λ r h first.
+    let t = c .before in
+    let b3 = t .before .before in
+    let k2 = b3 .before in
+    let b2 = k2 .before .before .before in
+    let k1 = b2 .before in
+    let b1 = k1 .before .before .before in
+    no-entry r (h .accepted) _ _ first (b1 .before .before .before .sections-in .ensures r h) (b1 .before .before .points-in .ensures r h) (b1 .before .trains-in .ensures r h) _
+    (sym (b1 .sections-at .ensures) ∙ ap sectionsGot (k1 .before .x .given .1))
+    (sym (b2 .figure-at .ensures) ∙ ap numberGot (k2 .before .n .given .1))
+    (sym (b3 .entry-at .ensures) ∙ ap numberGot (t .enum-told3 .given .1)) (c .none-at3 .ensures)
+
+code-of-requires : tie.Need-code-of-requires
+code-of-requires c κs = search needs
+
+cast-t23 : tie.Need-cast-t23
+cast-t23 c =
+    let k3 = c .before in
+    let b3 = k3 .before .before .before in
+    let k2 = b3 .before in
+    let b2 = k2 .before .before .before in
+    omega (arith, figure-below _ _ _ _ (sym (b2 .figure-at .ensures) ∙ ap numberGot (k2 .before .n .given .1)))
+
+cast-t24 : tie.Need-cast-t24
+cast-t24 c =
+    let k3 = c .before in
+    let b3 = k3 .before .before .before in
+    omega (arith, entry-small _ _ _ _ _ _ (sym (b3 .entry-at .ensures) ∙ ap numberGot (k3 .before .v .given .1)))
+
+returns-4 : tie.Need-returns-4
+returns-4 c =
+    λ r h first.
+    let k3 = c .before in
+    let b3 = k3 .before .before .before in
+    let k2 = b3 .before in
+    let b2 = k2 .before .before .before in
+    let k1 = b2 .before in
+    let b1 = k1 .before .before .before in
+    placement-read r (h .accepted) _ _ first (b1 .before .before .before .sections-in .ensures r h) (b1 .before .before .points-in .ensures r h) (b1 .before .trains-in .ensures r h) _
+    (sym (b1 .sections-at .ensures) ∙ ap sectionsGot (k1 .before .x .given .1))
+    (sym (b2 .figure-at .ensures) ∙ ap numberGot (k2 .before .n .given .1))
+    (sym (b3 .entry-at .ensures) ∙ ap numberGot (k3 .before .v .given .1)) _ refl _ (c .code-of .ensures r h) refl
+
+pub placement-at-spec : {M : Type 1} → statement M
+placement-at-spec =
+    tie.close
+    (tie.spec
+    sections-in-requires
+    points-in-requires
+    trains-in-requires
+    sections-at-requires
+    enum-known-x
+    enum-told
+    none-at-requires
+    returns
+    figure-at-requires
+    enum-known-n
+    enum-told-2
+    none-at-requires-2
+    returns-2
+    entry-at-requires
+    enum-known-v
+    enum-told-3
+    none-at-requires-3
+    returns-3
+    code-of-requires
+    cast-t23
+    cast-t24
+    returns-4)

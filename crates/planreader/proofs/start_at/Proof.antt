@@ -1,0 +1,119 @@
+-- `planreader::start_at` meets its contract: the word and a tab, a figure, and the line end.
+-- Assumes nothing.
+use borrow.Author.Needs.{needs}
+use native.Mathlib.Omega.{arith}
+use denote.Ref.{now}
+use mathlib.Core.Path.{refl, sym, _∙_, ap}
+use Rattle.text.specs.Answers.{numberGot, byteGot}
+use Rattle.text.proofs.Numbers.{byte-is}
+use Rattle.planreader.specs.Walk.{wordGot}
+use Rattle.planreader.proofs.Taking.{figure-below}
+use Rattle.planreader.proofs.Answered.{no-word, no-start-figure, no-start-end, start-read}
+use Rattle.planreader.proofs.start_at.Statement.{statement}
+use Rattle.planreader.proofs.start_at.Tie as tie
+
+slice-aggregate-word-at : tie.Need-slice-aggregate-word-at
+slice-aggregate-word-at c = search needs
+
+word-at-requires : tie.Need-word-at-requires
+word-at-requires c κs = search needs
+
+enum-known-c1 : tie.Need-enum-known-c1
+enum-known-c1 c = search needs
+
+enum-told : tie.Need-enum-told
+enum-told c = search needs
+
+none-at-requires : tie.Need-none-at-requires
+none-at-requires c κs = search needs
+
+returns : tie.Need-returns
+returns c =
+    λ r ok first.
+    let t = c .before in
+    let b1 = t .before .before in
+    no-word r ok _ _ first _ (sym (b1 .word-at .ensures) ∙ ap wordGot (t .enum-told .given .1)) (c .none-at .ensures)
+
+figure-at-requires : tie.Need-figure-at-requires
+figure-at-requires c κs = search needs
+
+enum-known-n : tie.Need-enum-known-n
+enum-known-n c = search needs
+
+enum-told-2 : tie.Need-enum-told-2
+enum-told-2 c = search needs
+
+none-at-requires-2 : tie.Need-none-at-requires-2
+none-at-requires-2 c κs = search needs
+
+returns-2 : tie.Need-returns-2
+returns-2 c =
+    λ r ok first.
+    let t = c .before in
+    let b2 = t .before .before in
+    let k1 = b2 .before in
+    let b1 = k1 .before .before .before in
+    no-start-figure r ok _ _ first _ (sym (b1 .word-at .ensures) ∙ ap wordGot (k1 .before .c1 .given .1)) (sym (b2 .figure-at .ensures) ∙ ap numberGot (t .enum-told2 .given .1)) (c .none-at2 .ensures)
+
+byte-at-requires : tie.Need-byte-at-requires
+byte-at-requires c κs = search needs
+
+enum-known-c3 : tie.Need-enum-known-c3
+enum-known-c3 c = search needs
+
+enum-told-3 : tie.Need-enum-told-3
+enum-told-3 c = search needs
+
+none-at-requires-3 : tie.Need-none-at-requires-3
+none-at-requires-3 c κs = search needs
+
+returns-3 : tie.Need-returns-3
+returns-3 c =
+    λ r ok first.
+    let t = c .before in
+    let b3 = t .before .before in
+    let k2 = b3 .before in
+    let b2 = k2 .before .before .before in
+    let k1 = b2 .before in
+    let b1 = k1 .before .before .before in
+    no-start-end r ok _ _ first _ (sym (b1 .word-at .ensures) ∙ ap wordGot (k1 .before .c1 .given .1)) (sym (b2 .figure-at .ensures) ∙ ap numberGot (k2 .before .n .given .1)) (sym (b3 .byte-at .ensures ∙ byte-is (now (b1 .before .before .before .args .text)) _ 10 (omega arith)) ∙ ap (byteGot 10) (t .enum-told3 .given .1)) (c .none-at3 .ensures)
+
+cast-t14 : tie.Need-cast-t14
+cast-t14 c =
+    let b3 = c .before .before .before in
+    let k2 = b3 .before in
+    let b2 = k2 .before .before .before in
+    omega (arith, figure-below _ _ _ _ (sym (b2 .figure-at .ensures) ∙ ap numberGot (k2 .before .n .given .1)))
+
+returns-4 : tie.Need-returns-4
+returns-4 c =
+    λ r ok first.
+    let b3 = c .before .before .before in
+    let k2 = b3 .before in
+    let b2 = k2 .before .before .before in
+    let k1 = b2 .before in
+    let b1 = k1 .before .before .before in
+    start-read r ok _ _ first _ (sym (b1 .word-at .ensures) ∙ ap wordGot (k1 .before .c1 .given .1)) (sym (b2 .figure-at .ensures) ∙ ap numberGot (k2 .before .n .given .1)) (sym (b3 .byte-at .ensures ∙ byte-is (now (b1 .before .before .before .args .text)) _ 10 (omega arith)) ∙ ap (byteGot 10) (c .before .c3 .given .1)) refl
+
+pub start-at-spec : {M : Type 1} → statement M
+start-at-spec =
+    tie.close
+    (tie.spec
+    slice-aggregate-word-at
+    word-at-requires
+    enum-known-c1
+    enum-told
+    none-at-requires
+    returns
+    figure-at-requires
+    enum-known-n
+    enum-told-2
+    none-at-requires-2
+    returns-2
+    byte-at-requires
+    enum-known-c3
+    enum-told-3
+    none-at-requires-3
+    returns-3
+    cast-t14
+    returns-4)

@@ -1,0 +1,43 @@
+-- `solver_api::test_plan` meets its contract: refused by the reader, or what the checker answers for the railway that was read. Assumes nothing.
+use Rattle.reader.proofs.Answers.{by-refused, by-accepted}
+use borrow.Author.Needs.{needs}
+use Rattle.solver_api.proofs.test_plan.Statement.{statement}
+use Rattle.solver_api.proofs.test_plan.Tie as tie
+
+read-case-requires : tie.Need-read-case-requires
+read-case-requires c κs = search needs
+
+enum-known-answer : tie.Need-enum-known-answer
+enum-known-answer c = search needs
+
+number-requires : tie.Need-number-requires
+number-requires c κs = search needs
+
+enum-told : tie.Need-enum-told
+enum-told c = search needs
+
+test-railway-requires : tie.Need-test-railway-requires
+test-railway-requires c κs = search needs
+
+returns : tie.Need-returns
+returns c =
+    let m = c .before .before in
+    by-refused _ _ _ _ (m .before .before .read-case .ensures) _ (m .answer .given .1) (c .number .ensures)
+
+returns-2 : tie.Need-returns-2
+returns-2 c =
+    let s = c in
+    let m = s .before in
+    by-accepted _ _ _ _ (m .before .before .read-case .ensures) (m .enum-told .given .1) (s .test-railway .ensures)
+
+pub test-plan-spec : {M : Type 1} → statement M
+test-plan-spec =
+    tie.close
+    (tie.spec
+    read-case-requires
+    enum-known-answer
+    number-requires
+    enum-told
+    test-railway-requires
+    returns
+    returns-2)
