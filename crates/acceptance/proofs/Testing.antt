@@ -7,38 +7,15 @@ use mathlib.Core.List.{List, [], _∷_}
 use mathlib.Core.Option.{Option, none, some}
 use lib.Dec.{ltb}
 use lib.ListN.{drop}
-use Rattle.railway.specs.declared.End.{End}
-use Rattle.railway.specs.declared.Joined.{Joined}
-use Rattle.railway.specs.declared.Joined.the-variants.{Nothing, With}
+use Rattle.laws.specs.Below.{anyBelow}
 use Rattle.railway.specs.declared.Train.{Train}
 use Rattle.railway.specs.declared.Railway.{Railway}
 use Rattle.railway.specs.declared.Refusal.{Refusal}
-use Rattle.railway.specs.Ends.{endAt}
-use Rattle.railway.specs.Record.{linkAt, joined, trainOf}
+use Rattle.railway.specs.Bounds.{sectionEnds, allEnds}
+use Rattle.railway.specs.Record.{trainOf}
 use Rattle.railway.specs.Refusals.{Row, numberOf, first}
-use Rattle.railway.specs.Rows.{known, unknownLinkAt, unknownTrainAt, tied, wrongPair, wrongLinkAt, leadsTo, unreturnedAt, rowsBy, countRow, unknownRow, joinRow, looseRow, placeRow, recordRefusal}
-
--- what a row makes of the link at a place
-module _ (r : Railway) (i : ℕ) (j : Joined) (is : j ≡ linkAt r i) where
-  module _ (e : j ≡ Nothing) where
-    pub nothing-unknown : false ≡ unknownLinkAt r i
-    nothing-unknown = rw (← is, e)
-
-    pub nothing-wrong : false ≡ wrongLinkAt r i
-    nothing-wrong = rw (← is, e)
-
-    pub nothing-unreturned : false ≡ unreturnedAt r i
-    nothing-unreturned = rw (← is, e)
-
-  module _ (f e : End) (to : j ≡ With f) (at : e ≡ endAt i) (x : Bool) where
-    pub link-unknown : x ≡ (known r e && known r f) → not x ≡ unknownLinkAt r i
-    link-unknown h = rw (← is, to, ← at, h)
-
-    pub link-wrong : x ≡ wrongPair (tied r e) (tied r f) → x ≡ wrongLinkAt r i
-    link-wrong h = rw (← is, to, ← at) h
-
-    pub link-unreturned : (g : Joined) → g ≡ joined r f → x ≡ leadsTo g e → not x ≡ unreturnedAt r i
-    link-unreturned g hg h = rw (← is, to, ← at, ← hg, h)
+use Rattle.railway.specs.Rows.{unknownSignalAt, unknownTrainAt, rowsBy, countRow, unknownRow, joinRow, looseRow, placeRow, recordRefusal}
+use Rattle.acceptance.specs.Answers.{Looked}
 
 -- a train's start and destination
 module _ (r : Railway) (t : ℕ) (x : Train) (is : x ≡ trainOf r t) where
@@ -80,8 +57,8 @@ none-asked rows = record { gives = refl }
 pub judged : {o g : Option Refusal} → o ≡ g → numberOf o ≡ numberOf g
 judged h = ap numberOf h
 
--- the test of a record
-pub tested : (r : Railway) (n : Option ℕ) (u w : Bool) → n ≡ numberOf (first (rowsBy (countRow r) u w (looseRow r) false (placeRow r)))
-    → u ≡ unknownRow r → w ≡ joinRow r → n ≡ numberOf (recordRefusal r)
-unfolding recordRefusal
-tested r n u w e h k = e ∙ rw (h, k)
+-- the test of a record: what is found in its links, its signals and its trains
+pub tested : (r : Railway) (n : Option ℕ) (u w b g t : Bool) → n ≡ numberOf (first (rowsBy (countRow r) ((u || g) || t) (w || b) (looseRow r) false (placeRow r)))
+    → Looked r allEnds u w b → g ≡ anyBelow (unknownSignalAt r) sectionEnds → t ≡ anyBelow (unknownTrainAt r) (r .trains) → n ≡ numberOf (recordRefusal r)
+unfolding recordRefusal unknownRow joinRow
+tested r n u w b g t e h hg ht = e ∙ rw (h .unknown, h .wrong, h .unreturned, hg, ht)

@@ -2,29 +2,41 @@
 // no text describes; each row looks at every place that it concerns. Besides the test, some of its parts are public for the
 // reader of case texts: they judge one row, pair or place of a record by itself, and are no entry points.
 ghost use mathlib.Core.Path.{_≡_};
-ghost use mathlib.Core.Bool.{_||_, _&&_};
+ghost use mathlib.Core.Bool.{_||_, cond};
+ghost use Prim.Native.Nat.{_<_};
 ghost use Rattle.laws.specs.Below.{anyBelow};
-ghost use Rattle.railway.specs.Ends.{sameSide};
+ghost use Rattle.railway.specs.declared.Railway.{Railway};
+ghost use Rattle.railway.specs.declared.Side.the-variants.{Up};
+ghost use Rattle.railway.specs.Bounds.{sectionEnds, allEnds};
+ghost use Rattle.railway.specs.Ends.{sameSide, sideIndex, endAt};
+ghost use Rattle.railway.specs.Record.{linkAt, sideOf};
 ghost use Rattle.railway.specs.Refusals.{numberGiven, numberOf, first};
-ghost use Rattle.railway.specs.Rows.{rowsBy, countRow, looseRow, outside, known, unknownLinkAt, unknownSignalAt, unknownTrainAt, unknownRow, sectionOf, bothPorts, oneSection, tied, wrongPair, wrongLinkAt, leadsTo, unreturnedAt, joinRow, unjoined, looseAt, sharesWith, placeRow};
-ghost use Rattle.acceptance.specs.Answers.{Judged, flawAt};
+ghost use Rattle.railway.specs.Rows.{rowsBy, countRow, looseRow, outside, known, unknownLinkAt, unknownSignalAt, unknownTrainAt, sectionOf, bothPorts, oneSection, tied, wrongPair, wrongLinkAt, unreturnedAt, unjoined, looseAt, sharesWith, placeRow};
+ghost use Rattle.railway.specs.Lent.{LinksOf, SignalsOf};
+ghost use Rattle.acceptance.specs.Answers.{Judged, flawAt, Counts, Sided, Lent, Looked};
 use railway::CaseAnswer;
 use railway::End;
 use railway::Joined;
-use railway::Leg;
-use railway::PointNo;
+use railway::Legs;
+use railway::Links;
 use railway::Railway;
 use railway::Refusal;
 use railway::Side;
+use railway::Signals;
 
-// What the rows look for, place by place. The last is asked of a train and of those before it.
+// The side of each point's legs, by its index.
+type Sides = [u8; Railway::POINTS as usize];
+
+// What rows 4 and 5 find in the links: one at or to an end that is not there, one that ties ends which no join may tie, one that is not returned.
+struct Found {
+    unknown: bool,
+    wrong: bool,
+    unreturned: bool,
+}
+
+// What the rows look for, train by train. The last is asked of a train and of those before it.
 enum Flaw {
-    UnknownLink,
-    UnknownSignal,
     UnknownTrain,
-    WrongLink,
-    Unreturned,
-    LoosePort,
     SharesWith(u8),
 }
 
@@ -32,7 +44,17 @@ enum Flaw {
 pub fn test_record(r: Railway) -> CaseAnswer
     ensures { λ t. ⌜ Judged r t ⌝ }
 {
-    first_row(r, unknown_named(r), joined_wrongly(r), false)
+    let links = r.links;
+    let signals = r.signals;
+    let legs = r.legs;
+    let s = r.sections;
+    let p = r.points;
+    let sides = sides_of(legs, p);
+    let found = look(&links, &sides, s, p);
+    let unknown = found.unknown
+        | unknown_signals(&signals, s, p)
+        | any_flaw(r, Flaw::UnknownTrain, r.trains);
+    first_row(r, unknown, found.wrong | found.unreturned, false)
 }
 
 // The first of rows 3 to 8 that applies, given what rows 4, 5 and 7 say.
@@ -48,7 +70,8 @@ pub fn first_row(r: Railway, unknown: bool, wrong: bool, double: bool) -> CaseAn
     if wrong {
         return CaseAnswer::Refused(Refusal::Join);
     }
-    if any_flaw(r, Flaw::LoosePort, r.points) {
+    let links = r.links;
+    if loose_ports(&links, r.points) {
         return CaseAnswer::Refused(Refusal::Loose);
     }
     if double {
@@ -79,27 +102,187 @@ pub fn counts_outside(s: u8, p: u8, k: u8) -> bool
     Railway::TRAINS < k
 }
 
-// Row 4.
-fn unknown_named(r: Railway) -> bool
-    ensures { λ b. ⌜ b ≡ unknownRow r ⌝ }
+// THE LINKS, lent byte by byte; what is promised is promised of every record with these links, counts and legs. Rows 4 and 5, one pass over them.
+fn look(links: &Links, sides: &Sides, s: u8, p: u8) -> Found
+    ensures { λ f. ⌜ ((r : Railway) → Lent r (now (links .entry)) (now (sides .entry)) s p → Looked r allEnds (f .unknown) (f .wrong) (f .unreturned)) ⌝ }
 {
-    if any_flaw(r, Flaw::UnknownLink, Railway::ENDS) {
-        return true;
+    let mut unknown = false;
+    let mut wrong = false;
+    let mut unreturned = false;
+    let mut i: u8 = 0;
+    while i < Railway::ENDS {
+        unknown = unknown | unknown_link(links, s, p, i);
+        wrong = wrong | wrong_link(links, sides, i);
+        unreturned = unreturned | is_unreturned(links, i);
+        i += 1;
     }
-    if any_flaw(r, Flaw::UnknownSignal, Railway::SECTION_ENDS) {
-        return true;
+    Found {
+        unknown: unknown,
+        wrong: wrong,
+        unreturned: unreturned,
     }
-    any_flaw(r, Flaw::UnknownTrain, r.trains)
 }
 
-// Row 5.
-fn joined_wrongly(r: Railway) -> bool
-    ensures { λ b. ⌜ b ≡ joinRow r ⌝ }
+fn unknown_link(links: &Links, s: u8, p: u8, i: u8) -> bool
+    ensures { λ b. ⌜ ((r : Railway) → LinksOf r (now (links .entry)) → Counts r s p → b ≡ unknownLinkAt r i) ⌝ }
 {
-    if any_flaw(r, Flaw::WrongLink, Railway::ENDS) {
+    let j = railway::link_in(links, i);
+    if j < Railway::ENDS {
+        !(known_at(s, p, i) & known_at(s, p, j))
+    } else {
+        false
+    }
+}
+
+fn wrong_link(links: &Links, sides: &Sides, i: u8) -> bool
+    requires { ⌜ i < allEnds ⌝ }
+    ensures { λ b. ⌜ ((r : Railway) → LinksOf r (now (links .entry)) → Sided r (now (sides .entry)) → b ≡ wrongLinkAt r i) ⌝ }
+{
+    let j = railway::link_in(links, i);
+    if j < Railway::ENDS {
+        wrong_at(sides, i, j)
+    } else {
+        false
+    }
+}
+
+fn is_unreturned(links: &Links, i: u8) -> bool
+    requires { ⌜ i < allEnds ⌝ }
+    ensures { λ b. ⌜ ((r : Railway) → LinksOf r (now (links .entry)) → b ≡ unreturnedAt r i) ⌝ }
+{
+    let j = railway::link_in(links, i);
+    if j < Railway::ENDS {
+        !(railway::link_in(links, j) == i)
+    } else {
+        false
+    }
+}
+
+// The section or point of the end of an index is there.
+fn known_at(s: u8, p: u8, i: u8) -> bool
+    ensures { λ b. ⌜ ((r : Railway) → Counts r s p → b ≡ known r (endAt i)) ⌝ }
+{
+    if i < Railway::SECTION_ENDS {
+        i / 2 < s
+    } else {
+        (i - Railway::SECTION_ENDS) / 3 < p
+    }
+}
+
+// No join may tie the ends of these two indices.
+fn wrong_at(sides: &Sides, i: u8, j: u8) -> bool
+    requires { ⌜ i < allEnds ⌝ }
+    requires { ⌜ j < allEnds ⌝ }
+    ensures { λ b. ⌜ ((r : Railway) → Sided r (now (sides .entry)) → b ≡ wrongPair (tied r (endAt i)) (tied r (endAt j))) ⌝ }
+{
+    if ports_or_one(i, j) {
         return true;
     }
-    any_flaw(r, Flaw::Unreturned, Railway::ENDS)
+    side_in(sides, i) == side_in(sides, j)
+}
+
+// They are of two ports, or of one section.
+fn ports_or_one(i: u8, j: u8) -> bool
+    ensures { λ b. ⌜ b ≡ (bothPorts (sectionOf (endAt i)) (sectionOf (endAt j)) || oneSection (sectionOf (endAt i)) (sectionOf (endAt j))) ⌝ }
+{
+    if i < Railway::SECTION_ENDS {
+        if j < Railway::SECTION_ENDS {
+            i / 2 == j / 2
+        } else {
+            false
+        }
+    } else {
+        Railway::SECTION_ENDS <= j
+    }
+}
+
+// The side of the end of an index, by its own.
+fn side_in(sides: &Sides, i: u8) -> u8
+    requires { ⌜ i < allEnds ⌝ }
+    ensures { λ b. ⌜ ((r : Railway) → Sided r (now (sides .entry)) → b ≡ sideIndex (sideOf r (endAt i))) ⌝ }
+{
+    if i < Railway::SECTION_ENDS {
+        return i % 2;
+    }
+    let port = i - Railway::SECTION_ENDS;
+    let at = (port / 3) as usize;
+    let legs = sides[at];
+    if port % 3 == 0 {
+        if legs == 0 { 1 } else { 0 }
+    } else {
+        legs
+    }
+}
+
+// The sides of all points' legs; up for points that are not there.
+fn sides_of(legs: [Legs; Railway::POINTS as usize], p: u8) -> Sides
+    ensures { λ a. ⌜ ((r : Railway) → r .legs ≡ legs → r .points ≡ p → Sided r a) ⌝ }
+{
+    let mut sides = [1u8; Railway::POINTS as usize];
+    let mut n: u8 = 0;
+    while n < Railway::POINTS {
+        let at = n as usize;
+        let b = legs_index(legs[at], n < p);
+        sides[at] = b;
+        n += 1;
+    }
+    sides
+}
+
+// The index of a side of legs; up's where the point is not there.
+fn legs_index(legs: Legs, there: bool) -> u8
+    ensures { λ b. ⌜ b ≡ sideIndex (cond there (legs .side) Up) ⌝ }
+{
+    if there {
+        let side = legs.side;
+        railway::side_index(side)
+    } else {
+        1
+    }
+}
+
+// Row 4 at the signals.
+fn unknown_signals(signals: &Signals, s: u8, p: u8) -> bool
+    ensures { λ b. ⌜ ((r : Railway) → SignalsOf r (now (signals .entry)) → Counts r s p → b ≡ anyBelow (unknownSignalAt r) sectionEnds) ⌝ }
+{
+    let mut found = false;
+    let mut i: u8 = 0;
+    while i < Railway::SECTION_ENDS {
+        found = found | (railway::signal_in(signals, i) & !known_at(s, p, i));
+        i += 1;
+    }
+    found
+}
+
+// Row 6.
+fn loose_ports(links: &Links, p: u8) -> bool
+    ensures { λ b. ⌜ ((r : Railway) → LinksOf r (now (links .entry)) → r .points ≡ p → b ≡ looseRow r) ⌝ }
+{
+    let mut found = false;
+    let mut n: u8 = 0;
+    while n < p {
+        found = found | loose_port(links, n);
+        n += 1;
+    }
+    found
+}
+
+fn loose_port(links: &Links, n: u8) -> bool
+    ensures { λ b. ⌜ ((r : Railway) → LinksOf r (now (links .entry)) → b ≡ looseAt r n) ⌝ }
+{
+    if n < Railway::POINTS {
+        let stem = Railway::SECTION_ENDS + 3 * n;
+        is_loose(links, stem) | is_loose(links, stem + 1) | is_loose(links, stem + 2)
+    } else {
+        true
+    }
+}
+
+// The end of an index is in no join.
+fn is_loose(links: &Links, i: u8) -> bool
+    ensures { λ b. ⌜ ((r : Railway) → LinksOf r (now (links .entry)) → b ≡ unjoined (linkAt r i)) ⌝ }
+{
+    Railway::ENDS <= railway::link_in(links, i)
 }
 
 // Row 8.
@@ -117,7 +300,7 @@ fn places_shared(r: Railway) -> bool
     false
 }
 
-// Whether a flaw shows at one of the first n places.
+// Whether a flaw shows at one of the first n trains.
 fn any_flaw(r: Railway, f: Flaw, n: u8) -> bool
     ensures { λ b. ⌜ b ≡ anyBelow (flawAt r f) n ⌝ }
 {
@@ -135,32 +318,8 @@ fn has_flaw(r: Railway, f: Flaw, i: u8) -> bool
     ensures { λ b. ⌜ b ≡ flawAt r f i ⌝ }
 {
     match f {
-        Flaw::UnknownLink => unknown_link(r, i),
-        Flaw::UnknownSignal => unknown_signal(r, i),
         Flaw::UnknownTrain => unknown_train(r, i),
-        Flaw::WrongLink => wrong_link(r, i),
-        Flaw::Unreturned => unreturned(r, i),
-        Flaw::LoosePort => loose_port(r, i),
         Flaw::SharesWith(t) => shares_with(r, t, i),
-    }
-}
-
-fn unknown_link(r: Railway, i: u8) -> bool
-    ensures { λ b. ⌜ b ≡ unknownLinkAt r i ⌝ }
-{
-    match r.link_at(i) {
-        Joined::Nothing => false,
-        Joined::With(f) => !both_known(r, railway::end_at(i), f),
-    }
-}
-
-fn unknown_signal(r: Railway, i: u8) -> bool
-    ensures { λ b. ⌜ b ≡ unknownSignalAt r i ⌝ }
-{
-    if r.flag_at(i) {
-        !is_known(r, railway::end_at(i))
-    } else {
-        false
     }
 }
 
@@ -172,36 +331,6 @@ fn unknown_train(r: Railway, t: u8) -> bool
     !((x.start.0 < s) & (x.destination.0 < s))
 }
 
-fn wrong_link(r: Railway, i: u8) -> bool
-    ensures { λ b. ⌜ b ≡ wrongLinkAt r i ⌝ }
-{
-    match r.link_at(i) {
-        Joined::Nothing => false,
-        Joined::With(f) => wrong_pair(r, railway::end_at(i), f),
-    }
-}
-
-fn unreturned(r: Railway, i: u8) -> bool
-    ensures { λ b. ⌜ b ≡ unreturnedAt r i ⌝ }
-{
-    match r.link_at(i) {
-        Joined::Nothing => false,
-        Joined::With(f) => !leads_to(r.joined(f), railway::end_at(i)),
-    }
-}
-
-fn loose_port(r: Railway, n: u8) -> bool
-    ensures { λ b. ⌜ b ≡ looseAt r n ⌝ }
-{
-    if is_unjoined(r.joined(End::Port(PointNo(n), Leg::Stem))) {
-        return true;
-    }
-    if is_unjoined(r.joined(End::Port(PointNo(n), Leg::Plus))) {
-        return true;
-    }
-    is_unjoined(r.joined(End::Port(PointNo(n), Leg::Minus)))
-}
-
 fn shares_with(r: Railway, t: u8, u: u8) -> bool
     ensures { λ b. ⌜ b ≡ sharesWith r t u ⌝ }
 {
@@ -211,26 +340,6 @@ fn shares_with(r: Railway, t: u8, u: u8) -> bool
         true
     } else {
         x.destination.0 == y.destination.0
-    }
-}
-
-// The section or point of an end is there.
-fn is_known(r: Railway, e: End) -> bool
-    ensures { λ b. ⌜ b ≡ known r e ⌝ }
-{
-    match e {
-        End::Section(n, _) => n.0 < r.sections,
-        End::Port(n, _) => n.0 < r.points,
-    }
-}
-
-fn both_known(r: Railway, e: End, f: End) -> bool
-    ensures { λ b. ⌜ b ≡ (known r e && known r f) ⌝ }
-{
-    if is_known(r, e) {
-        is_known(r, f)
-    } else {
-        false
     }
 }
 
@@ -272,15 +381,6 @@ fn same_side(a: Side, b: Side) -> bool
             Side::Up => false,
             Side::Down => true,
         },
-    }
-}
-
-fn leads_to(j: Joined, e: End) -> bool
-    ensures { λ b. ⌜ b ≡ leadsTo j e ⌝ }
-{
-    match j {
-        Joined::Nothing => false,
-        Joined::With(f) => railway::index_of(f) == railway::index_of(e),
     }
 }
 

@@ -36,7 +36,7 @@ use Rattle.casefile.specs.Claims.{AcceptedAgain}
 use Rattle.casefile.proofs.Exactly.{accepted-exactly}
 use Rattle.casefile.proofs.Faultless.{Faultless, faultless-facts, within-is}
 use Rattle.casefile.proofs.Ends.{signal-is, end-field, field-end, ports-same, one-same, Ties, forth, back, partner-ties, partner-one, partner-other, partner-nothing}
-use Rattle.casefile.proofs.Described.{link-at, flag-at, legs-at, roster-at, joined-at, counted-end, numbered-end, roster-known}
+use Rattle.casefile.proofs.Described.{link-at, flag-at, legs-at, roster-at, joined-at, counted-end, numbered-end, joinable, roster-known}
 
 -- the tests of row 5, turned round
 ports-turned : (a b : Option ℕ) → bothPorts a b ≡ false → bothPorts b a ≡ false
@@ -74,7 +74,7 @@ module _ (d : Description) (w : Faultless d) where
         not-ports = ports-same a b ∙ p;
         not-one = one-same a b (counted-end d w a ka) (counted-end d w b kb) ∙ o;
         sides = rw (side-end a ka, side-end b kb) s;
-        back = rw (joined-at d (endOf b) (numbered-end d w b kb), field-end b (counted-end d w b kb), t) (eq-eqb (endIndex (endOf a)) (endIndex (endOf a)) refl);
+        back = rw (joined-at d (joinable d w) (endOf b) (numbered-end d w b kb), field-end b (counted-end d w b kb), t) (eq-eqb (endIndex (endOf a)) (endIndex (endOf a)) refl);
       }
 
   tied-known : (a : EndField) (x : End) → Ties (d .joins) a x → (RR.known (railwayOf d) (endOf a) ≡ true) × (RR.known (railwayOf d) x ≡ true)
@@ -95,7 +95,7 @@ module _ (d : Description) (w : Faultless d) where
       (side-turned (sideOf d (j .one)) (sideOf d (j .other)) (r .sides)) (partner-one (d .joins) j (w .ends-once) m))
 
   ties-at : (i : ℕ) (x : End) → i < allEnds → linkAt (railwayOf d) i ≡ With x → Ties (d .joins) (fieldOf (endAt i)) x
-  ties-at i x h l = partner-ties (d .joins) (fieldOf (endAt i)) x (sym (link-at d i h) ∙ l)
+  ties-at i x h l = partner-ties (d .joins) (fieldOf (endAt i)) x (sym (link-at d (joinable d w) i h) ∙ l)
 
   signal-known : (i : ℕ) → i < sectionEnds → flagAt (railwayOf d) i ≡ true → RR.known (railwayOf d) (endAt i) ≡ true
   unfolding railwayOf
@@ -109,7 +109,7 @@ module _ (d : Description) (w : Faultless d) where
   port-joined n l h e =
       let b = w .bounds in
       clash (w .port-joined n l h)
-      (partner-nothing (d .joins) (port (suc n) l) (sym (joined-at d (Port (record { 0 = n }) l) (omega arith)) ∙ e))
+      (partner-nothing (d .joins) (port (suc n) l) (sym (joined-at d (joinable d w) (Port (record { 0 = n }) l) (omega arith)) ∙ e))
 
   module _ (f : WellFormed d) where
     train-known : (t : ℕ) → t < d .trains → (trainOf (railwayOf d) t .start .0 < d .sections) × (trainOf (railwayOf d) t .destination .0 < d .sections)

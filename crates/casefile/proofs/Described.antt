@@ -4,6 +4,7 @@
 use Prim.Native.Nat.{ℕ, suc, _/_, _%_, _<_, _≤_}
 use mathlib.Core.Path.{_≡_, refl, sym, _∙_, ap}
 use mathlib.Core.Logic.{inl, inr}
+use mathlib.Core.List.{List·Memᴰ}
 use mathlib.Core.Bool.{Bool, true, false, cond}
 use native.Mathlib.Omega.{arith}
 use lib.Dec.{ltb}
@@ -18,15 +19,15 @@ use Rattle.railway.specs.declared.SectionNo.{SectionNo}
 use Rattle.railway.specs.declared.End.{End}
 use Rattle.railway.specs.declared.End.the-variants.{Section, Port}
 use Rattle.railway.specs.declared.Joined.the-variants.{Nothing, With}
-use Rattle.railway.specs.declared.Link.{Link}
 use Rattle.railway.specs.declared.Legs.{Legs}
 use Rattle.railway.specs.declared.Railway.{Railway}
 use Rattle.railway.specs.Bounds.{mostPoints, mostTrains, sectionEnds, allEnds}
-use Rattle.railway.specs.Ends.{sideAt, endIndex, endAt}
-use Rattle.railway.specs.Record.{noLegs, noLink, noTrain, linkAt, flagAt, joined, hasSignal, legsOf, trainOf}
-use Rattle.railway.proofs.Ends.{Numbered, end-index, index-below, numbered-of, end-section, section-below}
+use Rattle.railway.specs.Ends.{Numbered, sideAt, endIndex, endAt}
+use Rattle.railway.specs.Record.{noLegs, noLink, noTrain, joinedBy, linkByte, linkAt, flagAt, joined, hasSignal, legsOf, trainOf}
+use Rattle.railway.proofs.Ends.{end-index, index-below, numbered-of, end-section, section-below}
+use Rattle.railway.proofs.Bytes.{link-back}
 use Rattle.railway.proofs.Lookups.{Flagged, signal-flag}
-use Rattle.casefile.specs.Form.{EndField, section, port, SignalLine, Description, WellFormed, sameSignal}
+use Rattle.casefile.specs.Form.{EndField, section, port, JoinLine, SignalLine, Description, WellFormed, sameSignal}
 use Rattle.casefile.specs.Rows.{known}
 use Rattle.casefile.specs.Recording.{endOf, fieldOf, partner, signalOf, trainOfLine, noTrainLine, railwayOf}
 use Rattle.casefile.specs.Claims.{Names, Joins, Signals, TrainSaid, AsDescribed, ReadAsDescribed}
@@ -49,12 +50,28 @@ names-is (section n s) (Port m l) h = absurd h
 names-is (port n l) (Section m t) h = absurd h
 names-is (port n l) (Port m k) h = rw (h .0, h .1)
 
--- LOOKUPS BY INDEX
-module _ (d : Description) where
+-- LOOKUPS BY INDEX. The J lines name ends that a railway can have, and so each has its byte.
+abbrev pub Joinable : Description → Type 0
+Joinable d = (j : JoinLine) → List·Memᴰ j (d .joins) → Numbered (endOf (j .one)) × Numbered (endOf (j .other))
+
+module _ (d : Description) (can : Joinable d) where
+  tied-numbered : (a : EndField) (f : End) → Ties (d .joins) a f → Numbered f
+  tied-numbered a f (forth j m p q) = rw q (can j m .1)
+  tied-numbered a f (back j m p q) = rw q (can j m .0)
+
+  pub partner-back : (a : EndField) → joinedBy (linkByte (partner (d .joins) a)) ≡ partner (d .joins) a
+  partner-back a = link-back (partner (d .joins) a) (λ f e. tied-numbered a f (partner-ties (d .joins) a f e))
+
   pub link-at : (i : ℕ) → i < allEnds → linkAt (railwayOf d) i ≡ partner (d .joins) (fieldOf (endAt i))
   unfolding railwayOf
-  link-at i h = ap (λ (l : Link). l .to) (list-get (λ i. record { to = partner (d .joins) (fieldOf (endAt i)) }) allEnds i noLink h)
+  link-at i h = ap joinedBy (list-get (λ i. linkByte (partner (d .joins) (fieldOf (endAt i)))) allEnds i noLink h) ∙ partner-back (fieldOf (endAt i))
 
+  -- and by end
+  pub joined-at : (e : End) → Numbered e → joined (railwayOf d) e ≡ partner (d .joins) (fieldOf e)
+  unfolding joined
+  joined-at e h = rw (lt-ltb (endIndex e) allEnds (index-below e h)) (link-at (endIndex e) (index-below e h) ∙ rw (end-index e h))
+
+module _ (d : Description) where
   pub flag-at : (i : ℕ) → i < sectionEnds → flagAt (railwayOf d) i ≡ any (sameSignal (signalOf i)) (d .signals)
   unfolding railwayOf
   flag-at i h = list-get (λ i. any (sameSignal (signalOf i)) (d .signals)) sectionEnds i false h
@@ -66,11 +83,6 @@ module _ (d : Description) where
   pub roster-at : (t : ℕ) → t < d .trains → d .trains ≤ mostTrains → trainOf (railwayOf d) t ≡ trainOfLine (getD (d .roster) t noTrainLine)
   unfolding railwayOf trainOf
   roster-at t h b = rw (lt-ltb t (d .trains) h) (list-get (λ t. trainOfLine (getD (d .roster) t noTrainLine)) mostTrains t noTrain (omega arith))
-
-  -- a lookup by end
-  pub joined-at : (e : End) → Numbered e → joined (railwayOf d) e ≡ partner (d .joins) (fieldOf e)
-  unfolding joined
-  joined-at e h = rw (lt-ltb (endIndex e) allEnds (index-below e h)) (link-at (endIndex e) (index-below e h) ∙ rw (end-index e h))
 
 -- what is joined, or has a signal, is an end that a railway can have
 pub joined-numbered : (r : Railway) (e f : End) → joined r e ≡ With f → Numbered e
@@ -109,6 +121,9 @@ module _ (d : Description) (w : Faultless d) where
   numbered-end (section n s) h = let b = w .bounds in let k = within-is n (d .sections) h in omega arith
   numbered-end (port n l) h = let b = w .bounds in let k = within-is n (d .points) h in omega arith
 
+  pub joinable : Joinable d
+  joinable j m = let k = w .join-known j m in (numbered-end (j .one) (k .0), numbered-end (j .other) (k .1))
+
   numbered-named : (a : EndField) (e : End) → known d a ≡ true → Names a e → Numbered e
   numbered-named a e k n = rw (ap endOf (names-is a e n) ∙ end-field e) at (numbered-end a k)
 
@@ -127,10 +142,10 @@ module _ (d : Description) (w : Faultless d) where
       elim (t .ties) [
         | inl h ↦
             let p = partner-one (d .joins) j (w .ends-once) (t .member) in
-            joined-at d e (numbered-named (j .one) e (k .0) (h .0)) ∙ (rw (names-is (j .one) e (h .0), names-is (j .other) f (h .1), end-field f) at p)
+            joined-at d joinable e (numbered-named (j .one) e (k .0) (h .0)) ∙ (rw (names-is (j .one) e (h .0), names-is (j .other) f (h .1), end-field f) at p)
         | inr h ↦
             let p = partner-other (d .joins) j (w .ends-once) (t .member) in
-            joined-at d e (numbered-named (j .other) e (k .1) (h .1)) ∙ (rw (names-is (j .other) e (h .1), names-is (j .one) f (h .0), end-field f) at p)
+            joined-at d joinable e (numbered-named (j .other) e (k .1) (h .1)) ∙ (rw (names-is (j .other) e (h .1), names-is (j .one) f (h .0), end-field f) at p)
       ]
 
   signals-described : (e : End) → Flagged (railwayOf d) e → Signals (d .signals) e
@@ -182,7 +197,7 @@ module _ (d : Description) (w : Faultless d) where
           points = refl;
           trains = refl;
           legs = λ n h. legs-at d n h (w .bounds .few-points);
-          joins = λ e x. (λ h. joins-described e x (partner-ties (d .joins) (fieldOf e) x (sym (joined-at d e (joined-numbered (railwayOf d) e x h)) ∙ h)), described-joins e x);
+          joins = λ e x. (λ h. joins-described e x (partner-ties (d .joins) (fieldOf e) x (sym (joined-at d joinable e (joined-numbered (railwayOf d) e x h)) ∙ h)), described-joins e x);
           signals = λ e. (λ h. signals-described e (signal-flag (railwayOf d) e h), described-signals e);
           roster = roster-described;
         }

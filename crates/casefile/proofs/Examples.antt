@@ -21,7 +21,7 @@ use Rattle.railway.specs.declared.Railway.{Railway}
 use Rattle.railway.specs.declared.Refusal.the-variants.{Count, Space}
 use Rattle.railway.specs.Ends.{endAt}
 use Rattle.railway.specs.Refusals.{number, first}
-use Rattle.railway.specs.Record.{emptyRailway, joined, hasSignal, legsOf, trainOf}
+use Rattle.railway.specs.Record.{emptyRailway, joinedBy, joined, hasSignal, legsOf, trainOf}
 use Rattle.railway.specs.Rows as R
 use Rattle.railway.specs.Rows.{recordRefusal}
 use Rattle.railway.specs.declared.CaseAnswer.{CaseAnswer}
@@ -57,7 +57,7 @@ yard-a : (given (caseAnswer (bytes textA) .answer) ≡ 0) × (recordRefusal reco
     × (map (hasSignal recordA) (down 0 ∷ up 0 ∷ down 1 ∷ up 1 ∷ down 2 ∷ up 2 ∷ []) ≡ true ∷ false ∷ false ∷ true ∷ false ∷ false ∷ [])
     × (trainOf recordA 0 ≡ record { heading = Up; start = record { 0 = 1 }; destination = record { 0 = 2 } })
     × (trainOf recordA 1 ≡ record { heading = Down; start = record { 0 = 2 }; destination = record { 0 = 0 } })
-unfolding bytes recordA given first digits line isDigit byteAt digitsAt numberAt counted while sideFieldAt legFieldAt endFieldAt headerAt pointLineAt joinLineAt signalLineAt trainLineAt walk read caseAnswer anyBelow listBelow any repeats joinEnds unknownRow joinRow looseRow doubleRow placeRow partner railwayOf endAt joined hasSignal legsOf trainOf R.unknownRow R.joinRow R.looseRow R.placeRow recordRefusal
+unfolding bytes recordA given first digits line isDigit byteAt digitsAt numberAt counted while sideFieldAt legFieldAt endFieldAt headerAt pointLineAt joinLineAt signalLineAt trainLineAt walk read caseAnswer anyBelow listBelow any repeats joinEnds unknownRow joinRow looseRow doubleRow placeRow partner railwayOf endAt joinedBy joined hasSignal legsOf trainOf R.unknownRow R.joinRow R.looseRow R.placeRow recordRefusal
 yard-a = (refl, refl, (refl, refl, refl, refl), refl, refl, refl, refl)
 
 -- THE TABLE of texts, each with the number that it is refused with; 0: it is accepted.
@@ -239,11 +239,11 @@ writes : (written recordA (replicate 68 7) ≡ W.Bytes 68) × (bufferAfter recor
     × (written recordA (replicate 70 7) ≡ W.Bytes 68) × (bufferAfter recordA (replicate 70 7) ≡ bytes textA ++ (7 ∷ 7 ∷ []))
     × (written recordA (replicate 67 7) ≡ W.Refused Space) × (bufferAfter recordA (replicate 67 7) ≡ replicate 67 7)
     × (written emptyRailway [] ≡ W.Refused Count) × (bufferAfter emptyRailway (1 ∷ 2 ∷ []) ≡ 1 ∷ 2 ∷ [])
-unfolding bytes recordA first digits line isDigit byteAt digitsAt numberAt counted while sideFieldAt legFieldAt endFieldAt headerAt pointLineAt joinLineAt signalLineAt trainLineAt walk read caseAnswer anyBelow listBelow gatherBelow any repeats joinEnds unknownRow joinRow looseRow doubleRow placeRow partner railwayOf endAt joined hasSignal legsOf trainOf R.unknownRow R.joinRow R.looseRow R.placeRow recordRefusal flatMap rising spell descriptionOf writtenText writerRefusal written bufferAfter
+unfolding bytes recordA first digits line isDigit byteAt digitsAt numberAt counted while sideFieldAt legFieldAt endFieldAt headerAt pointLineAt joinLineAt signalLineAt trainLineAt walk read caseAnswer anyBelow listBelow gatherBelow any repeats joinEnds unknownRow joinRow looseRow doubleRow placeRow partner railwayOf endAt joinedBy joined hasSignal legsOf trainOf R.unknownRow R.joinRow R.looseRow R.placeRow recordRefusal flatMap rising spell descriptionOf writtenText writerRefusal written bufferAfter
 writes = (refl, refl, refl, refl, refl, refl, refl, refl)
 
 -- Lines that come in disorder and turned round are written in the one order that the writer knows.
 sorts : writtenText (caseAnswer (bytes "H\t3\t1\t1\nP\t1\tu\nJ\t1s\t3u\nJ\t1-\t1d\nJ\t2d\t1u\nJ\t3d\t1+\nG\t2u\nG\t1u\nG\t1d\nT\t1\td\t3\t2\n") .railway)
     ≡ bytes "H\t3\t1\t1\nP\t1\tu\nJ\t1d\t1-\nJ\t1u\t2d\nJ\t3d\t1+\nJ\t3u\t1s\nG\t1d\nG\t1u\nG\t2u\nT\t1\td\t3\t2\n"
-unfolding bytes first digits line isDigit byteAt digitsAt numberAt counted while sideFieldAt legFieldAt endFieldAt headerAt pointLineAt joinLineAt signalLineAt trainLineAt walk read caseAnswer anyBelow listBelow gatherBelow any repeats joinEnds unknownRow joinRow looseRow doubleRow placeRow partner railwayOf endAt joined hasSignal legsOf trainOf flatMap rising spell descriptionOf writtenText
+unfolding bytes first digits line isDigit byteAt digitsAt numberAt counted while sideFieldAt legFieldAt endFieldAt headerAt pointLineAt joinLineAt signalLineAt trainLineAt walk read caseAnswer anyBelow listBelow gatherBelow any repeats joinEnds unknownRow joinRow looseRow doubleRow placeRow partner railwayOf endAt joinedBy joined hasSignal legsOf trainOf flatMap rising spell descriptionOf writtenText
 sorts = refl

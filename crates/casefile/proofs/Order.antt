@@ -20,9 +20,9 @@ use Rattle.railway.specs.declared.End.{End}
 use Rattle.railway.specs.declared.End.the-variants.{Section, Port}
 use Rattle.railway.specs.declared.Railway.{Railway}
 use Rattle.railway.specs.Bounds.{mostSections, sectionEnds}
-use Rattle.railway.specs.Ends.{endIndex, endAt}
+use Rattle.railway.specs.Ends.{Numbered, endIndex, endAt}
 use Rattle.railway.specs.Record.{linkAt, flagAt}
-use Rattle.railway.proofs.Ends.{Numbered, end-section, section-index}
+use Rattle.railway.proofs.Ends.{end-section, section-index}
 use Rattle.railway.proofs.Accepted.{Accepted, accepted-facts, known-numbered}
 use Rattle.casefile.specs.Form.{section}
 use Rattle.casefile.specs.Recording.{fieldOf, signalOf}

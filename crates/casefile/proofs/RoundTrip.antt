@@ -21,12 +21,12 @@ use Rattle.railway.specs.declared.Joined.the-variants.{Nothing, With}
 use Rattle.railway.specs.declared.Train.{Train}
 use Rattle.railway.specs.declared.Railway.{Railway}
 use Rattle.railway.specs.Bounds.{mostSections, sectionEnds, allEnds}
-use Rattle.railway.specs.Ends.{sideIndex, endIndex, endAt}
+use Rattle.railway.specs.Ends.{Numbered, sideIndex, endIndex, endAt}
 use Rattle.railway.specs.Record.{joined, hasSignal, legsOf, trainOf}
 use Rattle.railway.specs.Rows.{bothPorts, oneSection}
 use Rattle.railway.specs.Rows as RR
 use Rattle.railway.specs.Same.{SameRailway}
-use Rattle.railway.proofs.Ends.{Numbered, side-small, end-index, index-end, section-index, section-below, port-behind, numbered-of}
+use Rattle.railway.proofs.Ends.{side-small, end-index, index-end, section-index, section-below, port-behind, numbered-of}
 use Rattle.railway.proofs.Lookups.{joined-there, signal-there, Flagged, signal-flag}
 use Rattle.railway.proofs.Accepted.{Accepted, accepted-facts, known-numbered, joined-known, joined-right, joined-back}
 use Rattle.railway.proofs.Same.{refusal-same, same-sym, same-trans}

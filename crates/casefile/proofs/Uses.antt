@@ -21,7 +21,7 @@ use Rattle.railway.specs.declared.Railway.{Railway}
 use Rattle.railway.specs.declared.Refusal.the-variants.{Length}
 use Rattle.railway.specs.Ends.{endAt}
 use Rattle.railway.specs.Refusals.{first}
-use Rattle.railway.specs.Record.{flagAt, joined, hasSignal, legsOf, trainOf, withJoin, withSignal, withLegs, withTrain}
+use Rattle.railway.specs.Record.{flagAt, joinedBy, joined, hasSignal, legsOf, trainOf, withJoin, withSignal, withLegs, withTrain}
 use Rattle.railway.specs.Rows.{unknownRow, joinRow, looseRow, placeRow, recordRefusal}
 use Rattle.railway.specs.Same.{SameRailway}
 use Rattle.railway.specs.Yards.{yardA, lineT}
@@ -109,7 +109,7 @@ refused-anyway rest =
 
 -- WRITTEN. Yard A's record is written as its text,
 pub written-a : (writtenText yardA ≡ bytes textA) × (recordRefusal yardA ≡ none)
-unfolding bytes first digits line anyBelow listBelow gatherBelow endAt joined legsOf trainOf withJoin withSignal withLegs withTrain unknownRow joinRow looseRow placeRow recordRefusal flatMap rising spell descriptionOf writtenText
+unfolding bytes first digits line anyBelow listBelow gatherBelow endAt joinedBy joined legsOf trainOf withJoin withSignal withLegs withTrain unknownRow joinRow looseRow placeRow recordRefusal flatMap rising spell descriptionOf writtenText
 written-a = (refl, refl)
 
 -- in which a G line names 1d, where it has a signal.

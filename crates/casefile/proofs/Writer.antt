@@ -23,12 +23,12 @@ use Rattle.railway.specs.declared.Joined.the-variants.{Nothing, With}
 use Rattle.railway.specs.declared.Train.{Train}
 use Rattle.railway.specs.declared.Railway.{Railway}
 use Rattle.railway.specs.Bounds.{sectionEnds, allEnds}
-use Rattle.railway.specs.Ends.{sideAt, endIndex, endAt}
+use Rattle.railway.specs.Ends.{Numbered, sideAt, endIndex, endAt}
 use Rattle.railway.specs.Record.{linkAt, flagAt, joined, legsOf, trainOf}
 use Rattle.railway.specs.Record as R
 use Rattle.railway.specs.Rows.{bothPorts, oneSection}
 use Rattle.railway.specs.Rows as RR
-use Rattle.railway.proofs.Ends.{Numbered, index-below, index-end, end-section, section-below, port-behind}
+use Rattle.railway.proofs.Ends.{index-below, index-end, end-section, section-below, port-behind}
 use Rattle.railway.proofs.Lookups.{joined-there}
 use Rattle.railway.proofs.Accepted.{Right, Accepted, joined-known, joined-right, joined-back}
 use Rattle.casefile.specs.Form.{EndField, section, port, JoinLine, SignalLine, TrainLine, WritableEnd, WritableSignal, WritableTrain, WellFormed, sameEnd, sameSignal}

@@ -16,6 +16,7 @@ use Rattle.railway.specs.declared.Train.{Train}
 use Rattle.railway.specs.declared.Railway.{Railway}
 use Rattle.railway.specs.Bounds.{mostPoints, mostTrains, sectionEnds, allEnds}
 use Rattle.railway.specs.Ends.{sideAt, endAt}
+use Rattle.railway.specs.Record.{linkByte}
 use Rattle.casefile.specs.Form.{EndField, section, port, JoinLine, SignalLine, TrainLine, Description, sameEnd, sameSignal}
 
 -- An end as written, in the record: its number less one.
@@ -53,7 +54,7 @@ railwayOf d =
       points = d .points;
       trains = d .trains;
       legs = listBelow (λ n. record { side = getD (d .legs) n Up }) mostPoints;
-      links = listBelow (λ i. record { to = partner (d .joins) (fieldOf (endAt i)) }) allEnds;
+      links = listBelow (λ i. linkByte (partner (d .joins) (fieldOf (endAt i)))) allEnds;
       signals = listBelow (λ i. any (sameSignal (signalOf i)) (d .signals)) sectionEnds;
       roster = listBelow (λ t. trainOfLine (getD (d .roster) t noTrainLine)) mostTrains;
     }

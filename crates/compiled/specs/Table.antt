@@ -1,5 +1,5 @@
 -- A railway compiled into bytes, for loops that ask the same things of it many times. Nothing of document 01 rests on this file but
--- for its last record, what compiling a record promises: contracts cite it, and the laws in proofs/Table say that the bytes give what the record gives.
+-- for `CompilePost`, what compiling a record promises: contracts cite it, and the laws in proofs/Table say that the bytes give what the record gives.
 -- Assumes nothing.
 use mathlib.Core.Path.{_≡_}
 use mathlib.Core.Bool.{Bool, true, false, cond, not, _&&_}
@@ -7,18 +7,20 @@ use mathlib.Core.List.{List, [], _∷_}
 use mathlib.Core.Option.{Option, none, some}
 use Prim.Native.Nat.{ℕ, _+_, _-_, _*_, _/_, _%_, _<_}
 use lib.Dec.{ltb, eqb}
-use lib.ListN.{getD, replicate}
+use lib.ListN.{length, getD, replicate}
 use Rattle.railway.specs.declared.End.{End}
 use Rattle.railway.specs.declared.End.the-variants.{Section}
+use Rattle.railway.specs.declared.Train.{Train}
 use Rattle.railway.specs.declared.Railway.{Railway}
 use Rattle.railway.specs.declared.Refusal.{Refusal}
 use Rattle.railway.specs.Bounds.{mostSections, mostTrains}
 use Rattle.railway.specs.Ends.{sideIndex}
-use Rattle.railway.specs.Record.{hasSignal, trainOf}
+use Rattle.railway.specs.Record.{noTrain, hasSignal, trainOf}
 use Rattle.railway.specs.Rows.{recordRefusal}
 use Rattle.game.specs.Moves.{passes}
 use Rattle.acceptance.specs.Answers.{Judged}
 use Rattle.compiled.specs.declared.Compilation.{Compilation}
+use Rattle.compiled.specs.declared.Route.{Route}
 
 -- Where the counts begin: behind four bytes for each train and section.
 abbrev pub routeBytes : ℕ
@@ -112,3 +114,25 @@ pub record CompilePost (r : Railway) (c : Compilation) : Type 0 where
   pub judged : Judged r (c .tested)
   pub accepted : recordRefusal r ≡ none → Compiled r (c .table)
   pub refused : (f : Refusal) → recordRefusal r ≡ some f → c .table ≡ replicate tableBytes 0
+
+-- WHILE A TABLE IS MADE. The record has so many sections, points and trains.
+pub record Counted (r : Railway) (s p k : ℕ) : Type 0 where
+  pub sections : r .sections ≡ s
+  pub points : r .points ≡ p
+  pub trains : r .trains ≡ k
+
+-- These are its trains, and behind them what stands for none.
+pub record Rostered (r : Railway) (trains : List Train) : Type 0 where
+  pub each : (t : ℕ) → t < mostTrains → getD trains t noTrain ≡ trainOf r t
+
+-- The four bytes of a train that leaves by end e, parked or not.
+pub record IsRoute (r : Railway) (parked : Bool) (e : End) (y : Route) : Type 0 where
+  pub stand : y .stand ≡ routeByte r parked e 0
+  pub point : y .point ≡ routeByte r parked e 1
+  pub minus : y .minus ≡ routeByte r parked e 2
+  pub plus : y .plus ≡ routeByte r parked e 3
+
+-- The bytes on the routes of all trains before t stand in the table.
+pub record FilledBefore (r : Railway) (t : ℕ) (table : List ℕ) : Type 0 where
+  pub sized : length table ≡ tableBytes
+  pub below : (j : ℕ) → j < 4 * (mostSections * t) → getD table j 0 ≡ compiledByte r j

@@ -4,20 +4,24 @@
 // anything, and they only read them.
 ghost use mathlib.Core.Path.{_≡_};
 ghost use mathlib.Core.Bool.{false};
-ghost use Prim.Native.Nat.{_<_};
+ghost use Prim.Native.Nat.{ℕ, _+_, _<_, _≤_};
+ghost use lib.Dec.{eqb};
+ghost use Rattle.railway.specs.declared.End.the-variants.{Section};
+ghost use Rattle.railway.specs.declared.Joined.the-variants.{With};
 ghost use Rattle.railway.specs.declared.Railway.{Railway};
-ghost use Rattle.railway.specs.Bounds.{mostSections, mostTrains};
-ghost use Rattle.railway.specs.Record.{trainOf};
-ghost use Rattle.game.specs.Moves.{through, behindPort, pastPoint, pastJoin, passes};
-ghost use Rattle.compiled.specs.Table.{tableBytes, standByte, pointByte, sectionByte, endOn, parkedOn, standOn, heldOn, freeOn, routeByte, countByte, rosterByte, compiledByte, byteIn, Compiled, CompilePost};
+ghost use Rattle.railway.specs.Bounds.{mostSections, mostTrains, sectionEnds, allEnds};
+ghost use Rattle.railway.specs.Ends.{endAt};
+ghost use Rattle.railway.specs.Record.{joinedBy, trainOf};
+ghost use Rattle.railway.specs.Lent.{LinksOf, SignalsOf};
+ghost use Rattle.game.specs.Moves.{behindPort, pastJoin, passes};
+ghost use Rattle.compiled.specs.Table.{routeBytes, tableBytes, standByte, pointByte, sectionByte, endOn, parkedOn, standOn, heldOn, freeOn, routeByte, countByte, rosterByte, compiledByte, byteIn, Compiled, CompilePost, Counted, Rostered, IsRoute, FilledBefore};
 use railway::CaseAnswer;
 use railway::End;
-use railway::Joined;
-use railway::Leg;
-use railway::PointNo;
+use railway::Links;
 use railway::Railway;
-use railway::SectionNo;
 use railway::Side;
+use railway::Signals;
+use railway::Train;
 
 const SECTIONS: usize = Railway::SECTIONS as usize;
 
@@ -65,9 +69,18 @@ pub fn compile(r: Railway) -> Compilation
             table: table,
         };
     };
-    let mut i: usize = 0;
+    let links = r.links;
+    let signals = r.signals;
+    let trains = trains_of(r);
+    let mut t: u8 = 0;
+    while t < Railway::TRAINS {
+        let at = t as usize;
+        fill_routes(&mut table, &links, &signals, trains[at], t);
+        t += 1;
+    }
+    let mut i: usize = COUNTS;
     while i < TABLE {
-        let b = byte_for(r, i);
+        let b = tail_byte(r.sections, r.points, r.trains, trains, i);
         table[i] = b;
         i += 1;
     }
@@ -77,23 +90,56 @@ pub fn compile(r: Railway) -> Compilation
     }
 }
 
-// The byte at an index.
-fn byte_for(r: Railway, i: usize) -> u8
-    requires { ⌜ i < tableBytes ⌝ }
-    ensures { λ b. ⌜ b ≡ compiledByte r i ⌝ }
+// All trains that a railway can have, one after the other.
+fn trains_of(r: Railway) -> [Train; TRAINS]
+    ensures { λ a. ⌜ Rostered r a ⌝ }
 {
-    if i < COUNTS {
-        let t = (i / ROUTES) as u8;
-        let x = (i / 4 % SECTIONS) as u8;
-        let train = r.train_of(t);
-        let h = train.heading;
-        let parked = x == train.destination.0;
-        route_byte(r, parked, End::Section(SectionNo(x), h), (i % 4) as u8)
-    } else if i < ROSTER {
-        count_byte(r, (i - COUNTS) as u8)
-    } else {
-        let j = i - ROSTER;
-        roster_byte(r, (j / TRAINS) as u8, (j % TRAINS) as u8)
+    let a = r.train_of(0);
+    let b = r.train_of(1);
+    let c = r.train_of(2);
+    let d = r.train_of(3);
+    [a, b, c, d]
+}
+
+// The bytes on the routes of one train, behind those of the trains before it. What is promised here and below is promised of every record with these
+// links and signals.
+fn fill_routes(table: &mut Table, links: &Links, signals: &Signals, train: Train, t: u8)
+    requires { ⌜ t < mostTrains ⌝ }
+    ensures { λ _. ⌜ ((r : Railway) → LinksOf r (now (links .entry)) → SignalsOf r (now (signals .entry)) → train ≡ trainOf r t → FilledBefore r t (now (table .entry)) → FilledBefore r (t + 1) (now (table .exit))) ⌝ }
+{
+    let first = SECTIONS * (t as usize);
+    let mut x: u8 = 0;
+    while x < Railway::SECTIONS {
+        let at = 4 * (first + x as usize);
+        let route = route_of(links, signals, train, x);
+        table[at] = route.stand;
+        table[at + 1] = route.point;
+        table[at + 2] = route.minus;
+        table[at + 3] = route.plus;
+        x += 1;
+    }
+}
+
+// Of a train on a section: how it stands, the point that it meets, and the section that it enters with the point at minus and at plus.
+struct Route {
+    stand: u8,
+    point: u8,
+    minus: u8,
+    plus: u8,
+}
+
+fn route_of(links: &Links, signals: &Signals, train: Train, x: u8) -> Route
+    requires { ⌜ x < mostSections ⌝ }
+    ensures { λ y. ⌜ ((r : Railway) → LinksOf r (now (links .entry)) → SignalsOf r (now (signals .entry)) → IsRoute r (eqb x (train .destination .0)) (Section (record { 0 = x }) (train .heading)) y) ⌝ }
+{
+    let h = train.heading;
+    let i = 2 * x + railway::side_index(h);
+    let j = railway::link_in(links, i);
+    Route {
+        stand: stand_byte(x == train.destination.0, railway::signal_in(signals, i)),
+        point: point_met(j),
+        minus: section_past_join(links, j, false),
+        plus: section_past_join(links, j, true),
     }
 }
 
@@ -101,20 +147,9 @@ fn byte_for(r: Railway, i: usize) -> u8
 pub fn section_from(r: Railway, e: End, plus: bool) -> u8
     ensures { λ b. ⌜ b ≡ sectionByte (passes r (λ n. plus) e .reached) ⌝ }
 {
-    past_join(r, r.joined(e), plus)
-}
-
-// One of the four bytes on a train that leaves by an end.
-fn route_byte(r: Railway, parked: bool, e: End, j: u8) -> u8
-    ensures { λ b. ⌜ b ≡ routeByte r parked e j ⌝ }
-{
-    if j == 0 {
-        stand_byte(parked, r.has_signal(e))
-    } else if j == 1 {
-        point_met(r, r.joined(e))
-    } else {
-        section_from(r, e, j == 3)
-    }
+    let links = r.links;
+    let j = railway::link_in(&links, railway::index_of(e));
+    section_past_join(&links, j, plus)
 }
 
 // How a train stands that is parked or not, with a signal ahead or none.
@@ -130,22 +165,35 @@ fn stand_byte(parked: bool, signal: bool) -> u8
     }
 }
 
-fn count_byte(r: Railway, i: u8) -> u8
-    ensures { λ b. ⌜ b ≡ countByte r i ⌝ }
+// The bytes behind all routes: the counts, then the trains' own.
+fn tail_byte(s: u8, p: u8, k: u8, trains: [Train; TRAINS], i: usize) -> u8
+    requires { ⌜ routeBytes ≤ i ⌝ }
+    requires { ⌜ i < tableBytes ⌝ }
+    ensures { λ b. ⌜ ((r : Railway) → Counted r s p k → Rostered r trains → b ≡ compiledByte r i) ⌝ }
+{
+    if i < ROSTER {
+        return count_byte(s, p, k, i - COUNTS);
+    }
+    let j = i - ROSTER;
+    let at = j % TRAINS;
+    roster_byte(trains[at], j / TRAINS)
+}
+
+fn count_byte(s: u8, p: u8, k: u8, i: usize) -> u8
+    ensures { λ b. ⌜ ((r : Railway) → Counted r s p k → b ≡ countByte r i) ⌝ }
 {
     if i == 0 {
-        r.sections
+        s
     } else if i == 1 {
-        r.points
+        p
     } else {
-        r.trains
+        k
     }
 }
 
-fn roster_byte(r: Railway, i: u8, t: u8) -> u8
-    ensures { λ b. ⌜ b ≡ rosterByte r i t ⌝ }
+fn roster_byte(train: Train, i: usize) -> u8
+    ensures { λ b. ⌜ ((r : Railway) (t : ℕ) → train ≡ trainOf r t → b ≡ rosterByte r i t) ⌝ }
 {
-    let train = r.train_of(t);
     if i == 0 {
         let h = train.heading;
         railway::side_index(h)
@@ -156,70 +204,68 @@ fn roster_byte(r: Railway, i: u8, t: u8) -> u8
     }
 }
 
-// The point that a train meets past this join.
-fn point_met(r: Railway, j: Joined) -> u8
-    ensures { λ b. ⌜ b ≡ pointByte (pastJoin r (λ n. false) j .met) ⌝ }
+// The point that a train meets past a link.
+fn point_met(j: u8) -> u8
+    ensures { λ b. ⌜ ((r : Railway) → b ≡ pointByte (pastJoin r (λ n. false) (joinedBy j) .met)) ⌝ }
 {
-    match j {
-        Joined::Nothing => NO_BYTE,
-        Joined::With(e) => match e {
-            End::Section(_, _) => NO_BYTE,
-            End::Port(n, _) => n.0,
-        },
+    if j < Railway::SECTION_ENDS {
+        return NO_BYTE;
+    }
+    if j < Railway::ENDS {
+        (j - Railway::SECTION_ENDS) / 3
+    } else {
+        NO_BYTE
     }
 }
 
 // The section that it enters, with all points at plus or all at minus.
-fn past_join(r: Railway, j: Joined, plus: bool) -> u8
-    ensures { λ b. ⌜ b ≡ sectionByte (pastJoin r (λ n. plus) j .reached) ⌝ }
+fn section_past_join(links: &Links, j: u8, plus: bool) -> u8
+    ensures { λ b. ⌜ ((r : Railway) → LinksOf r (now (links .entry)) → b ≡ sectionByte (pastJoin r (λ n. plus) (joinedBy j) .reached)) ⌝ }
 {
-    match j {
-        Joined::Nothing => NO_BYTE,
-        Joined::With(e) => match e {
-            End::Section(n, _) => n.0,
-            End::Port(n, l) => past_point(r, n, l, plus),
-        },
+    if j < Railway::SECTION_ENDS {
+        return j / 2;
+    }
+    if j < Railway::ENDS {
+        past_port(links, j, plus)
+    } else {
+        NO_BYTE
     }
 }
 
-// What lies past a point entered by port l: the stem leads on to the set leg and the set leg to the stem; at the leg that is not set a train derails.
-fn past_point(r: Railway, n: PointNo, l: Leg, plus: bool) -> u8
-    ensures { λ b. ⌜ b ≡ sectionByte (pastPoint r n (through l plus) .reached) ⌝ }
+// What lies past a point entered by a port: the stem leads on to the set leg and the set leg to the stem; at the leg that is not set a train derails.
+fn past_port(links: &Links, j: u8, plus: bool) -> u8
+    requires { ⌜ sectionEnds ≤ j ⌝ }
+    requires { ⌜ j < allEnds ⌝ }
+    ensures { λ b. ⌜ ((r : Railway) → LinksOf r (now (links .entry)) → b ≡ sectionByte (pastJoin r (λ n. plus) (With (endAt j)) .reached)) ⌝ }
 {
-    match l {
-        Leg::Stem => {
-            if plus {
-                behind(r.joined(End::Port(n, Leg::Plus)))
-            } else {
-                behind(r.joined(End::Port(n, Leg::Minus)))
-            }
+    let leg = (j - Railway::SECTION_ENDS) % 3;
+    if leg == 0 {
+        if plus {
+            behind(railway::link_in(links, j + 1))
+        } else {
+            behind(railway::link_in(links, j + 2))
         }
-        Leg::Plus => {
-            if plus {
-                behind(r.joined(End::Port(n, Leg::Stem)))
-            } else {
-                NO_BYTE
-            }
+    } else if leg == 1 {
+        if plus {
+            behind(railway::link_in(links, j - 1))
+        } else {
+            NO_BYTE
         }
-        Leg::Minus => {
-            if plus {
-                NO_BYTE
-            } else {
-                behind(r.joined(End::Port(n, Leg::Stem)))
-            }
-        }
+    } else if plus {
+        NO_BYTE
+    } else {
+        behind(railway::link_in(links, j - 2))
     }
 }
 
-fn behind(j: Joined) -> u8
-    ensures { λ b. ⌜ b ≡ sectionByte (behindPort j) ⌝ }
+// The section behind a port, by the port's link.
+fn behind(j: u8) -> u8
+    ensures { λ b. ⌜ b ≡ sectionByte (behindPort (joinedBy j)) ⌝ }
 {
-    match j {
-        Joined::Nothing => NO_BYTE,
-        Joined::With(e) => match e {
-            End::Section(n, _) => n.0,
-            End::Port(_, _) => NO_BYTE,
-        },
+    if j < Railway::SECTION_ENDS {
+        j / 2
+    } else {
+        NO_BYTE
     }
 }
 

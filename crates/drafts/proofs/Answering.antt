@@ -37,7 +37,7 @@ use Rattle.casefile.specs.Recording.{partner, trainOfLine, noTrainLine, railway
 use Rattle.casefile.specs.Reading.{judged}
 use Rattle.casefile.proofs.Faultless.{within-is}
 use Rattle.casefile.proofs.Ends.{less-one, partner-nothing}
-use Rattle.casefile.proofs.Described.{joined-at, roster-at}
+use Rattle.casefile.proofs.Described.{Joinable, joined-at, roster-at}
 use Rattle.drafts.specs.declared.Draft.{Draft}
 use Rattle.drafts.specs.Drafting.{opened, putPoint, putJoin, putSignal, putTrain, draftRows, answerOf, draftAnswer}
 use Rattle.drafts.proofs.Folding.{putRising, putEach, drafted}
@@ -45,7 +45,7 @@ use Rattle.drafts.proofs.Stored.{same-everywhere}
 use Rattle.drafts.proofs.Sized.{Sized, sized-bare, sized-rising, sized-each, sized-point, sized-put-join, sized-put-signal, sized-put-train}
 use Rattle.drafts.proofs.Known.{unknown-noted}
 use Rattle.drafts.proofs.Built.{faults, doubles, KnownJoin, KnownSignal, KnownTrain}
-use Rattle.drafts.proofs.Joining.{Fit, fit-faults, faults-fit, partner-none}
+use Rattle.drafts.proofs.Joining.{Fit, numbered-known, fit-faults, faults-fit, partner-none}
 use Rattle.drafts.proofs.Signalling.{index, single-doubles, doubles-single}
 use Rattle.drafts.proofs.Record.{joins-keep, sized-joins, withPoints, withJoins, built, sized-points, drafted-is, ready, none-joined, placed, built-is}
 
@@ -71,12 +71,12 @@ unjoined-partner js f = elim (bool? (any (sameEnd f) (joinEnds js))) [
     named Nothing h = absurd (h refl)
     named (With e) h = refl
 
-loose-same : (d : Description) → Bounded (d .sections) (d .points) (d .trains) → RR.looseRow (railwayOf d) ≡ looseRow d
+loose-same : (d : Description) → Bounded (d .sections) (d .points) (d .trains) → Joinable d → RR.looseRow (railwayOf d) ≡ looseRow d
 unfolding RR.looseRow looseRow railwayOf
-loose-same d b = B.any-same (RR.looseAt (railwayOf d)) (looseAt d) (d .points) (λ n h. at-point n h)
+loose-same d b can = B.any-same (RR.looseAt (railwayOf d)) (looseAt d) (d .points) (λ n h. at-point n h)
   where
     at-port : (n : ℕ) (l : Leg) → n < d .points → unjoined (joined (railwayOf d) (Port (record { 0 = n }) l)) ≡ looseEnd d (port (suc n) l)
-    at-port n l h = let q = b .few-points in ap unjoined (joined-at d (Port (record { 0 = n }) l) (omega arith)) ∙ unjoined-partner (d .joins) (port (suc n) l)
+    at-port n l h = let q = b .few-points in ap unjoined (joined-at d can (Port (record { 0 = n }) l) (omega arith)) ∙ unjoined-partner (d .joins) (port (suc n) l)
 
     at-point : (n : ℕ) → n < d .points → RR.looseAt (railwayOf d) n ≡ looseAt d n
     at-point n h = rw (at-port n Stem h, at-port n Plus h, at-port n Minus h)
@@ -175,6 +175,9 @@ module _ (d : Description) (f : WellFormed d) where
           let c = or-false (any (unknownJoin d) (d .joins)) (any (unknownSignal d) (d .signals)) (a .0) in
           not-and (known d (j .one)) (known d (j .other)) (any-false (unknownJoin d) (d .joins) j (c .0) m)
 
+      joinable : Joinable d
+      joinable j m = (numbered-known d b (j .one) (kj j m .0), numbered-known d b (j .other) (kj j m .1))
+
       kg : Every (KnownSignal d) (d .signals)
       unfolding unknownRow
       kg g m =
@@ -234,7 +237,7 @@ module _ (d : Description) (f : WellFormed d) where
       first-then Count _ _ _ _ count-same (λ h3.
       first-then Unknown _ _ _ _ (unknown-same h3) (λ h4.
       first-then Join _ _ _ _ (wrong-same h3 h4) (λ h5.
-      first-then Loose _ _ _ _ (ap RR.looseRow (railway-same h3 h4 h5) ∙ loose-same d (b h3)) (λ h6.
+      first-then Loose _ _ _ _ (ap RR.looseRow (railway-same h3 h4 h5) ∙ loose-same d (b h3) (joinable h3 h4)) (λ h6.
       first-then Double _ _ _ _ (double-same h3 h4 h5) (λ h7.
       first-then Place _ _ _ _ (ap RR.placeRow (railway-same h3 h4 h5) ∙ place-same d f (b h3) (kt h3 h4)) (λ h8. refl))))))
 

@@ -19,12 +19,11 @@ use Rattle.railway.specs.declared.Joined.{Joined}
 use Rattle.railway.specs.declared.Joined.the-variants.{Nothing, With}
 use Rattle.railway.specs.declared.Railway.{Railway}
 use Rattle.railway.specs.Bounds.{allEnds}
-use Rattle.railway.specs.Ends.{portSide, endIndex}
+use Rattle.railway.specs.Ends.{Numbered, portSide, endIndex}
 use Rattle.railway.specs.Record.{joined, legsOf, withLinks, setLink, withJoin}
 use Rattle.railway.specs.Record as R
 use Rattle.railway.specs.Rows.{wrongPair, unjoined}
 use Rattle.railway.specs.Rows as RR
-use Rattle.railway.proofs.Ends.{Numbered}
 use Rattle.railway.proofs.Updates.{join-first, join-second, join-rest}
 use Rattle.railway.proofs.Accepted.{Bounded}
 use Rattle.casefile.specs.Form.{EndField, section, port, JoinLine, Description, sameEnd}

@@ -1,31 +1,34 @@
 -- The record that is built is the railway of the description: the legs and the trains were stored one after the other, each end is joined as the
--- J lines say, each flag stands where a G line names it. Joins leave legs, flags and trains alone, signals all but the flags.
+-- J lines say, by the bytes that are written for that, each flag stands where a G line names it. Joins leave legs, flags and trains alone, signals all
+-- but the flags.
 -- Assumes nothing.
 use Prim.Native.Nat.{ℕ, _<_}
 use mathlib.Core.Path.{_≡_, refl, sym, _∙_, ap}
+use mathlib.Core.Logic.{inl, inr}
 use mathlib.Core.Bool.{Bool, true, false, cond, _&&_, _||_}
 use mathlib.Core.List.{List, [], _∷_, map}
 use native.Mathlib.Omega.{arith}
 use lib.Dec.{ltb}
 use lib.ListN.{length, getD, set, replicate, length-map, List·getD-map}
-use lib.Seq.{ext-getD}
-use borrow.Author.Tests.{lt-ltb}
+use lib.Seq.{set-out, getD-set-same, getD-set-other, ext-getD}
+use borrow.Author.Tests.{ltb-true, lt-ltb}
 use Rattle.laws.specs.Below.{listBelow}
 use Rattle.laws.specs.Lists.{any, Every}
 use Rattle.laws.proofs.Below.{list-length, list-get, list-same}
+use Rattle.laws.proofs.Bools.{eq?, lt?}
 use Rattle.railway.specs.declared.Side.the-variants.{Up}
 use Rattle.railway.specs.declared.End.{End}
 use Rattle.railway.specs.declared.Joined.{Joined}
 use Rattle.railway.specs.declared.Joined.the-variants.{Nothing, With}
 use Rattle.railway.specs.declared.Legs.{Legs}
-use Rattle.railway.specs.declared.Link.{Link}
 use Rattle.railway.specs.declared.Train.{Train}
 use Rattle.railway.specs.declared.Railway.{Railway}
 use Rattle.railway.specs.Bounds.{mostPoints, mostTrains, sectionEnds, allEnds}
 use Rattle.railway.specs.Ends.{endIndex, endAt}
-use Rattle.railway.specs.Record.{bareRailway, noLegs, noLink, noTrain, linkAt, joined, legsOf, withLinks, setLink, withJoin, withSignal}
+use Rattle.railway.specs.Record.{bareRailway, noLegs, noLink, noTrain, joinedBy, linkByte, linkAt, joined, legsOf, withLinks, setLink, withJoin, withSignal}
 use Rattle.railway.specs.Rows.{outside}
 use Rattle.railway.proofs.Ends.{index-end}
+use Rattle.railway.proofs.Bytes.{byte-written}
 use Rattle.railway.proofs.Accepted.{Bounded}
 use Rattle.casefile.specs.Form.{JoinLine, SignalLine, Description, WellFormed, sameSignal}
 use Rattle.casefile.specs.Recording.{endOf, fieldOf, partner, signalOf, trainOfLine, noTrainLine, railwayOf}
@@ -61,6 +64,39 @@ joins-keep (j ∷ js) r =
     let a = join-keeps r (endOf (j .one)) (endOf (j .other)) in
     let b = joins-keep js (withJoin r (endOf (j .one)) (endOf (j .other))) in
     record { legs = b .legs ∙ a .legs; signals = b .signals ∙ a .signals; roster = b .roster ∙ a .roster }
+
+-- THE BYTES OF LINKS: each is the one that is written for what it says
+abbrev AsWritten : List ℕ → Type 0
+AsWritten links = (i : ℕ) → linkByte (joinedBy (getD links i noLink)) ≡ getD links i noLink
+
+none-as-written : AsWritten (replicate allEnds noLink)
+unfolding joinedBy
+none-as-written i = let e : getD (replicate allEnds noLink) i noLink ≡ noLink = same-everywhere allEnds noLink i in rw e
+
+set-as-written : (links : List ℕ) (k v : ℕ) → v < allEnds → AsWritten links → AsWritten (set links k v)
+set-as-written links k v h w i = elim (eq? i k) [
+  | inl e ↦ elim (lt? k (length links)) [
+    | inl l ↦ rw (e, getD-set-same links k v noLink l) (byte-written v h)
+    | inr l ↦ rw (set-out links k v l) (w i)
+  ]
+  | inr n ↦ rw (getD-set-other links k i v noLink n) (w i)
+]
+
+join-as-written : (r : Railway) (a b : End) → AsWritten (r .links) → AsWritten (withJoin r a b .links)
+unfolding withJoin
+join-as-written r a b w = cases (ltb (endIndex a) allEnds) (ltb (endIndex b) allEnds) refl refl
+  where
+    cases : (p q : Bool) → ltb (endIndex a) allEnds ≡ p → ltb (endIndex b) allEnds ≡ q → AsWritten (cond (p && q) (withLinks r (setLink b a (setLink a b (r .links)))) r .links)
+    cases true true hp hq =
+        set-as-written (setLink a b (r .links)) (endIndex b) (endIndex a) (ltb-true (endIndex a) allEnds hp)
+        (set-as-written (r .links) (endIndex a) (endIndex b) (ltb-true (endIndex b) allEnds hq) w)
+    cases true false hp hq = w
+    cases false q hp hq = w
+
+joins-as-written : (js : List JoinLine) (r : Railway) → AsWritten (r .links) → AsWritten (joinAll r js .links)
+unfolding joinAll
+joins-as-written [] r w = w
+joins-as-written (j ∷ js) r w = joins-as-written js _ (join-as-written r (endOf (j .one)) (endOf (j .other)) w)
 
 pub record SignalsKeep (r q : Railway) : Type 0 where
   pub legs : q .legs ≡ r .legs
@@ -98,7 +134,7 @@ pub record-same : (r q : Railway) → r .sections ≡ q .sections → r .points 
     → r .signals ≡ q .signals → r .roster ≡ q .roster → r ≡ q
 record-same r q a b c e f g h = go (r .sections) (q .sections) (r .points) (q .points) (r .trains) (q .trains) (r .legs) (q .legs) (r .links) (q .links) (r .signals) (q .signals) (r .roster) (q .roster) a b c e f g h
   where
-    go : (s s′ p p′ k k′ : ℕ) (l l′ : List Legs) (m m′ : List Link) (n n′ : List Bool) (o o′ : List Train) → s ≡ s′ → p ≡ p′ → k ≡ k′ → l ≡ l′ → m ≡ m′ → n ≡ n′ → o ≡ o′
+    go : (s s′ p p′ k k′ : ℕ) (l l′ : List Legs) (m m′ : List ℕ) (n n′ : List Bool) (o o′ : List Train) → s ≡ s′ → p ≡ p′ → k ≡ k′ → l ≡ l′ → m ≡ m′ → n ≡ n′ → o ≡ o′
         → _≡_ {A = Railway} (record { sections = s; points = p; trains = k; legs = l; links = m; signals = n; roster = o })
         (record { sections = s′; points = p′; trains = k′; legs = l′; links = m′; signals = n′; roster = o′ })
     go s s′ p p′ k k′ l l′ m m′ n n′ o o′ a b c e f g h = rw (a, b, c, e, f, g, h)
@@ -174,12 +210,16 @@ module _ (d : Description) (f : WellFormed d) (b : Bounded (d .sections) (d .poi
             rw (lt-ltb n (d .points) h) (ap (λ (l : List Legs). getD l n noLegs .side) legs-built ∙ ap (λ (l : Legs). l .side) (list-get (λ n. record { side = getD (d .legs) n Up }) mostPoints n noLegs (omega arith)));
       }
 
+  none-there : (i : ℕ) → linkAt withPoints i ≡ Nothing
+  unfolding joinedBy
+  none-there i = ap joinedBy (same-everywhere allEnds noLink i)
+
   pub none-joined : (e : End) → joined withPoints e ≡ Nothing
   unfolding joined
   none-joined e = cases (ltb (endIndex e) allEnds)
     where
       cases : (c : Bool) → cond c (linkAt withPoints (endIndex e)) Nothing ≡ Nothing
-      cases true = ap (λ (l : Link). l .to) (same-everywhere allEnds noLink (endIndex e))
+      cases true = none-there (endIndex e)
       cases false = refl
 
   or-none-joined : (j : Joined) → orJoined j Nothing ≡ j
@@ -192,15 +232,12 @@ module _ (d : Description) (f : WellFormed d) (b : Bounded (d .sections) (d .poi
         sym (joined-index withJoins (endAt i) i (index-end i h) h) ∙ joined-all d b (d .joins) withPoints ready kj fit (endAt i)
         ∙ ap (orJoined (partner (d .joins) (fieldOf (endAt i)))) (none-joined (endAt i)) ∙ or-none-joined (partner (d .joins) (fieldOf (endAt i)))
 
-    links-built : withJoins .links ≡ listBelow (λ i. record { to = partner (d .joins) (fieldOf (endAt i)) }) allEnds
+    links-built : withJoins .links ≡ listBelow (λ i. linkByte (partner (d .joins) (fieldOf (endAt i)))) allEnds
     links-built =
         let l = sized-2 .links in
-        ext-getD noLink (withJoins .links) _ (l ∙ sym (list-length (λ i. record { to = partner (d .joins) (fieldOf (endAt i)) }) allEnds)) (λ i h.
-        link-of (getD (withJoins .links) i noLink) (partner (d .joins) (fieldOf (endAt i))) (linked i (omega arith))
-        ∙ sym (list-get (λ i. record { to = partner (d .joins) (fieldOf (endAt i)) }) allEnds i noLink (omega arith)))
-      where
-        link-of : (l : Link) (j : Joined) → l .to ≡ j → l ≡ record { to = j }
-        link-of l j e = ap (λ (j : Joined). record { to = j }) e
+        ext-getD noLink (withJoins .links) _ (l ∙ sym (list-length (λ i. linkByte (partner (d .joins) (fieldOf (endAt i)))) allEnds)) (λ i h.
+        sym (joins-as-written (d .joins) withPoints none-as-written i) ∙ ap linkByte (linked i (omega arith))
+        ∙ sym (list-get (λ i. linkByte (partner (d .joins) (fieldOf (endAt i)))) allEnds i noLink (omega arith)))
 
     pub placed : Every Placed (d .signals)
     placed g m = let w = within-is (g .number) (d .sections) (kg g m) in let h = b .few-sections in (w .0, omega arith)

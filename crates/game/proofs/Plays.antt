@@ -15,7 +15,7 @@ use Rattle.railway.specs.declared.Leg.the-variants.{Stem, Plus, Minus}
 use Rattle.railway.specs.declared.Railway.{Railway}
 use Rattle.railway.specs.Ends.{endAt}
 use Rattle.railway.specs.Refusals.{first}
-use Rattle.railway.specs.Record.{joined, hasSignal, legsOf, trainOf, withJoin, withSignal, withLegs, withTrain}
+use Rattle.railway.specs.Record.{joinedBy, joined, hasSignal, legsOf, trainOf, withJoin, withSignal, withLegs, withTrain}
 use Rattle.railway.specs.Rows.{unknownRow, joinRow, looseRow, placeRow, recordRefusal}
 use Rattle.game.specs.Game.{derailment, collision, lost, at, Turn, Way, Choice, lostByMove, standing, play}
 use Rattle.game.specs.Placement.{codeOf, sectionsIn, standsOn, sectionsOf, startCode, atHome, shared}
@@ -55,7 +55,7 @@ inTheWay = lineT 2 Down 3 1 (lineT 1 Up 1 2 (lineJ (sec 2 Up) (sec 3 Down) (line
 
 yards : (recordRefusal yardA ≡ none) × (recordRefusal yardALess ≡ none) × (recordRefusal loop ≡ none) × (recordRefusal lines ≡ none) × (recordRefusal inTheWay ≡ none)
     × (startCode yardA ≡ 7) × (startCode lines ≡ 513) × (sectionsOf lines 524 ≡ 2 ∷ 4 ∷ 6 ∷ []) × (sectionsOf inTheWay 7 ≡ 1 ∷ 2 ∷ [])
-unfolding recordRefusal first unknownRow joinRow looseRow placeRow anyBelow joined legsOf trainOf endAt withJoin withSignal withLegs withTrain startCode codeOf sumBelow listBelow sectionsIn
+unfolding recordRefusal first unknownRow joinRow looseRow placeRow anyBelow joinedBy joined legsOf trainOf endAt withJoin withSignal withLegs withTrain startCode codeOf sumBelow listBelow sectionsIn
 yards = (refl, refl, refl, refl, refl, refl, refl, refl, refl)
 
 -- THE SETTINGS. All points at plus and all signals closed; all at minus and closed; all at minus and open.
@@ -92,7 +92,7 @@ moves :  -- from the stem, the point at plus and at minus
     × (moveOf yardA 7 shut 1 ≡ lost collision) × (moveOf inTheWay 7 shut 1 ≡ lost collision) × (moveOf loop 2 shut 0 ≡ lost collision) × (moveOf loop 2 plus 0 ≡ at 2)
     -- the points met: one, also where the train derails at it; none
     × (passes yardA (plus .plus) (sec 2 Up) .met ≡ 0 ∷ []) × (passes yardA (plus .plus) (sec 1 Down) .met ≡ []) × (passes lines (plus .plus) (sec 1 Up) .met ≡ [])
-unfolding moveOf passes occupied headsFor standsOn sectionsIn codeOf sumBelow trainOf joined anyBelow withJoin withSignal withLegs withTrain
+unfolding moveOf passes occupied headsFor standsOn sectionsIn codeOf sumBelow trainOf endAt joinedBy joined anyBelow withJoin withSignal withLegs withTrain
 moves = (refl, refl, refl, refl, refl, refl, refl, refl, refl, refl, refl, refl, refl, refl)
 
 -- PLAYS
@@ -151,5 +151,5 @@ plays :  -- home in two turns, a setting for each anew; there the play has ended
     × (play (gameOf yardALess) by-placement (names 1) 7 2 ≡ standing (turned 7 plus (some 1) ∷ turned 1 wide (some 0) ∷ []) 2)
     -- into a parked train
     × (play (gameOf inTheWay) (always shut) (names 0) 7 1 ≡ lostByMove)
-unfolding play lowest moveOf passes occupied mayMove free held signalOpen headsFor standsOn sectionsIn codeOf sumBelow trainOf joined hasSignal allBelow anyBelow atHome shared withJoin withSignal withLegs withTrain
+unfolding play lowest moveOf passes occupied mayMove free held signalOpen headsFor standsOn sectionsIn codeOf sumBelow trainOf endAt joinedBy joined hasSignal allBelow anyBelow atHome shared withJoin withSignal withLegs withTrain
 plays = (refl, refl, refl, refl, refl, refl, refl, refl, refl, refl, refl, refl, refl, refl, refl, refl)

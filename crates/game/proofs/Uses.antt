@@ -8,7 +8,8 @@ use Prim.Native.Nat.{ℕ, zero, suc, _≤_}
 use native.Mathlib.Omega.{arith}
 use Rattle.laws.specs.Below.{allBelow, anyBelow, sumBelow, lowest}
 use Rattle.laws.proofs.Bools.{bool?, clash}
-use Rattle.railway.specs.Record.{joined, hasSignal, trainOf, withJoin, withSignal, withLegs, withTrain}
+use Rattle.railway.specs.Ends.{endAt}
+use Rattle.railway.specs.Record.{joinedBy, joined, hasSignal, trainOf, withJoin, withSignal, withLegs, withTrain}
 use Rattle.railway.specs.Rows.{recordRefusal}
 use Rattle.railway.specs.Yards.{yardA}
 use Rattle.game.specs.Game.{at, Way, Choice, following, positional, may, play, homeAt, HomeWithin, ComesHome}
@@ -69,7 +70,7 @@ module _ (F : ℕ → Option ℕ) (f : ℕ → Bool) (claims : Whole small F f) 
 -- SETTINGS THAT AGREE. Whatever else it says, a setting that has Yard A's point at plus and its signals open lets train 1 go at (2, 3), and from (1, 2)
 -- takes it to (3, 2).
 agreed : recordRefusal yardA ≡ none → (s : Setting) → SameSetting yardA everywhere s → (may (gameOf yardA) 7 s 0 ≡ true) × (moveOf yardA 3 s 0 ≡ at 5)
-unfolding mayMove signalOpen free held headsFor standsOn sectionsIn trainOf hasSignal withJoin withSignal withLegs withTrain moveOf passes occupied codeOf sumBelow joined anyBelow
+unfolding mayMove signalOpen free held headsFor standsOn sectionsIn trainOf hasSignal withJoin withSignal withLegs withTrain moveOf passes occupied codeOf sumBelow endAt joinedBy joined anyBelow
 agreed accepted s same =
     (sym (agreeing-alike yardA accepted everywhere s same 7 .same-trains 0) ∙ lets .0, sym (agreeing-alike yardA accepted everywhere s same 3 .same-ends 0 (lets .1)) ∙ lets .2)
   where

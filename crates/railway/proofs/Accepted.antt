@@ -19,11 +19,11 @@ use Rattle.railway.specs.declared.Joined.the-variants.{Nothing, With}
 use Rattle.railway.specs.declared.Refusal.the-variants.{Count, Unknown, Join, Loose, Double, Place}
 use Rattle.railway.specs.declared.Railway.{Railway}
 use Rattle.railway.specs.Bounds.{mostSections, mostPoints, mostTrains, sectionEnds, allEnds}
-use Rattle.railway.specs.Ends.{endIndex, endAt, sameSide}
+use Rattle.railway.specs.Ends.{Numbered, endIndex, endAt, sameSide}
 use Rattle.railway.specs.Refusals.{first}
 use Rattle.railway.specs.Record.{linkAt, flagAt, joined, trainOf, sideOf}
 use Rattle.railway.specs.Rows.{outside, known, unknownLink, unknownLinkAt, unknownSignalAt, unknownTrainAt, sectionOf, bothPorts, oneSection, tied, wrongPair, wrongLink, wrongLinkAt, leadsTo, unreturned, unreturnedAt, unjoined, looseAt, sharesWith, sharesAt, countRow, unknownRow, joinRow, looseRow, doubleRow, placeRow, recordRefusal}
-use Rattle.railway.proofs.Ends.{Numbered, end-index, index-one, numbered-of}
+use Rattle.railway.proofs.Ends.{end-index, index-one, numbered-of}
 use Rattle.railway.proofs.Refusals.{refuse-none}
 
 -- counts within their bounds
@@ -191,7 +191,7 @@ known-numbered r w (Section n s) h = let b = w .bounds in omega (arith, ltb-true
 known-numbered r w (Port n l) h = let b = w .bounds in omega (arith, ltb-true (n .0) (r .points) h)
 
 -- LOOKUPS of an accepted record
-joined-link : (r : Railway) (e f : End) → joined r e ≡ With f → (endIndex e < allEnds) × (linkAt r (endIndex e) ≡ With f)
+pub joined-link : (r : Railway) (e f : End) → joined r e ≡ With f → (endIndex e < allEnds) × (linkAt r (endIndex e) ≡ With f)
 unfolding joined
 joined-link r e f h = cases (ltb (endIndex e) allEnds) refl h
   where

@@ -1,12 +1,13 @@
 -- What holding a railway tells of its arrays: their lengths.
 -- Assumes nothing.
-use mathlib.Core.Path.{_≡_, sym, _∙_}
+use mathlib.Core.Path.{_≡_, refl, sym, _∙_}
 use mathlib.Core.List.{List}
 use lib.ListN.{length, length-map}
 use mir.Val.{Val}
 use denote.Laws.{Is}
 use Rattle.railway.specs.declared.Railway.{Railway}
 use Rattle.railway.specs.Bounds.{mostPoints, mostTrains, sectionEnds, allEnds}
+use Rattle.railway.specs.Lent.{LinksOf, SignalsOf}
 use Rattle.railway.proofs.Railway as T
 
 module _ (r : Railway) (vs : List Val) (p : Is T.the-row r vs) where
@@ -21,3 +22,10 @@ module _ (r : Railway) (vs : List Val) (p : Is T.the-row r vs) where
 
   pub roster-length : length (r .roster) ≡ mostTrains
   roster-length = sym (length-map (r .roster) _) ∙ p .1 .1 .1 .1 .1 .1 .1 .1 .0 .1 .0 .1
+
+  -- so its links and signals can be lent
+  pub own-links : LinksOf r (r .links)
+  own-links = record { are = refl; many = links-length }
+
+  pub own-signals : SignalsOf r (r .signals)
+  own-signals = record { are = refl; many = signals-length }

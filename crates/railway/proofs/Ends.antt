@@ -15,12 +15,9 @@ use Rattle.railway.specs.declared.PointNo.{PointNo}
 use Rattle.railway.specs.declared.End.{End}
 use Rattle.railway.specs.declared.End.the-variants.{Section, Port}
 use Rattle.railway.specs.Bounds.{mostSections, mostPoints, sectionEnds, allEnds}
-use Rattle.railway.specs.Ends.{sideIndex, legIndex, endIndex, sideAt, legAt, endAt}
-
--- an end whose number a railway can have
-abbrev pub Numbered : End → Type 0
-Numbered (Section n s) = n .0 < mostSections
-Numbered (Port n l) = n .0 < mostPoints
+use Rattle.railway.specs.Ends.{Numbered, sideIndex, legIndex, endIndex, sideAt, legAt, endAt}
+-- (ByteValues is named so that it is checked before: a wrong definition then shows at a computed value.)
+use Rattle.railway.proofs.ByteValues as ByteValues
 
 pub side-small : (s : Side) → sideIndex s < 2
 side-small Down = omega arith

@@ -4,6 +4,7 @@ use mathlib.Core.Path.{_≡_, refl}
 use mathlib.Core.List.{List, [], _∷_, map}
 use mathlib.Core.Option.{Option, none, some}
 use Prim.Native.Nat.{ℕ, _-_}
+use lib.ListN.{set}
 use Rattle.laws.specs.Below.{anyBelow}
 use Rattle.railway.specs.declared.Side.{Side}
 use Rattle.railway.specs.declared.Side.the-variants.{Up, Down}
@@ -14,9 +15,9 @@ use Rattle.railway.specs.declared.End.the-variants.{Section, Port}
 use Rattle.railway.specs.declared.Joined.{Joined}
 use Rattle.railway.specs.declared.Joined.the-variants.{Nothing, With}
 use Rattle.railway.specs.declared.Railway.{Railway}
-use Rattle.railway.specs.Ends.{endAt}
+use Rattle.railway.specs.Ends.{endIndex, endAt}
 use Rattle.railway.specs.Refusals.{first, numberOf}
-use Rattle.railway.specs.Record.{bareRailway, emptyRailway, joined, hasSignal, legsOf, trainOf, sideOf, withLinks, setLink, withJoin, withSignal, withLegs, withTrain}
+use Rattle.railway.specs.Record.{bareRailway, emptyRailway, joinedBy, joined, hasSignal, legsOf, trainOf, sideOf, withLinks, setLink, withJoin, withSignal, withLegs, withTrain}
 use Rattle.railway.specs.Rows.{unknownRow, joinRow, looseRow, placeRow, recordRefusal}
 
 -- records, with the document's numbers: what is added to bare counts
@@ -38,6 +39,10 @@ join a b r = withJoin r a b
 -- one direction of a join, which no text gives
 half : End → End → Railway → Railway
 half a b r = withLinks r (setLink a b (r .links))
+
+-- a byte set where the link of an end stands
+byte : End → ℕ → Railway → Railway
+byte e b r = withLinks r (set (r .links) (endIndex e) b)
 
 signal : End → Railway → Railway
 signal e r = withSignal r e
@@ -73,6 +78,9 @@ cases =
     -- a train may start on another's destination; trains and legs beyond the counts are not looked at
     ∷ gets none (train 2 Down 2 1 (train 1 Up 1 2 (bareRailway 2 0 2)))
     ∷ gets none (legs 3 Down (train 2 Up 9 9 two))
+    -- any byte from 144 on is no join
+    ∷ gets none (byte (d 1) 144 two)
+    ∷ gets none (byte (u 2) 200 (byte (d 1) 254 two))
     -- 3
     ∷ gets (some 3) emptyRailway
     ∷ gets (some 3) (bareRailway 0 0 1)
@@ -84,6 +92,7 @@ cases =
     ∷ gets (some 4) (join (u 1) (d 3) two)
     ∷ gets (some 4) (join (u 1) (port Stem 1) two)
     ∷ gets (some 4) (half (d 3) (u 1) two)
+    ∷ gets (some 4) (byte (d 1) 143 two)
     ∷ gets (some 4) (signal (d 3) two)
     ∷ gets (some 4) (train 1 Up 3 1 two)
     ∷ gets (some 4) (train 1 Up 1 3 two)
@@ -115,7 +124,7 @@ cases =
     ∷ []
 
 numbers : map (λ k. numberOf (recordRefusal (k .of))) cases ≡ map (λ k. k .number) cases
-unfolding anyBelow endAt first joined hasSignal legsOf trainOf withJoin withSignal withLegs withTrain unknownRow joinRow looseRow placeRow recordRefusal u d port train join half signal legs two two2 fork gets cases
+unfolding anyBelow endAt first joinedBy joined hasSignal legsOf trainOf withJoin withSignal withLegs withTrain unknownRow joinRow looseRow placeRow recordRefusal u d port train join half byte signal legs two two2 fork gets cases
 numbers = refl
 
 -- LOOKUPS in such a record, the values written out: found from both ends, nothing elsewhere, nothing at ends that no railway has.
@@ -123,7 +132,7 @@ looked : List Joined
 looked = map (joined (fork Down (d 3) (u 1) (u 2))) (u 1 ∷ u 2 ∷ d 3 ∷ port Stem 1 ∷ port Plus 1 ∷ port Minus 1 ∷ d 1 ∷ port Stem 2 ∷ d 49 ∷ port Stem 17 ∷ [])
 
 lookups : looked ≡ With (port Plus 1) ∷ With (port Minus 1) ∷ With (port Stem 1) ∷ With (d 3) ∷ With (u 1) ∷ With (u 2) ∷ Nothing ∷ Nothing ∷ Nothing ∷ Nothing ∷ []
-unfolding joined legsOf withJoin withLegs u d port join legs fork looked
+unfolding endAt joinedBy joined legsOf withJoin withLegs u d port join legs fork looked
 lookups = refl
 
 -- SIDES: with legs down the stem lies up; with legs up it lies down.

@@ -1,4 +1,6 @@
+pub mod ByteValues
 pub mod Ends
+pub mod Bytes
 pub mod Arrays
 pub mod Lookups
 pub mod Updates

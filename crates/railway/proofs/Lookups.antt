@@ -5,19 +5,22 @@ use mathlib.Core.Path.{_≡_, refl, sym, _∙_, ap}
 use native.Mathlib.Omega.{arith}
 use mathlib.Core.Logic.{_⊎_, inl, inr}
 use mathlib.Core.Bool.{Bool, true, false, cond}
+use mathlib.Core.List.{List}
 use lib.Dec.{ltb}
 use lib.ListN.{length, getD, List·getD-eq-default}
 use borrow.Author.Tests.{ltb-true, lt-ltb, le-ltb}
 use Rattle.laws.proofs.Bools.{clash, lt?}
+use Rattle.laws.proofs.Lists.{getD-inside}
 use Rattle.railway.specs.declared.Side.the-variants.{Up}
 use Rattle.railway.specs.declared.End.{End}
 use Rattle.railway.specs.declared.Legs.{Legs}
-use Rattle.railway.specs.declared.Link.{Link}
+use Rattle.railway.specs.declared.Joined.{Joined}
 use Rattle.railway.specs.declared.Joined.the-variants.{Nothing}
 use Rattle.railway.specs.declared.Railway.{Railway}
 use Rattle.railway.specs.Bounds.{sectionEnds, allEnds}
 use Rattle.railway.specs.Ends.{endIndex}
-use Rattle.railway.specs.Record.{noLegs, noLink, noTrain, linkAt, flagAt, joined, hasSignal, legsOf, trainOf}
+use Rattle.railway.specs.Lent.{LinksOf, SignalsOf}
+use Rattle.railway.specs.Record.{noLegs, noLink, noTrain, joinedBy, linkAt, flagAt, joined, hasSignal, legsOf, trainOf}
 
 -- within a count, beyond it, where what would be read is what stands for nothing, and where it is so beyond the count
 module _ {A : Type 0} (n k : ℕ) (x d : A) where
@@ -37,13 +40,32 @@ module _ {A : Type 0} (n k : ℕ) (x d : A) where
   pub unasked : (k ≤ n → d ≡ x) → x ≡ cond (ltb n k) x d
   unasked h = elim (lt? n k) [ inl l ↦ within l | inr l ↦ sym (h l) ∙ beyond l ]
 
--- past its table an index has nothing
+-- within its table a link is what its byte says, and past its table an index has nothing
 module _ (r : Railway) (n : ℕ) where
+  pub link-read : n < length (r .links) → (j : Joined) → j ≡ joinedBy (getD (r .links) n 0) → j ≡ linkAt r n
+  link-read h j e = e ∙ ap joinedBy (getD-inside (r .links) n 0 noLink h)
+
   pub link-past : length (r .links) ≤ n → Nothing ≡ linkAt r n
-  link-past h = sym (ap (λ (l : Link). l .to) (List·getD-eq-default (r .links) noLink h))
+  unfolding joinedBy
+  link-past h = sym (ap joinedBy (List·getD-eq-default (r .links) noLink h))
 
   pub flag-past : length (r .signals) ≤ n → false ≡ flagAt r n
   flag-past h = sym (List·getD-eq-default (r .signals) false h)
+
+-- lent links and signals, read within and past their ends
+module _ (r : Railway) (links : List ℕ) (i : ℕ) (h : LinksOf r links) where
+  pub lent-link : i < allEnds → getD links i 0 ≡ getD (r .links) i noLink
+  lent-link l = rw (h .are) (getD-inside links i 0 noLink (omega (arith, h .many)))
+
+  pub lent-no-link : allEnds ≤ i → noLink ≡ getD (r .links) i noLink
+  lent-no-link l = rw (h .are) (sym (List·getD-eq-default links noLink (omega (arith, h .many))))
+
+module _ (r : Railway) (signals : List Bool) (i : ℕ) (h : SignalsOf r signals) where
+  pub lent-flag : getD signals i false ≡ flagAt r i
+  lent-flag = rw (h .are)
+
+  pub lent-no-flag : sectionEnds ≤ i → false ≡ flagAt r i
+  lent-no-flag l = rw (h .are) (sym (List·getD-eq-default signals false (omega (arith, h .many))))
 
 module _ (r : Railway) (e : End) (i : ℕ) (is : i ≡ endIndex e) where
   pub joined-there : i < allEnds → linkAt r i ≡ joined r e

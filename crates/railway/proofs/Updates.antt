@@ -1,34 +1,30 @@
 -- The updates of a record: as code makes them, and what a join that was added changes.
 -- Assumes nothing.
 use Prim.Native.Nat.{ℕ, _<_, _≤_}
-use mathlib.Core.Path.{_≡_, sym, _∙_, ap}
+use mathlib.Core.Path.{_≡_, _∙_, ap}
 use mathlib.Core.Logic.{inl, inr}
 use mathlib.Core.Bool.{true}
 use native.Mathlib.Omega.{arith}
 use lib.ListN.{length, getD, set, length-set}
-use lib.Seq.{set-out, getD-set-same, getD-set-other}
+use lib.Seq.{getD-set-same, getD-set-other}
 use borrow.Author.Tests.{lt-ltb, le-ltb}
 use Rattle.laws.proofs.Bools.{eq?, lt?}
 use Rattle.railway.specs.declared.Side.{Side}
 use Rattle.railway.specs.declared.End.{End}
 use Rattle.railway.specs.declared.Joined.the-variants.{With}
-use Rattle.railway.specs.declared.Link.{Link}
 use Rattle.railway.specs.declared.Train.{Train}
 use Rattle.railway.specs.declared.Railway.{Railway}
 use Rattle.railway.specs.Bounds.{mostPoints, mostTrains, sectionEnds, allEnds}
-use Rattle.railway.specs.Ends.{endIndex}
-use Rattle.railway.specs.Record.{noLink, linkAt, joined, withLinks, setLink, withJoin, withSignal, withLegs, withTrain}
-use Rattle.railway.proofs.Ends.{Numbered, index-below, index-one, numbered-of}
+use Rattle.railway.specs.Ends.{Numbered, endIndex}
+use Rattle.railway.specs.Record.{noLink, joinedBy, linkAt, joined, withLinks, setLink, withJoin, withSignal, withLegs, withTrain}
+use Rattle.railway.proofs.Ends.{index-below, index-one, numbered-of}
+use Rattle.railway.proofs.Bytes.{byte-back}
 
--- AS CODE MAKES THEM. A store past the end changes nothing.
-pub link-out : (r : Railway) (i : ℕ) (e : End) → length (r .links) ≤ i → r ≡ withLinks r (set (r .links) i (record { to = With e }))
-link-out r i e h = ap (withLinks r) (sym (set-out (r .links) i (record { to = With e }) h))
-
+-- AS CODE MAKES THEM
 module _ (r : Railway) (a b : End) (i j : ℕ) (ia : i ≡ endIndex a) (jb : j ≡ endIndex b) where
-  pub join-both : (q s : Railway) → i < allEnds → j < allEnds
-      → q ≡ withLinks r (set (r .links) i (record { to = With b })) → s ≡ withLinks q (set (q .links) j (record { to = With a })) → s ≡ withJoin r a b
+  pub join-both : (q : Railway) → i < allEnds → j < allEnds → q ≡ withLinks r (set (set (r .links) i j) j i) → q ≡ withJoin r a b
   unfolding withJoin
-  join-both q s li lj hq hs = rw (← ia, ← jb, lt-ltb i allEnds li, lt-ltb j allEnds lj, hs, hq)
+  join-both q li lj hq = rw (← ia, ← jb, lt-ltb i allEnds li, lt-ltb j allEnds lj) hq
 
   pub join-first-out : allEnds ≤ i → r ≡ withJoin r a b
   unfolding withJoin
@@ -44,23 +40,25 @@ module _ (r : Railway) (a b : End) (room : length (r .links) ≡ allEnds) (ha : 
   unfolding withJoin
   added = rw (lt-ltb (endIndex a) allEnds (index-below a ha), lt-ltb (endIndex b) allEnds (index-below b hb))
 
-  looked-up : (e : End) → Numbered e → joined (withJoin r a b) e ≡ getD (setLink b a (setLink a b (r .links))) (endIndex e) noLink .to
+  looked-up : (e : End) → Numbered e → joined (withJoin r a b) e ≡ joinedBy (getD (setLink b a (setLink a b (r .links))) (endIndex e) noLink)
   unfolding joined
   looked-up e h = rw (added, lt-ltb (endIndex e) allEnds (index-below e h))
 
   pub join-second : joined (withJoin r a b) b ≡ With a
   join-second =
       looked-up b hb
-      ∙ ap (λ (l : Link). l .to) (getD-set-same (setLink a b (r .links)) (endIndex b) (record { to = With a }) noLink (let l = index-below b hb in simp length-set (omega arith)))
+      ∙ ap joinedBy (getD-set-same (setLink a b (r .links)) (endIndex b) (endIndex a) noLink (let l = index-below b hb in simp length-set (omega arith)))
+      ∙ byte-back a ha
 
   pub join-first : joined (withJoin r a b) a ≡ With b
   join-first = elim (eq? (endIndex a) (endIndex b)) [
     | inl e ↦ let z : a ≡ b = index-one a b ha hb e in ap (joined (withJoin r a b)) z ∙ join-second ∙ ap With z
     | inr n ↦
         looked-up a ha
-        ∙ ap (λ (l : Link). l .to)
-        (getD-set-other (setLink a b (r .links)) (endIndex b) (endIndex a) (record { to = With a }) noLink n
-        ∙ getD-set-same (r .links) (endIndex a) (record { to = With b }) noLink (let l = index-below a ha in omega arith))
+        ∙ ap joinedBy
+        (getD-set-other (setLink a b (r .links)) (endIndex b) (endIndex a) (endIndex a) noLink n
+        ∙ getD-set-same (r .links) (endIndex a) (endIndex b) noLink (let l = index-below a ha in omega arith))
+        ∙ byte-back b hb
   ]
 
   kept : (e : End) → endIndex e < allEnds → linkAt r (endIndex e) ≡ joined r e
@@ -76,9 +74,9 @@ module _ (r : Railway) (a b : End) (room : length (r .links) ≡ allEnds) (ha : 
     | inl l ↦
         let h = numbered-of e l in
         looked-up e h
-        ∙ ap (λ (l : Link). l .to)
-        (getD-set-other (setLink a b (r .links)) (endIndex b) (endIndex e) (record { to = With a }) noLink (λ z. nb (index-one e b h hb z))
-        ∙ getD-set-other (r .links) (endIndex a) (endIndex e) (record { to = With b }) noLink (λ z. na (index-one e a h ha z)))
+        ∙ ap joinedBy
+        (getD-set-other (setLink a b (r .links)) (endIndex b) (endIndex e) (endIndex a) noLink (λ z. nb (index-one e b h hb z))
+        ∙ getD-set-other (r .links) (endIndex a) (endIndex e) (endIndex b) noLink (λ z. na (index-one e a h ha z)))
         ∙ kept e l
     | inr l ↦ neither-joined e l
   ]

@@ -1,7 +1,7 @@
 -- Ends and their sides (document 01, "The railway": end, side, leg), and the index of an end in the record's tables.
 -- Sections and points count from 0 in the record: the document's number less one. Assumes nothing.
 use mathlib.Core.Bool.{Bool, true, false, cond}
-use Prim.Native.Nat.{ℕ, _+_, _-_, _*_, _/_, _%_}
+use Prim.Native.Nat.{ℕ, _+_, _-_, _*_, _/_, _%_, _<_}
 use lib.Dec.{ltb, eqb}
 use Rattle.railway.specs.declared.Side.{Side}
 use Rattle.railway.specs.declared.Side.the-variants.{Up, Down}
@@ -45,6 +45,11 @@ legIndex Minus = 2
 abbrev pub endIndex : End → ℕ
 endIndex (Section n s) = cond (ltb (n .0) mostSections) (2 * n .0 + sideIndex s) allEnds
 endIndex (Port n l) = cond (ltb (n .0) mostPoints) (sectionEnds + 3 * n .0 + legIndex l) allEnds
+
+-- An end whose number a railway can have.
+abbrev pub Numbered : End → Type 0
+Numbered (Section n s) = n .0 < mostSections
+Numbered (Port n l) = n .0 < mostPoints
 
 -- The side of an index.
 abbrev pub sideAt : ℕ → Side

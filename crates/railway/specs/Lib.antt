@@ -4,5 +4,6 @@ pub mod Refusals
 pub mod Record
 pub mod Rows
 pub mod Same
+pub mod Lent
 pub mod Yards
 pub mod Claims

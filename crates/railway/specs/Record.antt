@@ -12,20 +12,19 @@ use Rattle.railway.specs.declared.End.{End}
 use Rattle.railway.specs.declared.End.the-variants.{Section, Port}
 use Rattle.railway.specs.declared.Joined.{Joined}
 use Rattle.railway.specs.declared.Joined.the-variants.{Nothing, With}
-use Rattle.railway.specs.declared.Link.{Link}
 use Rattle.railway.specs.declared.Legs.{Legs}
 use Rattle.railway.specs.declared.Train.{Train}
 use Rattle.railway.specs.declared.Railway.{Railway}
 use Rattle.railway.specs.Bounds.{mostPoints, mostTrains, sectionEnds, allEnds}
-use Rattle.railway.specs.Ends.{portSide, endIndex}
+use Rattle.railway.specs.Ends.{portSide, endIndex, endAt}
 
 -- WHAT STANDS FOR SOMETHING THAT IS NOT THERE. Legs: up.
 abbrev pub noLegs : Legs
 noLegs = record { side = Up }
 
--- A link: joined to nothing.
-abbrev pub noLink : Link
-noLink = record { to = Nothing }
+-- A link: the byte that is written for no join, far from every end's.
+abbrev pub noLink : ℕ
+noLink = 255
 
 -- A train: up, from section 1 to 1.
 abbrev pub noTrain : Train
@@ -48,9 +47,18 @@ bareRailway s p k =
 abbrev pub emptyRailway : Railway
 emptyRailway = bareRailway 0 0 0
 
+-- BYTES FOR ENDS (document 02, Q-4). An end's byte is its index. What a byte says: the end whose byte it is; from the number of all ends on, no join.
+unfoldable pub joinedBy : ℕ → Joined
+joinedBy b = cond (ltb b allEnds) (With (endAt b)) Nothing
+
+-- The byte that is written for what is joined.
+abbrev pub linkByte : Joined → ℕ
+linkByte Nothing = noLink
+linkByte (With e) = endIndex e
+
 -- ASKED BY INDEX. The join of the end with this index.
 abbrev pub linkAt : Railway → ℕ → Joined
-linkAt r i = getD (r .links) i noLink .to
+linkAt r i = joinedBy (getD (r .links) i noLink)
 
 -- Whether a signal stands at the section end with this index.
 abbrev pub flagAt : Railway → ℕ → Bool
@@ -78,7 +86,7 @@ sideOf r (Section n s) = s
 sideOf r (Port n l) = portSide (legsOf r (n .0)) l
 
 -- UPDATES. The record with other links.
-abbrev pub withLinks : Railway → List Link → Railway
+abbrev pub withLinks : Railway → List ℕ → Railway
 withLinks r links =
     record {
       sections = r .sections;
@@ -90,9 +98,9 @@ withLinks r links =
       roster = r .roster;
     }
 
--- One direction of a join.
-abbrev pub setLink : End → End → List Link → List Link
-setLink a b links = set links (endIndex a) (record { to = With b })
+-- One direction of a join: the first end's link is the second's byte.
+abbrev pub setLink : End → End → List ℕ → List ℕ
+setLink a b links = set links (endIndex a) (endIndex b)
 
 -- A join added, in both directions, where both ends are ends that a railway can have.
 unfoldable pub withJoin : Railway → End → End → Railway

@@ -1,13 +1,15 @@
-// The railway record: sections, points, trains, joins and signals in tables of fixed size. It goes by value. Every lookup
-// and every update is total: what no railway can have is joined to nothing, has no signal, and changes nothing.
+// The railway record: sections, points, trains, joins and signals in tables of fixed size. It goes by value, and is small: what
+// an end is joined to stands there as one byte. Every lookup and every update is total: what no railway can have is joined to
+// nothing, has no signal, and changes nothing.
 // The test of a record, rows 3 to 8 of the table of numbers, is the crate `acceptance`.
 ghost use mathlib.Core.Path.{_≡_};
-ghost use lib.ListN.{set};
-ghost use Rattle.railway.specs.declared.Joined.the-variants.{With};
+ghost use lib.ListN.{getD};
+ghost use Rattle.railway.specs.declared.Railway.{Railway};
 ghost use Rattle.railway.specs.Bounds.{fewestSections, fewestTrains, mostSections, mostPoints, mostTrains, sectionEnds, allEnds};
 ghost use Rattle.railway.specs.Ends.{opposite, sideIndex, legIndex, endIndex, sideAt, legAt, endAt, portSide};
-ghost use Rattle.railway.specs.Record.{noTrain, emptyRailway, linkAt, flagAt, joined, hasSignal, legsOf, trainOf, sideOf, withLinks, withJoin, withSignal, withLegs, withTrain};
+ghost use Rattle.railway.specs.Record.{noLink, noTrain, emptyRailway, joinedBy, linkAt, flagAt, joined, hasSignal, legsOf, trainOf, sideOf, withJoin, withSignal, withLegs, withTrain};
 ghost use Rattle.railway.specs.Refusals.{number};
+ghost use Rattle.railway.specs.Lent.{LinksOf, SignalsOf};
 
 pub enum Side {
     Up,
@@ -35,10 +37,6 @@ pub enum End {
 pub enum Joined {
     Nothing,
     With(End),
-}
-
-pub struct Link {
-    pub to: Joined,
 }
 
 // The side that a point's legs lie on.
@@ -73,16 +71,22 @@ pub enum CaseAnswer {
     Refused(Refusal),
 }
 
-// Legs by point; links by end, in the order of `index_of`; signals by section end; the roster by train.
+// Legs by point; links by end, in the order of `index_of`; signals by section end; the roster by train. A link is the byte of the
+// end that is joined there, which is its index, or any byte past the last end's for no join.
 pub struct Railway {
     pub sections: u8,
     pub points: u8,
     pub trains: u8,
     pub legs: [Legs; Railway::POINTS as usize],
-    pub links: [Link; Railway::ENDS as usize],
-    pub signals: [bool; Railway::SECTION_ENDS as usize],
+    pub links: Links,
+    pub signals: Signals,
     pub roster: [Train; Railway::TRAINS as usize],
 }
+
+// The links of a record and its signals, as they are lent to functions that ask them many times.
+pub type Links = [u8; Railway::ENDS as usize];
+
+pub type Signals = [bool; Railway::SECTION_ENDS as usize];
 
 impl Railway {
     // The bounds of a railway.
@@ -100,28 +104,27 @@ impl Railway {
 
     pub const ENDS: u8 = Railway::SECTION_ENDS + 3 * Railway::POINTS;
 
-    // The record with nothing in it. Its promise also ties the constants to the bounds that the definitions speak of.
+    // The byte that is written for no join.
+    pub const NO_LINK: u8 = 255;
+
+    // The record with nothing in it. Its promise also ties the constants to the numbers that the definitions speak of.
     pub fn empty() -> Railway
         ensures empty { λ r. ⌜ r ≡ emptyRailway ⌝ }
         ensures sections { λ r. do ⌜ ((← ⟦Railway::FEWEST_SECTIONS⟧ .entry) ≡ fewestSections) × ((← ⟦Railway::SECTIONS⟧ .entry) ≡ mostSections) ⌝ }
         ensures points { λ r. do ⌜ (← ⟦Railway::POINTS⟧ .entry) ≡ mostPoints ⌝ }
         ensures trains { λ r. do ⌜ ((← ⟦Railway::FEWEST_TRAINS⟧ .entry) ≡ fewestTrains) × ((← ⟦Railway::TRAINS⟧ .entry) ≡ mostTrains) ⌝ }
-        ensures ends { λ r. do ⌜ ((← ⟦Railway::SECTION_ENDS⟧ .entry) ≡ sectionEnds) × ((← ⟦Railway::ENDS⟧ .entry) ≡ allEnds) ⌝ }
+        ensures ends { λ r. do ⌜ ((← ⟦Railway::SECTION_ENDS⟧ .entry) ≡ sectionEnds) × ((← ⟦Railway::ENDS⟧ .entry) ≡ allEnds) × ((← ⟦Railway::NO_LINK⟧ .entry) ≡ noLink) ⌝ }
     {
-        let none = Link {
-            to: Joined::Nothing,
-        };
         let up = Legs { side: Side::Up };
         let t = no_train();
         let legs = [up; Railway::POINTS as usize];
-        let links = [none; Railway::ENDS as usize];
         let roster = [t; Railway::TRAINS as usize];
         Railway {
             sections: 0,
             points: 0,
             trains: 0,
             legs: legs,
-            links: links,
+            links: [Railway::NO_LINK; Railway::ENDS as usize],
             signals: [false; Railway::SECTION_ENDS as usize],
             roster: roster,
         }
@@ -140,8 +143,7 @@ impl Railway {
     {
         let at = i as usize;
         if i < Railway::ENDS {
-            let l = self.links[at];
-            l.to
+            joined_by(self.links[at])
         } else {
             Joined::Nothing
         }
@@ -214,25 +216,14 @@ impl Railway {
     {
         let i = index_of(a);
         let j = index_of(b);
-        if i < Railway::ENDS {
-            if j < Railway::ENDS {
-                return self.with_link(i, b).with_link(j, a);
-            }
-        }
-        self
-    }
-
-    // The record with one direction of a join set.
-    fn with_link(self, i: u8, to: End) -> Railway
-        ensures { λ r. ⌜ r ≡ withLinks self (set (self .links) i (record { to = With to })) ⌝ }
-    {
         let at = i as usize;
-        let link = Link {
-            to: Joined::With(to),
-        };
+        let back = j as usize;
         let mut next = self;
         if i < Railway::ENDS {
-            next.links[at] = link;
+            if j < Railway::ENDS {
+                next.links[at] = j;
+                next.links[back] = i;
+            }
         }
         next
     }
@@ -383,6 +374,41 @@ pub fn end_at(i: u8) -> End
     } else {
         let p = i - Railway::SECTION_ENDS;
         End::Port(PointNo(p / 3), leg_at(p % 3))
+    }
+}
+
+// What a byte of the links says: the end whose byte it is; nothing past the last end's.
+pub fn joined_by(b: u8) -> Joined
+    ensures { λ j. ⌜ j ≡ joinedBy b ⌝ }
+{
+    if b < Railway::ENDS {
+        Joined::With(end_at(b))
+    } else {
+        Joined::Nothing
+    }
+}
+
+// The byte of an end's link, from the links of a record; past the last end the one for no join.
+pub fn link_in(links: &Links, i: u8) -> u8
+    ensures { λ b. ⌜ ((r : Railway) → LinksOf r (now (links .entry)) → b ≡ getD (r .links) i noLink) ⌝ }
+{
+    let at = i as usize;
+    if i < Railway::ENDS {
+        links[at]
+    } else {
+        Railway::NO_LINK
+    }
+}
+
+// Whether a signal stands at a section end, from the signals of a record; none past the last.
+pub fn signal_in(signals: &Signals, i: u8) -> bool
+    ensures { λ b. ⌜ ((r : Railway) → SignalsOf r (now (signals .entry)) → b ≡ flagAt r i) ⌝ }
+{
+    let at = i as usize;
+    if i < Railway::SECTION_ENDS {
+        signals[at]
+    } else {
+        false
     }
 }
 

@@ -5,9 +5,7 @@
 use libc::STDOUT_FILENO;
 use railway::CaseAnswer;
 use railway::End;
-use railway::Joined;
 use railway::Leg;
-use railway::Link;
 use railway::PointNo;
 use railway::Railway;
 use railway::SectionNo;
@@ -110,6 +108,15 @@ fn accepted() {
     show(b"legs down", 3, 1, 1, b"P1d..J1s3dJ1u1+J1-2u");
     show(b"legs up", 3, 1, 1, b"P1u..J1s1uJ2d1+J1-3d");
     show(b"4 trains", 4, 0, 4, b"T222.T333.T444.");
+    show_record(b"bytes 144 and 254 for no join", other_nones());
+}
+
+// Two ends in no join, with other bytes for that than the one that is written.
+fn other_nones() -> Railway {
+    let mut r = built(2, 0, 1, b"J1u2d");
+    r.links[0] = 144;
+    r.links[3] = 254;
+    r
 }
 
 fn row3() {
@@ -126,6 +133,14 @@ fn row4() {
     show(b"a signal at section 3 of 2", 2, 0, 1, b"G3d..");
     show(b"a start on section 3 of 2", 2, 0, 1, b"T131.");
     show(b"a destination on section 3 of 2", 2, 0, 1, b"T113.");
+    show_record(b"byte 143, the last port's", last_port());
+}
+
+// The first end, 1d, has the last end's byte.
+fn last_port() -> Railway {
+    let mut r = built(2, 0, 1, b"");
+    r.links[0] = 143;
+    r
 }
 
 fn row5() {
@@ -142,10 +157,7 @@ fn row5() {
 // The second end, 1u, is joined to 2d, and 2d to nothing. No update makes such a record, so the link is written here.
 fn half_join() -> Railway {
     let mut r = built(2, 0, 1, b"");
-    let link = Link {
-        to: Joined::With(end(1, b'd')),
-    };
-    r.links[1] = link;
+    r.links[1] = railway::index_of(end(1, b'd'));
     r
 }
 

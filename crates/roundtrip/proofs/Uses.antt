@@ -17,7 +17,7 @@ use Rattle.railway.specs.declared.Side.the-variants.{Up, Down}
 use Rattle.railway.specs.declared.Leg.the-variants.{Plus}
 use Rattle.railway.specs.declared.End.{End}
 use Rattle.railway.specs.declared.End.the-variants.{Section, Port}
-use Rattle.railway.specs.declared.Joined.the-variants.{With}
+use Rattle.railway.specs.declared.Joined.the-variants.{Nothing, With}
 use Rattle.railway.specs.declared.Railway.{Railway}
 use Rattle.railway.specs.Record.{flagAt, joined, hasSignal, legsOf, trainOf, withJoin, withSignal, withLegs, withTrain}
 use Rattle.railway.specs.Yards.{yardA}
@@ -32,7 +32,7 @@ use Rattle.casefile.specs.Reading.{caseAnswer}
 use Rattle.casefile.proofs.Exactly.{accepted-exactly, reader-answers}
 use Rattle.casefile.proofs.Call.{promised}
 use Rattle.casefile.proofs.YardTexts.{yards-accepted}
-use Rattle.casefile.proofs.Uses.{descriptionA, says-a-only}
+use Rattle.casefile.proofs.Uses.{descriptionA, says-a, says-a-only}
 use Rattle.reader.proofs.Consequences.{reader-accepts}
 use Rattle.writer.proofs.Uses.{bytes-written}
 use Rattle.reader.proofs.read_case.Kinds as read
@@ -140,6 +140,17 @@ module _ (answer : CaseRead) (c : ReadCall (bytes textA) answer) (q : Railway) (
       let j = said .joins (down 0) f .0 e in
       let n = no-join (j .join) (j .member) in
       elim (j .ties) [ inl t ↦ n .0 (t .0) | inr t ↦ n .1 (t .1) ]
+
+  -- so the lookup at 1d gives nothing, and that at 1u does not;
+  nothing-there : joined q (down 0) ≡ Nothing
+  nothing-there =
+      roundtrip-runs .unjoined (bytes textA) answer c q given descriptionA says-a (down 0) .1
+      (λ f j. let n = no-join (j .join) (j .member) in elim (j .ties) [ inl t ↦ n .0 (t .0) | inr t ↦ n .1 (t .1) ])
+
+  something-there : joined q (up 0) ≡ Nothing → ⊥
+  something-there e =
+      roundtrip-runs .unjoined (bytes textA) answer c q given descriptionA says-a (up 0) .0 e (Port (record { 0 = 0 }) Plus)
+      (record { join = _; member = List·Memᴰ·head refl; ties = inl ((refl, refl), (refl, refl)) })
 
   -- a signal at 1d, by a G line, and none at 1u;
   signal-1d : hasSignal q (down 0) ≡ true

@@ -3,6 +3,7 @@
 -- answer, and what was lent, as the call leaves it. Arguments stand in the order of the signature, one within the other: `a .0` is the first,
 -- `a .1 .0` the second. Assumes nothing.
 use mathlib.Core.Path.{_≡_}
+use mathlib.Core.Logic.{_↔_}
 use mathlib.Core.List.{List}
 use mathlib.Core.Option.{some}
 use Prim.Native.Nat.{ℕ}
@@ -11,14 +12,17 @@ use denote.Ref.{now}
 use denote.Triple.Clauses.{AtExit}
 use contract.Lifetimes.{Lfts}
 use borrow.Fn.Kinds.{Dens, resT, endedOf}
+use Rattle.railway.specs.declared.End.{End}
+use Rattle.railway.specs.declared.Joined.the-variants.{Nothing}
 use Rattle.railway.specs.declared.Railway.{Railway}
+use Rattle.railway.specs.Record.{joined}
 use Rattle.railway.specs.Same.{SameRailway}
 use Rattle.casefile.specs.declared.CaseRead.{CaseRead}
 use Rattle.casefile.specs.declared.Written.{Written}
 use Rattle.casefile.specs.Form.{Description, Describes}
 use Rattle.casefile.specs.Writing.{writtenCount, WriterPost}
 use Rattle.casefile.specs.Given.{accepted, ReaderPost}
-use Rattle.casefile.specs.Claims.{AsDescribed}
+use Rattle.casefile.specs.Claims.{Joins, AsDescribed}
 use Rattle.reader.proofs.read_case.Kinds as read
 use Rattle.reader.proofs.read_case.Reads.{Asked as ReadAsked, Learnt as ReadLearnt}
 use Rattle.reader.proofs.read_case.Statement.{statement as ReadMet}
@@ -62,6 +66,9 @@ pub record RoundTripRuns : Type 2 where
   -- a text that is accepted is read as the railway that its lines describe
   pub described : (text : List ℕ) (answer : CaseRead) → ReadCall text answer
       → (q : Railway) → answer ≡ accepted q → (d : Description) × Describes text d × AsDescribed d q
+  -- in it an end is joined to nothing exactly where no J line names it (and where one does, to that line's other end, by the clause before: document 02, Q-4)
+  pub unjoined : (text : List ℕ) (answer : CaseRead) → ReadCall text answer → (q : Railway) → answer ≡ accepted q → (d : Description) → Describes text d
+      → (e : End) → (joined q e ≡ Nothing) ↔ ((f : End) → Joins (d .joins) e f → ⊥)
   -- the bytes that were written of a railway are read back as the same railway
   pub read-back : (r : Railway) (buffer after : List ℕ) (w : Written) → WriteCall r buffer w after
       → (n : ℕ) → writtenCount w ≡ some n → (answer : CaseRead) → ReadCall (take n after) answer → (q : Railway) × (answer ≡ accepted q) × SameRailway r q

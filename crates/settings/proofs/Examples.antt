@@ -11,7 +11,8 @@ use Rattle.railway.specs.declared.Railway.{Railway}
 use Rattle.railway.specs.Yards.{yardH, lineP, lineJ, lineG, lineT, sec, port, yardALess, yardA, upTwoOne}
 use Rattle.laws.specs.Below.{allBelow, anyBelow, sumBelow, lowest}
 use Rattle.laws.specs.Bits.{fromBits}
-use Rattle.railway.specs.Record.{joined, hasSignal, trainOf, withJoin, withSignal, withLegs, withTrain}
+use Rattle.railway.specs.Ends.{endAt}
+use Rattle.railway.specs.Record.{joinedBy, joined, hasSignal, trainOf, withJoin, withSignal, withLegs, withTrain}
 use Rattle.game.specs.Local.{keepsTest}
 use Rattle.game.specs.Placement.{codeOf, sectionsIn, standsOn, shared}
 use Rattle.game.specs.Setting.{headsFor, held, mayMove, free, signalOpen}
@@ -90,5 +91,5 @@ abbrev given : First → Option ℕ
 given x = firstKeeping (x .yard) (figureIn (x .figures)) (x .code) (x .figure)
 
 pub firsts-hold : map given firsts ≡ map (λ x. x .entry) firsts
-unfolding firstKeeping find tryOpen firstFound keepsTest settingAt entryFrom fromBits lowest moveOf passes occupied mayMove free held signalOpen headsFor standsOn sectionsIn codeOf sumBelow trainOf joined hasSignal allBelow anyBelow shared withJoin withSignal withLegs withTrain
+unfolding firstKeeping find tryOpen firstFound keepsTest settingAt entryFrom fromBits lowest moveOf passes occupied mayMove free held signalOpen headsFor standsOn sectionsIn codeOf sumBelow trainOf endAt joinedBy joined hasSignal allBelow anyBelow shared withJoin withSignal withLegs withTrain
 firsts-hold = refl

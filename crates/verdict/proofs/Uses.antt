@@ -16,7 +16,8 @@ use Rattle.railway.specs.declared.Railway.{Railway}
 use Rattle.railway.specs.declared.CaseAnswer.{CaseAnswer}
 use Rattle.railway.specs.declared.Refusal.the-variants.{Form, Count, Space, PlanForm, PlanFault}
 use Rattle.railway.specs.Refusals.{first, number}
-use Rattle.railway.specs.Record.{emptyRailway, joined, hasSignal, legsOf, trainOf, withJoin, withSignal, withLegs, withTrain}
+use Rattle.railway.specs.Ends.{endAt}
+use Rattle.railway.specs.Record.{emptyRailway, joinedBy, joined, hasSignal, legsOf, trainOf, withJoin, withSignal, withLegs, withTrain}
 use Rattle.railway.specs.Yards.{yardA}
 use Rattle.casefile.specs.Given.{RefusedWith}
 use Rattle.casefile.specs.Reading.{counted, while, headerAt, walk, read, caseAnswer}
@@ -67,11 +68,11 @@ by-plan : (text : List ℕ) (a : TestAnswer) → PlanPost yardA text a → ByPla
 by-plan text a p = verdict-holds yardA yardA-accepted room text a p
 
 start-figure : figureIn figsA (startCode yardA) ≡ some 2
-unfolding startCode codeOf sumBelow listBelow joined hasSignal legsOf trainOf withJoin withSignal withLegs withTrain
+unfolding startCode codeOf sumBelow listBelow endAt joinedBy joined hasSignal legsOf trainOf withJoin withSignal withLegs withTrain
 start-figure = refl
 
 passing : Passing yardA (linesOf planA)
-unfolding linesOf bytes planTexts planLines lineFor whichBelow listBelow startCode codeOf sumBelow sectionsIn spell line digits joined hasSignal legsOf trainOf withJoin withSignal withLegs withTrain
+unfolding linesOf bytes planTexts planLines lineFor whichBelow listBelow startCode codeOf sumBelow sectionsIn spell line digits endAt joinedBy joined hasSignal legsOf trainOf withJoin withSignal withLegs withTrain
 passing = plan-passes yardA yardA-accepted figsA setsA yardA-filled 2 start-figure
 
 pub passes : (a : TestAnswer) → PlanPost yardA planA a → a ≡ Pass

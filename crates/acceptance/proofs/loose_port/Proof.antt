@@ -1,46 +1,36 @@
--- `acceptance::loose_port` meets its contract: the three ports of the point, one after the other.
+-- `acceptance::loose_port` meets its contract: the three ports of a point stand one behind the other.
 -- Assumes nothing.
 use borrow.Author.Needs.{needs}
+use Rattle.acceptance.proofs.Bytes.{port-loose, no-port-loose}
 use Rattle.acceptance.proofs.loose_port.Statement.{statement}
 use Rattle.acceptance.proofs.loose_port.Tie as tie
 
-joined-requires : tie.Need-joined-requires
-joined-requires c κs = search needs
+mul-stem : tie.Need-mul-stem
+mul-stem c = search needs
 
-is-unjoined-requires : tie.Need-is-unjoined-requires
-is-unjoined-requires c κs = search needs
+add-stem : tie.Need-add-stem
+add-stem c = search needs
+
+is-loose-requires : tie.Need-is-loose-requires
+is-loose-requires c κs = search needs
+
+add-is-loose : tie.Need-add-is-loose
+add-is-loose c = search needs
+
+is-loose-requires-2 : tie.Need-is-loose-requires-2
+is-loose-requires-2 c κs = search needs
+
+add-is-loose-2 : tie.Need-add-is-loose-2
+add-is-loose-2 c = search needs
+
+is-loose-requires-3 : tie.Need-is-loose-requires-3
+is-loose-requires-3 c κs = search needs
 
 returns : tie.Need-returns
-returns c = rw (← c .before .before .joined .ensures, ← c .before .is-unjoined .ensures, c .if1 .taken)
-
-joined-requires-2 : tie.Need-joined-requires-2
-joined-requires-2 c κs = search needs
-
-is-unjoined-requires-2 : tie.Need-is-unjoined-requires-2
-is-unjoined-requires-2 c κs = search needs
+returns c = λ r h. let s = c .before .before in port-loose r _ (s .before .if1 .taken) _ _ _ (s .is-loose .ensures r h) (c .before .is-loose2 .ensures r h) (c .is-loose3 .ensures r h)
 
 returns-2 : tie.Need-returns-2
-returns-2 c = rw (← c .before .before .before .before .before .joined .ensures, ← c .before .before .before .before .is-unjoined .ensures, c .before .before .before .if1 .left, ← c .before .before .joined2 .ensures, ← c .before .is-unjoined2 .ensures, c .if2 .taken)
-
-joined-requires-3 : tie.Need-joined-requires-3
-joined-requires-3 c κs = search needs
-
-is-unjoined-requires-3 : tie.Need-is-unjoined-requires-3
-is-unjoined-requires-3 c κs = search needs
-
-returns-3 : tie.Need-returns-3
-returns-3 c = rw (← c .before .before .before .before .before .before .before .joined .ensures, ← c .before .before .before .before .before .before .is-unjoined .ensures, c .before .before .before .before .before .if1 .left, ← c .before .before .before .before .joined2 .ensures, ← c .before .before .before .is-unjoined2 .ensures, c .before .before .if2 .left, ← c .before .joined3 .ensures) (c .is-unjoined3 .ensures)
+returns-2 c = λ r h. no-port-loose r _ (c .if1 .left)
 
 pub loose-port-spec : {M : Type 1} → statement M
-loose-port-spec =
-    tie.close
-    (tie.spec
-    joined-requires
-    is-unjoined-requires
-    returns
-    joined-requires-2
-    is-unjoined-requires-2
-    returns-2
-    joined-requires-3
-    is-unjoined-requires-3
-    returns-3)
+loose-port-spec = tie.close (tie.spec mul-stem add-stem is-loose-requires add-is-loose is-loose-requires-2 add-is-loose-2 is-loose-requires-3 returns returns-2)

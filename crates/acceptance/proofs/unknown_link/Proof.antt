@@ -1,39 +1,24 @@
--- `acceptance::unknown_link` meets its contract: no link, or one whose two ends are looked at.
+-- `acceptance::unknown_link` meets its contract: where there is a link, both its ends are asked for.
 -- Assumes nothing.
 use borrow.Author.Needs.{needs}
-use Rattle.acceptance.proofs.Testing.{nothing-unknown, link-unknown}
+use Rattle.acceptance.proofs.Bytes.{none-unknown, link-unknown}
 use Rattle.acceptance.proofs.unknown_link.Statement.{statement}
 use Rattle.acceptance.proofs.unknown_link.Tie as tie
 
-link-at-requires : tie.Need-link-at-requires
-link-at-requires c κs = search needs
+link-in-requires : tie.Need-link-in-requires
+link-in-requires c κs = search needs
 
-enum-told : tie.Need-enum-told
-enum-told c = search needs
+known-at-requires : tie.Need-known-at-requires
+known-at-requires c κs = search needs
 
-enum-known-f : tie.Need-enum-known-f
-enum-known-f c = search needs
-
-end-at-requires : tie.Need-end-at-requires
-end-at-requires c κs = search needs
-
-both-known-requires : tie.Need-both-known-requires
-both-known-requires c κs = search needs
+known-at-requires-2 : tie.Need-known-at-requires-2
+known-at-requires-2 c κs = search needs
 
 returns : tie.Need-returns
-returns c = let d = c .before .before in nothing-unknown (d .before .args .r) _ _ (d .link-at .ensures) (c .enum-told .given .1)
+returns c = λ r h k. let l = c .before .before .before in link-unknown r _ _ (l .link-in .ensures r h) (c .before .before .if1 .taken) _ _ (c .before .known-at .ensures r k) (c .known-at2 .ensures r k)
 
 returns-2 : tie.Need-returns-2
-returns-2 c = let k = c .before in let d = k .before .before .before .before in link-unknown (d .before .args .r) _ _ (d .link-at .ensures) (k .before .before .f .given .0 .0) _ (k .before .before .f .given .1) (k .end-at .ensures) _ (c .both-known .ensures)
+returns-2 c = λ r h k. none-unknown r _ _ (c .before .link-in .ensures r h) (c .if1 .left)
 
 pub unknown-link-spec : {M : Type 1} → statement M
-unknown-link-spec =
-    tie.close
-    (tie.spec
-    link-at-requires
-    enum-told
-    enum-known-f
-    end-at-requires
-    both-known-requires
-    returns
-    returns-2)
+unknown-link-spec = tie.close (tie.spec link-in-requires known-at-requires known-at-requires-2 returns returns-2)

@@ -1,53 +1,110 @@
--- `compiled::compile` meets its contract: the record is judged by its test, and the table filled from the first byte to the last.
--- The loop's invariant: the bytes before i are the railway's. Assumes nothing.
+-- `compiled::compile` meets its contract: the record is judged by its test, and the table filled from the first byte to the last, first the routes, train
+-- by train, then what stands behind them. The loops' invariants: the routes of all trains before t stand there; the bytes before i are the railway's.
+-- Assumes nothing.
 use native.Mathlib.Omega.{arith}
 use borrow.Author.Needs.{needs}
-use lib.ListN.{length-replicate}
-use Rattle.laws.proofs.Filling.{FilledTo, fill-start, fill-next}
-use Rattle.compiled.specs.Table.{tableBytes, compiledByte}
-use Rattle.compiled.proofs.Table.{post-refused, post-accepted}
-use Prim.Native.Nat.{ℕ, _-_}
+use mathlib.Core.Path.{refl}
+use Prim.Native.Nat.{_-_, _≤_}
+use Rattle.laws.proofs.Filling.{FilledTo, fill-next}
+use Rattle.railway.specs.Bounds.{mostTrains}
+use Rattle.railway.proofs.Arrays.{own-links, own-signals}
+use Rattle.compiled.specs.Table.{routeBytes, tableBytes, compiledByte, FilledBefore}
+use Rattle.compiled.proofs.Table.{filled-none, filled-routes, post-refused, post-accepted}
 use Rattle.compiled.proofs.compile.Statement.{statement}
 use Rattle.compiled.proofs.compile.Tie as tie
 
 abbrev Inv-loop : tie.InvT-loop
-Inv-loop r table₀ tested i₀ table i = FilledTo (compiledByte r) tableBytes table i
+Inv-loop r table₀ tested links signals trains t₀ table t = (t ≤ mostTrains) × FilledBefore r t table
 
 abbrev μ-loop : tie.MeasureT-loop
-μ-loop r table₀ tested i₀ table i = tableBytes - i
+μ-loop r table₀ tested links signals trains t₀ table t = mostTrains - t
 
-test-record-requires : tie.Need-test-record-requires Inv-loop μ-loop
+abbrev Inv-loop2 : tie.InvT-loop2
+Inv-loop2 r table₀ tested trains t i₀ table i = (routeBytes ≤ i) × FilledTo (compiledByte r) tableBytes table i
+
+abbrev μ-loop2 : tie.MeasureT-loop2
+μ-loop2 r table₀ tested trains t i₀ table i = tableBytes - i
+
+-- where the record was tested, and the start
+abbrev tested : tie.After-trains-of Inv-loop μ-loop Inv-loop2 μ-loop2 → tie.After-test-record Inv-loop μ-loop Inv-loop2 μ-loop2
+tested e = e .before .before .before .before .before
+
+test-record-requires : tie.Need-test-record-requires Inv-loop μ-loop Inv-loop2 μ-loop2
 test-record-requires c κs = search needs
 
-enum-told : tie.Need-enum-told Inv-loop μ-loop
+enum-told : tie.Need-enum-told Inv-loop μ-loop Inv-loop2 μ-loop2
 enum-told c = search needs
 
-enum-told-2 : tie.Need-enum-told-2 Inv-loop μ-loop
+enum-told-2 : tie.Need-enum-told-2 Inv-loop μ-loop Inv-loop2 μ-loop2
 enum-told-2 c = search needs
 
-returns : tie.Need-returns Inv-loop μ-loop
+returns : tie.Need-returns Inv-loop μ-loop Inv-loop2 μ-loop2
 returns c = post-refused (c .before .before .before .args .r) _ (c .before .before .test-record .ensures) _ (c .enum-told2 .given .1)
 
-loop-holds : tie.Need-loop-holds Inv-loop μ-loop
-loop-holds c = fill-start (compiledByte (c .before .before .before .args .r)) tableBytes _ (length-replicate {A = ℕ} tableBytes 0)
+trains-of-requires : tie.Need-trains-of-requires Inv-loop μ-loop Inv-loop2 μ-loop2
+trains-of-requires c κs = search needs
 
-byte-for-requires : tie.Need-byte-for-requires Inv-loop μ-loop
-byte-for-requires c κs = omega arith
+loop-holds : tie.Need-loop-holds Inv-loop μ-loop Inv-loop2 μ-loop2
+loop-holds c = (omega arith, filled-none (tested c .before .args .r) 0 _ refl)
 
-array-write-table : tie.Need-array-write-table Inv-loop μ-loop
-array-write-table c = omega arith
+cast-at : tie.Need-cast-at Inv-loop μ-loop Inv-loop2 μ-loop2
+cast-at c = search needs
 
-add-i : tie.Need-add-i Inv-loop μ-loop
-add-i c = omega arith
+mul-fill-routes : tie.Need-mul-fill-routes Inv-loop μ-loop Inv-loop2 μ-loop2
+mul-fill-routes c = omega arith
 
-loop-less : tie.Need-loop-less Inv-loop μ-loop
+array-copy-out-fill-routes : tie.Need-array-copy-out-fill-routes Inv-loop μ-loop Inv-loop2 μ-loop2
+array-copy-out-fill-routes c = omega arith
+
+fill-routes-requires : tie.Need-fill-routes-requires Inv-loop μ-loop Inv-loop2 μ-loop2
+fill-routes-requires c κs = omega arith
+
+add-t : tie.Need-add-t Inv-loop μ-loop Inv-loop2 μ-loop2
+add-t c = omega arith
+
+loop-less : tie.Need-loop-less Inv-loop μ-loop Inv-loop2 μ-loop2
 loop-less c = omega arith
 
-loop-again : tie.Need-loop-again Inv-loop μ-loop
-loop-again c = fill-next (compiledByte (c .before .before .before .before .before .before .args .r)) tableBytes _ _ (c .before .before .loop .inv) _ (c .before .loop-test .taken) (c .byte-for .ensures)
+loop-again : tie.Need-loop-again Inv-loop μ-loop Inv-loop2 μ-loop2
+loop-again c =
+    let i = c .before .before .before .before .before in
+    let l = i .before in
+    let s = tested (l .before) .before in
+    let r = s .args .r in
+    (omega arith, c .fill-routes .ensures r (own-links r _ (s .good .0)) (own-signals r _ (s .good .0)) (l .before .trains-of .ensures .each (l .loop .t) (i .loop-test .taken)) (l .loop .inv .1))
 
-returns-2 : tie.Need-returns-2 Inv-loop μ-loop
-returns-2 c = post-accepted (c .before .before .before .before .before .args .r) _ (c .before .before .before .before .test-record .ensures) _ _ (c .before .before .enum-told .given .1) (c .before .loop .inv) (c .loop-test .left)
+loop2-holds : tie.Need-loop2-holds Inv-loop μ-loop Inv-loop2 μ-loop2
+loop2-holds c = let l = c .before in (omega arith, filled-routes (tested (l .before) .before .args .r) _ _ (l .loop .inv .0) (c .loop-test .left) (l .loop .inv .1))
+
+tail-byte-requires : tie.Need-tail-byte-requires Inv-loop μ-loop Inv-loop2 μ-loop2
+tail-byte-requires c κs = (c .before .loop2 .inv .0, omega arith)
+
+array-write-table : tie.Need-array-write-table Inv-loop μ-loop Inv-loop2 μ-loop2
+array-write-table c = omega arith
+
+add-i : tie.Need-add-i Inv-loop μ-loop Inv-loop2 μ-loop2
+add-i c = omega arith
+
+loop2-less : tie.Need-loop2-less Inv-loop μ-loop Inv-loop2 μ-loop2
+loop2-less c = omega arith
+
+loop2-again : tie.Need-loop2-again Inv-loop μ-loop Inv-loop2 μ-loop2
+loop2-again c =
+    let i = c .before in
+    let m = i .before in
+    let l = m .before .before in
+    let r = tested (l .before) .before .args .r in (
+      omega (arith, m .loop2 .inv .0),
+      fill-next (compiledByte r) tableBytes _ _ (m .loop2 .inv .1) _ (i .loop2-test .taken)
+          (c .tail-byte .ensures r (record { sections = refl; points = refl; trains = refl }) (l .before .trains-of .ensures)),
+    )
+
+returns-2 : tie.Need-returns-2 Inv-loop μ-loop Inv-loop2 μ-loop2
+returns-2 c =
+    let m = c .before in
+    let e = m .before .before .before in
+    let t = tested e in
+    post-accepted (t .before .args .r) _ (t .test-record .ensures) _ _ (e .before .before .before .enum-told .given .1) (m .loop2 .inv .1) (c .loop2-test .left)
 
 pub compile-spec : {M : Type 1} → statement M
 compile-spec =
@@ -55,14 +112,25 @@ compile-spec =
     (tie.spec
     Inv-loop
     μ-loop
+    Inv-loop2
+    μ-loop2
     test-record-requires
     enum-told
     enum-told-2
     returns
+    trains-of-requires
     loop-holds
-    byte-for-requires
-    array-write-table
-    add-i
+    cast-at
+    mul-fill-routes
+    array-copy-out-fill-routes
+    fill-routes-requires
+    add-t
     loop-less
     loop-again
+    loop2-holds
+    tail-byte-requires
+    array-write-table
+    add-i
+    loop2-less
+    loop2-again
     returns-2)

@@ -5,21 +5,17 @@ use Rattle.compiled.proofs.Table.{roster-heading, roster-start, roster-
 use Rattle.compiled.proofs.roster_byte.Statement.{statement}
 use Rattle.compiled.proofs.roster_byte.Tie as tie
 
-train-of-requires : tie.Need-train-of-requires
-train-of-requires c κs = search needs
-
 side-index-requires : tie.Need-side-index-requires
 side-index-requires c κs = search needs
 
 returns : tie.Need-returns
-returns c = roster-heading (c .before .before .before .args .r) _ _ _ (c .before .before .train-of .ensures) _ (c .before .if1 .taken) (c .side-index .ensures)
+returns c = λ r t h. roster-heading r _ t _ h _ (c .before .if1 .taken) (c .side-index .ensures)
 
 returns-2 : tie.Need-returns-2
-returns-2 c = roster-start (c .before .before .before .args .r) _ _ _ (c .before .before .train-of .ensures) (c .before .if1 .left) (c .if2 .taken)
+returns-2 c = λ r t h. roster-start r _ t _ h (c .before .if1 .left) (c .if2 .taken)
 
 returns-3 : tie.Need-returns-3
-returns-3 c = roster-destination (c .before .before .before .args .r) _ _ _ (c .before .before .train-of .ensures) (c .before .if1 .left) (c .if2 .left)
+returns-3 c = λ r t h. roster-destination r _ t _ h (c .before .if1 .left) (c .if2 .left)
 
 pub roster-byte-spec : {M : Type 1} → statement M
-roster-byte-spec =
-    tie.close (tie.spec train-of-requires side-index-requires returns returns-2 returns-3)
+roster-byte-spec = tie.close (tie.spec side-index-requires returns returns-2 returns-3)

@@ -1,18 +1,22 @@
--- `compiled::section_from` meets its contract: the end is joined to what the lookup says.
+-- `compiled::section_from` meets its contract: the end's link, and what lies past it.
 -- Assumes nothing.
 use borrow.Author.Needs.{needs}
-use Rattle.compiled.proofs.Table.{from-join}
+use Rattle.railway.proofs.Arrays.{own-links}
+use Rattle.compiled.proofs.Table.{from-link}
 use Rattle.compiled.proofs.section_from.Statement.{statement}
 use Rattle.compiled.proofs.section_from.Tie as tie
 
-joined-requires : tie.Need-joined-requires
-joined-requires c κs = search needs
+index-of-requires : tie.Need-index-of-requires
+index-of-requires c κs = search needs
 
-past-join-requires : tie.Need-past-join-requires
-past-join-requires c κs = search needs
+link-in-requires : tie.Need-link-in-requires
+link-in-requires c κs = search needs
+
+section-past-join-requires : tie.Need-section-past-join-requires
+section-past-join-requires c κs = search needs
 
 returns : tie.Need-returns
-returns c = from-join (c .before .before .args .r) _ _ _ _ (c .before .joined .ensures) (c .past-join .ensures)
+returns c = let l = c .before .before in let i = l .before in let s = i .before .before .before in let r = s .args .r in let o = own-links r _ (s .good .0) in from-link r _ _ _ (i .index-of .ensures) o (l .link-in .ensures r o) _ _ (c .section-past-join .ensures r o)
 
 pub section-from-spec : {M : Type 1} → statement M
-section-from-spec = tie.close (tie.spec joined-requires past-join-requires returns)
+section-from-spec = tie.close (tie.spec index-of-requires link-in-requires section-past-join-requires returns)

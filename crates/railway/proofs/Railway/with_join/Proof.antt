@@ -1,6 +1,7 @@
 -- `railway::Railway::with_join` meets its contract: both directions are set where both ends have an index, else nothing is.
 -- Assumes nothing.
 use borrow.Author.Needs.{needs}
+use mathlib.Core.Path.{refl}
 use Rattle.railway.proofs.Updates.{join-both, join-first-out, join-second-out}
 use Rattle.railway.proofs.Railway.with_join.Statement.{statement}
 use Rattle.railway.proofs.Railway.with_join.Tie as tie
@@ -11,17 +12,23 @@ index-of-requires c κs = search needs
 index-of-requires-2 : tie.Need-index-of-requires-2
 index-of-requires-2 c κs = search needs
 
-with-link-requires : tie.Need-with-link-requires
-with-link-requires c κs = search needs
+cast-at : tie.Need-cast-at
+cast-at c = search needs
 
-with-link-requires-2 : tie.Need-with-link-requires-2
-with-link-requires-2 c κs = search needs
+cast-back : tie.Need-cast-back
+cast-back c = search needs
+
+element-write-next : tie.Need-element-write-next
+element-write-next c = search needs
+
+element-write-next-2 : tie.Need-element-write-next-2
+element-write-next-2 c = search needs
 
 returns : tie.Need-returns
-returns c = let d = c .before .before .before in let x = d .before in let a = x .before .before .args in join-both (a .self) (a .a) (a .b) _ _ (x .before .index-of .ensures) (x .index-of2 .ensures) _ _ (d .if1 .taken) (c .before .before .if2 .taken) (c .before .with-link .ensures) (c .with-link2 .ensures)
+returns c = let x = c .before .before in let a = x .before .before .args in join-both (a .self) (a .a) (a .b) _ _ (x .before .index-of .ensures) (x .index-of2 .ensures) _ (c .before .if1 .taken) (c .if2 .taken) refl
 
 returns-2 : tie.Need-returns-2
-returns-2 c = let d = c .before in let x = d .before in let a = x .before .before .args in join-second-out (a .self) (a .a) (a .b) _ _ (x .before .index-of .ensures) (x .index-of2 .ensures) (d .if1 .taken) (c .if2 .left)
+returns-2 c = let x = c .before .before in let a = x .before .before .args in join-second-out (a .self) (a .a) (a .b) _ _ (x .before .index-of .ensures) (x .index-of2 .ensures) (c .before .if1 .taken) (c .if2 .left)
 
 returns-3 : tie.Need-returns-3
 returns-3 c = let x = c .before in let a = x .before .before .args in join-first-out (a .self) (a .a) (a .b) _ _ (x .before .index-of .ensures) (x .index-of2 .ensures) (c .if1 .left)
@@ -32,8 +39,10 @@ with-join-spec =
     (tie.spec
     index-of-requires
     index-of-requires-2
-    with-link-requires
-    with-link-requires-2
+    cast-at
+    cast-back
+    element-write-next
+    element-write-next-2
     returns
     returns-2
     returns-3)

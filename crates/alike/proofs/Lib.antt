@@ -1,0 +1,4 @@
+pub mod Playing
+pub mod Solving
+pub mod Alike
+pub mod Uses
