@@ -37,12 +37,13 @@ struct Lines {
 struct Track {
     int joined[ENDS];
     bool signal[PORTS] = {};
+    bool closed[SECTIONS] = {};
 
     Track() { std::fill(joined, joined + ENDS, -1); }
     void join(int a, int b) { joined[a] = b; joined[b] = a; }
 
     Step step(int end, int32_t stride) const {
-        auto change = [&](int to) { return to < 0 ? 0 : (to / 2 - end / 2) * stride; };
+        auto change = [&](int to) { return to < 0 || closed[to / 2] ? 0 : (to / 2 - end / 2) * stride; };
         Step s;
         s.signal = signal[end];
         s.free = !s.signal;
@@ -71,6 +72,7 @@ Yard read_yard(std::string_view text) {
         case 'P': in.field(); in.field(); break;    // the joins say all that moves depend on
         case 'J': { int a = in.end(), b = in.end(); track.join(a, b); break; }
         case 'G': track.signal[in.end()] = true; break;
+        case 'X': track.closed[in.number() - 1] = true; break;
         case 'T': {
             int t = in.number() - 1, heading = in.field() == "u" ? 0 : 1;
             y.stride[t] = y.placements;

@@ -11,7 +11,7 @@ using u64 = uint64_t;
 constexpr int SECTIONS = 48, TRAINS = 4;
 constexpr u32 NONE = 0xFFFFFFFF;                    // no figure; no setting found
 
-// A train leaves a section by the end it heads for. A change of 0 stands for a derailment, and for a way round into the train's own section:
+// A train leaves a section by the end it heads for. A change of 0 stands for a derailment, for a closed section, and for a way round into the train's own:
 // neither ends nearer to home. On its destination a train is parked: it is not free, and has no signal to open.
 struct Step {
     int32_t minus = 0, plus = 0;                    // the code's change with the point so set; both, where no point is met

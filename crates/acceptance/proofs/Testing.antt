@@ -11,16 +11,22 @@ use Rattle.laws.specs.Below.{anyBelow}
 use Rattle.railway.specs.declared.Train.{Train}
 use Rattle.railway.specs.declared.Railway.{Railway}
 use Rattle.railway.specs.declared.Refusal.{Refusal}
-use Rattle.railway.specs.Bounds.{sectionEnds, allEnds}
-use Rattle.railway.specs.Record.{trainOf}
+use Rattle.railway.specs.Bounds.{mostSections, sectionEnds, allEnds}
+use Rattle.railway.specs.Record.{isClosed, trainOf}
 use Rattle.railway.specs.Refusals.{Row, numberOf, first}
-use Rattle.railway.specs.Rows.{unknownSignalAt, unknownTrainAt, rowsBy, countRow, unknownRow, joinRow, looseRow, placeRow, recordRefusal}
+use Rattle.railway.specs.Rows.{unknownSignalAt, unknownClosedAt, unknownTrainAt, shutOutAt, rowsBy, countRow, unknownRow, joinRow, looseRow, placeRow, recordRefusal}
 use Rattle.acceptance.specs.Answers.{Looked}
 
 -- a train's start and destination
 module _ (r : Railway) (t : ℕ) (x : Train) (is : x ≡ trainOf r t) where
   pub train-unknown : not (ltb (x .start .0) (r .sections) && ltb (x .destination .0) (r .sections)) ≡ unknownTrainAt r t
   train-unknown = rw (← is)
+
+  pub shut-start : isClosed r (x .start .0) ≡ true → true ≡ shutOutAt r t
+  shut-start h = rw (← is, h)
+
+  pub shut-end : isClosed r (x .start .0) ≡ false → (b : Bool) → b ≡ isClosed r (x .destination .0) → b ≡ shutOutAt r t
+  shut-end h b e = rw (← is, h) e
 
 -- tests by their parts
 pub first-holds : (a b : Bool) → a ≡ true → true ≡ (a || b)
@@ -57,8 +63,8 @@ none-asked rows = record { gives = refl }
 pub judged : {o g : Option Refusal} → o ≡ g → numberOf o ≡ numberOf g
 judged h = ap numberOf h
 
--- the test of a record: what is found in its links, its signals and its trains
-pub tested : (r : Railway) (n : Option ℕ) (u w b g t : Bool) → n ≡ numberOf (first (rowsBy (countRow r) ((u || g) || t) (w || b) (looseRow r) false (placeRow r)))
-    → Looked r allEnds u w b → g ≡ anyBelow (unknownSignalAt r) sectionEnds → t ≡ anyBelow (unknownTrainAt r) (r .trains) → n ≡ numberOf (recordRefusal r)
+-- the test of a record: what is found in its links, its signals, its closed sections and its trains
+pub tested : (r : Railway) (n : Option ℕ) (u w b g x t : Bool) → n ≡ numberOf (first (rowsBy (countRow r) (((u || g) || x) || t) (w || b) (looseRow r) false (placeRow r)))
+    → Looked r allEnds u w b → g ≡ anyBelow (unknownSignalAt r) sectionEnds → x ≡ anyBelow (unknownClosedAt r) mostSections → t ≡ anyBelow (unknownTrainAt r) (r .trains) → n ≡ numberOf (recordRefusal r)
 unfolding recordRefusal unknownRow joinRow
-tested r n u w b g t e h hg ht = e ∙ rw (h .unknown, h .wrong, h .unreturned, hg, ht)
+tested r n u w b g x t e h hg hx ht = e ∙ rw (h .unknown, h .wrong, h .unreturned, hg, hx, ht)

@@ -9,13 +9,13 @@ use Rattle.laws.specs.Below.{anyBelow}
 use Rattle.railway.specs.declared.Railway.{Railway}
 use Rattle.railway.specs.declared.CaseAnswer.{CaseAnswer}
 use Rattle.acceptance.specs.declared.Flaw.{Flaw}
-use Rattle.acceptance.specs.declared.Flaw.the-variants.{UnknownTrain, SharesWith}
+use Rattle.acceptance.specs.declared.Flaw.the-variants.{UnknownTrain, ShutOut, SharesWith}
 use Rattle.railway.specs.Bounds.{mostPoints}
 use Rattle.railway.specs.Ends.{sideIndex}
 use Rattle.railway.specs.Record.{legsOf}
 use Rattle.railway.specs.Lent.{LinksOf}
 use Rattle.railway.specs.Refusals.{numberGiven, numberOf}
-use Rattle.railway.specs.Rows.{recordRefusal, unknownLinkAt, unknownTrainAt, wrongLinkAt, unreturnedAt, sharesWith}
+use Rattle.railway.specs.Rows.{recordRefusal, unknownLinkAt, unknownTrainAt, wrongLinkAt, unreturnedAt, sharesWith, shutOutAt}
 
 -- What the test of a record answers: the first of rows 3 to 8 that applies, by its number; accepted where none does.
 abbrev pub Judged : Railway → CaseAnswer → Type 0
@@ -24,6 +24,7 @@ Judged r t = numberGiven t ≡ numberOf (recordRefusal r)
 -- What the test looks for, train by train.
 abbrev pub flawAt : Railway → Flaw → ℕ → Bool
 flawAt r UnknownTrain t = unknownTrainAt r t
+flawAt r ShutOut t = shutOutAt r t
 flawAt r (SharesWith t) u = sharesWith r t u
 
 -- PARTS OF A RECORD, as functions of the test are lent them. So many sections and points.

@@ -7,14 +7,15 @@ ghost use Prim.Native.Nat.{_<_};
 ghost use Rattle.laws.specs.Below.{anyBelow};
 ghost use Rattle.railway.specs.declared.Railway.{Railway};
 ghost use Rattle.railway.specs.declared.Side.the-variants.{Up};
-ghost use Rattle.railway.specs.Bounds.{sectionEnds, allEnds};
+ghost use Rattle.railway.specs.Bounds.{mostSections, sectionEnds, allEnds};
 ghost use Rattle.railway.specs.Ends.{sameSide, sideIndex, endAt};
 ghost use Rattle.railway.specs.Record.{linkAt, sideOf};
 ghost use Rattle.railway.specs.Refusals.{numberGiven, numberOf, first};
-ghost use Rattle.railway.specs.Rows.{rowsBy, countRow, looseRow, outside, known, unknownLinkAt, unknownSignalAt, unknownTrainAt, sectionOf, bothPorts, oneSection, tied, wrongPair, wrongLinkAt, unreturnedAt, unjoined, looseAt, sharesWith, placeRow};
-ghost use Rattle.railway.specs.Lent.{LinksOf, SignalsOf};
+ghost use Rattle.railway.specs.Rows.{rowsBy, countRow, looseRow, outside, known, unknownLinkAt, unknownSignalAt, unknownClosedAt, unknownTrainAt, sectionOf, bothPorts, oneSection, tied, wrongPair, wrongLinkAt, unreturnedAt, unjoined, looseAt, sharesWith, sharesAt, shutOutAt, placeRow};
+ghost use Rattle.railway.specs.Lent.{LinksOf, SignalsOf, ClosedOf};
 ghost use Rattle.acceptance.specs.Answers.{Judged, flawAt, Counts, Sided, Lent, Looked};
 use railway::CaseAnswer;
+use railway::Closed;
 use railway::End;
 use railway::Joined;
 use railway::Legs;
@@ -34,18 +35,20 @@ struct Found {
     unreturned: bool,
 }
 
-// What the rows look for, train by train. The last is asked of a train and of those before it.
+// What the rows look for, train by train. `SharesWith` is asked of a train and of those before it.
 enum Flaw {
     UnknownTrain,
+    ShutOut,
     SharesWith(u8),
 }
 
-// The test of a record, rows 3 to 8 in the table's order. (Row 7 cannot apply: a record has one flag a signal.)
+// The test of a record, rows 3 to 8 in the table's order. (Row 7 cannot apply: a record has one flag a signal and one a section.)
 pub fn test_record(r: Railway) -> CaseAnswer
     ensures { λ t. ⌜ Judged r t ⌝ }
 {
     let links = r.links;
     let signals = r.signals;
+    let closed = r.closed;
     let legs = r.legs;
     let s = r.sections;
     let p = r.points;
@@ -53,6 +56,7 @@ pub fn test_record(r: Railway) -> CaseAnswer
     let found = look(&links, &sides, s, p);
     let unknown = found.unknown
         | unknown_signals(&signals, s, p)
+        | unknown_closed(&closed, s)
         | any_flaw(r, Flaw::UnknownTrain, r.trains);
     first_row(r, unknown, found.wrong | found.unreturned, false)
 }
@@ -77,7 +81,7 @@ pub fn first_row(r: Railway, unknown: bool, wrong: bool, double: bool) -> CaseAn
     if double {
         return CaseAnswer::Refused(Refusal::Double);
     }
-    if places_shared(r) {
+    if misplaced(r) {
         return CaseAnswer::Refused(Refusal::Place);
     }
     CaseAnswer::Accepted
@@ -254,6 +258,19 @@ fn unknown_signals(signals: &Signals, s: u8, p: u8) -> bool
     found
 }
 
+// Row 4 at the closed sections.
+fn unknown_closed(closed: &Closed, s: u8) -> bool
+    ensures { λ b. ⌜ ((r : Railway) → ClosedOf r (now (closed .entry)) → r .sections ≡ s → b ≡ anyBelow (unknownClosedAt r) mostSections) ⌝ }
+{
+    let mut found = false;
+    let mut x: u8 = 0;
+    while x < Railway::SECTIONS {
+        found = found | (railway::closed_in(closed, x) & !(x < s));
+        x += 1;
+    }
+    found
+}
+
 // Row 6.
 fn loose_ports(links: &Links, p: u8) -> bool
     ensures { λ b. ⌜ ((r : Railway) → LinksOf r (now (links .entry)) → r .points ≡ p → b ≡ looseRow r) ⌝ }
@@ -286,8 +303,18 @@ fn is_loose(links: &Links, i: u8) -> bool
 }
 
 // Row 8.
-fn places_shared(r: Railway) -> bool
+fn misplaced(r: Railway) -> bool
     ensures { λ b. ⌜ b ≡ placeRow r ⌝ }
+{
+    if places_shared(r) {
+        return true;
+    }
+    any_flaw(r, Flaw::ShutOut, r.trains)
+}
+
+// Two trains have one start, or one destination.
+fn places_shared(r: Railway) -> bool
+    ensures { λ b. ⌜ b ≡ anyBelow (sharesAt r) (r .trains) ⌝ }
 {
     let k = r.trains;
     let mut t: u8 = 0;
@@ -319,6 +346,7 @@ fn has_flaw(r: Railway, f: Flaw, i: u8) -> bool
 {
     match f {
         Flaw::UnknownTrain => unknown_train(r, i),
+        Flaw::ShutOut => shut_out(r, i),
         Flaw::SharesWith(t) => shares_with(r, t, i),
     }
 }
@@ -329,6 +357,17 @@ fn unknown_train(r: Railway, t: u8) -> bool
     let x = r.train_of(t);
     let s = r.sections;
     !((x.start.0 < s) & (x.destination.0 < s))
+}
+
+fn shut_out(r: Railway, t: u8) -> bool
+    ensures { λ b. ⌜ b ≡ shutOutAt r t ⌝ }
+{
+    let x = r.train_of(t);
+    if r.closed_at(x.start.0) {
+        true
+    } else {
+        r.closed_at(x.destination.0)
+    }
 }
 
 fn shares_with(r: Railway, t: u8, u: u8) -> bool

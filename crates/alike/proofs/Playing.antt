@@ -17,11 +17,11 @@ use Rattle.railway.specs.declared.Railway.{Railway}
 use Rattle.railway.specs.Ends.{endIndex}
 use Rattle.railway.specs.Record.{joined, hasSignal, trainOf}
 use Rattle.railway.specs.Same.{SameRailway}
-use Rattle.railway.proofs.Same.{joined-same, signal-same, roster-same}
+use Rattle.railway.proofs.Same.{closed-same, joined-same, signal-same, roster-same}
 use Rattle.game.specs.Game.{Outcome, Game}
 use Rattle.game.specs.Placement.{standsOn, placements, startCode, arrived, atHome, standsWith, sharesLower, shared}
 use Rattle.game.specs.Setting.{Setting, headsFor, held, free, signalOpen, mayMove}
-use Rattle.game.specs.Moves.{through, pastPoint, pastJoin, passes, otherOn, occupied, enters, moveOf, gameOf}
+use Rattle.game.specs.Moves.{through, pastPoint, pastJoin, passes, inUse, entered, otherOn, occupied, enters, moveOf, gameOf}
 
 module _ (r q : Railway) (h : SameRailway r q) where
   pub placements-same : placements r ≡ placements q
@@ -98,10 +98,17 @@ module _ (r q : Railway) (h : SameRailway r q) where
   unfolding passes
   passes-same plus e = past-same plus (joined r e) ∙ ap (pastJoin q plus) (joined-same r q h e)
 
+  use-same : (o : Option ℕ) → inUse r o ≡ inUse q o
+  use-same none = refl
+  use-same (some x) = rw (closed-same r q h x)
+
+  entered-same : (plus : ℕ → Bool) (e : End) → entered r plus e ≡ entered q plus e
+  unfolding entered
+  entered-same plus e = rw (passes-same plus e) (use-same (passes q plus e .reached))
+
   move-same : (p : ℕ) (s : Setting) (t : ℕ) → moveOf r p s t ≡ moveOf q p s t
   unfolding moveOf
-  move-same p s t =
-      rw (heads-same p t, passes-same (s .plus) (headsFor q p t)) (enters-same p t (passes q (s .plus) (headsFor q p t) .reached))
+  move-same p s t = rw (heads-same p t, entered-same (s .plus) (headsFor q p t)) (enters-same p t (entered q (s .plus) (headsFor q p t)))
 
   pub game-same : gameOf r ≡ gameOf q
   game-same =

@@ -33,7 +33,7 @@ blank = withLinks yardA (set (yardA .links) 0 200)
 
 blank-same : SameButForNone yardA blank
 unfolding blank withJoin withSignal withLegs withTrain
-blank-same = record { sections = refl; points = refl; trains = refl; legs = refl; signals = refl; roster = refl; links = λ i h. each i }
+blank-same = record { sections = refl; points = refl; trains = refl; legs = refl; signals = refl; closed = refl; roster = refl; links = λ i h. each i }
   where
     each : (i : ℕ) → SameByte (getD (yardA .links) i noLink) (getD (blank .links) i noLink)
     each zero = inr (omega arith, omega arith)

@@ -1,18 +1,19 @@
--- The railway of an accepted description is accepted as a record. Every link comes from a J line, every flag from a G line and every train from a
+-- The railway of an accepted description is accepted as a record. Every link comes from a J line, every flag from a G or an X line and every train from a
 -- T line, so what the rows say of the lines they say of the record; a link is returned because its J line joins both its ends.
 -- Assumes nothing.
 use Prim.Native.Nat.{ℕ, suc, _-_, _/_, _<_, _≤_}
 use mathlib.Core.Path.{_≡_, refl, sym, _∙_, ap}
+use mathlib.Core.Logic.{inl, inr}
 use mathlib.Core.Bool.{true, false}
 use mathlib.Core.List.{map}
 use mathlib.Core.Option.{Option, none, some}
 use native.Mathlib.Omega.{arith}
 use lib.Dec.{eqb}
 use lib.ListN.{getD, length-map, List·getD-map}
-use borrow.Author.Tests.{eqb-false, eq-eqb, ne-eqb, lt-ltb}
+use borrow.Author.Tests.{eqb-true, eqb-false, eq-eqb, ne-eqb, lt-ltb}
 use Rattle.laws.specs.Lists.{repeats}
-use Rattle.laws.proofs.Bools.{clash}
-use Rattle.laws.proofs.Lists.{any-found, repeats-apart}
+use Rattle.laws.proofs.Bools.{clash, lt?}
+use Rattle.laws.proofs.Lists.{any-found, getD-member, repeats-apart}
 use Rattle.railway.specs.declared.Side.{Side}
 use Rattle.railway.specs.declared.Side.the-variants.{Up, Down}
 use Rattle.railway.specs.declared.Leg.{Leg}
@@ -21,22 +22,23 @@ use Rattle.railway.specs.declared.End.the-variants.{Port}
 use Rattle.railway.specs.declared.Joined.the-variants.{Nothing, With}
 use Rattle.railway.specs.declared.Train.{Train}
 use Rattle.railway.specs.declared.Railway.{Railway}
-use Rattle.railway.specs.Bounds.{sectionEnds, allEnds}
+use Rattle.railway.specs.Bounds.{mostSections, sectionEnds, allEnds}
 use Rattle.railway.specs.Ends.{sameSide, portSide, endIndex, endAt}
-use Rattle.railway.specs.Record.{linkAt, flagAt, joined, trainOf}
+use Rattle.railway.specs.Record.{linkAt, flagAt, closedAt, joined, isClosed, trainOf}
 use Rattle.railway.specs.Record as R
 use Rattle.railway.specs.Rows.{bothPorts, oneSection, recordRefusal}
 use Rattle.railway.specs.Rows as RR
 use Rattle.railway.proofs.Ends.{end-section}
+use Rattle.railway.proofs.Lookups.{closed-there, closed-none}
 use Rattle.railway.proofs.Accepted.{Right, Accepted, facts-accepted}
 use Rattle.casefile.specs.Form.{EndField, section, port, SignalLine, TrainLine, Description, WellFormed, sameSignal}
-use Rattle.casefile.specs.Rows.{known, sectionOf, sideOf}
+use Rattle.casefile.specs.Rows.{known, sectionOf, sideOf, closedIn}
 use Rattle.casefile.specs.Recording.{endOf, fieldOf, partner, signalOf, trainOfLine, noTrainLine, railwayOf}
 use Rattle.casefile.specs.Claims.{AcceptedAgain}
 use Rattle.casefile.proofs.Exactly.{accepted-exactly}
 use Rattle.casefile.proofs.Faultless.{Faultless, faultless-facts, within-is}
 use Rattle.casefile.proofs.Ends.{signal-is, end-field, field-end, ports-same, one-same, Ties, forth, back, partner-ties, partner-one, partner-other, partner-nothing}
-use Rattle.casefile.proofs.Described.{link-at, flag-at, legs-at, roster-at, joined-at, counted-end, numbered-end, joinable, roster-known}
+use Rattle.casefile.proofs.Described.{link-at, flag-at, closed-at, legs-at, roster-at, joined-at, counted-end, numbered-end, joinable, roster-known}
 
 -- the tests of row 5, turned round
 ports-turned : (a b : Option ℕ) → bothPorts a b ≡ false → bothPorts b a ≡ false
@@ -105,6 +107,19 @@ module _ (d : Description) (w : Faultless d) where
       let k = within-is (f .element .number) (d .sections) (w .signal-known (f .element) (f .member)) in
       rw (end-section i h) (lt-ltb (i / 2) (d .sections) (omega arith))
 
+  closed-known : (x : ℕ) → x < mostSections → closedAt (railwayOf d) x ≡ true → x < d .sections
+  closed-known x h l =
+      let f = any-found (eqb (suc x)) (d .closed) (sym (closed-at d x h) ∙ l) in
+      let e = eqb-true (suc x) (f .element) (f .passes) in
+      let k = within-is (f .element) (d .sections) (w .closed-known (f .element) (f .member)) in
+      omega arith
+
+  open-section : (n : ℕ) → 1 ≤ n → closedIn d n ≡ false → isClosed (railwayOf d) (n - 1) ≡ false
+  open-section n h c = elim (lt? (n - 1) mostSections) [
+    | inl l ↦ let z : suc (n - 1) ≡ n = omega arith in sym (closed-there (railwayOf d) (n - 1) l) ∙ closed-at d (n - 1) l ∙ rw z c
+    | inr l ↦ sym (closed-none (railwayOf d) (n - 1) l)
+  ]
+
   port-joined : (n : ℕ) (l : Leg) → n < d .points → joined (railwayOf d) (Port (record { 0 = n }) l) ≡ Nothing → ⊥
   port-joined n l h e =
       let b = w .bounds in
@@ -116,6 +131,13 @@ module _ (d : Description) (w : Faultless d) where
     train-known t h =
         let k = roster-known d w f t h in
         rw (roster-at d t h (w .bounds .few-trains)) (omega arith)
+
+    places-kept : (t : ℕ) → t < d .trains → (isClosed (railwayOf d) (trainOf (railwayOf d) t .start .0) ≡ false) × (isClosed (railwayOf d) (trainOf (railwayOf d) t .destination .0) ≡ false)
+    places-kept t h =
+        let k = roster-known d w f t h in
+        let c = w .places-kept (getD (d .roster) t noTrainLine) (getD-member (d .roster) t noTrainLine (rw (f .one-a-train) h)) in
+        rw (roster-at d t h (w .bounds .few-trains))
+        (open-section (getD (d .roster) t noTrainLine .start) (k .0) (c .0), open-section (getD (d .roster) t noTrainLine .destination) (k .2) (c .1))
 
     -- a number of each train: where those of the T lines do not repeat, those of the record are apart
     apart : (p : TrainLine → ℕ) (q : Train → ℕ) → ((t : TrainLine) → q (trainOfLine t) ≡ p t - 1)
@@ -137,11 +159,13 @@ module _ (d : Description) (w : Faultless d) where
           bounds = w .bounds;
           link-known = λ i x h l. let k = tied-known (fieldOf (endAt i)) x (ties-at i x h l) in (rw end-field at (k .0), k .1);
           signal-known = signal-known;
+          closed-known = λ x h l. closed-known x h (closed-there (railwayOf d) x h ∙ l);
           train-known = train-known;
           link-right = λ i x h l. rw end-field at (tied-right (fieldOf (endAt i)) x (ties-at i x h l));
           port-joined = port-joined;
           starts = apart (λ t. t .start) (λ t. t .start .0) (λ t. refl) (λ t h. roster-known d w f t h .0) (w .starts);
           destinations = apart (λ t. t .destination) (λ t. t .destination .0) (λ t. refl) (λ t h. roster-known d w f t h .2) (w .destinations);
+          places-kept = places-kept;
         }
 
 refusal-of : (r q : Railway) → r ≡ q → recordRefusal q ≡ none → recordRefusal r ≡ none

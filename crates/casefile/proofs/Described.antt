@@ -1,5 +1,5 @@
 -- The railway of an accepted description has what its lines say, field by field. Each table of the record is looked up where it was made: the link of
--- an end is what the J lines join it to, its flag says whether a G line names it. Ends that no railway can have are named by no line.
+-- an end is what the J lines join it to, its flag says whether a G line names it, a section's whether an X line does. Ends that no railway can have are named by no line.
 -- Assumes nothing.
 use Prim.Native.Nat.{ℕ, suc, _/_, _%_, _<_, _≤_}
 use mathlib.Core.Path.{_≡_, refl, sym, _∙_, ap}
@@ -7,10 +7,11 @@ use mathlib.Core.Logic.{inl, inr}
 use mathlib.Core.List.{List·Memᴰ}
 use mathlib.Core.Bool.{Bool, true, false, cond}
 use native.Mathlib.Omega.{arith}
-use lib.Dec.{ltb}
+use lib.Dec.{ltb, eqb}
 use lib.ListN.{getD}
-use borrow.Author.Tests.{ltb-true, lt-ltb}
+use borrow.Author.Tests.{ltb-true, lt-ltb, eqb-true, eq-eqb}
 use Rattle.laws.specs.Lists.{any}
+use Rattle.laws.proofs.Bools.{clash, lt?}
 use Rattle.laws.proofs.Below.{list-get}
 use Rattle.laws.proofs.Lists.{any-found, any-true, getD-member}
 use Rattle.railway.specs.declared.Side.{Side}
@@ -21,12 +22,12 @@ use Rattle.railway.specs.declared.End.the-variants.{Section, Port}
 use Rattle.railway.specs.declared.Joined.the-variants.{Nothing, With}
 use Rattle.railway.specs.declared.Legs.{Legs}
 use Rattle.railway.specs.declared.Railway.{Railway}
-use Rattle.railway.specs.Bounds.{mostPoints, mostTrains, sectionEnds, allEnds}
+use Rattle.railway.specs.Bounds.{mostSections, mostPoints, mostTrains, sectionEnds, allEnds}
 use Rattle.railway.specs.Ends.{Numbered, sideAt, endIndex, endAt}
-use Rattle.railway.specs.Record.{noLegs, noLink, noTrain, joinedBy, linkByte, linkAt, flagAt, joined, hasSignal, legsOf, trainOf}
+use Rattle.railway.specs.Record.{noLegs, noLink, noTrain, joinedBy, linkByte, linkAt, flagAt, closedAt, joined, hasSignal, isClosed, legsOf, trainOf}
 use Rattle.railway.proofs.Ends.{end-index, index-below, numbered-of, end-section, section-below}
 use Rattle.railway.proofs.Bytes.{link-back}
-use Rattle.railway.proofs.Lookups.{Flagged, signal-flag}
+use Rattle.railway.proofs.Lookups.{Flagged, signal-flag, closed-there, closed-none}
 use Rattle.casefile.specs.Form.{EndField, section, port, JoinLine, SignalLine, Description, WellFormed, sameSignal}
 use Rattle.casefile.specs.Rows.{known}
 use Rattle.casefile.specs.Recording.{endOf, fieldOf, partner, signalOf, trainOfLine, noTrainLine, railwayOf}
@@ -76,6 +77,10 @@ module _ (d : Description) where
   unfolding railwayOf
   flag-at i h = list-get (λ i. any (sameSignal (signalOf i)) (d .signals)) sectionEnds i false h
 
+  pub closed-at : (x : ℕ) → x < mostSections → closedAt (railwayOf d) x ≡ any (eqb (suc x)) (d .closed)
+  unfolding railwayOf
+  closed-at x h = list-get (λ x. any (eqb (suc x)) (d .closed)) mostSections x false h
+
   pub legs-at : (n : ℕ) → n < d .points → d .points ≤ mostPoints → legsOf (railwayOf d) n ≡ getD (d .legs) n Up
   unfolding railwayOf legsOf
   legs-at n h b = rw (lt-ltb n (d .points) h) (ap (λ (l : Legs). l .side) (list-get (λ n. record { side = getD (d .legs) n Up }) mostPoints n noLegs (omega arith)))
@@ -83,6 +88,10 @@ module _ (d : Description) where
   pub roster-at : (t : ℕ) → t < d .trains → d .trains ≤ mostTrains → trainOf (railwayOf d) t ≡ trainOfLine (getD (d .roster) t noTrainLine)
   unfolding railwayOf trainOf
   roster-at t h b = rw (lt-ltb t (d .trains) h) (list-get (λ t. trainOfLine (getD (d .roster) t noTrainLine)) mostTrains t noTrain (omega arith))
+
+-- a closed section has its flag
+pub closed-flag : (r : Railway) (x : ℕ) → isClosed r x ≡ true → (x < mostSections) × (closedAt r x ≡ true)
+closed-flag r x h = elim (lt? x mostSections) [ inl l ↦ (l, closed-there r x l ∙ h) | inr l ↦ clash h (sym (closed-none r x l)) ]
 
 -- what is joined, or has a signal, is an end that a railway can have
 pub joined-numbered : (r : Railway) (e f : End) → joined r e ≡ With f → Numbered e
@@ -172,6 +181,20 @@ module _ (d : Description) (w : Faultless d) where
   described-signals (Section n s) t = described-signal n s t
   described-signals (Port n l) t = absurd (t .names)
 
+  -- the X lines
+  closed-described : (x : ℕ) → isClosed (railwayOf d) x ≡ true → List·Memᴰ (suc x) (d .closed)
+  closed-described x h =
+      let k = closed-flag (railwayOf d) x h in
+      let f = any-found (eqb (suc x)) (d .closed) (sym (closed-at d x (k .0)) ∙ k .1) in
+      rw (← eqb-true (suc x) (f .element) (f .passes)) at (f .member)
+
+  described-closed : (x : ℕ) → List·Memᴰ (suc x) (d .closed) → isClosed (railwayOf d) x ≡ true
+  described-closed x m =
+      let b = w .bounds in
+      let k = within-is (suc x) (d .sections) (w .closed-known (suc x) m) in
+      let l : x < mostSections = omega arith in
+      sym (closed-there (railwayOf d) x l) ∙ closed-at d x l ∙ any-true (eqb (suc x)) (d .closed) (suc x) m (eq-eqb (suc x) (suc x) refl)
+
   -- the T lines
   module _ (f : WellFormed d) where
     pub roster-known : (t : ℕ) → t < d .trains
@@ -199,6 +222,7 @@ module _ (d : Description) (w : Faultless d) where
           legs = λ n h. legs-at d n h (w .bounds .few-points);
           joins = λ e x. (λ h. joins-described e x (partner-ties (d .joins) (fieldOf e) x (sym (joined-at d joinable e (joined-numbered (railwayOf d) e x h)) ∙ h)), described-joins e x);
           signals = λ e. (λ h. signals-described e (signal-flag (railwayOf d) e h), described-signals e);
+          closed = λ x. (closed-described x, described-closed x);
           roster = roster-described;
         }
 

@@ -21,7 +21,7 @@ use Rattle.railway.specs.declared.Railway.{Railway}
 use Rattle.railway.specs.declared.Refusal.the-variants.{Count, Space}
 use Rattle.railway.specs.Ends.{endAt}
 use Rattle.railway.specs.Refusals.{number, first}
-use Rattle.railway.specs.Record.{emptyRailway, joinedBy, joined, hasSignal, legsOf, trainOf}
+use Rattle.railway.specs.Record.{isClosed, emptyRailway, joinedBy, joined, hasSignal, legsOf, trainOf}
 use Rattle.railway.specs.Rows as R
 use Rattle.railway.specs.Rows.{recordRefusal}
 use Rattle.railway.specs.declared.CaseAnswer.{CaseAnswer}
@@ -32,7 +32,7 @@ use Rattle.casefile.specs.Rows.{joinEnds, unknownRow, joinRow, looseRow,
 use Rattle.casefile.specs.Recording.{partner, railwayOf}
 use Rattle.casefile.specs.Writing.{descriptionOf, writtenText, writerRefusal, written, bufferAfter}
 use Rattle.casefile.specs.YardTexts.{textA}
-use Rattle.casefile.specs.Reading.{counted, while, sideFieldAt, legFieldAt, endFieldAt, headerAt, pointLineAt, joinLineAt, signalLineAt, trainLineAt, walk, read, caseAnswer}
+use Rattle.casefile.specs.Reading.{counted, while, sideFieldAt, legFieldAt, endFieldAt, headerAt, pointLineAt, joinLineAt, signalLineAt, closedLineAt, trainLineAt, walk, read, caseAnswer}
 
 -- The number that a text is refused with; 0: it is accepted.
 given : CaseAnswer → ℕ
@@ -57,7 +57,7 @@ yard-a : (given (caseAnswer (bytes textA) .answer) ≡ 0) × (recordRefusal reco
     × (map (hasSignal recordA) (down 0 ∷ up 0 ∷ down 1 ∷ up 1 ∷ down 2 ∷ up 2 ∷ []) ≡ true ∷ false ∷ false ∷ true ∷ false ∷ false ∷ [])
     × (trainOf recordA 0 ≡ record { heading = Up; start = record { 0 = 1 }; destination = record { 0 = 2 } })
     × (trainOf recordA 1 ≡ record { heading = Down; start = record { 0 = 2 }; destination = record { 0 = 0 } })
-unfolding bytes recordA given first digits line isDigit byteAt digitsAt numberAt counted while sideFieldAt legFieldAt endFieldAt headerAt pointLineAt joinLineAt signalLineAt trainLineAt walk read caseAnswer anyBelow listBelow any repeats joinEnds unknownRow joinRow looseRow doubleRow placeRow partner railwayOf endAt joinedBy joined hasSignal legsOf trainOf R.unknownRow R.joinRow R.looseRow R.placeRow recordRefusal
+unfolding bytes recordA given first digits line isDigit byteAt digitsAt numberAt counted while sideFieldAt legFieldAt endFieldAt headerAt pointLineAt joinLineAt signalLineAt closedLineAt trainLineAt walk read caseAnswer anyBelow listBelow any repeats joinEnds unknownRow joinRow looseRow doubleRow placeRow partner railwayOf endAt joinedBy joined hasSignal legsOf trainOf R.unknownRow R.joinRow R.looseRow R.placeRow recordRefusal isClosed
 yard-a = (refl, refl, (refl, refl, refl, refl), refl, refl, refl, refl)
 
 -- THE TABLE of texts, each with the number that it is refused with; 0: it is accepted.
@@ -211,6 +211,39 @@ cases =
     ∷
     record { number = 0; text = "H\t2\t0\t2\nT\t1\tu\t1\t2\nT\t2\td\t2\t1\n" }
     ∷
+    -- closed sections, in any order; X behind T, X before G; a side, a zero in front, no number, four digits, a second number
+    record { number = 0; text = "H\t3\t0\t1\nG\t2u\nX\t3\nX\t2\nT\t1\tu\t1\t1\n" }
+    ∷
+    record { number = 2; text = "H\t3\t0\t1\nT\t1\tu\t1\t1\nX\t2\n" }
+    ∷
+    record { number = 2; text = "H\t3\t0\t1\nX\t2\nG\t1u\nT\t1\tu\t1\t1\n" }
+    ∷
+    record { number = 2; text = "H\t3\t0\t1\nX\t3u\nT\t1\tu\t1\t1\n" }
+    ∷
+    record { number = 2; text = "H\t3\t0\t1\nX\t03\nT\t1\tu\t1\t1\n" }
+    ∷
+    record { number = 2; text = "H\t3\t0\t1\nX\t\nT\t1\tu\t1\t1\n" }
+    ∷
+    record { number = 2; text = "H\t3\t0\t1\nX\t1000\nT\t1\tu\t1\t1\n" }
+    ∷
+    record { number = 2; text = "H\t3\t0\t1\nX\t2\t3\nT\t1\tu\t1\t1\n" }
+    ∷
+    -- one that is not there, one named twice, one under a start, one under a destination
+    record { number = 4; text = "H\t3\t0\t1\nX\t0\nT\t1\tu\t1\t1\n" }
+    ∷
+    record { number = 4; text = "H\t3\t0\t1\nX\t4\nT\t1\tu\t1\t1\n" }
+    ∷
+    record { number = 7; text = "H\t3\t0\t1\nX\t2\nX\t3\nX\t2\nT\t1\tu\t1\t1\n" }
+    ∷
+    record { number = 8; text = "H\t3\t0\t1\nX\t2\nT\t1\tu\t2\t1\n" }
+    ∷
+    record { number = 8; text = "H\t3\t0\t1\nX\t2\nT\t1\tu\t1\t2\n" }
+    ∷
+    -- named twice and not there is 4, named twice under a start is 7
+    record { number = 4; text = "H\t3\t0\t1\nX\t4\nX\t4\nT\t1\tu\t1\t1\n" }
+    ∷
+    record { number = 7; text = "H\t3\t0\t1\nX\t1\nX\t1\nT\t1\tu\t1\t1\n" }
+    ∷
     -- of two rows that apply the first is given: 3 and 4, 4 and 5, 5 and 6, 6 and 7, 7 and 8
     record { number = 3; text = "H\t49\t0\t1\nG\t50u\nT\t1\tu\t1\t1\n" }
     ∷
@@ -225,7 +258,7 @@ cases =
     []
 
 numbers : map (λ c. given (caseAnswer (bytes (c .text)) .answer)) cases ≡ map (λ c. c .number) cases
-unfolding bytes given cases first digits line isDigit byteAt digitsAt numberAt counted while sideFieldAt legFieldAt endFieldAt headerAt pointLineAt joinLineAt signalLineAt trainLineAt walk read caseAnswer anyBelow listBelow any repeats joinEnds unknownRow joinRow looseRow doubleRow placeRow
+unfolding bytes given cases first digits line isDigit byteAt digitsAt numberAt counted while sideFieldAt legFieldAt endFieldAt headerAt pointLineAt joinLineAt signalLineAt closedLineAt trainLineAt walk read caseAnswer anyBelow listBelow any repeats joinEnds unknownRow joinRow looseRow doubleRow placeRow isClosed
 numbers = refl
 
 -- byte 13 is what stands in the table above as such
@@ -239,11 +272,11 @@ writes : (written recordA (replicate 68 7) ≡ W.Bytes 68) × (bufferAfter recor
     × (written recordA (replicate 70 7) ≡ W.Bytes 68) × (bufferAfter recordA (replicate 70 7) ≡ bytes textA ++ (7 ∷ 7 ∷ []))
     × (written recordA (replicate 67 7) ≡ W.Refused Space) × (bufferAfter recordA (replicate 67 7) ≡ replicate 67 7)
     × (written emptyRailway [] ≡ W.Refused Count) × (bufferAfter emptyRailway (1 ∷ 2 ∷ []) ≡ 1 ∷ 2 ∷ [])
-unfolding bytes recordA first digits line isDigit byteAt digitsAt numberAt counted while sideFieldAt legFieldAt endFieldAt headerAt pointLineAt joinLineAt signalLineAt trainLineAt walk read caseAnswer anyBelow listBelow gatherBelow any repeats joinEnds unknownRow joinRow looseRow doubleRow placeRow partner railwayOf endAt joinedBy joined hasSignal legsOf trainOf R.unknownRow R.joinRow R.looseRow R.placeRow recordRefusal flatMap rising spell descriptionOf writtenText writerRefusal written bufferAfter
+unfolding bytes recordA first digits line isDigit byteAt digitsAt numberAt counted while sideFieldAt legFieldAt endFieldAt headerAt pointLineAt joinLineAt signalLineAt closedLineAt trainLineAt walk read caseAnswer anyBelow listBelow gatherBelow any repeats joinEnds unknownRow joinRow looseRow doubleRow placeRow partner railwayOf endAt joinedBy joined hasSignal legsOf trainOf R.unknownRow R.joinRow R.looseRow R.placeRow recordRefusal flatMap rising spell descriptionOf writtenText writerRefusal written bufferAfter isClosed
 writes = (refl, refl, refl, refl, refl, refl, refl, refl)
 
 -- Lines that come in disorder and turned round are written in the one order that the writer knows.
-sorts : writtenText (caseAnswer (bytes "H\t3\t1\t1\nP\t1\tu\nJ\t1s\t3u\nJ\t1-\t1d\nJ\t2d\t1u\nJ\t3d\t1+\nG\t2u\nG\t1u\nG\t1d\nT\t1\td\t3\t2\n") .railway)
-    ≡ bytes "H\t3\t1\t1\nP\t1\tu\nJ\t1d\t1-\nJ\t1u\t2d\nJ\t3d\t1+\nJ\t3u\t1s\nG\t1d\nG\t1u\nG\t2u\nT\t1\td\t3\t2\n"
-unfolding bytes first digits line isDigit byteAt digitsAt numberAt counted while sideFieldAt legFieldAt endFieldAt headerAt pointLineAt joinLineAt signalLineAt trainLineAt walk read caseAnswer anyBelow listBelow gatherBelow any repeats joinEnds unknownRow joinRow looseRow doubleRow placeRow partner railwayOf endAt joinedBy joined hasSignal legsOf trainOf flatMap rising spell descriptionOf writtenText
+sorts : writtenText (caseAnswer (bytes "H\t5\t1\t1\nP\t1\tu\nJ\t1s\t3u\nJ\t1-\t1d\nJ\t2d\t1u\nJ\t3d\t1+\nG\t2u\nG\t1u\nG\t1d\nX\t5\nX\t1\nX\t4\nT\t1\td\t3\t2\n") .railway)
+    ≡ bytes "H\t5\t1\t1\nP\t1\tu\nJ\t1d\t1-\nJ\t1u\t2d\nJ\t3d\t1+\nJ\t3u\t1s\nG\t1d\nG\t1u\nG\t2u\nX\t1\nX\t4\nX\t5\nT\t1\td\t3\t2\n"
+unfolding bytes first digits line isDigit byteAt digitsAt numberAt counted while sideFieldAt legFieldAt endFieldAt headerAt pointLineAt joinLineAt signalLineAt closedLineAt trainLineAt walk read caseAnswer anyBelow listBelow gatherBelow any repeats joinEnds unknownRow joinRow looseRow doubleRow placeRow partner railwayOf endAt joinedBy joined hasSignal legsOf trainOf flatMap rising spell descriptionOf writtenText isClosed
 sorts = refl

@@ -19,7 +19,9 @@ use Rattle.railway.specs.Refusals.{row, NotApplying}
 use Rattle.railway.specs.Rows.{bothPorts, oneSection}
 use Rattle.railway.proofs.Accepted.{Bounded, bounded, within-bounds}
 use Rattle.casefile.specs.Form.{port, JoinLine, Description, sameEnd, sameSignal}
-use Rattle.casefile.specs.Rows.{countRow, within, known, unknownJoin, unknownSignal, unknownTrain, unknownRow, sectionOf, sideOf, wrongJoin, joinEnds, joinRow, looseEnd, looseAt, looseRow, doubleRow, placeRow, descriptionRows}
+use Rattle.casefile.specs.Rows.{countRow, within, known, unknownJoin, unknownSignal, unknownClosed, unknownTrain, unknownRow, sectionOf, sideOf, wrongJoin, joinEnds, joinRow, looseEnd, looseAt, looseRow, doubleRow, closedIn, shutOut, placeRow, descriptionRows}
+-- (Examples is named so that it is checked before: a wrong definition then shows at a computed value.)
+use Rattle.casefile.proofs.Examples as Examples
 
 -- a J line as it should be
 pub record RightJoin (d : Description) (j : JoinLine) : Type 0 where
@@ -31,13 +33,16 @@ pub record Faultless (d : Description) : Type 0 where
   pub bounds : Bounded (d .sections) (d .points) (d .trains)
   pub join-known : Every (λ j. (known d (j .one) ≡ true) × (known d (j .other) ≡ true)) (d .joins)
   pub signal-known : Every (λ g. within (g .number) (d .sections) ≡ true) (d .signals)
+  pub closed-known : Every (λ n. within n (d .sections) ≡ true) (d .closed)
   pub train-known : Every (λ t. (within (t .start) (d .sections) ≡ true) × (within (t .destination) (d .sections) ≡ true)) (d .roster)
   pub join-right : Every (RightJoin d) (d .joins)
   pub ends-once : repeats sameEnd (joinEnds (d .joins)) ≡ false
   pub port-joined : (n : ℕ) (l : Leg) → n < d .points → any (sameEnd (port (suc n) l)) (joinEnds (d .joins)) ≡ true
   pub signals-once : repeats sameSignal (d .signals) ≡ false
+  pub closed-once : repeats eqb (d .closed) ≡ false
   pub starts : repeats eqb (map (λ t. t .start) (d .roster)) ≡ false
   pub destinations : repeats eqb (map (λ t. t .destination) (d .roster)) ≡ false
+  pub places-kept : Every (λ t. (closedIn d (t .start) ≡ false) × (closedIn d (t .destination) ≡ false)) (d .roster)
 
 pub within-is : (n s : ℕ) → within n s ≡ true → (1 ≤ n) × (n ≤ s)
 within-is n s e = let t = and-true (leb 1 n) (leb n s) e in (leb-true 1 n (t .0), leb-true n s (t .1))
@@ -71,21 +76,30 @@ module _ (d : Description) where
       let r8 = h (row Place (placeRow d)) (List·Memᴰ·tail (List·Memᴰ·tail (List·Memᴰ·tail (List·Memᴰ·tail (List·Memᴰ·tail (List·Memᴰ·head refl)))))) in
       let joins = any (unknownJoin d) (d .joins) in
       let signals = any (unknownSignal d) (d .signals) in
-      let rest = or-false (joins || signals) (any (unknownTrain d) (d .roster)) r4 in
-      let both = or-false joins signals (rest .0) in
+      let shut = any (unknownClosed d) (d .closed) in
+      let rest = or-false (joins || signals || shut) (any (unknownTrain d) (d .roster)) r4 in
+      let three = or-false (joins || signals) shut (rest .0) in
+      let both = or-false joins signals (three .0) in
       let ends = or-false (any (wrongJoin d) (d .joins)) (repeats sameEnd (joinEnds (d .joins))) r5 in
-      let places = or-false (repeats eqb (map (λ t. t .start) (d .roster))) (repeats eqb (map (λ t. t .destination) (d .roster))) r8 in
+      let twice = or-false (repeats sameSignal (d .signals)) (repeats eqb (d .closed)) r7 in
+      let starts = repeats eqb (map (λ t. t .start) (d .roster)) in
+      let destinations = repeats eqb (map (λ t. t .destination) (d .roster)) in
+      let kept = or-false (starts || destinations) (any (shutOut d) (d .roster)) r8 in
+      let places = or-false starts destinations (kept .0) in
       record {
         bounds = bounded (d .sections) (d .points) (d .trains) r3;
         join-known = λ j m. not-and (known d (j .one)) (known d (j .other)) (any-false (unknownJoin d) (d .joins) j (both .0) m);
         signal-known = λ g m. not-is (within (g .number) (d .sections)) (any-false (unknownSignal d) (d .signals) g (both .1) m);
+        closed-known = λ n m. not-is (within n (d .sections)) (any-false (unknownClosed d) (d .closed) n (three .1) m);
         train-known = λ t m. not-and (within (t .start) (d .sections)) (within (t .destination) (d .sections)) (any-false (unknownTrain d) (d .roster) t (rest .1) m);
         join-right = λ j m. right-join j (any-false (wrongJoin d) (d .joins) j (ends .0) m);
         ends-once = ends .1;
         port-joined = λ n l b. not-is (any (sameEnd (port (suc n) l)) (joinEnds (d .joins))) (port-of n l (Below.any-false (looseAt d) (d .points) r6 n b));
-        signals-once = r7;
+        signals-once = twice .0;
+        closed-once = twice .1;
         starts = places .0;
         destinations = places .1;
+        places-kept = λ t m. or-false (closedIn d (t .start)) (closedIn d (t .destination)) (any-false (shutOut d) (d .roster) t (kept .1) m);
       }
 
   module _ (w : Faultless d) where
@@ -94,8 +108,10 @@ module _ (d : Description) where
     no-unknown =
         or-none _ _
         (or-none _ _
+        (or-none _ _
         (any-none (unknownJoin d) (d .joins) (λ j m. let k = w .join-known j m in rw (k .0, k .1)))
         (any-none (unknownSignal d) (d .signals) (λ g m. rw (w .signal-known g m))))
+        (any-none (unknownClosed d) (d .closed) (λ n m. rw (w .closed-known n m))))
         (any-none (unknownTrain d) (d .roster) (λ t m. let k = w .train-known t m in rw (k .0, k .1)))
 
     no-join : joinRow d ≡ false
@@ -108,11 +124,13 @@ module _ (d : Description) where
 
     no-double : doubleRow d ≡ false
     unfolding doubleRow
-    no-double = w .signals-once
+    no-double = or-none _ _ (w .signals-once) (w .closed-once)
 
     no-place : placeRow d ≡ false
     unfolding placeRow
-    no-place = or-none _ _ (w .starts) (w .destinations)
+    no-place =
+        or-none _ _ (or-none _ _ (w .starts) (w .destinations))
+        (any-none (shutOut d) (d .roster) (λ t m. let k = w .places-kept t m in or-none _ _ (k .0) (k .1)))
 
     pub facts-faultless : Every NotApplying (descriptionRows d)
     facts-faultless =

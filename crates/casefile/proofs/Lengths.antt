@@ -1,5 +1,5 @@
--- What is written of an accepted railway is at most 4,096 bytes long: it has one H line, at most 16 P, 96 J, 96 G and 4 T lines, and no line has
--- more than 16 bytes, since a number below 1,000 has three digits at most.
+-- What is written of an accepted railway is at most 4,096 bytes long: it has one H line, at most 16 P, 96 J, 96 G, 48 X and 4 T lines. Since a number
+-- below 1,000 has three digits at most, no line has more than 16 bytes, and no J, G or X line more than 12.
 -- Assumes nothing.
 use Prim.Native.Nat.{ℕ, zero, suc, _+_, _*_, _<_, _≤_}
 use mathlib.Core.Path.{_≡_, refl}
@@ -16,14 +16,14 @@ use Rattle.railway.specs.declared.Side.{Side}
 use Rattle.railway.specs.declared.Joined.{Joined}
 use Rattle.railway.specs.declared.Joined.the-variants.{Nothing, With}
 use Rattle.railway.specs.declared.Railway.{Railway}
-use Rattle.railway.specs.Bounds.{sectionEnds}
+use Rattle.railway.specs.Bounds.{mostSections, sectionEnds}
 use Rattle.railway.specs.Ends.{endIndex, endAt}
-use Rattle.railway.specs.Record.{linkAt, flagAt}
+use Rattle.railway.specs.Record.{linkAt, flagAt, closedAt}
 use Rattle.railway.proofs.Accepted.{Accepted, accepted-facts}
-use Rattle.casefile.specs.Form.{EndField, section, port, JoinLine, SignalLine, TrainLine, endField, pointLine, joinLine, signalLine, trainLine, rising, spell, WritableEnd, WritableJoin, WritableSignal, WritableTrain}
+use Rattle.casefile.specs.Form.{EndField, section, port, JoinLine, SignalLine, TrainLine, endField, pointLine, joinLine, signalLine, closedLine, trainLine, rising, spell, Writable, WritableEnd, WritableJoin, WritableSignal, WritableTrain}
 use Rattle.casefile.specs.Rows.{mostBytes}
 use Rattle.casefile.specs.Recording.{fieldOf, signalOf}
-use Rattle.casefile.specs.Writing.{joinFrom, joinAt, signalAt, descriptionOf, writtenText}
+use Rattle.casefile.specs.Writing.{joinFrom, joinAt, signalAt, closedLineOf, descriptionOf, writtenText}
 use Rattle.casefile.specs.Claims.{WrittenFits}
 use Rattle.casefile.proofs.Writer.{well-formed}
 
@@ -34,13 +34,17 @@ end-short : (e : EndField) → WritableEnd e → length (endField e) ≤ 4
 end-short (section n s) h = simp length-append (omega (arith, decimal-short n h))
 end-short (port n l) h = simp length-append (omega (arith, decimal-short n h))
 
-join-short : (j : JoinLine) → WritableJoin j → length (joinLine j) ≤ 16
+join-short : (j : JoinLine) → WritableJoin j → length (joinLine j) ≤ 12
 unfolding line
 join-short j h = simp length-append (omega (arith, end-short (j .one) (h .0), end-short (j .other) (h .1)))
 
-signal-short : (g : SignalLine) → WritableSignal g → length (signalLine g) ≤ 16
+signal-short : (g : SignalLine) → WritableSignal g → length (signalLine g) ≤ 12
 unfolding line
 signal-short g h = simp length-append (omega (arith, decimal-short (g .number) h))
+
+closed-short : (n : ℕ) → Writable n → length (closedLine n) ≤ 12
+unfolding line
+closed-short n h = simp length-append (omega (arith, decimal-short n h))
 
 point-short : (n : ℕ) (s : Side) → n < 1000 → length (pointLine n s) ≤ 16
 unfolding line
@@ -51,7 +55,7 @@ unfolding line
 train-short n t b h = simp length-append (omega (arith, decimal-short n b, decimal-short (t .start) (h .0), decimal-short (t .destination) (h .1)))
 
 module _ {A : Type 0} (good : A → Type 0) where
-  each-short : (f : A → List ℕ) → ((x : A) → good x → length (f x) ≤ 16) → (xs : List A) → Every good xs → length (flatMap f xs) ≤ length xs * 16
+  each-short : (f : A → List ℕ) → ((x : A) → good x → length (f x) ≤ 12) → (xs : List A) → Every good xs → length (flatMap f xs) ≤ length xs * 12
   unfolding flatMap
   each-short f h [] g = omega arith
   each-short f h (x ∷ xs) g = simp length-append (omega (arith, h x (g x (List·Memᴰ·head refl)), each-short f h xs (λ y m. g y (List·Memᴰ·tail m))))
@@ -85,6 +89,10 @@ module _ (r : Railway) (w : Accepted r) where
   unfolding descriptionOf
   few-signals = gather-short (signalAt r) (λ i. one-at-most (signalOf i) (flagAt r i)) sectionEnds
 
+  few-closed : length (descriptionOf r .closed) ≤ mostSections
+  unfolding descriptionOf
+  few-closed = gather-short (closedLineOf r) (λ x. one-at-most (suc x) (closedAt r x)) mostSections
+
   counts : (descriptionOf r .points ≡ r .points) × (descriptionOf r .trains ≡ r .trains)
   unfolding descriptionOf
   counts = (refl, refl)
@@ -105,9 +113,11 @@ module _ (r : Railway) (w : Accepted r) where
         rising-short (λ s. Unit {0}) pointLine (λ n s h u. point-short n s h) 1 (d .legs) (omega (arith, f .one-a-point, p .0)) (λ s m. tt),
         each-short WritableJoin joinLine join-short (d .joins) (f .joins),
         each-short WritableSignal signalLine signal-short (d .signals) (f .signals),
+        each-short Writable closedLine closed-short (d .closed) (f .closed),
         rising-short WritableTrain trainLine train-short 1 (d .roster) (omega (arith, f .one-a-train, p .1)) (f .roster),
         few-joins,
         few-signals,
+        few-closed,
         f .one-a-point,
         f .one-a-train,
         p .0,

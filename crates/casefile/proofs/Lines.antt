@@ -12,8 +12,8 @@ use Rattle.text.specs.Text.{byte, decimal, line}
 use Rattle.text.specs.Reading.{Got, bad, got, then, isDigit, byteAt}
 use Rattle.text.proofs.Walking.{bad-got, carry, Lies, Reads, steps, go-on, stop-here, byte-sound, byte-complete, Written, number-sound, number-complete}
 use Rattle.railway.specs.declared.Side.{Side}
-use Rattle.casefile.specs.Form.{EndField, JoinLine, SignalLine, TrainLine, sideByte, pointLine, joinLine, signalLine, trainLine, WritableJoin, WritableSignal, WritableTrain}
-use Rattle.casefile.specs.Reading.{Counts, caseNumberAt, sideFieldAt, endFieldAt, headerAt, pointLineAt, joinLineAt, signalLineAt, trainLineAt}
+use Rattle.casefile.specs.Form.{EndField, JoinLine, SignalLine, TrainLine, sideByte, pointLine, joinLine, signalLine, closedLine, trainLine, Writable, WritableJoin, WritableSignal, WritableTrain}
+use Rattle.casefile.specs.Reading.{Counts, caseNumberAt, sideFieldAt, endFieldAt, headerAt, pointLineAt, joinLineAt, signalLineAt, closedLineAt, trainLineAt}
 use Rattle.casefile.proofs.Fields.{side-sound, side-complete, digit-not-side, WrittenEnd, end-sound, end-complete}
 
 -- a line that is read: its numbers can be written, and it stands there as it is spelled
@@ -107,6 +107,24 @@ module _ (s : List ℕ) (at : ℕ) where
       go-on _ (number-complete s _ (digit-not-side s at (g .side)) 2 (g .number) c2 (omega arith) h t2) (λ c3 t3.
       go-on _ (side-complete s c3 (g .side) _ t3) (λ c4 t4.
       go-on _ (byte-complete s 10 c4 _ t4) (λ c5 t5. stop-here t5)))))
+
+  pub closed-sound : (n c : ℕ) → closedLineAt s at ≡ got n c → WrittenLine Writable closedLine s at n c
+  unfolding closedLineAt line
+  closed-sound n c e =
+      byte-on s at n c (byte "X") _ (omega arith) e (λ x1 c1 e1 k1.
+      byte-on s c1 n c 9 _ (omega arith) k1 (λ x2 c2 e2 k2.
+      number-on s c2 n c _ k2 (λ m c3 a k3.
+      byte-on s c3 n c 10 _ (omega arith) k3 (λ x4 c4 e4 k4.
+      carry (WrittenLine Writable closedLine s at) k4
+      (record { small = a .small; text = simp (e1, e2, a .text, e4, append-assoc) })))))
+
+  pub closed-complete : (n : ℕ) (rest : List ℕ) → Writable n → Lies s at (closedLine n ++ rest) → Reads s (closedLineAt s at) n rest
+  unfolding closedLineAt line
+  closed-complete n rest h t =
+      go-on _ (byte-complete s (byte "X") at _ (simp append-assoc at t)) (λ c1 t1.
+      go-on _ (byte-complete s 9 c1 _ t1) (λ c2 t2.
+      go-on _ (number-complete s _ end-stops 2 n c2 (omega arith) h t2) (λ c3 t3.
+      go-on _ (byte-complete s 10 c3 _ t3) (λ c4 t4. stop-here t4))))
 
   pub header-sound : (h : Counts) (c : ℕ) → headerAt s at ≡ got h c → WrittenLine WritableCounts countsLine s at h c
   unfolding headerAt line

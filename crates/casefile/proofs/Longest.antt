@@ -13,7 +13,7 @@ use Rattle.text.specs.Reading.{isDigit, byteAt, digitsAt, numberAt}
 use Rattle.railway.specs.declared.Side.the-variants.{Up}
 use Rattle.railway.specs.declared.Refusal.the-variants.{Length, Form, Double}
 use Rattle.railway.specs.Refusals.{first}
-use Rattle.casefile.specs.Form.{Description, rising, spell, WritableJoin, WritableSignal, WritableTrain, Describes}
+use Rattle.casefile.specs.Form.{Description, rising, spell, Writable, WritableJoin, WritableSignal, WritableTrain, Describes}
 use Rattle.casefile.specs.Rows.{joinEnds, unknownRow, joinRow, looseRow, doubleRow, placeRow}
 use Rattle.casefile.specs.Given.{refused}
 use Rattle.casefile.specs.Reading.{headerAt, walk, read, caseAnswer}
@@ -38,6 +38,7 @@ long short wide =
       legs = [];
       joins = [];
       signals = copies short (record { number = 1; side = Up }) (copies wide (record { number = 10; side = Up }) []);
+      closed = [];
       roster = record { heading = Up; start = 1; destination = 1 } ∷ [];
     }
 
@@ -52,6 +53,7 @@ long-described a b =
             trains = omega arith;
             joins = every-none WritableJoin;
             signals = every-copies WritableSignal a _ _ (omega arith) (every-copies WritableSignal b _ _ (omega arith) (every-none WritableSignal));
+            closed = every-none Writable;
             roster = every-more WritableTrain _ _ (omega arith, omega arith) (every-none WritableTrain);
             one-a-point = refl;
             one-a-train = refl;

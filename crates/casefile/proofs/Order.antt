@@ -1,4 +1,5 @@
 -- The writer's order. A section end's line has the rank of its index, and each index has one line at most; so lines gathered by rising index rise.
+-- An X line has its section's number, one more than its index.
 -- Assumes nothing.
 use Prim.Native.Nat.{ℕ, zero, suc, _+_, _/_, _%_, _<_, _≤_}
 use mathlib.Core.Path.{_≡_, refl, ap}
@@ -21,15 +22,15 @@ use Rattle.railway.specs.declared.End.the-variants.{Section, Port}
 use Rattle.railway.specs.declared.Railway.{Railway}
 use Rattle.railway.specs.Bounds.{mostSections, sectionEnds}
 use Rattle.railway.specs.Ends.{Numbered, endIndex, endAt}
-use Rattle.railway.specs.Record.{linkAt, flagAt}
+use Rattle.railway.specs.Record.{linkAt, flagAt, closedAt}
 use Rattle.railway.proofs.Ends.{end-section, section-index}
 use Rattle.railway.proofs.Accepted.{Accepted, accepted-facts, known-numbered}
 use Rattle.casefile.specs.Form.{section}
 use Rattle.casefile.specs.Recording.{fieldOf, signalOf}
-use Rattle.casefile.specs.Writing.{joinAt, signalAt, descriptionOf, writtenText}
+use Rattle.casefile.specs.Writing.{joinAt, signalAt, closedLineOf, descriptionOf, writtenText}
 use Rattle.casefile.specs.Claims.{rank, Sorted, WriterSorts}
 use Rattle.casefile.proofs.Whole.{describes-one}
-use Rattle.casefile.proofs.Writer.{origin, signal-origin, from-link}
+use Rattle.casefile.proofs.Writer.{origin, signal-origin, closed-origin, from-link}
 use Rattle.casefile.proofs.Lengths.{one-at-most, one-join}
 use Rattle.casefile.proofs.RoundTrip.{described}
 
@@ -59,14 +60,18 @@ map-length : {A : Type 0} (key : A → ℕ) (l : List A) → length (map key l) 
 map-length key [] = refl
 map-length key (x ∷ l) = ap suc (map-length key l)
 
-rises-gather : {A : Type 0} (key : A → ℕ) (f : ℕ → List A) (k : ℕ) → ((i : ℕ) → length (f i) ≤ 1) → ((i : ℕ) (x : A) → i < k → List·Memᴰ x (f i) → key x ≡ i + 2)
+map-self : (l : List ℕ) → map (λ n. n) l ≡ l
+map-self [] = refl
+map-self (x ∷ l) = ap (λ (t : List ℕ). x ∷ t) (map-self l)
+
+rises-gather : {A : Type 0} (key : A → ℕ) (off : ℕ) (f : ℕ → List A) (k : ℕ) → ((i : ℕ) → length (f i) ≤ 1) → ((i : ℕ) (x : A) → i < k → List·Memᴰ x (f i) → key x ≡ i + off)
     → rises 0 (map key (gatherBelow f k)) ≡ true
 unfolding gatherBelow rises
-rises-gather key f zero p h = refl
-rises-gather key f (suc k) p h =
+rises-gather key off f zero p h = refl
+rises-gather key off f (suc k) p h =
     rw (map-append key (gatherBelow f k) (f k))
-    (rises-append 0 (k + 2) (map key (gatherBelow f k)) (map key (f k)) (omega arith) (rises-gather key f k p (λ i x b m. h i x (omega arith) m))
-    (rises-one (k + 2) (map key (f k)) (rw (map-length key (f k)) (p k))
+    (rises-append 0 (k + off) (map key (gatherBelow f k)) (map key (f k)) (omega arith) (rises-gather key off f k p (λ i x b m. h i x (omega arith) m))
+    (rises-one (k + off) (map key (f k)) (rw (map-length key (f k)) (p k))
     (λ y n. let b = map-in key (f k) y n in omega (arith, b .is, h k (b .element) (omega arith) (b .member))))
     (λ x m.
     let a = map-in key (gatherBelow f k) x m in
@@ -102,9 +107,12 @@ module _ (r : Railway) (w : Accepted r) where
   sorted =
       record {
         first = first;
-        joins = rises-gather (λ j. rank (j .one)) (joinAt r) sectionEnds (λ i. one-join i (linkAt r i)) (λ i j b m. rw (origin r i j m .one) (rank-index i b));
-        signals = rises-gather (λ g. rank (section (g .number) (g .side))) (signalAt r) sectionEnds (λ i. one-at-most (signalOf i) (flagAt r i))
+        joins = rises-gather (λ j. rank (j .one)) 2 (joinAt r) sectionEnds (λ i. one-join i (linkAt r i)) (λ i j b m. rw (origin r i j m .one) (rank-index i b));
+        signals = rises-gather (λ g. rank (section (g .number) (g .side))) 2 (signalAt r) sectionEnds (λ i. one-at-most (signalOf i) (flagAt r i))
             (λ i g b m. rw (signal-origin r i g m .is) (rank-side i (eqb (i % 2) 0) refl));
+        closed =
+            rw map-self at
+            (rises-gather (λ n. n) 1 (closedLineOf r) mostSections (λ x. one-at-most (suc x) (closedAt r x)) (λ x n b m. omega (arith, closed-origin r x n m .is)));
       }
 
 pub writer-sorts : WriterSorts

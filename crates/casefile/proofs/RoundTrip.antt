@@ -1,10 +1,11 @@
 -- The round trip. An accepted record has what its own written lines say, field by field, as has the railway read from them; and two records that
 -- have what the same lines say are the same railway.
 -- Assumes nothing.
-use Prim.Native.Nat.{ℕ, _+_, _*_, _<_}
+use Prim.Native.Nat.{ℕ, suc, _+_, _*_, _<_}
 use mathlib.Core.Path.{_≡_, refl, sym, _∙_, ap}
 use mathlib.Core.Logic.{_⊎_, inl, inr}
 use mathlib.Core.Bool.{Bool, true, false}
+use mathlib.Core.List.{List·Memᴰ}
 use native.Mathlib.Omega.{arith}
 use lib.ListN.{getD}
 use borrow.Author.Tests.{eqb-false}
@@ -22,25 +23,25 @@ use Rattle.railway.specs.declared.Train.{Train}
 use Rattle.railway.specs.declared.Railway.{Railway}
 use Rattle.railway.specs.Bounds.{mostSections, sectionEnds, allEnds}
 use Rattle.railway.specs.Ends.{Numbered, sideIndex, endIndex, endAt}
-use Rattle.railway.specs.Record.{joined, hasSignal, legsOf, trainOf}
+use Rattle.railway.specs.Record.{joined, hasSignal, isClosed, legsOf, trainOf}
 use Rattle.railway.specs.Rows.{bothPorts, oneSection}
 use Rattle.railway.specs.Rows as RR
 use Rattle.railway.specs.Same.{SameRailway}
 use Rattle.railway.proofs.Ends.{side-small, end-index, index-end, section-index, section-below, port-behind, numbered-of}
-use Rattle.railway.proofs.Lookups.{joined-there, signal-there, Flagged, signal-flag}
+use Rattle.railway.proofs.Lookups.{joined-there, signal-there, closed-there, Flagged, signal-flag}
 use Rattle.railway.proofs.Accepted.{Accepted, accepted-facts, known-numbered, joined-known, joined-right, joined-back}
 use Rattle.railway.proofs.Same.{refusal-same, same-sym, same-trans}
 use Rattle.casefile.specs.Form.{EndField, section, TrainLine, Description, spell, Describes}
 use Rattle.casefile.specs.Recording.{fieldOf, signalOf, noTrainLine, railwayOf}
-use Rattle.casefile.specs.Writing.{joinAt, signalAt, lineOfTrain, descriptionOf, writtenText}
+use Rattle.casefile.specs.Writing.{joinAt, signalAt, closedLineOf, lineOfTrain, descriptionOf, writtenText}
 use Rattle.casefile.specs.Given.{accepted}
 use Rattle.casefile.specs.Reading.{caseAnswer}
 use Rattle.casefile.specs.Claims.{Names, Joins, Signals, TrainSaid, AsDescribed, WrittenAsDescribed, RoundTrip, SameRefusal, SameText, TextSame}
 use Rattle.casefile.proofs.Exactly.{accepted-exactly, accepted-one}
 use Rattle.casefile.proofs.Faultless.{facts-faultless}
 use Rattle.casefile.proofs.Ends.{field-one}
-use Rattle.casefile.proofs.Described.{names-field, names-is, signal-names, as-described}
-use Rattle.casefile.proofs.Writer.{from-link, from-flag, join-written, signal-written, joined-link, link-joined, link-back, faultless, well-formed}
+use Rattle.casefile.proofs.Described.{closed-flag, names-field, names-is, signal-names, as-described}
+use Rattle.casefile.proofs.Writer.{from-link, from-flag, from-closed, join-written, signal-written, closed-written, joined-link, link-joined, link-back, faultless, well-formed}
 use Rattle.casefile.proofs.Lengths.{short}
 
 -- THE SAME LINES, THE SAME RAILWAY
@@ -73,6 +74,10 @@ module _ (d : Description) (r q : Railway) (t : AsDescribed d r) (u : AsDescribe
   signal-described e =
       bool-one (hasSignal r e) (hasSignal q e) (λ h. u .signals e .1 (t .signals e .0 h)) (λ h. t .signals e .1 (u .signals e .0 h))
 
+  closed-described : (x : ℕ) → isClosed r x ≡ isClosed q x
+  closed-described x =
+      bool-one (isClosed r x) (isClosed q x) (λ h. u .closed x .1 (t .closed x .0 h)) (λ h. t .closed x .1 (u .closed x .0 h))
+
   pub described-same : SameRailway r q
   described-same =
       record {
@@ -86,6 +91,7 @@ module _ (d : Description) (r q : Railway) (t : AsDescribed d r) (u : AsDescribe
         signals = λ i h.
             let x = sym (index-end i (omega arith)) in
             signal-there r (endAt i) i x h ∙ signal-described (endAt i) ∙ sym (signal-there q (endAt i) i x h);
+        closed = λ x h. closed-there r x h ∙ closed-described x ∙ sym (closed-there q x h);
         roster = λ n h. let b : n < d .trains = rw (t .trains) at h in roster-one (getD (d .roster) n noTrainLine) (trainOf r n) (trainOf q n) (t .roster n b) (u .roster n b);
       }
 
@@ -161,6 +167,15 @@ module _ (r : Railway) (w : Accepted r) where
       sym (signal-there r e i (sym (ap endIndex z ∙ index-end i (omega arith))) b) ∙ l)
       (t .signal) (t .member) (t .names)
 
+  shut-described : (x : ℕ) → isClosed r x ≡ true → List·Memᴰ (suc x) (descriptionOf r .closed)
+  unfolding descriptionOf
+  shut-described x h = let k = closed-flag r x h in closed-written r x (k .0) (k .1)
+
+  described-shut : (x : ℕ) → List·Memᴰ (suc x) (descriptionOf r .closed) → isClosed r x ≡ true
+  described-shut x m =
+      from-closed r w (λ n. n ≡ suc x → isClosed r x ≡ true)
+      (λ y b l e. let z : x ≡ y = omega arith in rw z (sym (closed-there r y b) ∙ l)) (suc x) m refl
+
   roster-described : (t : ℕ) → t < r .trains → TrainSaid (getD (descriptionOf r .roster) t noTrainLine) (trainOf r t)
   unfolding descriptionOf
   roster-described t h = rw (list-get (λ t. lineOfTrain (trainOf r t)) (r .trains) t noTrainLine h) (record { heading = refl; start = refl; destination = refl })
@@ -175,6 +190,7 @@ module _ (r : Railway) (w : Accepted r) where
         legs = λ n h. sym (list-get (legsOf r) (r .points) n Up h);
         joins = λ e f. (joins-described e f, described-joins e f);
         signals = λ e. (λ h. signals-described e (signal-flag r e h), described-signals e);
+        closed = λ x. (shut-described x, described-shut x);
         roster = roster-described;
       }
 
@@ -207,9 +223,11 @@ description-same r q h =
     = gather-same (joinAt r) (joinAt q) sectionEnds (λ i l. (let z = h .joins i (omega arith) in rw z)) in
     let c : gatherBelow (signalAt r) sectionEnds ≡ gatherBelow (signalAt q) sectionEnds
     = gather-same (signalAt r) (signalAt q) sectionEnds (λ i l. (let z = h .signals i l in rw z)) in
+    let s : gatherBelow (closedLineOf r) mostSections ≡ gatherBelow (closedLineOf q) mostSections
+    = gather-same (closedLineOf r) (closedLineOf q) mostSections (λ x l. (let z = h .closed x l in rw z)) in
     let e : listBelow (λ t. lineOfTrain (trainOf r t)) (r .trains) ≡ listBelow (λ t. lineOfTrain (trainOf q t)) (r .trains)
     = list-same (λ t. lineOfTrain (trainOf r t)) (λ t. lineOfTrain (trainOf q t)) (r .trains) (λ t l. ap lineOfTrain (h .roster t l)) in
-    rw (a, b, c, e, h .sections, h .points, h .trains)
+    rw (a, b, c, s, e, h .sections, h .points, h .trains)
 
 pub same-refusal : SameRefusal
 same-refusal r q h = refusal-same r q h

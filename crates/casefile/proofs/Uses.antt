@@ -2,15 +2,16 @@
 -- statements fast, for without one, or with a weaker one in its place, its fact is lost.
 -- Assumes nothing.
 use mathlib.Core.Path.{_≡_, refl, sym, _∙_, ap}
-use mathlib.Core.Bool.{true}
-use mathlib.Core.List.{List, [], _∷_, _++_, flatMap, List·Memᴰ·head}
+use mathlib.Core.Bool.{true, false}
+use mathlib.Core.List.{List, [], _∷_, _++_, flatMap, List·Memᴰ, List·Memᴰ·head}
 use mathlib.Core.Option.{none, some}
 use Prim.Native.Nat.{ℕ, zero, suc, _<_}
+use Prim.Native.String.{String}
 use native.Mathlib.Omega.{arith}
 use lib.ListN.{length, take, replicate, length-replicate}
 use lib.Seq.{take-append-seam}
 use Rattle.laws.specs.Below.{anyBelow, listBelow, gatherBelow}
-use Rattle.laws.specs.Lists.{rises}
+use Rattle.laws.specs.Lists.{any, repeats, rises}
 use Rattle.laws.proofs.Bools.{clash}
 use Rattle.text.specs.Text.{digits, line, bytes}
 use Rattle.text.specs.Reading.{isDigit, byteAt, digitsAt, numberAt}
@@ -18,29 +19,31 @@ use Rattle.railway.specs.declared.Side.the-variants.{Up, Down}
 use Rattle.railway.specs.declared.Leg.the-variants.{Stem, Plus, Minus}
 use Rattle.railway.specs.declared.End.the-variants.{Section}
 use Rattle.railway.specs.declared.Railway.{Railway}
-use Rattle.railway.specs.declared.Refusal.the-variants.{Length}
+use Rattle.railway.specs.declared.Refusal.the-variants.{Length, Place}
 use Rattle.railway.specs.Ends.{endAt}
 use Rattle.railway.specs.Refusals.{first}
-use Rattle.railway.specs.Record.{flagAt, joinedBy, joined, hasSignal, legsOf, trainOf, withJoin, withSignal, withLegs, withTrain}
+use Rattle.railway.specs.Record.{isClosed, flagAt, closedAt, joinedBy, joined, hasSignal, legsOf, trainOf, withJoin, withSignal, withClosed, withLegs, withTrain}
 use Rattle.railway.specs.Rows.{unknownRow, joinRow, looseRow, placeRow, recordRefusal}
 use Rattle.railway.specs.Same.{SameRailway}
-use Rattle.railway.specs.Yards.{yardA, lineT}
+use Rattle.railway.specs.Yards.{yardA, yardH, lineJ, lineT, sec}
 use Rattle.casefile.specs.Form.{section, port, JoinLine, SignalLine, Description, rising, spell, Describes}
-use Rattle.casefile.specs.Rows.{FormRow}
-use Rattle.casefile.specs.Given.{refused}
+use Rattle.casefile.specs.Rows.{FormRow, joinEnds}
+use Rattle.casefile.specs.Rows as D
+use Rattle.casefile.specs.Given.{refused, RefusedWith}
 use Rattle.casefile.specs.Writing.{descriptionOf, writtenText}
 use Rattle.casefile.specs.YardTexts.{textA}
-use Rattle.casefile.specs.Reading.{counted, while, sideFieldAt, legFieldAt, endFieldAt, headerAt, pointLineAt, joinLineAt, signalLineAt, trainLineAt, walk, read, caseAnswer}
+use Rattle.casefile.specs.Reading.{counted, while, sideFieldAt, legFieldAt, endFieldAt, headerAt, pointLineAt, joinLineAt, signalLineAt, closedLineAt, trainLineAt, walk, read, caseAnswer}
 use Rattle.casefile.specs.Claims.{Signals, Sorted}
 use Rattle.casefile.proofs.Whole.{read-is-spelling, describes-one, form-decided}
+use Rattle.casefile.proofs.Exactly.{refused-exactly}
 use Rattle.casefile.proofs.Longest.{long, long-described, lengths}
 use Rattle.casefile.proofs.Cut.{cut-decides}
 use Rattle.casefile.proofs.RoundTrip.{written-as-described, same-refusal, same-text, text-same}
 use Rattle.casefile.proofs.Order.{writer-sorts}
 
 -- WHAT YARD A'S TEXT SAYS, but for the order of its J and G lines
-abbrev pub sayingA : List JoinLine → List SignalLine → Description
-sayingA joins signals =
+abbrev pub sayingA : List JoinLine → List SignalLine → List ℕ → Description
+sayingA joins signals closed =
     record {
       sections = 3;
       points = 1;
@@ -48,6 +51,7 @@ sayingA joins signals =
       legs = Down ∷ [];
       joins = joins;
       signals = signals;
+      closed = closed;
       roster = record { heading = Up; start = 2; destination = 3 } ∷ record { heading = Down; start = 3; destination = 1 } ∷ [];
     }
 
@@ -67,11 +71,11 @@ abbrev signal2u : SignalLine
 signal2u = record { number = 2; side = Up }
 
 abbrev pub descriptionA : Description
-descriptionA = sayingA (joinPlus ∷ joinMinus ∷ joinStem ∷ []) (signal1d ∷ signal2u ∷ [])
+descriptionA = sayingA (joinPlus ∷ joinMinus ∷ joinStem ∷ []) (signal1d ∷ signal2u ∷ []) []
 
 -- What is read is what is spelled: so Yard A's text says this,
 pub says-a : Describes (bytes textA) descriptionA
-unfolding bytes digits line isDigit byteAt digitsAt numberAt counted while sideFieldAt legFieldAt endFieldAt headerAt pointLineAt joinLineAt signalLineAt trainLineAt walk read
+unfolding bytes digits line isDigit byteAt digitsAt numberAt counted while sideFieldAt legFieldAt endFieldAt headerAt pointLineAt joinLineAt signalLineAt closedLineAt trainLineAt walk read
 says-a = read-is-spelling (bytes textA) descriptionA .0 refl
 
 -- and nothing else;
@@ -84,7 +88,7 @@ longest-read = read-is-spelling (spell (long 813 2)) (long 813 2) .1 (long-descr
 
 -- A text whose last byte is missing says nothing; and where nothing is said, as in the empty text, nothing is read.
 end-missing : FormRow (bytes "H\t1\t0\t1\nT\t1\tu\t1\t1")
-unfolding bytes digits line isDigit byteAt digitsAt numberAt counted while sideFieldAt headerAt pointLineAt joinLineAt signalLineAt trainLineAt walk read
+unfolding bytes digits line isDigit byteAt digitsAt numberAt counted while sideFieldAt headerAt pointLineAt joinLineAt signalLineAt closedLineAt trainLineAt walk read
 end-missing = form-decided (bytes "H\t1\t0\t1\nT\t1\tu\t1\t1") .0 refl
 
 not-empty : (x : ℕ) (xs : List ℕ) → x ∷ xs ≡ [] → ⊥
@@ -109,7 +113,7 @@ refused-anyway rest =
 
 -- WRITTEN. Yard A's record is written as its text,
 pub written-a : (writtenText yardA ≡ bytes textA) × (recordRefusal yardA ≡ none)
-unfolding bytes first digits line anyBelow listBelow gatherBelow endAt joinedBy joined legsOf trainOf withJoin withSignal withLegs withTrain unknownRow joinRow looseRow placeRow recordRefusal flatMap rising spell descriptionOf writtenText
+unfolding bytes first digits line anyBelow listBelow gatherBelow endAt joinedBy joined legsOf trainOf withJoin withSignal withLegs withTrain unknownRow joinRow looseRow placeRow recordRefusal flatMap rising spell descriptionOf writtenText isClosed
 written-a = (refl, refl)
 
 -- in which a G line names 1d, where it has a signal.
@@ -125,24 +129,82 @@ unsorted text d w h r accepted e = h (writer-sorts r accepted d (rw e w))
 
 signals-turned : (r : Railway) → recordRefusal r ≡ none
     → writtenText r ≡ bytes "H\t3\t1\t2\nP\t1\td\nJ\t1u\t1+\nJ\t2u\t1-\nJ\t3d\t1s\nG\t2u\nG\t1d\nT\t1\tu\t2\t3\nT\t2\td\t3\t1\n" → ⊥
-unfolding bytes digits line isDigit byteAt digitsAt numberAt counted while sideFieldAt legFieldAt endFieldAt headerAt pointLineAt joinLineAt signalLineAt trainLineAt walk read rises
+unfolding bytes digits line isDigit byteAt digitsAt numberAt counted while sideFieldAt legFieldAt endFieldAt headerAt pointLineAt joinLineAt signalLineAt closedLineAt trainLineAt walk read rises
 signals-turned =
-    let d = sayingA (joinPlus ∷ joinMinus ∷ joinStem ∷ []) (signal2u ∷ signal1d ∷ []) in
+    let d = sayingA (joinPlus ∷ joinMinus ∷ joinStem ∷ []) (signal2u ∷ signal1d ∷ []) [] in
     unsorted _ d (read-is-spelling _ d .0 refl) (λ s. clash (s .signals) refl)
 
 joins-turned : (r : Railway) → recordRefusal r ≡ none
     → writtenText r ≡ bytes "H\t3\t1\t2\nP\t1\td\nJ\t2u\t1-\nJ\t1u\t1+\nJ\t3d\t1s\nG\t1d\nG\t2u\nT\t1\tu\t2\t3\nT\t2\td\t3\t1\n" → ⊥
-unfolding bytes digits line isDigit byteAt digitsAt numberAt counted while sideFieldAt legFieldAt endFieldAt headerAt pointLineAt joinLineAt signalLineAt trainLineAt walk read rises
+unfolding bytes digits line isDigit byteAt digitsAt numberAt counted while sideFieldAt legFieldAt endFieldAt headerAt pointLineAt joinLineAt signalLineAt closedLineAt trainLineAt walk read rises
 joins-turned =
-    let d = sayingA (joinMinus ∷ joinPlus ∷ joinStem ∷ []) (signal1d ∷ signal2u ∷ []) in
+    let d = sayingA (joinMinus ∷ joinPlus ∷ joinStem ∷ []) (signal1d ∷ signal2u ∷ []) [] in
     unsorted _ d (read-is-spelling _ d .0 refl) (λ s. clash (s .joins) refl)
 
 port-in-front : (r : Railway) → recordRefusal r ≡ none
     → writtenText r ≡ bytes "H\t3\t1\t2\nP\t1\td\nJ\t1+\t1u\nJ\t2u\t1-\nJ\t3d\t1s\nG\t1d\nG\t2u\nT\t1\tu\t2\t3\nT\t2\td\t3\t1\n" → ⊥
-unfolding bytes digits line isDigit byteAt digitsAt numberAt counted while sideFieldAt legFieldAt endFieldAt headerAt pointLineAt joinLineAt signalLineAt trainLineAt walk read
+unfolding bytes digits line isDigit byteAt digitsAt numberAt counted while sideFieldAt legFieldAt endFieldAt headerAt pointLineAt joinLineAt signalLineAt closedLineAt trainLineAt walk read
 port-in-front =
-    let d = sayingA (record { one = port 1 Plus; other = section 1 Up } ∷ joinMinus ∷ joinStem ∷ []) (signal1d ∷ signal2u ∷ []) in
+    let d = sayingA (record { one = port 1 Plus; other = section 1 Up } ∷ joinMinus ∷ joinStem ∷ []) (signal1d ∷ signal2u ∷ []) [] in
     unsorted _ d (read-is-spelling _ d .0 refl) (λ s. let e : 2000 < 3 = s .first _ (List·Memᴰ·head refl) in omega (arith, e))
+
+-- CLOSED SECTIONS. Four sections, 1u joined to 2d and a train from 1 up to 2, while 3 and 4 are closed. The record is written as its text,
+abbrev pub shut : Railway
+shut = withClosed (withClosed (lineT 1 Up 1 2 (lineJ (sec 1 Up) (sec 2 Down) (yardH 4 0 1))) 2) 3
+
+abbrev pub textShut : String
+textShut = "H\t4\t0\t1\nJ\t1u\t2d\nX\t3\nX\t4\nT\t1\tu\t1\t2\n"
+
+-- what its text says, but for the order of its X lines;
+abbrev pub sayingShut : List ℕ → Description
+sayingShut closed =
+    record {
+      sections = 4;
+      points = 0;
+      trains = 1;
+      legs = [];
+      joins = record { one = section 1 Up; other = section 2 Down } ∷ [];
+      signals = [];
+      closed = closed;
+      roster = record { heading = Up; start = 1; destination = 2 } ∷ [];
+    }
+
+pub says-shut-only : (d : Description) → Describes (bytes textShut) d → d ≡ sayingShut (3 ∷ 4 ∷ [])
+unfolding bytes digits line isDigit byteAt digitsAt numberAt counted while sideFieldAt legFieldAt endFieldAt headerAt pointLineAt joinLineAt signalLineAt closedLineAt trainLineAt walk read
+says-shut-only d w = let e = sayingShut (3 ∷ 4 ∷ []) in describes-one (bytes textShut) d e w (read-is-spelling (bytes textShut) e .0 refl)
+
+pub written-shut : (writtenText shut ≡ bytes textShut) × (recordRefusal shut ≡ none)
+unfolding bytes first digits line anyBelow listBelow gatherBelow endAt joinedBy joined legsOf trainOf withJoin withClosed withTrain unknownRow joinRow looseRow placeRow recordRefusal flatMap rising spell descriptionOf writtenText isClosed
+written-shut = (refl, refl)
+
+-- an X line of what is written names 3, and none names 1;
+closed-written : (d : Description) → Describes (writtenText shut) d → List·Memᴰ 3 (d .closed) × (List·Memᴰ 1 (d .closed) → ⊥)
+unfolding isClosed withJoin withClosed withTrain
+closed-written d w =
+    let t = written-as-described shut (written-shut .1) in
+    rw (describes-one (writtenText shut) d (t .0) w (t .1)) (t .2 .closed 2 .0 refl, λ m. clash (t .2 .closed 0 .1 m) refl)
+
+-- and no record is written with 4 before 3.
+closed-turned : (r : Railway) → recordRefusal r ≡ none → writtenText r ≡ bytes "H\t4\t0\t1\nJ\t1u\t2d\nX\t4\nX\t3\nT\t1\tu\t1\t2\n" → ⊥
+unfolding bytes digits line isDigit byteAt digitsAt numberAt counted while sideFieldAt legFieldAt endFieldAt headerAt pointLineAt joinLineAt signalLineAt closedLineAt trainLineAt walk read rises
+closed-turned =
+    let d = sayingShut (4 ∷ 3 ∷ []) in
+    unsorted _ d (read-is-spelling _ d .0 refl) (λ s. clash (s .closed) refl)
+
+-- Whatever accepted record is written so has 3 closed, and 2 not.
+closed-there : (r : Railway) → recordRefusal r ≡ none → writtenText r ≡ bytes textShut → (closedAt r 2 ≡ true) × (closedAt r 1 ≡ false)
+unfolding withJoin withClosed withTrain
+closed-there r h e =
+    let t = text-same r shut h (written-shut .1) (e ∙ sym (written-shut .0)) in
+    (t .closed 2 (omega arith), t .closed 1 (omega arith))
+
+-- A text whose train starts on a closed section is refused with the row for places, and with no other.
+abbrev pub textShutOut : String
+textShutOut = "H\t2\t0\t1\nX\t1\nT\t1\tu\t1\t2\n"
+
+pub shut-out : RefusedWith (bytes textShutOut) Place
+unfolding bytes first digits line isDigit byteAt digitsAt numberAt counted while sideFieldAt legFieldAt endFieldAt headerAt pointLineAt joinLineAt signalLineAt closedLineAt trainLineAt walk read caseAnswer anyBelow any repeats joinEnds D.unknownRow D.joinRow D.looseRow D.doubleRow D.placeRow
+shut-out = refused-exactly (bytes textShutOut) Place .0 refl
 
 -- THE SAME RAILWAY. A fourth train in Yard A's record, which has two, is not looked at: the record is accepted, and written as Yard A.
 abbrev fourth : Railway
@@ -157,7 +219,7 @@ roster-same (suc (suc t)) h = absurd (omega (arith, h))
 fourth-same : SameRailway yardA fourth
 unfolding legsOf withJoin withSignal withLegs withTrain
 fourth-same =
-    record { sections = refl; points = refl; trains = refl; legs = λ n h. refl; joins = λ i h. refl; signals = λ i h. refl; roster = roster-same }
+    record { sections = refl; points = refl; trains = refl; legs = λ n h. refl; joins = λ i h. refl; signals = λ i h. refl; closed = λ x h. refl; roster = roster-same }
 
 fourth-accepted : recordRefusal fourth ≡ none
 fourth-accepted = sym (same-refusal yardA fourth fourth-same) ∙ written-a .1

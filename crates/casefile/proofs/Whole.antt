@@ -1,5 +1,5 @@
 -- The whole text: reading gives a description exactly where it is well formed and spells the text. The lines come one after the other, and the
--- byte that a line begins with tells J, G and T lines apart, so each list of lines ends where the next begins.
+-- byte that a line begins with tells J, G, X and T lines apart, so each list of lines ends where the next begins.
 -- Assumes nothing.
 use Prim.Native.Nat.{ℕ, zero, suc, _+_, _<_, _≤_}
 use mathlib.Core.Path.{_≡_, refl, sym, _∙_, ap}
@@ -16,11 +16,11 @@ use Rattle.text.specs.Text.{byte, line}
 use Rattle.text.specs.Reading.{Got, bad, got, then, value}
 use Rattle.text.proofs.Walking.{bad-got, carry, Lies, Reads, steps, on, go-on, stop-here, here}
 use Rattle.railway.specs.declared.Side.{Side}
-use Rattle.casefile.specs.Form.{JoinLine, SignalLine, TrainLine, Description, pointLine, joinLine, signalLine, trainLine, rising, spell, WritableJoin, WritableSignal, WritableTrain, Describes}
+use Rattle.casefile.specs.Form.{TrainLine, Description, pointLine, joinLine, signalLine, closedLine, trainLine, rising, spell, Writable, WritableJoin, WritableSignal, WritableTrain, Describes}
 use Rattle.casefile.specs.Rows.{FormRow}
-use Rattle.casefile.specs.Reading.{counted, while, headerAt, pointLineAt, joinLineAt, signalLineAt, trainLineAt, walk, read}
+use Rattle.casefile.specs.Reading.{counted, while, headerAt, pointLineAt, joinLineAt, signalLineAt, closedLineAt, trainLineAt, walk, read}
 use Rattle.casefile.specs.Claims.{ReadIsSpelling, DescribesOne, FormDecided}
-use Rattle.casefile.proofs.Lines.{WrittenLine, join-sound, join-complete, signal-sound, signal-complete, header-sound, header-complete, point-sound, point-complete, train-sound, train-complete}
+use Rattle.casefile.proofs.Lines.{WrittenLine, join-sound, join-complete, signal-sound, signal-complete, closed-sound, closed-complete, header-sound, header-complete, point-sound, point-complete, train-sound, train-complete}
 
 -- LINES BY COUNT
 module _ {A : Type 0} (good : A → Type 0) (spelling : ℕ → A → List ℕ) (s : List ℕ) (line : ℕ → ℕ → Got A) where
@@ -116,13 +116,15 @@ module _ (s : List ℕ) where
       on (counted (pointLineAt s) (h .points) 1 c1) _ d c k1 (λ legs c2 f2 k2.
       on (while (λ c. eqb (getD s c 0) (byte "J")) (joinLineAt s) (length s) c2) _ d c k2 (λ joins c3 f3 k3.
       on (while (λ c. eqb (getD s c 0) (byte "G")) (signalLineAt s) (length s) c3) _ d c k3 (λ signals c4 f4 k4.
-      on (counted (trainLineAt s) (h .trains) 1 c4) _ d c k4 (λ roster c5 f5 k5.
-      let z = ended s c5 (ltb c5 (length s)) refl k5 in
+      on (while (λ c. eqb (getD s c 0) (byte "X")) (closedLineAt s) (length s) c4) _ d c k4 (λ closed c5 f5 k5.
+      on (counted (trainLineAt s) (h .trains) 1 c5) _ d c k5 (λ roster c6 f6 k6.
+      let z = ended s c6 (ltb c6 (length s)) refl k6 in
       let w1 = header-sound s 0 h c1 f1 in
       let w2 = counted-sound (λ x. Unit {0}) pointLine s (pointLineAt s) points-sound (h .points) 1 c1 legs c2 f2 in
       let w3 = while-sound WritableJoin joinLine s (λ c. eqb (getD s c 0) (byte "J")) (joinLineAt s) (join-sound s) (length s) c2 joins c3 f3 in
       let w4 = while-sound WritableSignal signalLine s (λ c. eqb (getD s c 0) (byte "G")) (signalLineAt s) (signal-sound s) (length s) c3 signals c4 f4 in
-      let w5 = counted-sound WritableTrain trainLine s (trainLineAt s) trains-sound (h .trains) 1 c4 roster c5 f5 in
+      let w5 = while-sound Writable closedLine s (λ c. eqb (getD s c 0) (byte "X")) (closedLineAt s) (closed-sound s) (length s) c4 closed c5 f5 in
+      let w6 = counted-sound WritableTrain trainLine s (trainLineAt s) trains-sound (h .trains) 1 c5 roster c6 f6 in
       carry (λ d c. Describes s d) (z .1)
       (record {
         well-formed =
@@ -133,11 +135,12 @@ module _ (s : List ℕ) where
               one-a-point = w2 .many;
               joins = w3 .small;
               signals = w4 .small;
-              roster = w5 .small;
-              one-a-train = w5 .many;
+              closed = w5 .small;
+              roster = w6 .small;
+              one-a-train = w6 .many;
             };
-        spelling = sym (w1 .text ∙ rw (w2 .text, w3 .text, w4 .text, w5 .text, drop-of-length-le s (z .0), append-nil));
-      })))))))
+        spelling = sym (w1 .text ∙ rw (w2 .text, w3 .text, w4 .text, w5 .text, w6 .text, drop-of-length-le s (z .0), append-nil));
+      }))))))))
 
   -- the other way round
   points-complete : (c n : ℕ) (legs : List Side) (rest : List ℕ) → n < 1000 → length legs ≡ n → Lies s c (rising pointLine 1 legs ++ rest)
@@ -161,48 +164,47 @@ module _ (s : List ℕ) where
   fits : (c : ℕ) (l rest : List ℕ) → Lies s c (l ++ rest) → length l ≤ length s
   fits c l rest t = omega (arith, length-drop c s, simp length-append at (ap length (t .text)))
 
-  -- no J line begins where the signals do, no G line where the trains do
-  no-join : (gs : List SignalLine) (ts : List TrainLine) (at : ℕ) → Lies s at (flatMap signalLine gs ++ rising trainLine 1 ts) → eqb (getD s at 0) (byte "J") ≡ false
-  unfolding flatMap rising line
-  no-join [] [] at t = rw (here t)
-  no-join [] (x ∷ ts) at t = rw (here t)
-  no-join (g ∷ gs) ts at t = rw (here t)
+  -- which byte a list of lines begins with: its own letter, or what the rest begins with
+  each-led : {A : Type 0} (spelling : A → List ℕ) (b : ℕ) (rest : List ℕ) → ((x : A) (more : List ℕ) → eqb (getD (spelling x ++ more) 0 0) b ≡ false)
+      → eqb (getD rest 0 0) b ≡ false → (xs : List A) → eqb (getD (flatMap spelling xs ++ rest) 0 0) b ≡ false
+  unfolding flatMap
+  each-led spelling b rest h e [] = e
+  each-led spelling b rest h e (x ∷ xs) = rw append-assoc (h x _)
 
-  no-signal : (ts : List TrainLine) (at : ℕ) → Lies s at (rising trainLine 1 ts) → eqb (getD s at 0) (byte "G") ≡ false
+  trains-led : (b : ℕ) → eqb 0 b ≡ false → eqb (byte "T") b ≡ false → (ts : List TrainLine) → eqb (getD (rising trainLine 1 ts) 0 0) b ≡ false
   unfolding rising line
-  no-signal [] at t = rw (here t)
-  no-signal (x ∷ ts) at t = rw (here t)
+  trains-led b h e [] = h
+  trains-led b h e (x ∷ ts) = e
 
-  joins-complete : (c : ℕ) (js : List JoinLine) (gs : List SignalLine) (ts : List TrainLine) → Every WritableJoin js
-      → Lies s c (flatMap joinLine js ++ (flatMap signalLine gs ++ rising trainLine 1 ts))
-      → Reads s (while (λ c. eqb (getD s c 0) (byte "J")) (joinLineAt s) (length s) c) js (flatMap signalLine gs ++ rising trainLine 1 ts)
-  unfolding line
-  joins-complete c js gs ts a t =
-      while-complete WritableJoin joinLine s (λ c. eqb (getD s c 0) (byte "J")) (joinLineAt s) (join-complete s) (λ at x rest t. rw (here t)) _ (no-join gs ts) (length s) c js
-      (omega (arith, each-long joinLine (λ x. omega arith) js, fits c (flatMap joinLine js) _ t)) a t
-
-  signals-complete : (c : ℕ) (gs : List SignalLine) (ts : List TrainLine) → Every WritableSignal gs
-      → Lies s c (flatMap signalLine gs ++ rising trainLine 1 ts)
-      → Reads s (while (λ c. eqb (getD s c 0) (byte "G")) (signalLineAt s) (length s) c) gs (rising trainLine 1 ts)
-  unfolding line
-  signals-complete c gs ts a t =
-      while-complete WritableSignal signalLine s (λ c. eqb (getD s c 0) (byte "G")) (signalLineAt s) (signal-complete s) (λ at x rest t. rw (here t)) _ (no-signal ts) (length s) c gs
-      (omega (arith, each-long signalLine (λ x. omega arith) gs, fits c (flatMap signalLine gs) _ t)) a t
+  -- the lines of a letter, in front of a rest that begins with another byte
+  each-complete : {A : Type 0} (good : A → Type 0) (spelling : A → List ℕ) (line : ℕ → Got A) (b : ℕ)
+      → ((at : ℕ) (x : A) (rest : List ℕ) → good x → Lies s at (spelling x ++ rest) → Reads s (line at) x rest)
+      → ((x : A) (rest : List ℕ) → eqb (getD (spelling x ++ rest) 0 0) b ≡ true) → ((x : A) → 1 ≤ length (spelling x))
+      → (c : ℕ) (xs : List A) (rest : List ℕ) → eqb (getD rest 0 0) b ≡ false → Every good xs → Lies s c (flatMap spelling xs ++ rest)
+      → Reads s (while (λ c. eqb (getD s c 0) b) line (length s) c) xs rest
+  each-complete good spelling line b complete led long c xs rest e a t =
+      while-complete good spelling s (λ c. eqb (getD s c 0) b) line complete (λ at x rest t. rw (here t) (led x rest)) rest (λ at t. rw (here t) e) (length s) c xs
+      (omega (arith, each-long spelling long xs, fits c (flatMap spelling xs) rest t)) a t
 
   at-end : (c : ℕ) → Lies s c [] → ltb c (length s) ≡ false
   at-end c t = le-ltb c (length s) (omega (arith, length-drop c s, ap length (t .text)))
 
   walk-complete : (d : Description) → Describes s d → Reads s (walk s) d []
-  unfolding walk spell
+  unfolding walk spell line
   walk-complete d w =
       let f = w .well-formed in
       let t : Lies s 0 (spell d) = record { text = sym (w .spelling) } in
       go-on _ (header-complete s 0 (record { sections = d .sections; points = d .points; trains = d .trains }) _ (f .sections, f .points, f .trains) t) (λ c1 t1.
       go-on _ (points-complete c1 (d .points) (d .legs) _ (f .points) (f .one-a-point) t1) (λ c2 t2.
-      go-on _ (joins-complete c2 (d .joins) (d .signals) (d .roster) (f .joins) t2) (λ c3 t3.
-      go-on _ (signals-complete c3 (d .signals) (d .roster) (f .signals) t3) (λ c4 t4.
-      go-on _ (trains-complete c4 (d .trains) (d .roster) (f .trains) (f .one-a-train) (f .roster) t4) (λ c5 t5.
-      rw (at-end c5 t5) (stop-here t5))))))
+      go-on _ (each-complete WritableJoin joinLine (joinLineAt s) (byte "J") (join-complete s) (λ x rest. refl) (λ x. omega arith) c2 (d .joins) _
+      (each-led signalLine (byte "J") _ (λ x more. refl) (each-led closedLine (byte "J") _ (λ x more. refl) (trains-led (byte "J") refl refl (d .roster)) (d .closed)) (d .signals))
+      (f .joins) t2) (λ c3 t3.
+      go-on _ (each-complete WritableSignal signalLine (signalLineAt s) (byte "G") (signal-complete s) (λ x rest. refl) (λ x. omega arith) c3 (d .signals) _
+      (each-led closedLine (byte "G") _ (λ x more. refl) (trains-led (byte "G") refl refl (d .roster)) (d .closed)) (f .signals) t3) (λ c4 t4.
+      go-on _ (each-complete Writable closedLine (closedLineAt s) (byte "X") (closed-complete s) (λ x rest. refl) (λ x. omega arith) c4 (d .closed) _
+      (trains-led (byte "X") refl refl (d .roster)) (f .closed) t4) (λ c5 t5.
+      go-on _ (trains-complete c5 (d .trains) (d .roster) (f .trains) (f .one-a-train) (f .roster) t5) (λ c6 t6.
+      rw (at-end c6 t6) (stop-here t6)))))))
 
   pub read-complete : (d : Description) → Describes s d → read s ≡ some d
   unfolding read

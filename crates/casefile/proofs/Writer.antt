@@ -13,7 +13,7 @@ use Rattle.laws.specs.Below.{listBelow, gatherBelow}
 use Rattle.laws.specs.Lists.{any, repeats, Every}
 use Rattle.laws.proofs.Bools.{clash, not-true}
 use Rattle.laws.proofs.Below.{list-length, list-get, listed, gathered, in-gathered}
-use Rattle.laws.proofs.Lists.{any-true, repeats-gather, repeats-list, map-append}
+use Rattle.laws.proofs.Lists.{any-true, any-none, repeats-gather, repeats-list, map-append}
 use Rattle.railway.specs.declared.Side.the-variants.{Up}
 use Rattle.railway.specs.declared.Leg.{Leg}
 use Rattle.railway.specs.declared.End.{End}
@@ -22,19 +22,19 @@ use Rattle.railway.specs.declared.Joined.{Joined}
 use Rattle.railway.specs.declared.Joined.the-variants.{Nothing, With}
 use Rattle.railway.specs.declared.Train.{Train}
 use Rattle.railway.specs.declared.Railway.{Railway}
-use Rattle.railway.specs.Bounds.{sectionEnds, allEnds}
+use Rattle.railway.specs.Bounds.{mostSections, sectionEnds, allEnds}
 use Rattle.railway.specs.Ends.{Numbered, sideAt, endIndex, endAt}
-use Rattle.railway.specs.Record.{linkAt, flagAt, joined, legsOf, trainOf}
+use Rattle.railway.specs.Record.{linkAt, flagAt, closedAt, joined, isClosed, legsOf, trainOf}
 use Rattle.railway.specs.Record as R
 use Rattle.railway.specs.Rows.{bothPorts, oneSection}
 use Rattle.railway.specs.Rows as RR
 use Rattle.railway.proofs.Ends.{index-below, index-end, end-section, section-below, port-behind}
-use Rattle.railway.proofs.Lookups.{joined-there}
+use Rattle.railway.proofs.Lookups.{joined-there, closed-there}
 use Rattle.railway.proofs.Accepted.{Right, Accepted, joined-known, joined-right, joined-back}
-use Rattle.casefile.specs.Form.{EndField, section, port, JoinLine, SignalLine, TrainLine, WritableEnd, WritableSignal, WritableTrain, WellFormed, sameEnd, sameSignal}
-use Rattle.casefile.specs.Rows.{within, known, sectionOf, sideOf, joinEnds}
+use Rattle.casefile.specs.Form.{EndField, section, port, JoinLine, SignalLine, TrainLine, Writable, WritableEnd, WritableSignal, WritableTrain, WellFormed, sameEnd, sameSignal}
+use Rattle.casefile.specs.Rows.{within, known, sectionOf, sideOf, joinEnds, closedIn}
 use Rattle.casefile.specs.Recording.{fieldOf, signalOf}
-use Rattle.casefile.specs.Writing.{joinFrom, joinAt, signalAt, lineOfTrain, descriptionOf}
+use Rattle.casefile.specs.Writing.{joinFrom, joinAt, signalAt, closedLineOf, lineOfTrain, descriptionOf}
 use Rattle.casefile.proofs.Faultless.{Faultless, RightJoin, is-within}
 use Rattle.casefile.proofs.Ends.{same-self, not-same, signal-is, field-one, other-end}
 
@@ -53,7 +53,22 @@ one-same (Section m s) (Section n t) h = more-one (m .0) (n .0) h
 one-same (Section m s) (Port n l) h = refl
 one-same (Port m l) f h = refl
 
--- WHERE A LINE COMES FROM
+-- WHERE A LINE COMES FROM. A line that stands there because of a flag.
+pub record Noted {A : Type 0} (flag : Bool) (line : A) (x : A) : Type 0 where
+  pub on : flag ≡ true
+  pub is : x ≡ line
+
+noted : {A : Type 0} (flag : Bool) (line : A) (p : Bool) (x : A) → flag ≡ p → List·Memᴰ x (cond p (line ∷ []) []) → Noted flag line x
+noted flag line true x h (List·Memᴰ·head q) = record { on = h; is = q }
+noted flag line true x h (List·Memᴰ·tail m) = elim m [ ]
+noted flag line false x h m = elim m [ ]
+
+-- it stands there once
+one-noted : {A : Type 0} (same : A → A → Bool) (line : A) (p : Bool) → repeats same (cond p (line ∷ []) []) ≡ false
+unfolding repeats any
+one-noted same line true = refl
+one-noted same line false = refl
+
 module _ (r : Railway) where
   pub record Origin (i : ℕ) (j : JoinLine) : Type 0 where
     pub to : End
@@ -80,20 +95,17 @@ module _ (r : Railway) where
       → List·Memᴰ (record { one = fieldOf (endAt i); other = fieldOf f }) (gatherBelow (joinAt r) sectionEnds)
   join-written i f b l h = in-gathered (joinAt r) sectionEnds i _ b (rw (l, lt-ltb i (endIndex f) h) (List·Memᴰ·head refl))
 
-  pub record FlagOf (i : ℕ) (g : SignalLine) : Type 0 where
-    pub flag : flagAt r i ≡ true
-    pub is : g ≡ signalOf i
-
-  flag-of : (i : ℕ) (p : Bool) (g : SignalLine) → flagAt r i ≡ p → List·Memᴰ g (cond p (signalOf i ∷ []) []) → FlagOf i g
-  flag-of i true g h (List·Memᴰ·head q) = record { flag = h; is = q }
-  flag-of i true g h (List·Memᴰ·tail m) = elim m [ ]
-  flag-of i false g h m = elim m [ ]
-
-  pub signal-origin : (i : ℕ) (g : SignalLine) → List·Memᴰ g (signalAt r i) → FlagOf i g
-  signal-origin i g m = flag-of i (flagAt r i) g refl m
+  pub signal-origin : (i : ℕ) (g : SignalLine) → List·Memᴰ g (signalAt r i) → Noted (flagAt r i) (signalOf i) g
+  signal-origin i g m = noted (flagAt r i) (signalOf i) (flagAt r i) g refl m
 
   pub signal-written : (i : ℕ) → i < sectionEnds → flagAt r i ≡ true → List·Memᴰ (signalOf i) (gatherBelow (signalAt r) sectionEnds)
   signal-written i b l = in-gathered (signalAt r) sectionEnds i (signalOf i) b (rw l (List·Memᴰ·head refl))
+
+  pub closed-origin : (x n : ℕ) → List·Memᴰ n (closedLineOf r x) → Noted (closedAt r x) (suc x) n
+  closed-origin x n m = noted (closedAt r x) (suc x) (closedAt r x) n refl m
+
+  pub closed-written : (x : ℕ) → x < mostSections → closedAt r x ≡ true → List·Memᴰ (suc x) (gatherBelow (closedLineOf r) mostSections)
+  closed-written x b l = in-gathered (closedLineOf r) mostSections x (suc x) b (rw l (List·Memᴰ·head refl))
 
 -- a G line is known by its index
 pub signal-one : (i j : ℕ) → i < sectionEnds → j < sectionEnds → signalOf i ≡ signalOf j → i ≡ j
@@ -178,19 +190,22 @@ module _ (r : Railway) (w : Accepted r) where
       (repeats-gather sameEnd (λ i. joinEnds (joinAt r i)) sectionEnds (λ i b. once-link i (linkAt r i) b)
       (λ i j x y h b m n. not-same x y (apart i j x y h b (named i x m) (named j y n))))
 
-  -- SIGNALS NAMED TWICE: none.
-  one-signal : (i : ℕ) (p : Bool) → repeats sameSignal (cond p (signalOf i ∷ []) []) ≡ false
-  unfolding repeats any
-  one-signal i true = refl
-  one-signal i false = refl
-
+  -- SIGNALS AND SECTIONS NAMED TWICE: none.
   signals-once : repeats sameSignal (gatherBelow (signalAt r) sectionEnds) ≡ false
   signals-once =
-      repeats-gather sameSignal (signalAt r) sectionEnds (λ i b. one-signal i (flagAt r i))
+      repeats-gather sameSignal (signalAt r) sectionEnds (λ i b. one-noted sameSignal (signalOf i) (flagAt r i))
       (λ i j x y h b m n.
       let p = signal-origin r i x m in
       let q = signal-origin r j y n in
       not-true (sameSignal x y) (λ e. omega (arith, h, signal-one i j (omega arith) b (sym (p .is) ∙ signal-is x y e ∙ q .is))))
+
+  closed-once : repeats eqb (gatherBelow (closedLineOf r) mostSections) ≡ false
+  closed-once =
+      repeats-gather eqb (closedLineOf r) mostSections (λ x b. one-noted eqb (suc x) (closedAt r x))
+      (λ i j x y h b m n.
+      let p = closed-origin r i x m in
+      let q = closed-origin r j y n in
+      ne-eqb x y (λ e. omega (arith, h, e, p .is, q .is)))
 
   -- WHAT IS KNOWN
   field-known : (e : End) → RR.known r e ≡ true → known (descriptionOf r) (fieldOf e) ≡ true
@@ -272,7 +287,21 @@ module _ (r : Railway) (w : Accepted r) where
   from-flag P h g m =
       let t = gathered (signalAt r) sectionEnds g m in
       let o = signal-origin r (t .index) g (t .there) in
-      rw (o .is) (h (t .index) (t .below) (o .flag))
+      rw (o .is) (h (t .index) (t .below) (o .on))
+
+  pub from-closed : (P : ℕ → Type 0) → ((x : ℕ) → x < mostSections → closedAt r x ≡ true → P (suc x)) → Every P (descriptionOf r .closed)
+  unfolding descriptionOf
+  from-closed P h n m =
+      let t = gathered (closedLineOf r) mostSections n m in
+      let o = closed-origin r (t .index) n (t .there) in
+      rw (o .is) (h (t .index) (t .below) (o .on))
+
+  -- a section that is in use is in no X line
+  not-closed : (x : ℕ) → isClosed r x ≡ false → closedIn (descriptionOf r) (suc x) ≡ false
+  not-closed x h =
+      any-none (eqb (suc x)) (descriptionOf r .closed)
+      (from-closed (λ n. eqb (suc x) n ≡ false)
+      (λ y b l. ne-eqb (suc x) (suc y) (λ e. let z : x ≡ y = omega arith in clash (sym (closed-there r y b) ∙ l) (rw z at h))))
 
   map-list : {A B : Type 0} (p : A → B) (f : ℕ → A) (k : ℕ) → map p (listBelow f k) ≡ listBelow (λ i. p (f i)) k
   unfolding listBelow
@@ -302,6 +331,9 @@ module _ (r : Railway) (w : Accepted r) where
         signal-known =
             from-flag (λ g. within (g .number) (r .sections) ≡ true)
             (λ i b l. let k = flag-section i b l in is-within (suc (i / 2)) (r .sections) (omega arith) (omega arith));
+        closed-known =
+            from-closed (λ n. within n (r .sections) ≡ true)
+            (λ x b l. let k = w .closed-known x b (sym (closed-there r x b) ∙ l) in is-within (suc x) (r .sections) (omega arith) (omega arith));
         train-known =
             from-train (λ t. (within (t .start) (r .sections) ≡ true) × (within (t .destination) (r .sections) ≡ true))
             (λ t h.
@@ -311,8 +343,12 @@ module _ (r : Railway) (w : Accepted r) where
         ends-once = ends-once;
         port-joined = port-joined;
         signals-once = signals-once;
+        closed-once = closed-once;
         starts = no-repeat (λ t. t .start) (λ t. t .start .0) (λ t. refl) (w .starts);
         destinations = no-repeat (λ t. t .destination) (λ t. t .destination .0) (λ t. refl) (w .destinations);
+        places-kept =
+            from-train (λ t. (closedIn (descriptionOf r) (t .start) ≡ false) × (closedIn (descriptionOf r) (t .destination) ≡ false))
+            (λ t h. let k = w .places-kept t h in (not-closed (trainOf r t .start .0) (k .0), not-closed (trainOf r t .destination .0) (k .1)));
       }
 
   -- WELL FORMED
@@ -333,6 +369,7 @@ module _ (r : Railway) (w : Accepted r) where
             let k = link-ends j t in
             (rw (t .origin .one) (field-small (endAt (t .index)) (k .0)), rw (t .origin .other) (field-small (t .origin .to) (k .1)));
         signals = from-flag WritableSignal (λ i h l. omega arith);
+        closed = from-closed Writable (λ x h l. omega arith);
         roster = from-train WritableTrain (λ t h. let k = w .train-known t h in (omega arith, omega arith));
         one-a-point = list-length (legsOf r) (r .points);
         one-a-train = list-length (λ t. lineOfTrain (trainOf r t)) (r .trains);

@@ -1,4 +1,4 @@
--- What is claimed of the case file, a sentence to each: of the lines, the writer's order and the same railway (document 01, "The case file"), and of
+-- What is claimed of the case file, a sentence to each: of the lines, the writer's order and the same railway (document 01, "The case file"; document 02, Q-5), and of
 -- which number is given (there, "Numbers that a desk can get"). proofs/ has the proofs. Assumes nothing.
 use mathlib.Core.Path.{_≡_}
 use mathlib.Core.Bool.{true}
@@ -15,7 +15,7 @@ use Rattle.railway.specs.declared.Joined.the-variants.{With}
 use Rattle.railway.specs.declared.Train.{Train}
 use Rattle.railway.specs.declared.Railway.{Railway}
 use Rattle.railway.specs.declared.Refusal.{Refusal}
-use Rattle.railway.specs.Record.{joined, hasSignal, legsOf, trainOf}
+use Rattle.railway.specs.Record.{joined, hasSignal, isClosed, legsOf, trainOf}
 use Rattle.railway.specs.Rows.{recordRefusal}
 use Rattle.railway.specs.Same.{SameRailway}
 use Rattle.casefile.specs.declared.CaseRead.{CaseRead}
@@ -83,8 +83,8 @@ pub record TrainSaid (t : TrainLine) (train : Train) : Type 0 where
   pub start : suc (train .start .0) ≡ t .start
   pub destination : suc (train .destination .0) ≡ t .destination
 
--- The record has what the lines say: the H line its counts, P line n the legs of point n, the J lines its joins, the G lines its signals and
--- T line t the data of train t.
+-- The record has what the lines say: the H line its counts, P line n the legs of point n, the J lines its joins, the G lines its signals, the X lines
+-- its closed sections and T line t the data of train t.
 pub record AsDescribed (d : Description) (r : Railway) : Type 0 where
   pub sections : r .sections ≡ d .sections
   pub points : r .points ≡ d .points
@@ -92,6 +92,7 @@ pub record AsDescribed (d : Description) (r : Railway) : Type 0 where
   pub legs : (n : ℕ) → n < d .points → legsOf r n ≡ getD (d .legs) n Up
   pub joins : (e f : End) → (joined r e ≡ With f) ↔ Joins (d .joins) e f
   pub signals : (e : End) → (hasSignal r e ≡ true) ↔ Signals (d .signals) e
+  pub closed : (x : ℕ) → (isClosed r x ≡ true) ↔ List·Memᴰ (suc x) (d .closed)
   pub roster : (t : ℕ) → t < d .trains → TrainSaid (getD (d .roster) t noTrainLine) (trainOf r t)
 
 -- A text that is accepted is read as a record that has what its lines say.
@@ -121,11 +122,12 @@ rank (section n Down) = 2 * n
 rank (section n Up) = suc (2 * n)
 rank (port n l) = 2000
 
--- Of a J line the earlier end comes first, which so is a section's; J and G lines rise by the end that they begin with.
+-- Of a J line the earlier end comes first, which so is a section's; J and G lines rise by the end that they begin with, X lines by their section.
 pub record Sorted (d : Description) : Type 0 where
   pub first : Every (λ j. rank (j .one) < rank (j .other)) (d .joins)
   pub joins : rises 0 (map (λ j. rank (j .one)) (d .joins)) ≡ true
   pub signals : rises 0 (map (λ g. rank (section (g .number) (g .side))) (d .signals)) ≡ true
+  pub closed : rises 0 (d .closed) ≡ true
 
 -- The writer's text of an accepted record is in this order.
 abbrev pub WriterSorts : Type 0

@@ -1,4 +1,4 @@
--- The form of a case text (document 01, "The case file"): what such a text says, and how it is spelled. A text is in form if some well-formed
+-- The form of a case text (document 01, "The case file"; document 02, Q-5): what such a text says, and how it is spelled. A text is in form if some well-formed
 -- description spells it. Sections, points and trains count from 1 here, as in the text, and 0 can be written. Assumes nothing.
 use mathlib.Core.Path.{_≡_}
 use mathlib.Core.Bool.{Bool, false, _&&_}
@@ -35,7 +35,8 @@ pub record TrainLine : Type 0 where
   pub start : ℕ
   pub destination : ℕ
 
--- The whole: the counts of the H line, the side of the legs from each P line, and the J, G and T lines, all in the text's order.
+-- The whole: the counts of the H line, the side of the legs from each P line, the J and G lines, the section of each X line, and the T lines, all in the
+-- text's order.
 pub record Description : Type 0 where
   pub sections : ℕ
   pub points : ℕ
@@ -43,6 +44,7 @@ pub record Description : Type 0 where
   pub legs : List Side
   pub joins : List JoinLine
   pub signals : List SignalLine
+  pub closed : List ℕ
   pub roster : List TrainLine
 
 -- WHAT NAMES THE SAME. Two fields name one end.
@@ -92,6 +94,10 @@ joinLine j = line ((byte "J" ∷ []) ∷ endField (j .one) ∷ endField (j .othe
 abbrev pub signalLine : SignalLine → List ℕ
 signalLine g = line ((byte "G" ∷ []) ∷ sectionField (g .number) (g .side) ∷ [])
 
+-- X: a closed section (document 02, Q-5).
+abbrev pub closedLine : ℕ → List ℕ
+closedLine n = line ((byte "X" ∷ []) ∷ decimal n ∷ [])
+
 -- T: a train's number, which way it heads, from which section and to which.
 abbrev pub trainLine : ℕ → TrainLine → List ℕ
 trainLine n t = line ((byte "T" ∷ []) ∷ decimal n ∷ (sideByte (t .heading) ∷ []) ∷ decimal (t .start) ∷ decimal (t .destination) ∷ [])
@@ -101,14 +107,15 @@ unfoldable pub rising : {A : Type 0} → (ℕ → A → List ℕ) → ℕ → Li
 rising f n [] = []
 rising f n (x ∷ xs) = f n x ++ rising f (suc n) xs
 
--- The lines in their order; J and G lines as they come.
+-- The lines in their order; J, G and X lines as they come.
 unfoldable pub spell : Description → List ℕ
 spell d =
     headerLine d
     ++ (rising pointLine 1 (d .legs)
     ++ (flatMap joinLine (d .joins)
     ++ (flatMap signalLine (d .signals)
-    ++ rising trainLine 1 (d .roster))))
+    ++ (flatMap closedLine (d .closed)
+    ++ rising trainLine 1 (d .roster)))))
 
 -- WELL FORMED. A number that one to three digits can write.
 abbrev pub Writable : ℕ → Type 0
@@ -138,6 +145,7 @@ pub record WellFormed (d : Description) : Type 0 where
   pub trains : Writable (d .trains)
   pub joins : Every WritableJoin (d .joins)
   pub signals : Every WritableSignal (d .signals)
+  pub closed : Every Writable (d .closed)
   pub roster : Every WritableTrain (d .roster)
   pub one-a-point : length (d .legs) ≡ d .points
   pub one-a-train : length (d .roster) ≡ d .trains

@@ -97,6 +97,13 @@ module _ (s : List ℕ) where
       then (byteAt s tab c) (λ x c. then (caseNumberAt c) (λ n c. then (sideFieldAt c) (λ side c.
       then (byteAt s lineEnd c) (λ x c. got (record { number = n; side = side }) c)))))
 
+  -- An X line.
+  unfoldable pub closedLineAt : ℕ → Got ℕ
+  closedLineAt c =
+      then (byteAt s (byte "X") c) (λ x c.
+      then (byteAt s tab c) (λ x c. then (caseNumberAt c) (λ n c.
+      then (byteAt s lineEnd c) (λ x c. got n c))))
+
   -- A T line, whose number must be n.
   unfoldable pub trainLineAt : ℕ → ℕ → Got TrainLine
   trainLineAt n c =
@@ -114,9 +121,10 @@ module _ (s : List ℕ) where
       then (counted pointLineAt (h .points) 1 c) (λ legs c.
       then (while (λ c. eqb (getD s c 0) (byte "J")) joinLineAt (length s) c) (λ joins c.
       then (while (λ c. eqb (getD s c 0) (byte "G")) signalLineAt (length s) c) (λ signals c.
+      then (while (λ c. eqb (getD s c 0) (byte "X")) closedLineAt (length s) c) (λ closed c.
       then (counted trainLineAt (h .trains) 1 c) (λ roster c.
       cond (ltb c (length s)) bad
-      (got (record { sections = h .sections; points = h .points; trains = h .trains; legs = legs; joins = joins; signals = signals; roster = roster }) c))))))
+      (got (record { sections = h .sections; points = h .points; trains = h .trains; legs = legs; joins = joins; signals = signals; closed = closed; roster = roster }) c)))))))
 
   -- What a text says, if it is in form.
   unfoldable pub read : Option Description

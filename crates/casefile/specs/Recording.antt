@@ -1,9 +1,10 @@
 -- The railway of a description (document 01, "The railway" and "The case file"): the record that a case text is read into, with its legs, joins,
--- signals and trains from the P, J, G and T lines. It counts from 0. `Claims` has what it answers, field by field, in words of its own.
+-- signals, closed sections and trains from the P, J, G, X and T lines. It counts from 0. `Claims` has what it answers, field by field, in words of its own.
 -- Assumes nothing.
 use mathlib.Core.Bool.{cond}
 use mathlib.Core.List.{List, [], _∷_}
 use Prim.Native.Nat.{ℕ, suc, _-_, _/_, _%_}
+use lib.Dec.{eqb}
 use lib.ListN.{getD}
 use Rattle.laws.specs.Below.{listBelow}
 use Rattle.laws.specs.Lists.{any}
@@ -14,7 +15,7 @@ use Rattle.railway.specs.declared.Joined.{Joined}
 use Rattle.railway.specs.declared.Joined.the-variants.{Nothing, With}
 use Rattle.railway.specs.declared.Train.{Train}
 use Rattle.railway.specs.declared.Railway.{Railway}
-use Rattle.railway.specs.Bounds.{mostPoints, mostTrains, sectionEnds, allEnds}
+use Rattle.railway.specs.Bounds.{mostSections, mostPoints, mostTrains, sectionEnds, allEnds}
 use Rattle.railway.specs.Ends.{sideAt, endAt}
 use Rattle.railway.specs.Record.{linkByte}
 use Rattle.casefile.specs.Form.{EndField, section, port, JoinLine, SignalLine, TrainLine, Description, sameEnd, sameSignal}
@@ -56,5 +57,6 @@ railwayOf d =
       legs = listBelow (λ n. record { side = getD (d .legs) n Up }) mostPoints;
       links = listBelow (λ i. linkByte (partner (d .joins) (fieldOf (endAt i)))) allEnds;
       signals = listBelow (λ i. any (sameSignal (signalOf i)) (d .signals)) sectionEnds;
+      closed = listBelow (λ x. any (eqb (suc x)) (d .closed)) mostSections;
       roster = listBelow (λ t. trainOfLine (getD (d .roster) t noTrainLine)) mostTrains;
     }

@@ -50,13 +50,21 @@ unknownJoin d j = not (known d (j .one) && known d (j .other))
 abbrev pub unknownSignal : Description → SignalLine → Bool
 unknownSignal d g = not (within (g .number) (d .sections))
 
+-- An X line of no section that is there.
+abbrev pub unknownClosed : Description → ℕ → Bool
+unknownClosed d n = not (within n (d .sections))
+
 -- A T line whose start or destination is not there.
 abbrev pub unknownTrain : Description → TrainLine → Bool
 unknownTrain d t = not (within (t .start) (d .sections) && within (t .destination) (d .sections))
 
 -- 4, unknown: one of these lines has a section or point with number 0, or one above the H line's.
 unfoldable pub unknownRow : Description → Bool
-unknownRow d = any (unknownJoin d) (d .joins) || any (unknownSignal d) (d .signals) || any (unknownTrain d) (d .roster)
+unknownRow d =
+    any (unknownJoin d) (d .joins)
+    || any (unknownSignal d) (d .signals)
+    || any (unknownClosed d) (d .closed)
+    || any (unknownTrain d) (d .roster)
 
 -- The section that an end belongs to; a port belongs to none.
 abbrev pub sectionOf : EndField → Option ℕ
@@ -97,13 +105,24 @@ looseAt d i = looseEnd d (port (suc i) Stem) || looseEnd d (port (suc i) Plus) |
 unfoldable pub looseRow : Description → Bool
 looseRow d = anyBelow (looseAt d) (d .points)
 
--- 7, double: two G lines name one section end.
+-- 7, double: two G lines name one section end, or two X lines one section.
 unfoldable pub doubleRow : Description → Bool
-doubleRow d = repeats sameSignal (d .signals)
+doubleRow d = repeats sameSignal (d .signals) || repeats eqb (d .closed)
 
--- 8, place: a section is the start of two trains, or the destination of two.
+-- An X line names the section.
+abbrev pub closedIn : Description → ℕ → Bool
+closedIn d n = any (eqb n) (d .closed)
+
+-- A train starts or ends on such a section.
+abbrev pub shutOut : Description → TrainLine → Bool
+shutOut d t = closedIn d (t .start) || closedIn d (t .destination)
+
+-- 8, place: a section is the start of two trains, or the destination of two, or either of one while it is closed.
 unfoldable pub placeRow : Description → Bool
-placeRow d = repeats eqb (map (λ t. t .start) (d .roster)) || repeats eqb (map (λ t. t .destination) (d .roster))
+placeRow d =
+    repeats eqb (map (λ t. t .start) (d .roster))
+    || repeats eqb (map (λ t. t .destination) (d .roster))
+    || any (shutOut d) (d .roster)
 
 -- Rows 3 to 8 of what a text says, in the table's order.
 abbrev pub descriptionRows : Description → List Row

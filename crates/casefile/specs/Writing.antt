@@ -14,17 +14,18 @@ use Rattle.railway.specs.declared.Train.{Train}
 use Rattle.railway.specs.declared.Railway.{Railway}
 use Rattle.railway.specs.declared.Refusal.{Refusal}
 use Rattle.railway.specs.declared.Refusal.the-variants.{Space}
-use Rattle.railway.specs.Bounds.{sectionEnds}
+use Rattle.railway.specs.Bounds.{mostSections, sectionEnds}
 use Rattle.railway.specs.Ends.{endIndex, endAt}
 use Rattle.railway.specs.Refusals.{number, numberOf, Row, row, first}
-use Rattle.railway.specs.Record.{linkAt, flagAt, legsOf, trainOf}
+use Rattle.railway.specs.Record.{linkAt, flagAt, closedAt, legsOf, trainOf}
 use Rattle.railway.specs.Rows.{recordRows}
 use Rattle.casefile.specs.declared.Written.{Written}
 use Rattle.casefile.specs.declared.Written.the-variants.{Bytes, Refused}
 use Rattle.casefile.specs.Form.{JoinLine, SignalLine, TrainLine, Description, spell}
 use Rattle.casefile.specs.Recording.{fieldOf, signalOf}
 
--- THE TEXT. A walk over the section ends by index, where a section's down end goes before its up end, makes the J lines, and another one the G lines.
+-- THE TEXT. A walk over the section ends by index, where a section's down end goes before its up end, makes the J lines, and another one the G lines; one over the sections
+-- makes the X lines.
 -- The J line that begins with the section end of index i, by what that end is joined to: there is one if the other end has a later index, and so is a
 -- later section end or a port.
 abbrev pub joinFrom : ℕ → Joined → List JoinLine
@@ -39,11 +40,15 @@ joinAt r i = joinFrom i (linkAt r i)
 abbrev pub signalAt : Railway → ℕ → List SignalLine
 signalAt r i = cond (flagAt r i) (signalOf i ∷ []) []
 
+-- The X line of a section, if it is closed.
+abbrev pub closedLineOf : Railway → ℕ → List ℕ
+closedLineOf r x = cond (closedAt r x) (suc x ∷ []) []
+
 -- The T line of a train.
 abbrev pub lineOfTrain : Train → TrainLine
 lineOfTrain t = record { heading = t .heading; start = suc (t .start .0); destination = suc (t .destination .0) }
 
--- What the writer's text says: all that the record has, by rising point, section end and train.
+-- What the writer's text says: all that the record has, by rising point, section end, section and train.
 unfoldable pub descriptionOf : Railway → Description
 descriptionOf r =
     record {
@@ -53,6 +58,7 @@ descriptionOf r =
       legs = listBelow (legsOf r) (r .points);
       joins = gatherBelow (joinAt r) sectionEnds;
       signals = gatherBelow (signalAt r) sectionEnds;
+      closed = gatherBelow (closedLineOf r) mostSections;
       roster = listBelow (λ t. lineOfTrain (trainOf r t)) (r .trains);
     }
 

@@ -25,7 +25,7 @@ use Rattle.railway.specs.declared.Railway.{Railway}
 use Rattle.railway.specs.declared.Refusal.{Refusal}
 use Rattle.railway.specs.Bounds.{mostSections, mostTrains, sectionEnds, allEnds}
 use Rattle.railway.specs.Ends.{sideIndex, legIndex, sideAt, legAt, endAt, endIndex}
-use Rattle.railway.specs.Record.{noLink, noTrain, joinedBy, flagAt, joined, hasSignal, trainOf}
+use Rattle.railway.specs.Record.{isClosed, noLink, noTrain, joinedBy, flagAt, joined, hasSignal, trainOf}
 use Rattle.railway.specs.Lent.{LinksOf}
 use Rattle.railway.proofs.Ends.{end-section, end-port}
 use Rattle.railway.proofs.Bytes.{byte-there, byte-past}
@@ -35,7 +35,7 @@ use Rattle.railway.specs.declared.CaseAnswer.the-variants.{Accepted, Refused}
 use Rattle.acceptance.specs.Answers.{Judged}
 use Rattle.acceptance.proofs.Answers.{judged-refused, judged-accepted}
 use Rattle.acceptance.proofs.Bytes.{port-link}
-use Rattle.game.specs.Moves.{legSet, through, behindPort, pastPoint, pastJoin, passes}
+use Rattle.game.specs.Moves.{legSet, through, behindPort, pastPoint, pastJoin, passes, inUse, entered}
 use Rattle.game.proofs.Accepted.{facts}
 use Rattle.compiled.specs.declared.Route.{Route}
 use Rattle.compiled.specs.Table.{routeBytes, countBytes, tableBytes, noByte, standByte, pointByte, sectionByte, endOn, parkedOn, within, standOn, heldOn, freeOn, routeByte, countByte, rosterByte, compiledByte, byteIn, Compiled, CompilePost, Counted, Rostered, IsRoute, FilledBefore}
@@ -115,12 +115,22 @@ from-link r e i j is own hj x plus h =
     let z : joined r e ≡ joinedBy j = sym (joined-read r e i is (own .many)) ∙ ap joinedBy (sym hj) in
     rw z h
 
+-- a section that is closed, and one that is not, or none
+module _ (r : Railway) (x : ℕ) (b : Bool) (is : b ≡ isClosed r x) where
+  pub use-closed : b ≡ true → (o : Option ℕ) → x ≡ sectionByte o → noByte ≡ sectionByte (inUse r o)
+  use-closed e none h = refl
+  use-closed e (some y) h = let z : isClosed r y ≡ true = ap (isClosed r) (sym h) ∙ sym is ∙ e in rw z
+
+  pub use-free : b ≡ false → (o : Option ℕ) → x ≡ sectionByte o → x ≡ sectionByte (inUse r o)
+  use-free e none h = h
+  use-free e (some y) h = let z : isClosed r y ≡ false = ap (isClosed r) (sym h) ∙ sym is ∙ e in rw z h
+
 -- the four bytes of a route
 module _ (r : Railway) (parked : Bool) (e : End) (i j : ℕ) (b : Bool) (is : i ≡ endIndex e) (low : i < sectionEnds) (hb : b ≡ flagAt r i) (hj : j ≡ getD (r .links) i noLink) where
   pub route-is : (st po mi pl : ℕ) → st ≡ standByte parked b → po ≡ pointByte (pastJoin r (λ n. false) (joinedBy j) .met)
-      → mi ≡ sectionByte (pastJoin r (λ n. false) (joinedBy j) .reached) → pl ≡ sectionByte (pastJoin r (λ n. true) (joinedBy j) .reached)
+      → mi ≡ sectionByte (inUse r (pastJoin r (λ n. false) (joinedBy j) .reached)) → pl ≡ sectionByte (inUse r (pastJoin r (λ n. true) (joinedBy j) .reached))
       → IsRoute r parked e (record { stand = st; point = po; minus = mi; plus = pl })
-  unfolding routeByte passes
+  unfolding routeByte entered passes
   route-is st po mi pl hs hp hm hl =
       let s : hasSignal r e ≡ b = sym (signal-there r e i is low) ∙ sym hb in
       let z : joined r e ≡ joinedBy j = sym (joined-there r e i is (omega arith)) ∙ ap joinedBy (sym hj) in
@@ -282,11 +292,11 @@ module _ (r : Railway) (parked : Bool) (e : End) (x : ℕ) where
   unfolding routeByte
   point-is h = h
 
-  pub plus-is : (plus : Bool) → plus ≡ true → x ≡ routeByte r parked e 3 → x ≡ sectionByte (passes r (λ n. plus) e .reached)
+  pub plus-is : (plus : Bool) → plus ≡ true → x ≡ routeByte r parked e 3 → x ≡ sectionByte (entered r (λ n. plus) e)
   unfolding routeByte
   plus-is plus b h = rw b h
 
-  pub minus-is : (plus : Bool) → plus ≡ false → x ≡ routeByte r parked e 2 → x ≡ sectionByte (passes r (λ n. plus) e .reached)
+  pub minus-is : (plus : Bool) → plus ≡ false → x ≡ routeByte r parked e 2 → x ≡ sectionByte (entered r (λ n. plus) e)
   unfolding routeByte
   minus-is plus b h = rw b h
 

@@ -17,7 +17,7 @@ use Rattle.railway.specs.Bounds.{mostSections, mostTrains}
 use Rattle.railway.specs.Ends.{sideIndex}
 use Rattle.railway.specs.Record.{noTrain, hasSignal, trainOf}
 use Rattle.railway.specs.Rows.{recordRefusal}
-use Rattle.game.specs.Moves.{passes}
+use Rattle.game.specs.Moves.{passes, entered}
 use Rattle.acceptance.specs.Answers.{Judged}
 use Rattle.compiled.specs.declared.Compilation.{Compilation}
 use Rattle.compiled.specs.declared.Route.{Route}
@@ -49,7 +49,7 @@ abbrev pub pointByte : List ℕ → ℕ
 pointByte [] = noByte
 pointByte (n ∷ ns) = n
 
--- The section that a train comes to.
+-- The section that a train comes to, or that it enters.
 abbrev pub sectionByte : Option ℕ → ℕ
 sectionByte none = noByte
 sectionByte (some x) = x
@@ -79,12 +79,12 @@ abbrev pub freeOn : Railway → ℕ → ℕ → Bool
 freeOn r t x = within t x && (not (parkedOn r t x) && not (hasSignal r (endOn r t x)))
 
 -- Of a train that leaves by end e, parked or not: how it stands there, the point that it meets, and the section that it enters with the point
--- at minus and at plus.
+-- at minus and at plus (none, where that is closed).
 unfoldable pub routeByte : Railway → Bool → End → ℕ → ℕ
 routeByte r parked e j =
     cond (eqb j 0) (standByte parked (hasSignal r e))
     (cond (eqb j 1) (pointByte (passes r (λ n. false) e .met))
-    (sectionByte (passes r (λ n. eqb j 3) e .reached)))
+    (sectionByte (entered r (λ n. eqb j 3) e)))
 
 -- The numbers of sections, points and trains.
 unfoldable pub countByte : Railway → ℕ → ℕ

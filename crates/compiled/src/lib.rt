@@ -1,5 +1,5 @@
 // A railway compiled into a table of bytes, for loops that ask the same things of it many times: no record is copied there.
-// `compile` takes a record, tests it, and fills the table; every other function reads the table alone, and is total. What they
+// `compile` takes a record, tests it, and fills the table; `section_from` asks a record; the others read the table alone, and are total. What they
 // promise, they promise of every accepted railway whose table it is; of bytes that are no railway's table no definition says
 // anything, and they only read them.
 ghost use mathlib.Core.Path.{_≡_};
@@ -12,10 +12,11 @@ ghost use Rattle.railway.specs.declared.Railway.{Railway};
 ghost use Rattle.railway.specs.Bounds.{mostSections, mostTrains, sectionEnds, allEnds};
 ghost use Rattle.railway.specs.Ends.{endAt};
 ghost use Rattle.railway.specs.Record.{joinedBy, trainOf};
-ghost use Rattle.railway.specs.Lent.{LinksOf, SignalsOf};
-ghost use Rattle.game.specs.Moves.{behindPort, pastJoin, passes};
+ghost use Rattle.railway.specs.Lent.{LinksOf, SignalsOf, ClosedOf};
+ghost use Rattle.game.specs.Moves.{behindPort, pastJoin, passes, inUse, entered};
 ghost use Rattle.compiled.specs.Table.{routeBytes, tableBytes, standByte, pointByte, sectionByte, endOn, parkedOn, standOn, heldOn, freeOn, routeByte, countByte, rosterByte, compiledByte, byteIn, Compiled, CompilePost, Counted, Rostered, IsRoute, FilledBefore};
 use railway::CaseAnswer;
+use railway::Closed;
 use railway::End;
 use railway::Links;
 use railway::Railway;
@@ -71,11 +72,12 @@ pub fn compile(r: Railway) -> Compilation
     };
     let links = r.links;
     let signals = r.signals;
+    let closed = r.closed;
     let trains = trains_of(r);
     let mut t: u8 = 0;
     while t < Railway::TRAINS {
         let at = t as usize;
-        fill_routes(&mut table, &links, &signals, trains[at], t);
+        fill_routes(&mut table, &links, &signals, &closed, trains[at], t);
         t += 1;
     }
     let mut i: usize = COUNTS;
@@ -102,16 +104,23 @@ fn trains_of(r: Railway) -> [Train; TRAINS]
 }
 
 // The bytes on the routes of one train, behind those of the trains before it. What is promised here and below is promised of every record with these
-// links and signals.
-fn fill_routes(table: &mut Table, links: &Links, signals: &Signals, train: Train, t: u8)
+// links, signals and closed sections.
+fn fill_routes(
+    table: &mut Table,
+    links: &Links,
+    signals: &Signals,
+    closed: &Closed,
+    train: Train,
+    t: u8,
+)
     requires { ⌜ t < mostTrains ⌝ }
-    ensures { λ _. ⌜ ((r : Railway) → LinksOf r (now (links .entry)) → SignalsOf r (now (signals .entry)) → train ≡ trainOf r t → FilledBefore r t (now (table .entry)) → FilledBefore r (t + 1) (now (table .exit))) ⌝ }
+    ensures { λ _. ⌜ ((r : Railway) → LinksOf r (now (links .entry)) → SignalsOf r (now (signals .entry)) → ClosedOf r (now (closed .entry)) → train ≡ trainOf r t → FilledBefore r t (now (table .entry)) → FilledBefore r (t + 1) (now (table .exit))) ⌝ }
 {
     let first = SECTIONS * (t as usize);
     let mut x: u8 = 0;
     while x < Railway::SECTIONS {
         let at = 4 * (first + x as usize);
-        let route = route_of(links, signals, train, x);
+        let route = route_of(links, signals, closed, train, x);
         table[at] = route.stand;
         table[at + 1] = route.point;
         table[at + 2] = route.minus;
@@ -128,9 +137,9 @@ struct Route {
     plus: u8,
 }
 
-fn route_of(links: &Links, signals: &Signals, train: Train, x: u8) -> Route
+fn route_of(links: &Links, signals: &Signals, closed: &Closed, train: Train, x: u8) -> Route
     requires { ⌜ x < mostSections ⌝ }
-    ensures { λ y. ⌜ ((r : Railway) → LinksOf r (now (links .entry)) → SignalsOf r (now (signals .entry)) → IsRoute r (eqb x (train .destination .0)) (Section (record { 0 = x }) (train .heading)) y) ⌝ }
+    ensures { λ y. ⌜ ((r : Railway) → LinksOf r (now (links .entry)) → SignalsOf r (now (signals .entry)) → ClosedOf r (now (closed .entry)) → IsRoute r (eqb x (train .destination .0)) (Section (record { 0 = x }) (train .heading)) y) ⌝ }
 {
     let h = train.heading;
     let i = 2 * x + railway::side_index(h);
@@ -138,12 +147,13 @@ fn route_of(links: &Links, signals: &Signals, train: Train, x: u8) -> Route
     Route {
         stand: stand_byte(x == train.destination.0, railway::signal_in(signals, i)),
         point: point_met(j),
-        minus: section_past_join(links, j, false),
-        plus: section_past_join(links, j, true),
+        minus: section_entered(links, closed, j, false),
+        plus: section_entered(links, closed, j, true),
     }
 }
 
-// The section that a train enters which leaves by an end of the record, with all points at plus or all at minus; `NO_BYTE`: it derails.
+// The section that a train comes to which leaves by an end of the record, with all points at plus or all at minus, also if it is closed; `NO_BYTE`: it
+// derails.
 pub fn section_from(r: Railway, e: End, plus: bool) -> u8
     ensures { λ b. ⌜ b ≡ sectionByte (passes r (λ n. plus) e .reached) ⌝ }
 {
@@ -218,7 +228,18 @@ fn point_met(j: u8) -> u8
     }
 }
 
-// The section that it enters, with all points at plus or all at minus.
+// The section that it enters, with all points at plus or all at minus: the one that it comes to, unless that is closed.
+fn section_entered(links: &Links, closed: &Closed, j: u8, plus: bool) -> u8
+    ensures { λ b. ⌜ ((r : Railway) → LinksOf r (now (links .entry)) → ClosedOf r (now (closed .entry)) → b ≡ sectionByte (inUse r (pastJoin r (λ n. plus) (joinedBy j) .reached))) ⌝ }
+{
+    let x = section_past_join(links, j, plus);
+    if railway::closed_in(closed, x) {
+        return NO_BYTE;
+    }
+    x
+}
+
+// The section that it comes to.
 fn section_past_join(links: &Links, j: u8, plus: bool) -> u8
     ensures { λ b. ⌜ ((r : Railway) → LinksOf r (now (links .entry)) → b ≡ sectionByte (pastJoin r (λ n. plus) (joinedBy j) .reached)) ⌝ }
 {
@@ -366,9 +387,9 @@ pub fn point_past(table: &Table, t: u8, x: u8) -> u8
     route_in(table, t, x, 1)
 }
 
-// The section that it enters, with that point at plus or at minus; `NO_BYTE`: it derails.
+// The section that it enters, with that point at plus or at minus; `NO_BYTE`: it derails, or comes to a closed one.
 pub fn section_past(table: &Table, t: u8, x: u8, plus: bool) -> u8
-    ensures { λ b. ⌜ ((r : Railway) → Compiled r (now (table .entry)) → t < mostTrains → x < mostSections → b ≡ sectionByte (passes r (λ n. plus) (endOn r t x) .reached)) ⌝ }
+    ensures { λ b. ⌜ ((r : Railway) → Compiled r (now (table .entry)) → t < mostTrains → x < mostSections → b ≡ sectionByte (entered r (λ n. plus) (endOn r t x))) ⌝ }
 {
     if plus {
         route_in(table, t, x, 3)

@@ -5,11 +5,12 @@ use Prim.Native.Nat.{ℕ, suc, _-_, _<_}
 use mathlib.Core.Path.{_≡_, refl, sym, _∙_, ap}
 use mathlib.Core.Logic.{inl, inr}
 use mathlib.Core.Bool.{Bool, true, false, cond, not, _||_}
-use mathlib.Core.List.{List, _∷_, map}
+use mathlib.Core.List.{List, _∷_, map, List·Memᴰ, List·Memᴰ·head, List·Memᴰ·tail}
 use mathlib.Core.Option.{Option, none, some}
 use native.Mathlib.Omega.{arith}
 use lib.Dec.{eqb}
 use lib.ListN.{length, getD, length-map, List·getD-map}
+use Rattle.laws.specs.Below.{anyBelow}
 use Rattle.laws.specs.Lists.{any, repeats, Every}
 use Rattle.laws.proofs.Bools.{bool?, clash, or-false, or-none, not-is, not-and}
 use Rattle.laws.proofs.Below as B
@@ -24,30 +25,32 @@ use Rattle.railway.specs.declared.Train.{Train}
 use Rattle.railway.specs.declared.Railway.{Railway}
 use Rattle.railway.specs.declared.Refusal.{Refusal}
 use Rattle.railway.specs.declared.Refusal.the-variants.{Count, Unknown, Join, Loose, Double, Place}
-use Rattle.railway.specs.Bounds.{sectionEnds}
+use Rattle.railway.specs.Bounds.{mostSections, sectionEnds}
 use Rattle.railway.specs.Refusals.{Row, row, first}
-use Rattle.railway.specs.Record.{bareRailway, emptyRailway, joined, trainOf}
+use Rattle.railway.specs.Record.{isClosed, bareRailway, emptyRailway, joined, trainOf}
 use Rattle.railway.specs.Rows.{outside, unjoined}
 use Rattle.railway.specs.Rows as RR
 use Rattle.railway.proofs.Refusals.{refuse-none}
+use Rattle.railway.proofs.Lookups.{closed-there}
 use Rattle.railway.proofs.Accepted.{Bounded, bounded}
-use Rattle.casefile.specs.Form.{EndField, port, JoinLine, SignalLine, TrainLine, Description, WellFormed, sameEnd}
-use Rattle.casefile.specs.Rows.{within, known, unknownJoin, unknownSignal, unknownTrain, wrongJoin, joinEnds, looseEnd, looseAt, countRow, unknownRow, joinRow, looseRow, doubleRow, placeRow, descriptionRows}
+use Rattle.casefile.specs.Form.{EndField, port, JoinLine, SignalLine, TrainLine, Description, WellFormed, sameEnd, sameSignal}
+use Rattle.casefile.specs.Rows.{within, known, unknownJoin, unknownSignal, unknownClosed, unknownTrain, wrongJoin, joinEnds, looseEnd, looseAt, countRow, unknownRow, joinRow, looseRow, doubleRow, closedIn, shutOut, placeRow, descriptionRows}
 use Rattle.casefile.specs.Recording.{partner, trainOfLine, noTrainLine, railwayOf}
 use Rattle.casefile.specs.Reading.{judged}
 use Rattle.casefile.proofs.Faultless.{within-is}
 use Rattle.casefile.proofs.Ends.{less-one, partner-nothing}
-use Rattle.casefile.proofs.Described.{Joinable, joined-at, roster-at}
+use Rattle.casefile.proofs.Described.{Joinable, joined-at, closed-at, roster-at}
 use Rattle.drafts.specs.declared.Draft.{Draft}
-use Rattle.drafts.specs.Drafting.{opened, putPoint, putJoin, putSignal, putTrain, draftRows, answerOf, draftAnswer}
+use Rattle.drafts.specs.Drafting.{opened, putPoint, putJoin, putSignal, putClosed, putTrain, draftRows, answerOf, draftAnswer}
 use Rattle.drafts.proofs.Folding.{putRising, putEach, drafted}
 use Rattle.drafts.proofs.Stored.{same-everywhere}
-use Rattle.drafts.proofs.Sized.{Sized, sized-bare, sized-rising, sized-each, sized-point, sized-put-join, sized-put-signal, sized-put-train}
+use Rattle.drafts.proofs.Sized.{Sized, sized-bare, sized-rising, sized-each, sized-point, sized-put-join, sized-put-signal, sized-put-closed, sized-put-train}
 use Rattle.drafts.proofs.Known.{unknown-noted}
-use Rattle.drafts.proofs.Built.{faults, doubles, KnownJoin, KnownSignal, KnownTrain}
+use Rattle.drafts.proofs.Built.{faults, doubles, closedAgain, KnownJoin, KnownSignal, KnownClosed, KnownTrain}
 use Rattle.drafts.proofs.Joining.{Fit, numbered-known, fit-faults, faults-fit, partner-none}
 use Rattle.drafts.proofs.Signalling.{index, single-doubles, doubles-single}
-use Rattle.drafts.proofs.Record.{joins-keep, sized-joins, withPoints, withJoins, built, sized-points, drafted-is, ready, none-joined, placed, built-is}
+use Rattle.drafts.proofs.Closing.{once-again, again-once}
+use Rattle.drafts.proofs.Record.{joins-keep, sized-joins, withPoints, withJoins, withSignals, built, sized-points, sized-3, drafted-is, not-closed, sectioned, ready, none-joined, placed, built-is}
 
 -- two tests that fail together are the same
 same-test : (a b : Bool) → (a ≡ false → b ≡ false) → (b ≡ false → a ≡ false) → a ≡ b
@@ -119,9 +122,9 @@ module _ (d : Description) (f : WellFormed d) (b : Bounded (d .sections) (d .poi
       let k = repeats-apart eqb (map p (d .roster)) (p noTrainLine) u t e h (rw (length-map (d .roster) p, o) g) in
       rw (List·getD-map p (d .roster) u noTrainLine, List·getD-map p (d .roster) t noTrainLine) at k
 
-  place-same : RR.placeRow (railwayOf d) ≡ placeRow d
-  unfolding RR.placeRow placeRow railwayOf shares
-  place-same =
+  places-same : anyBelow (RR.sharesAt (railwayOf d)) (d .trains) ≡ (repeats eqb (map (λ t. t .start) (d .roster)) || repeats eqb (map (λ t. t .destination) (d .roster)))
+  unfolding shares
+  places-same =
       same-test _ _
       (λ e.
       let no : (t u : ℕ) → u < t → t < d .trains → shares t u ≡ false = λ t u h g.
@@ -134,14 +137,51 @@ module _ (d : Description) (f : WellFormed d) (b : Bounded (d .sections) (d .poi
       B.none-any (RR.sharesAt (railwayOf d)) (d .trains) (λ t g. B.none-any (RR.sharesWith (railwayOf d) t) t (λ u h.
       shares-same t u h g ∙ or-none _ _ (repeats-no (λ t. t .start) (q .0) t u h g) (repeats-no (λ t. t .destination) (q .1) t u h g))))
 
+  -- a section that a T line names is closed in the record exactly if an X line names it
+  closed-same : (n : ℕ) → within n (d .sections) ≡ true → isClosed (railwayOf d) (n - 1) ≡ closedIn d n
+  closed-same n h =
+      let k = within-is n (d .sections) h in
+      let l : n - 1 < mostSections = omega (arith, k .0, k .1, b .few-sections) in
+      let z : suc (n - 1) ≡ n = omega (arith, k .0) in
+      sym (closed-there (railwayOf d) (n - 1) l) ∙ closed-at d (n - 1) l ∙ rw z
+
+  shut-same : (t : ℕ) → t < d .trains → RR.shutOutAt (railwayOf d) t ≡ shutOut d (nth t)
+  shut-same t h =
+      let o = f .one-a-train in
+      let k = kt (nth t) (getD-member (d .roster) t noTrainLine (omega arith)) in
+      by-roster (trainOf (railwayOf d) t) (roster-at d t h (b .few-trains)) ∙ rw (closed-same (nth t .start) (k .0), closed-same (nth t .destination) (k .1))
+    where
+      by-roster : (x : Train) → x ≡ trainOfLine (nth t)
+          → (isClosed (railwayOf d) (x .start .0) || isClosed (railwayOf d) (x .destination .0)) ≡ (isClosed (railwayOf d) (nth t .start - 1) || isClosed (railwayOf d) (nth t .destination - 1))
+      by-roster x p = rw p
+
+  shuts-same : anyBelow (RR.shutOutAt (railwayOf d)) (d .trains) ≡ any (shutOut d) (d .roster)
+  shuts-same =
+      let o = f .one-a-train in
+      same-test _ _
+      (λ e. any-none (shutOut d) (d .roster) (λ x m.
+      let p = member-at (d .roster) x m in
+      rw (← p .2) (sym (shut-same (p .0) (omega (arith, o, p .1))) ∙ B.any-false (RR.shutOutAt (railwayOf d)) (d .trains) e (p .0) (omega (arith, o, p .1)))))
+      (λ e. B.none-any (RR.shutOutAt (railwayOf d)) (d .trains) (λ t h.
+      shut-same t h ∙ any-false (shutOut d) (d .roster) (nth t) e (getD-member (d .roster) t noTrainLine (omega (arith, o, h)))))
+    where
+      member-at : (l : List TrainLine) (x : TrainLine) → List·Memᴰ x l → (i : ℕ) × (i < length l) × (getD l i noTrainLine ≡ x)
+      member-at (y ∷ l) x (List·Memᴰ·head e) = (0, omega arith, sym e)
+      member-at (y ∷ l) x (List·Memᴰ·tail m) = let p = member-at l x m in (suc (p .0), omega (arith, p .1), p .2)
+
+  place-same : RR.placeRow (railwayOf d) ≡ placeRow d
+  unfolding RR.placeRow placeRow railwayOf
+  place-same = rw (places-same, shuts-same)
+
 module _ (d : Description) (f : WellFormed d) where
   -- ROW 3: the counts of the record are the description's, or none where they are out of bounds
   counts-of : (s p k : ℕ) (w : Draft) → Sized s p k (w .railway)
-      → Sized s p k (putRising putTrain 1 (putEach putSignal (putEach putJoin (putRising putPoint 1 w (d .legs)) (d .joins)) (d .signals)) (d .roster) .railway)
+      → Sized s p k (putRising putTrain 1 (putEach putClosed (putEach putSignal (putEach putJoin (putRising putPoint 1 w (d .legs)) (d .joins)) (d .signals)) (d .closed)) (d .roster) .railway)
   counts-of s p k w z =
       sized-rising s p k putTrain (sized-put-train s p k) (d .roster) 1 _
+      (sized-each s p k putClosed (sized-put-closed s p k) (d .closed) _
       (sized-each s p k putSignal (sized-put-signal s p k) (d .signals) _
-      (sized-each s p k putJoin (sized-put-join s p k) (d .joins) _ (sized-rising s p k putPoint (sized-point s p k) (d .legs) 1 w z)))
+      (sized-each s p k putJoin (sized-put-join s p k) (d .joins) _ (sized-rising s p k putPoint (sized-point s p k) (d .legs) 1 w z))))
 
   sized-count : (s p k : ℕ) (r : Railway) → Sized s p k r → RR.countRow r ≡ outside s p k
   sized-count s p k r z = rw (z .sections, z .points, z .trains)
@@ -151,9 +191,9 @@ module _ (d : Description) (f : WellFormed d) where
   count-same = cases (countRow d) refl
     where
       cases : (c : Bool) → countRow d ≡ c
-          → RR.countRow (putRising putTrain 1 (putEach putSignal (putEach putJoin (putRising putPoint 1
+          → RR.countRow (putRising putTrain 1 (putEach putClosed (putEach putSignal (putEach putJoin (putRising putPoint 1
           (record { railway = cond c emptyRailway (bareRailway (d .sections) (d .points) (d .trains)); unknown = false; wrong = false; double = false })
-          (d .legs)) (d .joins)) (d .signals)) (d .roster) .railway) ≡ c
+          (d .legs)) (d .joins)) (d .signals)) (d .closed)) (d .roster) .railway) ≡ c
       cases true e = sized-count 0 0 0 _ (counts-of 0 0 0 _ (sized-bare 0 0 0))
       cases false e =
           let z = sized-bare (d .sections) (d .points) (d .trains) in
@@ -168,69 +208,82 @@ module _ (d : Description) (f : WellFormed d) where
     unknown-same = rw h3 (unknown-noted d _ (sized-bare (d .sections) (d .points) (d .trains)) refl f)
 
     module _ (h4 : unknownRow d ≡ false) where
-      kj : Every (KnownJoin d) (d .joins)
+      -- the parts of row 4
+      known-parts : (any (unknownJoin d) (d .joins) ≡ false) × (any (unknownSignal d) (d .signals) ≡ false) × (any (unknownClosed d) (d .closed) ≡ false) × (any (unknownTrain d) (d .roster) ≡ false)
       unfolding unknownRow
-      kj j m =
-          let a = or-false (any (unknownJoin d) (d .joins) || any (unknownSignal d) (d .signals)) (any (unknownTrain d) (d .roster)) h4 in
-          let c = or-false (any (unknownJoin d) (d .joins)) (any (unknownSignal d) (d .signals)) (a .0) in
-          not-and (known d (j .one)) (known d (j .other)) (any-false (unknownJoin d) (d .joins) j (c .0) m)
+      known-parts =
+          let joins = any (unknownJoin d) (d .joins) in
+          let signals = any (unknownSignal d) (d .signals) in
+          let closed = any (unknownClosed d) (d .closed) in
+          let a = or-false (joins || signals || closed) (any (unknownTrain d) (d .roster)) h4 in
+          let c = or-false (joins || signals) closed (a .0) in
+          let e = or-false joins signals (c .0) in
+          (e .0, e .1, c .1, a .1)
+
+      kj : Every (KnownJoin d) (d .joins)
+      kj j m = not-and (known d (j .one)) (known d (j .other)) (any-false (unknownJoin d) (d .joins) j (known-parts .0) m)
 
       joinable : Joinable d
       joinable j m = (numbered-known d b (j .one) (kj j m .0), numbered-known d b (j .other) (kj j m .1))
 
       kg : Every (KnownSignal d) (d .signals)
-      unfolding unknownRow
-      kg g m =
-          let a = or-false (any (unknownJoin d) (d .joins) || any (unknownSignal d) (d .signals)) (any (unknownTrain d) (d .roster)) h4 in
-          let c = or-false (any (unknownJoin d) (d .joins)) (any (unknownSignal d) (d .signals)) (a .0) in
-          not-is (within (g .number) (d .sections)) (any-false (unknownSignal d) (d .signals) g (c .1) m)
+      kg g m = not-is (within (g .number) (d .sections)) (any-false (unknownSignal d) (d .signals) g (known-parts .1) m)
+
+      kx : Every (KnownClosed d) (d .closed)
+      kx n m = not-is (within n (d .sections)) (any-false (unknownClosed d) (d .closed) n (known-parts .2) m)
 
       kt : Every (KnownTrain d) (d .roster)
-      unfolding unknownRow
-      kt t m =
-          let a = or-false (any (unknownJoin d) (d .joins) || any (unknownSignal d) (d .signals)) (any (unknownTrain d) (d .roster)) h4 in
-          not-and (within (t .start) (d .sections)) (within (t .destination) (d .sections)) (any-false (unknownTrain d) (d .roster) t (a .1) m)
+      kt t m = not-and (within (t .start) (d .sections)) (within (t .destination) (d .sections)) (any-false (unknownTrain d) (d .roster) t (known-parts .3) m)
 
       is : drafted d ≡ record {
-        railway = built d f b h3 kj kg kt;
+        railway = built d f b h3 kj kg kx kt;
         unknown = false;
-        wrong = faults (withPoints d f b h3 kj kg kt) (d .joins);
-        double = doubles (withJoins d f b h3 kj kg kt) (d .signals);
+        wrong = faults (withPoints d f b h3 kj kg kx kt) (d .joins);
+        double = doubles (withJoins d f b h3 kj kg kx kt) (d .signals) || closedAgain (withSignals d f b h3 kj kg kx kt) (d .closed);
       }
-      is = drafted-is d f b h3 kj kg kt
+      is = drafted-is d f b h3 kj kg kx kt
 
       -- ROW 5
-      fit-of : joinRow d ≡ false → Fit d b (withPoints d f b h3 kj kg kt) (d .joins)
+      fit-of : joinRow d ≡ false → Fit d b (withPoints d f b h3 kj kg kx kt) (d .joins)
       unfolding joinRow
       fit-of e =
           let q = or-false (any (wrongJoin d) (d .joins)) (repeats sameEnd (joinEnds (d .joins))) e in
-          record { right = λ j m. any-false (wrongJoin d) (d .joins) j (q .0) m; once = q .1; free = λ x m. none-joined d f b h3 kj kg kt _ }
+          record { right = λ j m. any-false (wrongJoin d) (d .joins) j (q .0) m; once = q .1; free = λ x m. none-joined d f b h3 kj kg kx kt _ }
 
-      join-of : Fit d b (withPoints d f b h3 kj kg kt) (d .joins) → joinRow d ≡ false
+      join-of : Fit d b (withPoints d f b h3 kj kg kx kt) (d .joins) → joinRow d ≡ false
       unfolding joinRow
       join-of t = or-none _ _ (any-none (wrongJoin d) (d .joins) (t .right)) (t .once)
 
       wrong-same : drafted d .wrong ≡ joinRow d
       wrong-same =
           ap (λ (w : Draft). w .wrong) is
-          ∙ same-test _ _ (λ e. join-of (faults-fit d b (d .joins) _ (ready d f b h3 kj kg kt) kj e)) (λ e. fit-faults d b (d .joins) _ (ready d f b h3 kj kg kt) kj (fit-of e))
+          ∙ same-test _ _ (λ e. join-of (faults-fit d b (d .joins) _ (ready d f b h3 kj kg kx kt) kj e)) (λ e. fit-faults d b (d .joins) _ (ready d f b h3 kj kg kx kt) kj (fit-of e))
 
       -- ROWS 6 TO 8
       module _ (h5 : joinRow d ≡ false) where
         railway-same : drafted d .railway ≡ railwayOf d
-        railway-same = ap (λ (w : Draft). w .railway) is ∙ built-is d f b h3 kj kg kt (fit-of h5)
+        railway-same = ap (λ (w : Draft). w .railway) is ∙ built-is d f b h3 kj kg kx kt (fit-of h5)
 
-        no-flag : (g : SignalLine) → getD (withJoins d f b h3 kj kg kt .signals) (index g) false ≡ false
-        no-flag g = ap (λ (l : List Bool). getD l (index g) false) (joins-keep (d .joins) (withPoints d f b h3 kj kg kt) .signals) ∙ same-everywhere sectionEnds false (index g)
+        no-flag : (g : SignalLine) → getD (withJoins d f b h3 kj kg kx kt .signals) (index g) false ≡ false
+        no-flag g = ap (λ (l : List Bool). getD l (index g) false) (joins-keep (d .joins) (withPoints d f b h3 kj kg kx kt) .signals) ∙ same-everywhere sectionEnds false (index g)
+
+        signals-same : doubles (withJoins d f b h3 kj kg kx kt) (d .signals) ≡ repeats sameSignal (d .signals)
+        signals-same =
+            let room = sized-joins (d .sections) (d .points) (d .trains) (d .joins) (withPoints d f b h3 kj kg kx kt) (sized-points d f b h3 kj kg kx kt) .signals in
+            let p = placed d f b h3 kj kg kx kt (fit-of h5) in
+            same-test _ _ (λ e. doubles-single (d .signals) (withJoins d f b h3 kj kg kx kt) room p e .once)
+            (λ e. single-doubles (d .signals) (withJoins d f b h3 kj kg kx kt) room p (record { once = e; free = λ g m. no-flag g }))
+
+        again-same : closedAgain (withSignals d f b h3 kj kg kx kt) (d .closed) ≡ repeats eqb (d .closed)
+        again-same =
+            let room = sized-3 d f b h3 kj kg kx kt .closed in
+            let p = sectioned d f b h3 kj kg kx kt in
+            same-test _ _ (λ e. again-once (d .closed) (withSignals d f b h3 kj kg kx kt) room p e .once)
+            (λ e. once-again (d .closed) (withSignals d f b h3 kj kg kx kt) room p (record { once = e; free = λ n m. not-closed d f b h3 kj kg kx kt (n - 1) }))
 
         double-same : drafted d .double ≡ doubleRow d
         unfolding doubleRow
-        double-same =
-            let room = sized-joins (d .sections) (d .points) (d .trains) (d .joins) (withPoints d f b h3 kj kg kt) (sized-points d f b h3 kj kg kt) .signals in
-            let p = placed d f b h3 kj kg kt (fit-of h5) in
-            ap (λ (w : Draft). w .double) is
-            ∙ same-test _ _ (λ e. doubles-single (d .signals) (withJoins d f b h3 kj kg kt) room p e .once)
-            (λ e. single-doubles (d .signals) (withJoins d f b h3 kj kg kt) room p (record { once = e; free = λ g m. no-flag g }))
+        double-same = ap (λ (w : Draft). w .double) is ∙ rw (signals-same, again-same)
 
   rows-same : first (draftRows (drafted d)) ≡ first (descriptionRows d)
   rows-same =

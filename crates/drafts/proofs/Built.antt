@@ -14,31 +14,31 @@ use Rattle.railway.specs.declared.Legs.{Legs}
 use Rattle.railway.specs.declared.Train.{Train}
 use Rattle.railway.specs.declared.Railway.{Railway}
 use Rattle.railway.specs.Bounds.{mostPoints, mostTrains}
-use Rattle.railway.specs.Record.{hasSignal, withJoin, withSignal, withLegs, withTrain}
+use Rattle.railway.specs.Record.{hasSignal, isClosed, withJoin, withSignal, withClosed, withLegs, withTrain}
 use Rattle.casefile.specs.Form.{EndField, section, JoinLine, SignalLine, TrainLine, Description}
 use Rattle.casefile.specs.Rows.{within, known}
 use Rattle.casefile.specs.Recording.{endOf, trainOfLine}
 use Rattle.casefile.proofs.Faultless.{is-within}
 use Rattle.drafts.specs.declared.Draft.{Draft}
-use Rattle.drafts.specs.Drafting.{putPoint, faulty, putJoin, putSignal, putTrain, withRailway}
+use Rattle.drafts.specs.Drafting.{putPoint, faulty, putJoin, putSignal, putClosed, putTrain, withRailway}
 use Rattle.drafts.proofs.Folding.{putRising, putEach}
 use Rattle.drafts.proofs.Stored.{storeFrom}
-use Rattle.drafts.proofs.Sized.{sized-point, sized-put-join, sized-put-signal}
+use Rattle.drafts.proofs.Sized.{sized-point, sized-put-join, sized-put-signal, sized-put-closed}
 use Rattle.drafts.proofs.Known.{or-nothing, or-assoc, SizedBy, there-known}
 
 abbrev pub legsRow : Side → Legs
 legsRow s = record { side = s }
 
 abbrev pub withAllLegs : Railway → List Legs → Railway
-withAllLegs r l = record { sections = r .sections; points = r .points; trains = r .trains; legs = l; links = r .links; signals = r .signals; roster = r .roster }
+withAllLegs r l = record { sections = r .sections; points = r .points; trains = r .trains; legs = l; links = r .links; signals = r .signals; closed = r .closed; roster = r .roster }
 
 abbrev pub withRoster : Railway → List Train → Railway
-withRoster r l = record { sections = r .sections; points = r .points; trains = r .trains; legs = r .legs; links = r .links; signals = r .signals; roster = l }
+withRoster r l = record { sections = r .sections; points = r .points; trains = r .trains; legs = r .legs; links = r .links; signals = r .signals; closed = r .closed; roster = l }
 
 abbrev pub signalEnd : SignalLine → EndField
 signalEnd g = section (g .number) (g .side)
 
--- all joins and all signals added, and what is found on the way
+-- all joins and all signals added, all sections closed, and what is found on the way
 unfoldable pub joinAll : Railway → List JoinLine → Railway
 joinAll r [] = r
 joinAll r (j ∷ js) = joinAll (withJoin r (endOf (j .one)) (endOf (j .other))) js
@@ -55,12 +55,23 @@ unfoldable pub doubles : Railway → List SignalLine → Bool
 doubles r [] = false
 doubles r (g ∷ gs) = hasSignal r (endOf (signalEnd g)) || doubles (withSignal r (endOf (signalEnd g))) gs
 
+unfoldable pub closeAll : Railway → List ℕ → Railway
+closeAll r [] = r
+closeAll r (n ∷ ns) = closeAll (withClosed r (n - 1)) ns
+
+unfoldable pub closedAgain : Railway → List ℕ → Bool
+closedAgain r [] = false
+closedAgain r (n ∷ ns) = isClosed r (n - 1) || closedAgain (withClosed r (n - 1)) ns
+
 module _ (d : Description) where
   abbrev pub KnownJoin : JoinLine → Type 0
   KnownJoin j = (known d (j .one) ≡ true) × (known d (j .other) ≡ true)
 
   abbrev pub KnownSignal : SignalLine → Type 0
   KnownSignal g = within (g .number) (d .sections) ≡ true
+
+  abbrev pub KnownClosed : ℕ → Type 0
+  KnownClosed n = within n (d .sections) ≡ true
 
   abbrev pub KnownTrain : TrainLine → Type 0
   KnownTrain t = (within (t .start) (d .sections) ≡ true) × (within (t .destination) (d .sections) ≡ true)
@@ -83,6 +94,11 @@ module _ (d : Description) where
         → putSignal w g ≡ record { railway = withSignal (w .railway) (endOf (signalEnd g)); unknown = w .unknown; wrong = w .wrong; double = w .double || hasSignal (w .railway) (endOf (signalEnd g)) }
     unfolding putSignal
     signal-put g h = rw (there-known d (w .railway) z (signalEnd g) ∙ h)
+
+    closed-put : (n : ℕ) → KnownClosed n
+        → putClosed w n ≡ record { railway = withClosed (w .railway) (n - 1); unknown = w .unknown; wrong = w .wrong; double = w .double || isClosed (w .railway) (n - 1) }
+    unfolding putClosed
+    closed-put n h = rw (ap (within n) (z .sections) ∙ h)
 
     train-put : (i : ℕ) (t : TrainLine) → i < d .trains → d .trains ≤ mostTrains → KnownTrain t → putTrain w (suc i) t ≡ withRailway w (withRoster (w .railway) (set (w .railway .roster) i (trainOfLine t)))
     unfolding putTrain withTrain
@@ -121,6 +137,16 @@ module _ (d : Description) where
       let a = or-assoc (w .double) (hasSignal (w .railway) (endOf (signalEnd g))) (doubles (withSignal (w .railway) (endOf (signalEnd g))) gs) in
       rw (e, ← a) (signals-put gs _ (rw e at y) (λ x m. h x (List·Memᴰ·tail m)))
 
+  pub closeds-put : (ns : List ℕ) (w : Draft) → SizedBy d (w .railway) → Every KnownClosed ns
+      → putEach putClosed w ns ≡ record { railway = closeAll (w .railway) ns; unknown = w .unknown; wrong = w .wrong; double = w .double || closedAgain (w .railway) ns }
+  unfolding putEach closeAll closedAgain
+  closeds-put [] w z h = rw (or-nothing (w .double))
+  closeds-put (n ∷ ns) w z h =
+      let e = closed-put w z n (h n (List·Memᴰ·head refl)) in
+      let y = sized-put-closed (d .sections) (d .points) (d .trains) w z n in
+      let a = or-assoc (w .double) (isClosed (w .railway) (n - 1)) (closedAgain (withClosed (w .railway) (n - 1)) ns) in
+      rw (e, ← a) (closeds-put ns _ (rw e at y) (λ x m. h x (List·Memᴰ·tail m)))
+
   pub trains-put : d .trains ≤ mostTrains → (ts : List TrainLine) (i : ℕ) (w : Draft) → SizedBy d (w .railway) → i + length ts ≤ d .trains → Every KnownTrain ts
       → putRising putTrain (suc i) w ts ≡ withRailway w (withRoster (w .railway) (storeFrom (w .railway .roster) i (map trainOfLine ts)))
   unfolding putRising storeFrom
@@ -133,4 +159,4 @@ module _ (d : Description) where
       set-length l i x = simp length-set
 
       roster-sized : (r : Railway) → SizedBy d r → (l : List Train) → length l ≡ length (r .roster) → SizedBy d (withRoster r l)
-      roster-sized r z l e = record { sections = z .sections; points = z .points; trains = z .trains; legs = z .legs; links = z .links; signals = z .signals; roster = e ∙ z .roster }
+      roster-sized r z l e = record { sections = z .sections; points = z .points; trains = z .trains; legs = z .legs; links = z .links; signals = z .signals; closed = z .closed; roster = e ∙ z .roster }

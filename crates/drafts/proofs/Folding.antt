@@ -10,9 +10,9 @@ use lib.ListN.{length, getD}
 use Rattle.text.specs.Text.{byte}
 use Rattle.text.specs.Reading.{Got, bad, got, then}
 use Rattle.casefile.specs.Form.{Description}
-use Rattle.casefile.specs.Reading.{counted, while, headerAt, pointLineAt, joinLineAt, signalLineAt, trainLineAt, walk}
+use Rattle.casefile.specs.Reading.{counted, while, headerAt, pointLineAt, joinLineAt, signalLineAt, closedLineAt, trainLineAt, walk}
 use Rattle.drafts.specs.declared.Draft.{Draft}
-use Rattle.drafts.specs.Drafting.{opened, putPoint, putJoin, putSignal, putTrain, foldCounted, foldWhile, draftOf}
+use Rattle.drafts.specs.Drafting.{opened, putPoint, putJoin, putSignal, putClosed, putTrain, foldCounted, foldWhile, draftOf}
 
 -- all of a list put in, with numbers rising from n; without numbers
 module _ {A R : Type 0} where
@@ -88,9 +88,10 @@ last-step false x y c f e = rw e
 unfoldable pub drafted : Description → Draft
 drafted d =
     putRising putTrain 1
+    (putEach putClosed
     (putEach putSignal
     (putEach putJoin (putRising putPoint 1 (opened (d .sections) (d .points) (d .trains)) (d .legs)) (d .joins))
-    (d .signals)) (d .roster)
+    (d .signals)) (d .closed)) (d .roster)
 
 pub draft-walked : (s : List ℕ) → draftOf s ≡ then (walk s) (λ d c. got (drafted d) c)
 unfolding draftOf walk drafted
@@ -106,6 +107,9 @@ draft-walked s =
     fold-step (while (λ c. eqb (getD s c 0) (byte "G")) (signalLineAt s) (length s) c) (putEach putSignal d2) _ _ f _
     (fold-while (λ c. eqb (getD s c 0) (byte "G")) (signalLineAt s) putSignal (length s) c d2) (λ signals c.
     let d3 = putEach putSignal d2 signals in
-    fold-step (counted (trainLineAt s) (h .trains) 1 c) (putRising putTrain 1 d3) _ _ f _
-    (fold-counted (trainLineAt s) putTrain (h .trains) 1 c d3) (λ roster c.
-    last-step (ltb c (length s)) _ _ c drafted refl)))))
+    fold-step (while (λ c. eqb (getD s c 0) (byte "X")) (closedLineAt s) (length s) c) (putEach putClosed d3) _ _ f _
+    (fold-while (λ c. eqb (getD s c 0) (byte "X")) (closedLineAt s) putClosed (length s) c d3) (λ closed c.
+    let d4 = putEach putClosed d3 closed in
+    fold-step (counted (trainLineAt s) (h .trains) 1 c) (putRising putTrain 1 d4) _ _ f _
+    (fold-counted (trainLineAt s) putTrain (h .trains) 1 c d4) (λ roster c.
+    last-step (ltb c (length s)) _ _ c drafted refl))))))

@@ -12,14 +12,14 @@ use Rattle.railway.specs.declared.End.{End}
 use Rattle.railway.specs.declared.Side.{Side}
 use Rattle.railway.specs.declared.Railway.{Railway}
 use Rattle.casefile.specs.Form.{EndField, section, port, JoinLine, SignalLine, TrainLine, Description, WellFormed}
-use Rattle.casefile.specs.Rows.{within, known, unknownJoin, unknownSignal, unknownTrain, unknownRow}
+use Rattle.casefile.specs.Rows.{within, known, unknownJoin, unknownSignal, unknownClosed, unknownTrain, unknownRow}
 use Rattle.casefile.specs.Recording.{endOf}
 use Rattle.casefile.proofs.Faultless.{is-within}
 use Rattle.drafts.specs.declared.Draft.{Draft}
 use Rattle.drafts.specs.declared.KnownEnd.the-variants.{NotThere, There}
-use Rattle.drafts.specs.Drafting.{isThere, putPoint, putEnds, putJoin, putAt, putSignal, putTrain, withRailway, unknownIn}
+use Rattle.drafts.specs.Drafting.{isThere, putPoint, putEnds, putJoin, putAt, putSignal, putClosed, putTrain, withRailway, unknownIn}
 use Rattle.drafts.proofs.Folding.{putRising, putEach}
-use Rattle.drafts.proofs.Sized.{Sized, SizedDraft, sized-rising, sized-each, sized-point, sized-put-join, sized-put-signal, sized-put-train}
+use Rattle.drafts.proofs.Sized.{Sized, SizedDraft, sized-rising, sized-each, sized-point, sized-put-join, sized-put-signal, sized-put-closed, sized-put-train}
 
 -- or
 pub or-nothing : (a : Bool) → (a || false) ≡ a
@@ -89,6 +89,14 @@ module _ (d : Description) where
         rw (← there-known (w .railway) z (section (g .number) (g .side)))
         (at-unknown (isThere (w .railway) (section (g .number) (g .side))) (endOf (section (g .number) (g .side))))
 
+    closed-cases : (a b v : Bool) (r : Railway) → a ≡ b → cond a (record { railway = r; unknown = w .unknown; wrong = w .wrong; double = v }) (unknownIn w) .unknown ≡ (w .unknown || not b)
+    closed-cases a true v r e = rw e (sym (or-nothing (w .unknown)))
+    closed-cases a false v r e = rw e (sym (or-all (w .unknown)))
+
+    pub closed-unknown : (n : ℕ) → putClosed w n .unknown ≡ (w .unknown || unknownClosed d n)
+    unfolding putClosed
+    closed-unknown n = closed-cases (within n (w .railway .sections)) (within n (d .sections)) _ _ (ap (within n) (z .sections))
+
     train-cases : (a b c x y : Bool) (r : Railway) → a ≡ true → b ≡ x → c ≡ y → cond (a && (b && c)) (withRailway w r) (unknownIn w) .unknown ≡ (w .unknown || not (x && y))
     train-cases a b c true true r e f g = rw (e, f, g) (sym (or-nothing (w .unknown)))
     train-cases a b c true false r e f g = rw (e, f, g) (sym (or-all (w .unknown)))
@@ -102,7 +110,7 @@ module _ (d : Description) where
         (ap (within n) (z .trains) ∙ is-within n (d .trains) l h) (ap (within (t .start)) (z .sections)) (ap (within (t .destination)) (z .sections))
 
   pub unknown-noted : (w : Draft) → SizedBy (w .railway) → w .unknown ≡ false → WellFormed d
-      → putRising putTrain 1 (putEach putSignal (putEach putJoin (putRising putPoint 1 w (d .legs)) (d .joins)) (d .signals)) (d .roster) .unknown ≡ unknownRow d
+      → putRising putTrain 1 (putEach putClosed (putEach putSignal (putEach putJoin (putRising putPoint 1 w (d .legs)) (d .joins)) (d .signals)) (d .closed)) (d .roster) .unknown ≡ unknownRow d
   unfolding unknownRow
   unknown-noted w z u f =
       let s = d .sections in
@@ -111,12 +119,15 @@ module _ (d : Description) where
       let w1 = putRising putPoint 1 w (d .legs) in
       let w2 = putEach putJoin w1 (d .joins) in
       let w3 = putEach putSignal w2 (d .signals) in
+      let w4 = putEach putClosed w3 (d .closed) in
       let z1 = sized-rising s p k putPoint (sized-point s p k) (d .legs) 1 w z in
       let z2 = sized-each s p k putJoin (sized-put-join s p k) (d .joins) w1 z1 in
       let z3 = sized-each s p k putSignal (sized-put-signal s p k) (d .signals) w2 z2 in
+      let z4 = sized-each s p k putClosed (sized-put-closed s p k) (d .closed) w3 z3 in
       let o = f .one-a-train in
       let e1 : w1 .unknown ≡ w .unknown = points-keep (λ x. x .unknown) (λ w r. refl) (d .legs) 1 w in
       let e2 = flag-each s p k (λ x. x .unknown) (unknownJoin d) putJoin (sized-put-join s p k) join-unknown (d .joins) w1 z1 in
       let e3 = flag-each s p k (λ x. x .unknown) (unknownSignal d) putSignal (sized-put-signal s p k) signal-unknown (d .signals) w2 z2 in
-      let e4 = flag-rising s p k (λ x. x .unknown) (unknownTrain d) putTrain (d .trains) (sized-put-train s p k) train-unknown (d .roster) 1 w3 z3 (omega arith) (omega arith) in
-      e4 ∙ rw (e3, e2, e1, u)
+      let e4 = flag-each s p k (λ x. x .unknown) (unknownClosed d) putClosed (sized-put-closed s p k) closed-unknown (d .closed) w3 z3 in
+      let e5 = flag-rising s p k (λ x. x .unknown) (unknownTrain d) putTrain (d .trains) (sized-put-train s p k) train-unknown (d .roster) 1 w4 z4 (omega arith) (omega arith) in
+      e5 ∙ rw (e4, e3, e2, e1, u)

@@ -5,6 +5,7 @@ pub mod Known
 pub mod Built
 pub mod Joining
 pub mod Signalling
+pub mod Closing
 pub mod Record
 pub mod Answering
 pub mod Whole

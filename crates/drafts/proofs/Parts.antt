@@ -12,7 +12,7 @@ use Rattle.railway.specs.declared.Leg.{Leg}
 use Rattle.railway.specs.declared.End.{End}
 use Rattle.railway.specs.declared.End.the-variants.{Section, Port}
 use Rattle.railway.specs.declared.Railway.{Railway}
-use Rattle.railway.specs.Record.{hasSignal, withJoin, withSignal, withLegs, withTrain}
+use Rattle.railway.specs.Record.{hasSignal, isClosed, withJoin, withSignal, withClosed, withLegs, withTrain}
 use Rattle.casefile.specs.Form.{TrainLine}
 use Rattle.casefile.specs.Rows.{within}
 use Rattle.casefile.specs.Recording.{trainOfLine}
@@ -22,7 +22,7 @@ use Rattle.lines.specs.Answers.{endNamed, joinNamed}
 use Rattle.drafts.specs.declared.Draft.{Draft}
 use Rattle.drafts.specs.declared.KnownEnd.{KnownEnd}
 use Rattle.drafts.specs.declared.KnownEnd.the-variants.{NotThere, There}
-use Rattle.drafts.specs.Drafting.{WithinCount, endIn, unknownIn, withRailway, putPoint, faulty, putJoin, putSignal, putTrain}
+use Rattle.drafts.specs.Drafting.{WithinCount, endIn, unknownIn, withRailway, putPoint, faulty, putJoin, putSignal, putClosed, putTrain}
 
 -- NUMBERS
 pub within-low : (n count : ℕ) → n < 1 → WithinCount n count false
@@ -92,6 +92,16 @@ module _ (d : Draft) (n : ℕ) (side : Side) (x : KnownEnd) (hx : x ≡ endIn (d
       → record { railway = r; unknown = d .unknown; wrong = d .wrong; double = d .double || v } ≡ putSignal d (record { number = n; side = side })
   unfolding putSignal
   signal-in e p r hr v hv = rw (← hx, p, hr, hv)
+
+module _ (d : Draft) (n : ℕ) (b : Bool) (h : b ≡ within n (d .railway .sections)) where
+  pub closed-in : b ≡ true → (r : Railway) → r ≡ withClosed (d .railway) (n - 1) → (v : Bool) → v ≡ isClosed (d .railway) (n - 1)
+      → record { railway = r; unknown = d .unknown; wrong = d .wrong; double = d .double || v } ≡ putClosed d n
+  unfolding putClosed
+  closed-in t r hr v hv = rw (sym h ∙ t, hr, hv)
+
+  pub closed-not : b ≡ false → unknownIn d ≡ putClosed d n
+  unfolding putClosed
+  closed-not t = rw (sym h ∙ t)
 
 module _ (d : Draft) (n : ℕ) (t : TrainLine) (a b c : Bool) (ha : a ≡ within n (d .railway .trains)) (hb : b ≡ within (t .start) (d .railway .sections))
     (hc : c ≡ within (t .destination) (d .railway .sections)) where

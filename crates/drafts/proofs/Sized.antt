@@ -2,7 +2,7 @@
 -- Assumes nothing.
 use Prim.Native.Nat.{ℕ, _-_}
 use mathlib.Core.Path.{_≡_, refl}
-use mathlib.Core.Bool.{Bool, true, false, cond, _&&_}
+use mathlib.Core.Bool.{Bool, true, false, cond, _&&_, _||_}
 use mathlib.Core.List.{List, [], _∷_}
 use lib.Dec.{ltb}
 use lib.ListN.{length, length-set}
@@ -10,16 +10,16 @@ use Rattle.railway.specs.declared.Side.{Side}
 use Rattle.railway.specs.declared.End.{End}
 use Rattle.railway.specs.declared.Train.{Train}
 use Rattle.railway.specs.declared.Railway.{Railway}
-use Rattle.railway.specs.Bounds.{mostPoints, mostTrains, sectionEnds, allEnds}
+use Rattle.railway.specs.Bounds.{mostSections, mostPoints, mostTrains, sectionEnds, allEnds}
 use Rattle.railway.specs.Ends.{endIndex}
-use Rattle.railway.specs.Record.{bareRailway, noLegs, noLink, noTrain, withJoin, withSignal, withLegs, withTrain}
+use Rattle.railway.specs.Record.{bareRailway, noLegs, noLink, noTrain, isClosed, withJoin, withSignal, withClosed, withLegs, withTrain}
 use Rattle.casefile.specs.Form.{JoinLine, SignalLine, TrainLine, section}
 use Rattle.casefile.specs.Rows.{within}
 use Rattle.casefile.specs.Recording.{trainOfLine}
 use Rattle.drafts.specs.declared.Draft.{Draft}
 use Rattle.drafts.specs.declared.KnownEnd.{KnownEnd}
 use Rattle.drafts.specs.declared.KnownEnd.the-variants.{NotThere, There}
-use Rattle.drafts.specs.Drafting.{endIn, putPoint, putEnds, putJoin, putAt, putSignal, putTrain, withRailway, unknownIn}
+use Rattle.drafts.specs.Drafting.{endIn, putPoint, putEnds, putJoin, putAt, putSignal, putClosed, putTrain, withRailway, unknownIn}
 use Rattle.drafts.proofs.Folding.{putRising, putEach}
 use Rattle.drafts.proofs.Stored.{everywhere-length}
 
@@ -30,6 +30,7 @@ pub record Sized (s p k : ℕ) (r : Railway) : Type 0 where
   pub legs : length (r .legs) ≡ mostPoints
   pub links : length (r .links) ≡ allEnds
   pub signals : length (r .signals) ≡ sectionEnds
+  pub closed : length (r .closed) ≡ mostSections
   pub roster : length (r .roster) ≡ mostTrains
 
 pub sized-bare : (s p k : ℕ) → Sized s p k (bareRailway s p k)
@@ -41,6 +42,7 @@ sized-bare s p k =
       legs = everywhere-length mostPoints noLegs;
       links = everywhere-length allEnds noLink;
       signals = everywhere-length sectionEnds false;
+      closed = everywhere-length mostSections false;
       roster = everywhere-length mostTrains noTrain;
     }
 
@@ -54,25 +56,31 @@ module _ (s p k : ℕ) where
     unfolding withLegs
     sized-legs n side =
         either-sized (ltb n mostPoints) _ r
-        (record { sections = z .sections; points = z .points; trains = z .trains; legs = simp length-set (z .legs); links = z .links; signals = z .signals; roster = z .roster }) z
+        (record { sections = z .sections; points = z .points; trains = z .trains; legs = simp length-set (z .legs); links = z .links; signals = z .signals; closed = z .closed; roster = z .roster }) z
 
     pub sized-join : (a b : End) → Sized s p k (withJoin r a b)
     unfolding withJoin
     sized-join a b =
         either-sized (ltb (endIndex a) allEnds && ltb (endIndex b) allEnds) _ r
-        (record { sections = z .sections; points = z .points; trains = z .trains; legs = z .legs; links = simp length-set (z .links); signals = z .signals; roster = z .roster }) z
+        (record { sections = z .sections; points = z .points; trains = z .trains; legs = z .legs; links = simp length-set (z .links); signals = z .signals; closed = z .closed; roster = z .roster }) z
 
     pub sized-signal : (e : End) → Sized s p k (withSignal r e)
     unfolding withSignal
     sized-signal e =
         either-sized (ltb (endIndex e) sectionEnds) _ r
-        (record { sections = z .sections; points = z .points; trains = z .trains; legs = z .legs; links = z .links; signals = simp length-set (z .signals); roster = z .roster }) z
+        (record { sections = z .sections; points = z .points; trains = z .trains; legs = z .legs; links = z .links; signals = simp length-set (z .signals); closed = z .closed; roster = z .roster }) z
+
+    pub sized-closed : (x : ℕ) → Sized s p k (withClosed r x)
+    unfolding withClosed
+    sized-closed x =
+        either-sized (ltb x mostSections) _ r
+        (record { sections = z .sections; points = z .points; trains = z .trains; legs = z .legs; links = z .links; signals = z .signals; closed = simp length-set (z .closed); roster = z .roster }) z
 
     pub sized-train : (t : ℕ) (train : Train) → Sized s p k (withTrain r t train)
     unfolding withTrain
     sized-train t train =
         either-sized (ltb t mostTrains) _ r
-        (record { sections = z .sections; points = z .points; trains = z .trains; legs = z .legs; links = z .links; signals = z .signals; roster = simp length-set (z .roster) }) z
+        (record { sections = z .sections; points = z .points; trains = z .trains; legs = z .legs; links = z .links; signals = z .signals; closed = z .closed; roster = simp length-set (z .roster) }) z
 
   -- and so does every line
   abbrev pub SizedDraft : Draft → Type 0
@@ -99,6 +107,15 @@ module _ (s p k : ℕ) where
     pub sized-put-signal : (g : SignalLine) → SizedDraft (putSignal d g)
     unfolding putSignal
     sized-put-signal g = sized-at (endIn (d .railway) (section (g .number) (g .side)))
+
+    pub sized-put-closed : (n : ℕ) → SizedDraft (putClosed d n)
+    unfolding putClosed
+    sized-put-closed n = cases (within n (d .railway .sections))
+      where
+        cases : (b : Bool)
+            → SizedDraft (cond b (record { railway = withClosed (d .railway) (n - 1); unknown = d .unknown; wrong = d .wrong; double = d .double || isClosed (d .railway) (n - 1) }) (unknownIn d))
+        cases true = sized-closed (d .railway) z (n - 1)
+        cases false = z
 
     pub sized-put-train : (n : ℕ) (t : TrainLine) → SizedDraft (putTrain d n t)
     unfolding putTrain

@@ -2,7 +2,7 @@
 -- definitions and proofs/ ties them to the casefile's; nothing of document 01 rests on this file. Assumes nothing.
 use mathlib.Core.Path.{_≡_}
 use mathlib.Core.Bool.{Bool, true, false, cond, not, _&&_, _||_}
-use mathlib.Core.List.{List}
+use mathlib.Core.List.{List, [], _∷_}
 use mathlib.Core.Option.{Option, none, some}
 use Prim.Native.Nat.{ℕ, zero, suc, _-_, _≤_}
 use lib.Dec.{ltb, leb, eqb}
@@ -14,17 +14,17 @@ use Rattle.railway.specs.declared.End.{End}
 use Rattle.railway.specs.declared.Railway.{Railway}
 use Rattle.railway.specs.declared.Refusal.{Refusal}
 use Rattle.railway.specs.Refusals.{Row, first}
-use Rattle.railway.specs.Record.{bareRailway, emptyRailway, joined, hasSignal, withJoin, withSignal, withLegs, withTrain}
+use Rattle.railway.specs.Record.{bareRailway, emptyRailway, joined, hasSignal, isClosed, withJoin, withSignal, withClosed, withLegs, withTrain}
 use Rattle.railway.specs.Rows.{outside, tied, wrongPair, unjoined, countRow, looseRow, placeRow, rowsBy}
 use Rattle.casefile.specs.declared.CaseRead.{CaseRead}
 use Rattle.casefile.specs.Form.{EndField, section, port, JoinLine, SignalLine, TrainLine}
 use Rattle.casefile.specs.Rows.{within}
 use Rattle.casefile.specs.Recording.{endOf, trainOfLine}
 use Rattle.casefile.specs.Given.{accepted, refused}
-use Rattle.casefile.specs.Reading.{headerAt, pointLineAt, joinLineAt, signalLineAt, trainLineAt}
+use Rattle.casefile.specs.Reading.{Counts, headerAt, pointLineAt, joinLineAt, signalLineAt, closedLineAt, trainLineAt}
 use Rattle.drafts.specs.declared.Draft.{Draft}
 use Rattle.drafts.specs.declared.Kind.{Kind}
-use Rattle.drafts.specs.declared.Kind.the-variants.{P, J, G, T}
+use Rattle.drafts.specs.declared.Kind.the-variants.{P, J, G, X, T}
 use Rattle.drafts.specs.declared.KnownEnd.{KnownEnd}
 use Rattle.drafts.specs.declared.KnownEnd.the-variants.{NotThere, There}
 use Rattle.drafts.specs.declared.Lines.{Lines}
@@ -87,6 +87,13 @@ putAt d NotThere = unknownIn d
 unfoldable pub putSignal : Draft → SignalLine → Draft
 putSignal d g = putAt d (endIn (d .railway) (section (g .number) (g .side)))
 
+-- An X line; the section may have been named already.
+unfoldable pub putClosed : Draft → ℕ → Draft
+putClosed d n =
+    cond (within n (d .railway .sections))
+    (record { railway = withClosed (d .railway) (n - 1); unknown = d .unknown; wrong = d .wrong; double = d .double || isClosed (d .railway) (n - 1) })
+    (unknownIn d)
+
 -- A T line.
 unfoldable pub putTrain : Draft → ℕ → TrainLine → Draft
 putTrain d n t =
@@ -94,26 +101,37 @@ putTrain d n t =
     (withRailway d (withTrain (d .railway) (n - 1) (trainOfLine t)))
     (unknownIn d)
 
--- LINES INTO A DRAFT. A line of a kind, read where it begins.
+-- A KIND OF LINE: the letter that a line of it begins with; whether the H line says how many there are, and then how many, their numbers rising from 1
+-- (of the other kinds all come that there are); and what a line, read at a place and with a number, makes of a draft.
+pub record Entry : Type 0 where
+  pub letter : ℕ
+  pub counted : Bool
+  pub count : Counts → ℕ
+  pub line : List ℕ → ℕ → ℕ → Draft → Got Draft
+
+-- The kinds, an entry each.
+abbrev pub entry : Kind → Entry
+entry P = record { letter = byte "P"; counted = true; count = λ h. h .points; line = λ s n c d. then (pointLineAt s n c) (λ x c. got (putPoint d n x) c) }
+entry J = record { letter = byte "J"; counted = false; count = λ h. 0; line = λ s n c d. then (joinLineAt s c) (λ x c. got (putJoin d x) c) }
+entry G = record { letter = byte "G"; counted = false; count = λ h. 0; line = λ s n c d. then (signalLineAt s c) (λ x c. got (putSignal d x) c) }
+entry X = record { letter = byte "X"; counted = false; count = λ h. 0; line = λ s n c d. then (closedLineAt s c) (λ x c. got (putClosed d x) c) }
+entry T = record { letter = byte "T"; counted = true; count = λ h. h .trains; line = λ s n c d. then (trainLineAt s n c) (λ x c. got (putTrain d n x) c) }
+
+-- Their order in a text.
+abbrev pub kinds : List Kind
+kinds = P ∷ J ∷ G ∷ X ∷ T ∷ []
+
+-- A line of a kind, read where it begins.
 abbrev pub lineInto : List ℕ → Kind → ℕ → ℕ → Draft → Got Draft
-lineInto s P n c d = then (pointLineAt s n c) (λ x c. got (putPoint d n x) c)
-lineInto s J n c d = then (joinLineAt s c) (λ x c. got (putJoin d x) c)
-lineInto s G n c d = then (signalLineAt s c) (λ x c. got (putSignal d x) c)
-lineInto s T n c d = then (trainLineAt s n c) (λ x c. got (putTrain d n x) c)
+lineInto s kind n c d = entry kind .line s n c d
 
 -- The letter that a line of a kind begins with.
 abbrev pub letter : Kind → ℕ
-letter P = byte "P"
-letter J = byte "J"
-letter G = byte "G"
-letter T = byte "T"
+letter kind = entry kind .letter
 
--- Whether the first line says how many lines of a kind there are; their numbers then rise from 1. Of the other kinds all come that there are.
+-- Whether the first line says how many lines of a kind there are.
 abbrev pub counted : Kind → Bool
-counted P = true
-counted J = false
-counted G = false
-counted T = true
+counted kind = entry kind .counted
 
 -- Lines one after the other; `line n c r` makes of r what the line that begins at c and has number n says.
 module _ {R : Type 0} (line : ℕ → ℕ → R → Got R) where
@@ -145,14 +163,14 @@ linesInto s kind count c d = cond (counted kind) (countedInto s kind count c d) 
 abbrev pub endAt : List ℕ → Draft → ℕ → Got Draft
 endAt s d c = cond (ltb c (length s)) bad (got d c)
 
+-- The lines of some kinds, one kind behind the other, and nothing behind them.
+abbrev pub kindsInto : List ℕ → Counts → List Kind → ℕ → Draft → Got Draft
+kindsInto s h [] c d = endAt s d c
+kindsInto s h (kind ∷ rest) c d = then (linesInto s kind (entry kind .count h) c d) (λ d c. kindsInto s h rest c d)
+
 -- The whole text.
 unfoldable pub draftOf : List ℕ → Got Draft
-draftOf s =
-    then (headerAt s 0) (λ h c.
-    then (linesInto s P (h .points) c (opened (h .sections) (h .points) (h .trains))) (λ d c.
-    then (linesInto s J 0 c d) (λ d c.
-    then (linesInto s G 0 c d) (λ d c.
-    then (linesInto s T (h .trains) c d) (λ d c. endAt s d c)))))
+draftOf s = then (headerAt s 0) (λ h c. kindsInto s h kinds c (opened (h .sections) (h .points) (h .trains)))
 
 -- What lines that were read stand for.
 abbrev pub linesGot : Lines → Got Draft

@@ -3,7 +3,7 @@
 ghost use mathlib.Core.Path.{_≡_};
 ghost use mathlib.Core.Bool.{true, false};
 ghost use Rattle.lines.specs.Answers.{endNamed, joinNamed};
-ghost use Rattle.drafts.specs.Drafting.{WithinCount, endIn, unknownIn, putPoint, faulty, putJoin, putSignal, putTrain, letter, counted};
+ghost use Rattle.drafts.specs.Drafting.{WithinCount, endIn, unknownIn, putPoint, faulty, putJoin, putSignal, putClosed, putTrain, letter, counted};
 use lines::NamedEnd;
 use railway::End;
 use railway::PointNo;
@@ -13,7 +13,7 @@ use railway::Side;
 use railway::Train;
 use text::Cursor;
 
-// The record so far; a name was not there; a join may not be; a signal was named twice.
+// The record so far; a name was not there; a join may not be; a signal, or a closed section, was named twice.
 pub struct Draft {
     pub railway: Railway,
     pub unknown: bool,
@@ -26,31 +26,42 @@ pub enum Kind {
     P,
     J,
     G,
+    X,
     T,
 }
 
-impl Kind {
-    // The letter that a line of the kind begins with.
-    pub fn letter(self) -> u8
-        ensures { λ b. ⌜ b ≡ letter self ⌝ }
-    {
-        match self {
-            Kind::P => b'P',
-            Kind::J => b'J',
-            Kind::G => b'G',
-            Kind::T => b'T',
-        }
-    }
+// What tells the lines of a kind: the letter that each begins with, and whether the first line says how many there are.
+pub struct Mark {
+    pub letter: u8,
+    pub counted: bool,
+}
 
-    // Whether the first line says how many lines of the kind there are.
-    pub fn is_counted(self) -> bool
-        ensures { λ b. ⌜ b ≡ counted self ⌝ }
+impl Kind {
+    // The kind's entry, as far as it tells the lines.
+    pub fn mark(self) -> Mark
+        ensures { λ m. ⌜ m ≡ record { letter = letter self; counted = counted self } ⌝ }
     {
         match self {
-            Kind::P => true,
-            Kind::J => false,
-            Kind::G => false,
-            Kind::T => true,
+            Kind::P => Mark {
+                letter: b'P',
+                counted: true,
+            },
+            Kind::J => Mark {
+                letter: b'J',
+                counted: false,
+            },
+            Kind::G => Mark {
+                letter: b'G',
+                counted: false,
+            },
+            Kind::X => Mark {
+                letter: b'X',
+                counted: false,
+            },
+            Kind::T => Mark {
+                letter: b'T',
+                counted: true,
+            },
         }
     }
 }
@@ -177,6 +188,23 @@ pub fn put_signal(d: Draft, n: u64, side: Side) -> Draft
         wrong: d.wrong,
         double: d.double | twice,
     }
+}
+
+pub fn put_closed(d: Draft, n: u64) -> Draft
+    ensures { λ e. ⌜ e ≡ putClosed d n ⌝ }
+{
+    let r = d.railway;
+    if within(n, r.sections) {
+        let x = (n - 1) as u8;
+        let twice = r.closed_at(x);
+        return Draft {
+            railway: r.with_closed(x),
+            unknown: d.unknown,
+            wrong: d.wrong,
+            double: d.double | twice,
+        };
+    }
+    noted(d)
 }
 
 pub fn put_train(d: Draft, n: u64, heading: Side, start: u64, destination: u64) -> Draft

@@ -19,7 +19,7 @@ use Rattle.railway.specs.Bounds.{mostSections, mostPoints, mostTrains, sectionE
 use Rattle.railway.specs.Ends.{endIndex, endAt}
 use Rattle.railway.specs.Refusals.{first, refuseIf}
 use Rattle.railway.specs.Record.{linkAt, joined, trainOf}
-use Rattle.railway.specs.Rows.{countRow, known, unknownLink, unknownLinkAt, unknownSignalAt, unknownTrainAt, unknownRow, recordRefusal}
+use Rattle.railway.specs.Rows.{countRow, known, unknownLink, unknownLinkAt, unknownSignalAt, unknownClosedAt, unknownTrainAt, unknownRow, recordRefusal}
 -- (Plays is named so that it is checked before: a wrong definition then shows at a computed value.)
 use Rattle.game.proofs.Plays as Plays
 
@@ -54,10 +54,11 @@ five false false true d e h = clash refl h
 five false true c d e h = clash refl h
 five true b c d e h = clash refl h
 
-three : (a b c : Bool) → (a || b || c) ≡ false → (a ≡ false) × (b ≡ false) × (c ≡ false)
-three false false c h = (refl, refl, h)
-three false true c h = clash refl h
-three true b c h = clash refl h
+four : (a b c d : Bool) → (a || b || c || d) ≡ false → (a ≡ false) × (b ≡ false) × (c ≡ false) × (d ≡ false)
+four false false false d h = (refl, refl, refl, h)
+four false false true d h = clash refl h
+four false true c d h = clash refl h
+four true b c d h = clash refl h
 
 module _ (r : Railway) where
   joins-known : anyBelow (unknownLinkAt r) allEnds ≡ false → (e : End) → Known r (joined r e)
@@ -79,7 +80,7 @@ module _ (r : Railway) where
       let count = off (countRow r) _ _ a in
       let unknown = off (unknownRow r) _ _ (count .1) in
       let c = five (ltb (r .sections) 1) (ltb mostSections (r .sections)) (ltb mostPoints (r .points)) (ltb (r .trains) 1) (ltb mostTrains (r .trains)) (count .0) in
-      let u = three (anyBelow (unknownLinkAt r) allEnds) (anyBelow (unknownSignalAt r) sectionEnds) (anyBelow (unknownTrainAt r) (r .trains)) (unknown .0) in
+      let u = four (anyBelow (unknownLinkAt r) allEnds) (anyBelow (unknownSignalAt r) sectionEnds) (anyBelow (unknownClosedAt r) mostSections) (anyBelow (unknownTrainAt r) (r .trains)) (unknown .0) in
       record {
         one-section = omega (arith, ltb-false (r .sections) 1 (c .0));
         few-sections = ltb-false mostSections (r .sections) (c .1);
@@ -87,6 +88,6 @@ module _ (r : Railway) where
         one-train = omega (arith, ltb-false (r .trains) 1 (c .3));
         few-trains = ltb-false mostTrains (r .trains) (c .4);
         joins = joins-known (u .0);
-        starts = λ t l. train-known (u .2) t l .0;
-        destinations = λ t l. train-known (u .2) t l .1;
+        starts = λ t l. train-known (u .3) t l .0;
+        destinations = λ t l. train-known (u .3) t l .1;
       }

@@ -18,7 +18,7 @@ use Rattle.railway.proofs.Lookups.{Flagged, signal-flag}
 use Rattle.game.specs.Claim.{Alike}
 use Rattle.game.specs.Placement.{arrived}
 use Rattle.game.specs.Setting.{Setting, SameSetting, headsFor, held, free, opensFor, signalOpen, mayMove}
-use Rattle.game.specs.Moves.{Passage, pastJoin, passes, enters, moveOf, gameOf, AgreeingAlike}
+use Rattle.game.specs.Moves.{Passage, pastJoin, passes, inUse, entered, enters, moveOf, gameOf, AgreeingAlike}
 use Rattle.game.proofs.Accepted.{Known, Facts, facts}
 
 module _ (r : Railway) where
@@ -92,8 +92,8 @@ module _ (r : Railway) (ok : Facts r) where
   passes-same a b same e = join-same a b same (joined r e) (ok .joins e)
 
   pub move-same : (a b : Setting) → SamePoints r (a .plus) (b .plus) → (p t : ℕ) → moveOf r p a t ≡ moveOf r p b t
-  unfolding moveOf
-  move-same a b same p t = ap (λ (w : Passage). enters r p t (w .reached)) (passes-same (a .plus) (b .plus) same (headsFor r p t))
+  unfolding moveOf entered
+  move-same a b same p t = ap (λ (w : Passage). enters r p t (inUse r (w .reached))) (passes-same (a .plus) (b .plus) same (headsFor r p t))
 
   pub alike : (a b : Setting) → SameSetting r a b → (p : ℕ) → Alike (gameOf r) p a b
   alike a b same p =

@@ -1,6 +1,6 @@
 -- Laws of an accepted railway's moves: trains stand on its sections and come to its sections, so that moves stay among the placements; the
 -- start is one of them. A train comes to a section that a join names, and every join names what is there. Assumes nothing.
-use mathlib.Core.Path.{_≡_, refl, _∙_}
+use mathlib.Core.Path.{_≡_, refl, _∙_, ap}
 use mathlib.Core.Bool.{Bool, true, false, cond}
 use mathlib.Core.List.{List}
 use mathlib.Core.Option.{Option, none, some}
@@ -18,12 +18,12 @@ use Rattle.railway.specs.declared.End.the-variants.{Section, Port}
 use Rattle.railway.specs.declared.Joined.{Joined}
 use Rattle.railway.specs.declared.Joined.the-variants.{Nothing, With}
 use Rattle.railway.specs.declared.Railway.{Railway}
-use Rattle.railway.specs.Record.{joined, trainOf}
+use Rattle.railway.specs.Record.{joined, isClosed, trainOf}
 use Rattle.game.specs.Game.{lost, at, collision}
 use Rattle.game.specs.Local.{Inside}
 use Rattle.game.specs.Placement.{sectionsIn, sectionsOf, standsOn, placements, startCode}
 use Rattle.game.specs.Setting.{Setting, headsFor}
-use Rattle.game.specs.Moves.{through, behindPort, pastPoint, pastJoin, passes, occupied, codeWith, enters, moveOf, gameOf}
+use Rattle.game.specs.Moves.{through, behindPort, pastPoint, pastJoin, passes, inUse, entered, occupied, codeWith, enters, moveOf, gameOf, ClosedLose}
 use Rattle.game.proofs.Codes.{AllBelow, code-below, sections-code, sections-length, sections-below, set-below}
 use Rattle.game.proofs.Accepted.{Known, Facts}
 
@@ -52,6 +52,22 @@ module _ (r : Railway) (ok : Facts r) where
   unfolding passes
   passes-below plus e x h = join-below plus (joined r e) x (ok .joins e) h
 
+  -- a section that is entered is come to
+  use-reached : (o : Option ℕ) (x : ℕ) → inUse r o ≡ some x → o ≡ some x
+  use-reached none x e = e
+  use-reached (some y) x e = go (isClosed r y) e
+    where
+      go : (b : Bool) → cond b none (some y) ≡ some x → some y ≡ some x
+      go true e = some-none e refl
+      go false e = e
+
+  pub entered-reached : (plus : ℕ → Bool) (e : End) (x : ℕ) → entered r plus e ≡ some x → passes r plus e .reached ≡ some x
+  unfolding entered
+  entered-reached plus e x h = use-reached (passes r plus e .reached) x h
+
+  pub entered-below : (plus : ℕ → Bool) (e : End) (x : ℕ) → entered r plus e ≡ some x → x < r .sections
+  entered-below plus e x h = passes-below plus e x (entered-reached plus e x h)
+
   -- a placement with one train put on another section is a placement
   pub code-with-below : (p t x : ℕ) → x < r .sections → codeWith r p t x < placements r
   code-with-below p t x l =
@@ -79,7 +95,7 @@ module _ (r : Railway) (ok : Facts r) where
   -- the moves stay among the placements
   pub move-inside : (p : ℕ) (s : Setting) (t q : ℕ) → moveOf r p s t ≡ at q → q < placements r
   unfolding moveOf
-  move-inside p s t q e = enters-below p t q (passes r (s .plus) (headsFor r p t) .reached) (passes-below (s .plus) (headsFor r p t)) e
+  move-inside p s t q e = enters-below p t q (entered r (s .plus) (headsFor r p t)) (entered-below (s .plus) (headsFor r p t)) e
 
   pub inside : Inside (gameOf r)
   inside p s t q hp m e = move-inside p s t q e
@@ -97,3 +113,17 @@ module _ (r : Railway) (ok : Facts r) where
   pub start-below : startCode r < placements r
   unfolding startCode
   start-below = rw starts-length at (code-below (r .sections) starts starts-below)
+
+-- CLOSED SECTIONS: what a train comes to decides, and whether it is closed
+use-open : (r : Railway) → ((x : ℕ) → isClosed r x ≡ false) → (o : Option ℕ) → inUse r o ≡ o
+use-open r h none = refl
+use-open r h (some x) = rw (h x)
+
+pub closed-lose : ClosedLose
+unfolding moveOf entered
+closed-lose r =
+    record {
+      entering = λ p s t x reached shut. rw (reached, shut) refl;
+      other = λ p s t x reached free. rw (reached, free) refl;
+      none-closed = λ h p s t. ap (enters r p t) (use-open r h (passes r (s .plus) (headsFor r p t) .reached));
+    }

@@ -1,5 +1,5 @@
--- Moves and plays by computation: one line for each clause of document 01, "A turn", and of document 02, Q-2 (parked trains), and what a way
--- and a choice are handed. No theorem
+-- Moves and plays by computation: one line for each clause of document 01, "A turn", and of document 02, Q-2 (parked trains) and Q-5 (closed
+-- sections), and what a way and a choice are handed. No theorem
 -- rests on these; they show what the definitions say, where the theorem on whole plays would not notice a slip. Assumes nothing. In Yard A
 -- (three sections) placement (a, b) has code (a - 1) + 3 (b - 1): (2, 1) is 1, (3, 1) is 2, (1, 2) is 3, (3, 2) is 5, (1, 3) is 6, (2, 3)
 -- is 7.
@@ -15,13 +15,13 @@ use Rattle.railway.specs.declared.Leg.the-variants.{Stem, Plus, Minus}
 use Rattle.railway.specs.declared.Railway.{Railway}
 use Rattle.railway.specs.Ends.{endAt}
 use Rattle.railway.specs.Refusals.{first}
-use Rattle.railway.specs.Record.{joinedBy, joined, hasSignal, legsOf, trainOf, withJoin, withSignal, withLegs, withTrain}
+use Rattle.railway.specs.Record.{isClosed, withClosed, joinedBy, joined, hasSignal, legsOf, trainOf, withJoin, withSignal, withLegs, withTrain}
 use Rattle.railway.specs.Rows.{unknownRow, joinRow, looseRow, placeRow, recordRefusal}
 use Rattle.game.specs.Game.{derailment, collision, lost, at, Turn, Way, Choice, lostByMove, standing, play}
 use Rattle.game.specs.Placement.{codeOf, sectionsIn, standsOn, sectionsOf, startCode, atHome, shared}
 use Rattle.game.specs.Setting.{Setting, headsFor, held, free, signalOpen, mayMove}
-use Rattle.game.specs.Moves.{passes, occupied, moveOf, gameOf}
-use Rattle.railway.specs.Yards.{yardH, lineP, lineJ, lineG, lineT, sec, port, yardA, yardALess}
+use Rattle.game.specs.Moves.{entered, passes, occupied, moveOf, gameOf}
+use Rattle.railway.specs.Yards.{yardH, lineP, lineJ, lineG, lineX, lineT, sec, port, yardA, yardALess}
 
 -- THE YARDS. A loop: up from 1 a train gets back to 1 over the plus leg, and to 2 over the minus leg.
 abbrev loop : Railway
@@ -53,10 +53,26 @@ lines =
 abbrev inTheWay : Railway
 inTheWay = lineT 2 Down 3 1 (lineT 1 Up 1 2 (lineJ (sec 2 Up) (sec 3 Down) (lineJ (sec 1 Up) (sec 2 Down) (yardH 3 0 2))))
 
+-- The line of three sections with the middle one closed: train 1 is to go up from 1 to 3, train 2 down from 3 to 1.
+abbrev pub shutLine : Railway
+shutLine = lineT 2 Down 3 1 (lineT 1 Up 1 3 (lineX 2 (lineJ (sec 2 Up) (sec 3 Down) (lineJ (sec 1 Up) (sec 2 Down) (yardH 3 0 2)))))
+
+-- The loop with section 1 closed, and sections 3 and 4 beside it, on which the trains start and end. (1, 2) has code 4.
+abbrev shutLoop : Railway
+shutLoop =
+    lineT 2 Up 4 3
+    (lineT 1 Up 3 4
+    (lineX 1
+    (lineJ (sec 2 Down) (port 1 Minus)
+    (lineJ (sec 1 Down) (port 1 Plus)
+    (lineJ (sec 1 Up) (port 1 Stem)
+    (lineP 1 Up (yardH 4 1 2)))))))
+
 yards : (recordRefusal yardA ≡ none) × (recordRefusal yardALess ≡ none) × (recordRefusal loop ≡ none) × (recordRefusal lines ≡ none) × (recordRefusal inTheWay ≡ none)
+    × (recordRefusal shutLine ≡ none) × (recordRefusal shutLoop ≡ none)
     × (startCode yardA ≡ 7) × (startCode lines ≡ 513) × (sectionsOf lines 524 ≡ 2 ∷ 4 ∷ 6 ∷ []) × (sectionsOf inTheWay 7 ≡ 1 ∷ 2 ∷ [])
-unfolding recordRefusal first unknownRow joinRow looseRow placeRow anyBelow joinedBy joined legsOf trainOf endAt withJoin withSignal withLegs withTrain startCode codeOf sumBelow listBelow sectionsIn
-yards = (refl, refl, refl, refl, refl, refl, refl, refl, refl)
+unfolding recordRefusal first unknownRow joinRow looseRow placeRow anyBelow joinedBy joined legsOf trainOf endAt withJoin withSignal withLegs withTrain startCode codeOf sumBelow listBelow sectionsIn withClosed isClosed
+yards = (refl, refl, refl, refl, refl, refl, refl, refl, refl, refl, refl)
 
 -- THE SETTINGS. All points at plus and all signals closed; all at minus and closed; all at minus and open.
 abbrev plus : Setting
@@ -90,10 +106,13 @@ moves :  -- from the stem, the point at plus and at minus
     × (moveOf yardA 3 shut 0 ≡ lost derailment) × (moveOf yardA 7 plus 0 ≡ lost derailment) × (moveOf yardA 1 plus 1 ≡ lost derailment)
     -- onto another train, also one that is parked; round the loop
     × (moveOf yardA 7 shut 1 ≡ lost collision) × (moveOf inTheWay 7 shut 1 ≡ lost collision) × (moveOf loop 2 shut 0 ≡ lost collision) × (moveOf loop 2 plus 0 ≡ at 2)
+    -- into a closed section, free and with another train on it; round into the train's own; from one, to a free section and to one with a train
+    × (moveOf shutLine 6 shut 0 ≡ lost derailment) × (moveOf shutLine 3 shut 0 ≡ lost derailment) × (moveOf shutLoop 4 plus 0 ≡ lost derailment)
+    × (moveOf shutLine 1 shut 0 ≡ at 2) × (moveOf shutLine 7 shut 0 ≡ lost collision) × (moveOf shutLoop 8 shut 0 ≡ at 9)
     -- the points met: one, also where the train derails at it; none
     × (passes yardA (plus .plus) (sec 2 Up) .met ≡ 0 ∷ []) × (passes yardA (plus .plus) (sec 1 Down) .met ≡ []) × (passes lines (plus .plus) (sec 1 Up) .met ≡ [])
-unfolding moveOf passes occupied headsFor standsOn sectionsIn codeOf sumBelow trainOf endAt joinedBy joined anyBelow withJoin withSignal withLegs withTrain
-moves = (refl, refl, refl, refl, refl, refl, refl, refl, refl, refl, refl, refl, refl, refl)
+unfolding moveOf passes occupied headsFor standsOn sectionsIn codeOf sumBelow trainOf endAt joinedBy joined anyBelow withJoin withSignal withClosed withLegs withTrain entered isClosed
+moves = (refl, refl, refl, refl, refl, refl, refl, refl, refl, refl, refl, refl, refl, refl, refl, refl, refl, refl, refl, refl)
 
 -- PLAYS
 abbrev turned : ℕ → Setting → Option ℕ → Turn Setting
@@ -151,5 +170,5 @@ plays :  -- home in two turns, a setting for each anew; there the play has ended
     × (play (gameOf yardALess) by-placement (names 1) 7 2 ≡ standing (turned 7 plus (some 1) ∷ turned 1 wide (some 0) ∷ []) 2)
     -- into a parked train
     × (play (gameOf inTheWay) (always shut) (names 0) 7 1 ≡ lostByMove)
-unfolding play lowest moveOf passes occupied mayMove free held signalOpen headsFor standsOn sectionsIn codeOf sumBelow trainOf endAt joinedBy joined hasSignal allBelow anyBelow atHome shared withJoin withSignal withLegs withTrain
+unfolding play lowest moveOf passes occupied mayMove free held signalOpen headsFor standsOn sectionsIn codeOf sumBelow trainOf endAt joinedBy joined hasSignal allBelow anyBelow atHome shared withJoin withSignal withLegs withTrain entered isClosed
 plays = (refl, refl, refl, refl, refl, refl, refl, refl, refl, refl, refl, refl, refl, refl, refl, refl)

@@ -16,7 +16,7 @@ use Rattle.railway.specs.declared.End.the-variants.{Section, Port}
 use Rattle.railway.specs.declared.Joined.{Joined}
 use Rattle.railway.specs.declared.Joined.the-variants.{Nothing, With}
 use Rattle.railway.specs.declared.Railway.{Railway}
-use Rattle.railway.specs.Record.{joined}
+use Rattle.railway.specs.Record.{joined, isClosed}
 use Rattle.railway.specs.Rows.{sectionOf, recordRefusal}
 use Rattle.game.specs.Game.{derailment, collision, Outcome, lost, at, Game}
 use Rattle.game.specs.Placement.{codeOf, placements, sectionsOf, standsOn, atHome, shared}
@@ -73,14 +73,23 @@ occupied r p t x = anyBelow (otherOn r p t x) (r .trains)
 abbrev pub codeWith : Railway → ℕ → ℕ → ℕ → ℕ
 codeWith r p t x = codeOf (r .sections) (set (sectionsOf r p) t x)
 
--- Train t comes to this section, or derails.
+-- The section that a train comes to, unless it is closed: to enter a closed one loses, like derailing, whoever stands there (document 02, Q-5).
+abbrev pub inUse : Railway → Option ℕ → Option ℕ
+inUse r none = none
+inUse r (some x) = cond (isClosed r x) none (some x)
+
+-- Leaving by section end e, with these points at plus: the section entered; none where the train derails or would enter a closed one.
+unfoldable pub entered : Railway → (ℕ → Bool) → End → Option ℕ
+entered r plus e = inUse r (passes r plus e .reached)
+
+-- Train t enters this section, or none: it derails, or has come to a closed one.
 abbrev pub enters : Railway → ℕ → ℕ → Option ℕ → Outcome
 enters r p t none = lost derailment
 enters r p t (some x) = cond (occupied r p t x) (lost collision) (at (codeWith r p t x))
 
 -- What moving train t ends in.
 unfoldable pub moveOf : Railway → ℕ → Setting → ℕ → Outcome
-moveOf r p s t = enters r p t (passes r (s .plus) (headsFor r p t) .reached)
+moveOf r p s t = enters r p t (entered r (s .plus) (headsFor r p t))
 
 -- The railway's game.
 abbrev pub gameOf : Railway → Game Setting
@@ -98,3 +107,16 @@ gameOf r =
 -- the same ends.
 abbrev pub AgreeingAlike : Type 0
 AgreeingAlike = (r : Railway) → recordRefusal r ≡ none → (a b : Setting) → SameSetting r a b → (p : ℕ) → Alike (gameOf r) p a b
+
+-- CLOSED SECTIONS (document 02, Q-5). What they change, and what not.
+pub record ClosedSections (r : Railway) : Type 0 where
+  -- to come to a closed section loses
+  pub entering : (p : ℕ) (s : Setting) (t x : ℕ) → passes r (s .plus) (headsFor r p t) .reached ≡ some x → isClosed r x ≡ true → moveOf r p s t ≡ lost derailment
+  -- to come to another section ends as if none were closed, also from one that is
+  pub other : (p : ℕ) (s : Setting) (t x : ℕ) → passes r (s .plus) (headsFor r p t) .reached ≡ some x → isClosed r x ≡ false → moveOf r p s t ≡ enters r p t (some x)
+  -- so where no section is closed every move ends as it did before there were any
+  pub none-closed : ((x : ℕ) → isClosed r x ≡ false) → (p : ℕ) (s : Setting) (t : ℕ) → moveOf r p s t ≡ enters r p t (passes r (s .plus) (headsFor r p t) .reached)
+
+-- Of every record.
+abbrev pub ClosedLose : Type 0
+ClosedLose = (r : Railway) → ClosedSections r

@@ -2,7 +2,7 @@
 // up to the first field that is not the number, end or side that it must be. Any bytes and any cursor may come in.
 ghost use mathlib.Core.Path.{_≡_};
 ghost use Rattle.text.specs.Answers.{numberGot};
-ghost use Rattle.casefile.specs.Reading.{caseNumberAt, sideFieldAt, legFieldAt, endFieldAt, headerAt, pointLineAt, joinLineAt, signalLineAt, trainLineAt};
+ghost use Rattle.casefile.specs.Reading.{caseNumberAt, sideFieldAt, legFieldAt, endFieldAt, headerAt, pointLineAt, joinLineAt, signalLineAt, closedLineAt, trainLineAt};
 ghost use Rattle.lines.specs.Answers.{behindTab, sideGot, legGot, endGot, countsGot, joinGot, signalGot, trainGot};
 use railway::Leg;
 use railway::Side;
@@ -209,6 +209,22 @@ pub fn signal_line(text: &[u8], c: Cursor) -> SignalRead
         return SignalRead::NoSignal;
     };
     SignalRead::SignalIs(n, side, c4)
+}
+
+// `X`, a section.
+pub fn closed_line(text: &[u8], c: Cursor) -> Number
+    ensures { λ r. ⌜ numberGot r ≡ closedLineAt (now (text .entry)) (c .at) ⌝ }
+{
+    let Byte::Past(c1) = text::byte_at(text, c, b'X') else {
+        return Number::None;
+    };
+    let Number::Value(n, c2) = tab_number(text, c1) else {
+        return Number::None;
+    };
+    let Byte::Past(c3) = text::byte_at(text, c2, LINE_END) else {
+        return Number::None;
+    };
+    Number::Value(n, c3)
 }
 
 // `T`, the number n, heading, start, destination.

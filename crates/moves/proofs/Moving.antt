@@ -29,11 +29,11 @@ use Rattle.railway.specs.Record.{joined, hasSignal, trainOf}
 use Rattle.game.specs.Game.{derailment, collision, lost, at, may}
 use Rattle.game.specs.Placement.{codeOf, sectionsOf, standsOn, codeOn, arrived}
 use Rattle.game.specs.Setting.{headsFor, held, free, opensFor, mayMove}
-use Rattle.game.specs.Moves.{Passage, through, pastPoint, pastJoin, passes, otherOn, occupied, codeWith, enters, moveOf, gameOf}
+use Rattle.game.specs.Moves.{Passage, through, pastPoint, pastJoin, passes, inUse, entered, otherOn, occupied, codeWith, enters, moveOf, gameOf}
 use Rattle.game.proofs.Codes.{sections-length}
 use Rattle.game.proofs.Agreeing.{may-free, may-held, may-neither}
 use Rattle.game.proofs.Accepted.{Facts}
-use Rattle.game.proofs.Moves.{section-below, passes-below, sections-with, code-with-below}
+use Rattle.game.proofs.Moves.{section-below, entered-below, sections-with, code-with-below}
 use Rattle.tables.specs.Entries.{opensIn, opensEnd, settingAt}
 use Rattle.tables.proofs.Exists.{few-placements}
 use Rattle.compiled.specs.Table.{noByte, pointByte, sectionByte, endOn, parkedOn, heldOn, freeOn}
@@ -83,7 +83,7 @@ module _ (r : Railway) (p : ℕ) (table : List ℕ) (q : Placement) (on : On r p
     pub point-is : (b : ℕ) → b ≡ pointByte (passes r (λ i. false) (endOn r t x) .met) → b ≡ pointByte (passes r (λ i. false) (headsFor r p t) .met)
     point-is b h = rw end-on at h
 
-    pub section-is : (b : ℕ) (plus : Bool) → b ≡ sectionByte (passes r (λ i. plus) (endOn r t x) .reached) → b ≡ sectionByte (passes r (λ i. plus) (headsFor r p t) .reached)
+    pub section-is : (b : ℕ) (plus : Bool) → b ≡ sectionByte (entered r (λ i. plus) (endOn r t x)) → b ≡ sectionByte (entered r (λ i. plus) (headsFor r p t))
     section-is b plus h = rw end-on at h
 
   -- HOW A TRAIN STANDS, any train: one that is not there stands on the first section.
@@ -195,13 +195,13 @@ module _ (r : Railway) (p : ℕ) (table : List ℕ) (q : Placement) (on : On r p
           let few : ltb t mostTrains ≡ true = lt-ltb t mostTrains (omega (arith, facts-of .few-trains)) in
           record { compiled = on .compiled; stands = λ u. (rw few at (h u)) ∙ put-each l u ∙ ap (λ (xs : List ℕ). getD xs u 0) (sym (sections-with r facts-of p t x lx)) }
 
-  module _ (t : ℕ) (plus : Bool) (x : ℕ) (leads : x ≡ sectionByte (passes r (λ i. plus) (headsFor r p t) .reached)) where
+  module _ (t : ℕ) (plus : Bool) (x : ℕ) (leads : x ≡ sectionByte (entered r (λ i. plus) (headsFor r p t))) where
     abbrev route : Option ℕ
-    route = passes r (λ i. plus) (headsFor r p t) .reached
+    route = entered r (λ i. plus) (headsFor r p t)
 
     pub derails : x ≡ noByte → some (lost derailment) ≡ some (moveOf r p (allAt plus) t)
     unfolding moveOf
-    derails z = go route (λ y. passes-below r facts-of (λ i. plus) (headsFor r p t) y) (sym leads ∙ z)
+    derails z = go route (λ y. entered-below r facts-of (λ i. plus) (headsFor r p t) y) (sym leads ∙ z)
       where
         go : (o : Option ℕ) → ((y : ℕ) → o ≡ some y → y < r .sections) → sectionByte o ≡ noByte → some (lost derailment) ≡ some (enters r p t o)
         go none b e = refl
@@ -232,5 +232,5 @@ module _ (r : Railway) (p : ℕ) (table : List ℕ) (q : Placement) (on : On r p
     there-if e = ltb-true t (r .trains) (and-true (ltb t (r .trains)) (mayMove r p (settingAt r p v) t) (sym is ∙ e) .0)
 
     pub allowed : (n : ℕ) (b : Bool) (o : Move) → m ≡ true → n ≡ pointByte (passes r (λ i. false) (headsFor r p t) .met) → b ≡ bit v n → ended o ≡ some (moveOf r p (allAt b) t) → ended o ≡ moveUnder r p v t
-    unfolding moveUnder moveOf settingAt
-    allowed n b o e hn hb h = rw (sym is ∙ e) (h ∙ sym (ap (λ (w : Passage). some (enters r p t (w .reached))) (by-point r (bit v) (headsFor r p t) n b hn hb)))
+    unfolding moveUnder moveOf entered settingAt
+    allowed n b o e hn hb h = rw (sym is ∙ e) (h ∙ sym (ap (λ (w : Passage). some (enters r p t (inUse r (w .reached)))) (by-point r (bit v) (headsFor r p t) n b hn hb)))

@@ -11,7 +11,7 @@ ghost use Rattle.railway.specs.declared.Railway.{Railway};
 ghost use Rattle.game.specs.Game.{may};
 ghost use Rattle.game.specs.Placement.{placements, startCode, atHome, shared, codeOn};
 ghost use Rattle.game.specs.Setting.{headsFor};
-ghost use Rattle.game.specs.Moves.{passes, moveOf, gameOf};
+ghost use Rattle.game.specs.Moves.{passes, entered, moveOf, gameOf};
 ghost use Rattle.tables.specs.Entries.{opensIn, opensEnd, settingAt};
 ghost use Rattle.compiled.specs.Table.{pointByte, sectionByte, Compiled};
 ghost use Rattle.placement.specs.ByValue.{sectionIn};
@@ -377,7 +377,7 @@ pub fn point_in(table: &Table, q: Placement, t: u8) -> u8
 
 // The section that a train enters, the point that it meets lying at plus or not; `NO_BYTE`: it derails.
 pub fn leads_to(table: &Table, q: Placement, t: u8, plus: bool) -> u8
-    ensures { λ x. ⌜ ((r : Railway) (p : ℕ) → On r p (now (table .entry)) q → t < r .trains → x ≡ sectionByte (passes r (λ i. plus) (headsFor r p t) .reached)) ⌝ }
+    ensures { λ x. ⌜ ((r : Railway) (p : ℕ) → On r p (now (table .entry)) q → t < r .trains → x ≡ sectionByte (entered r (λ i. plus) (headsFor r p t))) ⌝ }
 {
     compiled::section_past(table, t, section_at(q, t), plus)
 }

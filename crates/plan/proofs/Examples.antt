@@ -19,13 +19,13 @@ use Rattle.railway.specs.declared.Railway.{Railway}
 use Rattle.railway.specs.declared.Refusal.the-variants.{Space}
 use Rattle.railway.specs.Ends.{endAt}
 use Rattle.railway.specs.Refusals.{first}
-use Rattle.railway.specs.Record.{joinedBy, joined, hasSignal, legsOf, trainOf, withJoin, withSignal, withLegs, withTrain}
+use Rattle.railway.specs.Record.{isClosed, withClosed, joinedBy, joined, hasSignal, legsOf, trainOf, withJoin, withSignal, withLegs, withTrain}
 use Rattle.railway.specs.Rows.{unknownRow, joinRow, looseRow, placeRow}
 use Rattle.game.specs.Local.{keepsTest}
 use Rattle.game.specs.Placement.{codeOf, sectionsIn, standsOn, startCode, atHome, shared}
 use Rattle.game.specs.Setting.{headsFor, held, mayMove, free, signalOpen}
-use Rattle.game.specs.Moves.{passes, occupied, moveOf}
-use Rattle.railway.specs.Yards.{yardH, lineJ, lineG, lineT, sec, yardA, yardOne, yardTwo}
+use Rattle.game.specs.Moves.{entered, passes, occupied, moveOf}
+use Rattle.railway.specs.Yards.{yardH, lineX, lineJ, lineG, lineT, sec, yardA, yardOne, yardTwo}
 use Rattle.tables.specs.Entries.{entryFrom}
 use Rattle.tables.specs.Tables.{tablesShort, caseRefusal}
 use Rattle.tables.proofs.KnownYards.{figsA, setsA}
@@ -82,6 +82,17 @@ wrongJoin = lineT 1 Up 1 2 (lineJ (sec 1 Up) (sec 2 Up) (yardH 2 0 1))
 abbrev bothHome : Railway
 bothHome = lineT 2 Down 1 1 (lineT 1 Up 2 2 (lineG (sec 1 Down) (lineG (sec 1 Up) (yardTwo 2))))
 
+-- Three sections in a line, for a train up from 1 to 3; the same with the middle one closed.
+abbrev inLine : Railway
+inLine = lineT 1 Up 1 3 (lineJ (sec 2 Up) (sec 3 Down) (lineJ (sec 1 Up) (sec 2 Down) (yardH 3 0 1)))
+
+abbrev closedBetween : Railway
+closedBetween = lineX 2 inLine
+
+-- The same for a train that starts and ends on 3.
+abbrev startsBehind : Railway
+startsBehind = lineT 1 Up 3 3 closedBetween
+
 abbrev script : Railway → ℕ → List Said → ℕ → Script
 script r n ss t = record { yard = r; entries = n; said = ss; test = t }
 
@@ -132,6 +143,10 @@ scripts =
     -- two trains on a section, in a placement whose only move ends at home; the same plan without it
     ∷ script bothHome 4 ("plan\t0\n" gets 0 ∷ "1\t1\t1\t1\t.\n" gets 0 ∷ "2\t1\t0\t0\t.\n" gets 0 ∷ []) 11
     ∷ script bothHome 4 ("plan\t0\n" gets 0 ∷ "2\t1\t0\t0\t.\n" gets 0 ∷ []) 0
+    -- a plan that passes, and fails where the section between is closed, though the placement there is listed; from there on it passes
+    ∷ script inLine 3 ("plan\t2\n" gets 0 ∷ "1\t2\t0\t.\n" gets 0 ∷ "2\t1\t0\t.\n" gets 0 ∷ "3\t0\t0\t.\n" gets 0 ∷ []) 0
+    ∷ script closedBetween 3 ("plan\t2\n" gets 0 ∷ "1\t2\t0\t.\n" gets 0 ∷ "2\t1\t0\t.\n" gets 0 ∷ "3\t0\t0\t.\n" gets 0 ∷ []) 11
+    ∷ script startsBehind 3 ("plan\t0\n" gets 0 ∷ "2\t1\t0\t.\n" gets 0 ∷ "3\t0\t0\t.\n" gets 0 ∷ []) 0
     -- one section: no points, and a point too many
     ∷ script yardOne 1 ("plan\t0\n" gets 0 ∷ "1\t0\t0\t-\n" gets 10 ∷ "1\t0\t0\t.\n" gets 0 ∷ []) 0
     -- the largest figure
@@ -149,7 +164,7 @@ scripts =
     ∷ []
 
 as-said : all holds scripts ≡ true
-unfolding all numbers bytes callLines takeLine testPlan caseRefusal tablesShort first unknownRow joinRow looseRow placeRow endAt joinedBy joined hasSignal legsOf trainOf withJoin withSignal withLegs withTrain allBelow anyBelow sumBelow whichBelow listBelow lowest fromBits any readLine guess fields valueOf sameText spell line digits fits entryFrom codeOf testHolds placementPasses listedSetting keepsTest sectionsIn standsOn startCode atHome shared headsFor mayMove free held signalOpen passes occupied moveOf
+unfolding all numbers bytes callLines takeLine testPlan caseRefusal tablesShort first unknownRow joinRow looseRow placeRow endAt joinedBy joined hasSignal legsOf trainOf withJoin withSignal withLegs withTrain allBelow anyBelow sumBelow whichBelow listBelow lowest fromBits any readLine guess fields valueOf sameText spell line digits fits entryFrom codeOf testHolds placementPasses listedSetting keepsTest sectionsIn standsOn startCode atHome shared headsFor mayMove free held signalOpen passes occupied moveOf entered isClosed withClosed
 as-said = refl
 
 -- THE EMITTER in Yard A, with its tables: the first line, the last line with bytes past it, a buffer that is too short, the end, a place past
@@ -166,7 +181,7 @@ emitted :
     × (emitLine yardA (replicate 9 4294967295) setsA Top [] ≡ leaves NoPlan [])
     × (emitLine yardA (replicate 8 4294967295) setsA Top [] ≡ leaves (Refused Space) [])
     × (numberGiven (emitLine wrongJoin [] [] Top [] .answer) ≡ some 5)
-unfolding bytes emitLine caseRefusal tablesShort first unknownRow joinRow looseRow placeRow endAt joinedBy joined hasSignal legsOf trainOf withJoin withSignal withLegs withTrain anyBelow sumBelow whichBelow listBelow lowest lineFor spell line digits codeOf sectionsIn startCode
+unfolding bytes emitLine caseRefusal tablesShort first unknownRow joinRow looseRow placeRow endAt joinedBy joined hasSignal legsOf trainOf withJoin withSignal withLegs withTrain anyBelow sumBelow whichBelow listBelow lowest lineFor spell line digits codeOf sectionsIn startCode isClosed
 emitted = (refl, refl, refl, refl, refl, refl, refl, refl)
 
 -- THE ORDER OF SEVERAL POINTS, point 1 first and in bit 0, and of two open
@@ -183,5 +198,5 @@ several-points :
     × (lineEntry ladder startLadder ≡ 196609)
     × (lineFor ladder figsLadder (set (replicate 49 0) 42 196609) 42 ≡ startLadder)
     × (emitLine ladder figsLadder (set (replicate 49 0) 42 65540) (From 0) (replicate 12 7) ≡ record { answer = Line 12 (From 43); buffer = bytes "1\t7\t3\t1\t--+\n" })
-unfolding bytes emitLine caseRefusal tablesShort first unknownRow joinRow looseRow placeRow endAt joinedBy joined hasSignal legsOf trainOf withJoin withSignal withLegs withTrain anyBelow sumBelow whichBelow listBelow lowest fromBits any all readLine guess fields valueOf sameText fits lineFor spell line digits codeOf sectionsIn startCode entryFrom
+unfolding bytes emitLine caseRefusal tablesShort first unknownRow joinRow looseRow placeRow endAt joinedBy joined hasSignal legsOf trainOf withJoin withSignal withLegs withTrain anyBelow sumBelow whichBelow listBelow lowest fromBits any all readLine guess fields valueOf sameText fits lineFor spell line digits codeOf sectionsIn startCode entryFrom isClosed
 several-points = (refl, refl, refl, refl, refl)

@@ -11,7 +11,7 @@ use Rattle.tables.specs.Tables.{figureIn}
 use Rattle.plan.specs.declared.PlanPlace.{PlanPlace}
 use Rattle.plan.specs.Emitter.{numberGiven, Due, due, emitterLeaves, emitterRows, emitLine}
 use Rattle.plan.specs.Reading.{readLine}
-use Rattle.plan.specs.Checker.{lineNumber, testNumber, Checking, entered, lineLeaves, lineRows, takeLine, testAnswer, testRows, testPlan}
+use Rattle.plan.specs.Checker.{lineNumber, testNumber, Checking, lineEntered, lineLeaves, lineRows, takeLine, testAnswer, testRows, testPlan}
 
 emitter-number : (buffer : List ℕ) (d : Option Due) (o : Option Refusal) (start : Option ℕ) → numberGiven (emitterLeaves buffer d o start .answer) ≡ numberOf o
 emitter-number buffer d (some f) start = refl
@@ -30,7 +30,7 @@ line-number c after none = refl
 
 pub line-numbered : (r : Railway) (c : Checking) (text : List ℕ) → lineNumber (takeLine r c text .answer) ≡ numberOf (first (lineRows r c text))
 unfolding takeLine
-line-numbered r c text = line-number c (entered r c (c .state) (readLine r text)) (first (lineRows r c text))
+line-numbered r c text = line-number c (lineEntered r c (c .state) (readLine r text)) (first (lineRows r c text))
 
 test-number : (o : Option Refusal) → testNumber (testAnswer o) ≡ numberOf o
 test-number (some f) = refl

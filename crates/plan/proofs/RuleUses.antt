@@ -23,14 +23,14 @@ use Rattle.railway.specs.declared.Refusal.the-variants.{Space, PlanForm, PlanFa
 use Rattle.railway.specs.Ends.{endAt}
 use Rattle.railway.specs.declared.CaseAnswer.{CaseAnswer}
 use Rattle.railway.specs.Refusals.{first, numberGiven as caseNumber}
-use Rattle.railway.specs.Record.{joinedBy, joined, hasSignal, legsOf, trainOf, withJoin, withSignal, withLegs, withTrain}
+use Rattle.railway.specs.Record.{isClosed, joinedBy, joined, hasSignal, legsOf, trainOf, withJoin, withSignal, withLegs, withTrain}
 use Rattle.railway.specs.Rows.{unknownRow, joinRow, looseRow, placeRow}
 use Rattle.railway.specs.Yards.{yardA}
 use Rattle.game.specs.Game.{Choice, following, HomeWithin}
 use Rattle.game.specs.Local.{keepsTest}
 use Rattle.game.specs.Placement.{codeOf, sectionsIn, placements, standsOn, startCode, atHome, shared}
 use Rattle.game.specs.Setting.{Setting, headsFor, held, mayMove, free, signalOpen}
-use Rattle.game.specs.Moves.{passes, occupied, moveOf, gameOf}
+use Rattle.game.specs.Moves.{entered, passes, occupied, moveOf, gameOf}
 use Rattle.tables.specs.Entries.{entryFrom}
 use Rattle.tables.specs.Tables.{noFigure, tablesShort, caseRefusal}
 use Rattle.tables.proofs.Refusals.{case-accepted}
@@ -90,16 +90,16 @@ emit-leaves r figs sets place b b′ a p e = p .buffer ∙ emit-rule r figs sets
 numbered : (a : Emitted) (b′ : List ℕ) (x : LineAnswer) (c₁ : Checking) (t : TestAnswer) (c₂ : Checking)
     → EmitterPost yardA (replicate 8 7) (replicate 9 7) Top [] a b′ → LinePost yardA (freshChecking 8 9) [] x c₁ → TestPost yardA (freshChecking 9 8) t c₂
     → (numberGiven a ≡ some 9) × (lineNumber x ≡ some 9) × (testNumber t ≡ some 9)
-unfolding tablesShort first unknownRow joinRow looseRow placeRow endAt joinedBy joined hasSignal legsOf trainOf withJoin withSignal withLegs withTrain anyBelow
+unfolding tablesShort first unknownRow joinRow looseRow placeRow endAt joinedBy joined hasSignal legsOf trainOf withJoin withSignal withLegs withTrain anyBelow isClosed
 numbered a b′ x c₁ t c₂ p q u = (p .numbered, q .numbered, u .numbered)
 
 -- THE EMITTER'S RULE, of anything that a call may have left. In Yard A the line from code 3 on has ten bytes.
 refused-first : (w : Wrote) → EmitRule yardA (replicate 8 7) (replicate 9 7) Top [] w → w .answer ≡ EmitRefused Space
-unfolding caseRefusal tablesShort first unknownRow joinRow looseRow placeRow endAt joinedBy joined hasSignal legsOf trainOf withJoin withSignal withLegs withTrain anyBelow
+unfolding caseRefusal tablesShort first unknownRow joinRow looseRow placeRow endAt joinedBy joined hasSignal legsOf trainOf withJoin withSignal withLegs withTrain anyBelow isClosed
 refused-first w rule = rule .first Space refl
 
 unrefused : caseRefusal yardA figsA setsA ≡ none
-unfolding caseRefusal tablesShort first unknownRow joinRow looseRow placeRow endAt joinedBy joined hasSignal legsOf trainOf withJoin withSignal withLegs withTrain anyBelow
+unfolding caseRefusal tablesShort first unknownRow joinRow looseRow placeRow endAt joinedBy joined hasSignal legsOf trainOf withJoin withSignal withLegs withTrain anyBelow isClosed
 unrefused = refl
 
 abbrev last-line : Due
@@ -155,8 +155,8 @@ module _ (x : Left LineAnswer) (change : LineChanges yardA begun (bytes "2\t1\t1
   others-kept : (getD (x .checking .figs) 7 0 ≡ 9) × (getD (x .checking .sets) 7 0 ≡ 8)
   others-kept = change .other-codes lineA (spelled .0) 7 (λ e. omega (arith, spelled .2))
 
-  entered : x .answer ≡ Taken → (getD (x .checking .figs) 1 0 ≡ 1) × (getD (x .checking .sets) 1 0 ≡ 65536)
-  entered e = let y = change .own-code lineA (spelled .0) e in (rw (spelled .2) at (y .0), (rw (spelled .2) at (y .1)) ∙ spelled .3)
+  entered-so : x .answer ≡ Taken → (getD (x .checking .figs) 1 0 ≡ 1) × (getD (x .checking .sets) 1 0 ≡ 65536)
+  entered-so e = let y = change .own-code lineA (spelled .0) e in (rw (spelled .2) at (y .0), (rw (spelled .2) at (y .1)) ∙ spelled .3)
 
 -- so a call for that line, whatever it answers, leaves what stands at (2, 3)
 call-keeps : (a : LineAnswer) (c′ : Checking) → LinePost yardA begun (bytes "2\t1\t1\t1\t-\n") a c′ → (getD (c′ .figs) 7 0 ≡ 9) × (getD (c′ .sets) 7 0 ≡ 8)
@@ -209,7 +209,7 @@ abbrev pub otherTexts : String → List (List ℕ)
 otherTexts first = bytes first ∷ bytes "2\t1\t8\t1\t-\n" ∷ bytes "3\t1\t7\t0\t+\n" ∷ bytes "2\t3\t9\t0\t+\n" ∷ []
 
 forms : Form yardA (otherTexts "plan\t9\n") 9 otherLines × Form yardA (otherTexts "plan\t8\n") 8 otherLines × (testHolds yardA 9 (byLines yardA otherLines) ≡ true) × (testHolds yardA 8 (byLines yardA otherLines) ≡ false)
-unfolding bytes all rises spell line digits fits allBelow anyBelow sumBelow whichBelow listBelow codeOf testHolds placementPasses listedSetting lineOn keepsTest sectionsIn standsOn startCode atHome shared headsFor held mayMove signalOpen free passes occupied moveOf endAt joinedBy joined hasSignal trainOf withJoin withSignal withLegs withTrain
+unfolding bytes all rises spell line digits fits allBelow anyBelow sumBelow whichBelow listBelow codeOf testHolds placementPasses listedSetting lineOn keepsTest sectionsIn standsOn startCode atHome shared headsFor held mayMove signalOpen free passes occupied moveOf endAt joinedBy joined hasSignal trainOf withJoin withSignal withLegs withTrain entered isClosed
 forms = (record { spelled = refl; fit = refl; rising = refl }, record { spelled = refl; fit = refl; rising = refl }, refl, refl)
 
 passed : Test yardA 9 (byLines yardA otherLines)
@@ -299,5 +299,5 @@ followed L t c = plan-works yardA yardA-accepted 2 L t c
 
 -- FRESH TABLES: eight entries are too few for Yard A, which is number 9, and both tables stay as they were
 pub fresh-kept : (a : CaseAnswer) (c : Checking) → FreshPost yardA (replicate 8 5) (replicate 9 6) a c → (caseNumber a ≡ some 9) × (c .figs ≡ replicate 8 5) × (c .sets ≡ replicate 9 6)
-unfolding caseRefusal tablesShort first unknownRow joinRow looseRow placeRow endAt joinedBy joined hasSignal legsOf trainOf withJoin withSignal withLegs withTrain anyBelow
+unfolding caseRefusal tablesShort first unknownRow joinRow looseRow placeRow endAt joinedBy joined hasSignal legsOf trainOf withJoin withSignal withLegs withTrain anyBelow isClosed
 fresh-kept a c p = (p .numbered, ap (λ (x : Checking). x .figs) (p .checking), ap (λ (x : Checking). x .sets) (p .checking))

@@ -29,7 +29,7 @@ use Rattle.plan.specs.Emitter.{Wrote, Due, due, dueTooLong, bufferShort,
 use Rattle.plan.specs.Reading.{readLine}
 use Rattle.plan.specs.Computed.{testHolds}
 use Rattle.plan.specs.Test.{byTables}
-use Rattle.plan.specs.Checker.{Checking, Left, outOfForm, entered, lineLeaves, takeLine, nothingTaken, planFails, testAnswer, testPlan}
+use Rattle.plan.specs.Checker.{Checking, Left, outOfForm, lineEntered, lineLeaves, takeLine, nothingTaken, planFails, testAnswer, testPlan}
 use Rattle.plan.specs.Steps.{dueWritten, emitted, takes, takesIf, tests}
 
 -- THE EMITTER. A line that is due, by its length.
@@ -70,7 +70,7 @@ module _ (r : Railway) (figs sets : List ℕ) (place : PlanPlace) (buffer : List
 
 -- THE CHECKER, for a line
 module _ (r : Railway) (c : Checking) where
-  read-steps : (state : CheckerState) (l : Option PlanLine) → lineLeaves c (entered r c state l) (refuseIf (outOfForm r state l) PlanForm none) ≡ takes r c state l
+  read-steps : (state : CheckerState) (l : Option PlanLine) → lineLeaves c (lineEntered r c state l) (refuseIf (outOfForm r state l) PlanForm none) ≡ takes r c state l
   read-steps state none = refl
   read-steps Fresh (some (startLine n)) = refl
   read-steps Fresh (some (placementLine d)) = refl
@@ -79,7 +79,7 @@ module _ (r : Railway) (c : Checking) where
 
   module _ (text : List ℕ) where
     abbrev lineBy : Option Refusal → Left LineAnswer
-    lineBy = lineLeaves c (entered r c (c .state) (readLine r text))
+    lineBy = lineLeaves c (lineEntered r c (c .state) (readLine r text))
 
     taken-steps : (o : Option Refusal) → lineBy (orElse o (refuseIf (outOfForm r (c .state) (readLine r text)) PlanForm none)) ≡ takesIf r c text o
     taken-steps (some f) = refl

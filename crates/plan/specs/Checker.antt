@@ -93,11 +93,11 @@ abbrev pub lineRows : Railway → Checking → List ℕ → List Row
 lineRows r c text = caseRows r (c .figs) (c .sets) ++ (row PlanForm (outOfForm r (c .state) (readLine r text)) ∷ [])
 
 -- State and tables after a line that is taken. (Without a line, and for a placement before the first one, row 10 applies and nothing is taken.)
-abbrev pub entered : Railway → Checking → CheckerState → Option PlanLine → Checking
-entered r c state none = c
-entered r c state (some (startLine n)) = begin c n
-entered r c Fresh (some (placementLine d)) = c
-entered r c (Begun m from) (some (placementLine d)) = enter r c m d
+abbrev pub lineEntered : Railway → Checking → CheckerState → Option PlanLine → Checking
+lineEntered r c state none = c
+lineEntered r c state (some (startLine n)) = begin c n
+lineEntered r c Fresh (some (placementLine d)) = c
+lineEntered r c (Begun m from) (some (placementLine d)) = enter r c m d
 
 -- By the refusal: a refused line leaves all as it was.
 abbrev pub lineLeaves : Checking → Checking → Option Refusal → Left LineAnswer
@@ -106,7 +106,7 @@ lineLeaves c after none = left Taken after
 
 -- A CALL for a line: it is refused by the first row that applies, else taken.
 unfoldable pub takeLine : Railway → Checking → List ℕ → Left LineAnswer
-takeLine r c text = lineLeaves c (entered r c (c .state) (readLine r text)) (first (lineRows r c text))
+takeLine r c text = lineLeaves c (lineEntered r c (c .state) (readLine r text)) (first (lineRows r c text))
 
 -- THE TEST. 10, plan form, for the test: no line was taken.
 abbrev pub nothingTaken : CheckerState → Bool

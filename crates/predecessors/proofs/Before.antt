@@ -22,10 +22,10 @@ use Rattle.railway.proofs.Accepted.{accepted-facts}
 use Rattle.game.specs.Game.{lost, at, collision}
 use Rattle.game.specs.Placement.{codeOf, sectionsOf, standsOn, placements}
 use Rattle.game.specs.Setting.{headsFor}
-use Rattle.game.specs.Moves.{passes, occupied, codeWith, enters, moveOf}
+use Rattle.game.specs.Moves.{passes, entered, occupied, codeWith, enters, moveOf}
 use Rattle.game.proofs.Codes.{code-sections, sections-length}
 use Rattle.game.proofs.Accepted.{Facts, facts}
-use Rattle.game.proofs.Moves.{section-below, passes-below, sections-with}
+use Rattle.game.proofs.Moves.{section-below, passes-below, entered-reached, entered-below, sections-with}
 use Rattle.compiled.specs.Table.{noByte, sectionByte}
 use Rattle.moves.specs.Steps.{allAt}
 use Rattle.predecessors.specs.Behind.{behindBytes, endBehind, sectionBehind, behindByte, Behind}
@@ -56,9 +56,9 @@ record Entered (r : Railway) (p t c : ℕ) (o : Option ℕ) : Type 0 where
   reached : o ≡ some section
   code : c ≡ codeWith r p t section
 
-entered : (r : Railway) (p t c : ℕ) (o : Option ℕ) → enters r p t o ≡ at c → Entered r p t c o
-entered r p t c none e = let z : _≡_ {A = ℕ} 0 1 = cc in absurd (omega arith)
-entered r p t c (some x) e = go (occupied r p t x) e
+by-entering : (r : Railway) (p t c : ℕ) (o : Option ℕ) → enters r p t o ≡ at c → Entered r p t c o
+by-entering r p t c none e = let z : _≡_ {A = ℕ} 0 1 = cc in absurd (omega arith)
+by-entering r p t c (some x) e = go (occupied r p t x) e
   where
     go : (b : Bool) → cond b (lost collision) (at (codeWith r p t x)) ≡ at c → Entered r p t c (some x)
     go true e = let z : _≡_ {A = ℕ} 0 1 = cc in absurd (omega arith)
@@ -70,16 +70,16 @@ module _ (r : Railway) (accepted : recordRefusal r ≡ none) (c p t : ℕ) (plus
   facts-of : Facts r
   facts-of = facts r accepted
 
-  into : Entered r p t c (passes r (λ i. plus) (headsFor r p t) .reached)
+  into : Entered r p t c (entered r (λ i. plus) (headsFor r p t))
   unfolding moveOf
-  into = entered r p t c (passes r (λ i. plus) (headsFor r p t) .reached) moved
+  into = by-entering r p t c (entered r (λ i. plus) (headsFor r p t)) moved
 
   inside : t < length (sectionsOf r p)
   inside = rw (sections-length (r .sections) (r .trains) p) lt
 
   -- The other trains stand as before.
   others : sectionsOf r c ≡ set (sectionsOf r p) t (into .section)
-  others = ap (sectionsOf r) (into .code) ∙ sections-with r facts-of p t (into .section) (passes-below r facts-of (λ i. plus) (headsFor r p t) (into .section) (into .reached))
+  others = ap (sectionsOf r) (into .code) ∙ sections-with r facts-of p t (into .section) (entered-below r facts-of (λ i. plus) (headsFor r p t) (into .section) (into .reached))
 
   section-is : x ≡ into .section
   unfolding standsOn
@@ -90,7 +90,8 @@ module _ (r : Railway) (accepted : recordRefusal r ≡ none) (c p t : ℕ) (plus
     behind-is : y ≡ standsOn r p t
     unfolding headsFor
     behind-is =
-        let route : passes r (λ i. plus) (Section (record { 0 = standsOn r p t }) (trainOf r t .heading)) .reached ≡ some x = into .reached ∙ ap (λ (a : ℕ). some a) (sym section-is) in
+        let route : passes r (λ i. plus) (Section (record { 0 = standsOn r p t }) (trainOf r t .heading)) .reached ≡ some x =
+        entered-reached r facts-of (λ i. plus) (headsFor r p t) (into .section) (into .reached) ∙ ap (λ (a : ℕ). some a) (sym section-is) in
         let back : passes r (λ i. plus) (endBehind r t x) .reached ≡ some (standsOn r p t) = goes-back r (accepted-facts r accepted) plus (trainOf r t .heading) (standsOn r p t) x route in
         behind ∙ ap sectionByte back
 

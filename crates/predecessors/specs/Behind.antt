@@ -23,7 +23,7 @@ behindBytes = 2 * (mostTrains * mostSections)
 abbrev pub endBehind : Railway → ℕ → ℕ → End
 endBehind r t x = Section (record { 0 = x }) (opposite (trainOf r t .heading))
 
--- The section behind section x for train t, the points lying at plus or not: what a train enters that leaves by that end.
+-- The section behind section x for train t, the points lying at plus or not: what a train comes to that leaves by that end, closed or not.
 abbrev pub sectionBehind : Railway → ℕ → ℕ → Bool → ℕ
 sectionBehind r t x plus = sectionByte (passes r (λ n. plus) (endBehind r t x) .reached)
 

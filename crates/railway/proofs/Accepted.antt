@@ -21,8 +21,8 @@ use Rattle.railway.specs.declared.Railway.{Railway}
 use Rattle.railway.specs.Bounds.{mostSections, mostPoints, mostTrains, sectionEnds, allEnds}
 use Rattle.railway.specs.Ends.{Numbered, endIndex, endAt, sameSide}
 use Rattle.railway.specs.Refusals.{first}
-use Rattle.railway.specs.Record.{linkAt, flagAt, joined, trainOf, sideOf}
-use Rattle.railway.specs.Rows.{outside, known, unknownLink, unknownLinkAt, unknownSignalAt, unknownTrainAt, sectionOf, bothPorts, oneSection, tied, wrongPair, wrongLink, wrongLinkAt, leadsTo, unreturned, unreturnedAt, unjoined, looseAt, sharesWith, sharesAt, countRow, unknownRow, joinRow, looseRow, doubleRow, placeRow, recordRefusal}
+use Rattle.railway.specs.Record.{isClosed, linkAt, flagAt, joined, trainOf, sideOf}
+use Rattle.railway.specs.Rows.{unknownClosedAt, shutOutAt, outside, known, unknownLink, unknownLinkAt, unknownSignalAt, unknownTrainAt, sectionOf, bothPorts, oneSection, tied, wrongPair, wrongLink, wrongLinkAt, leadsTo, unreturned, unreturnedAt, unjoined, looseAt, sharesWith, sharesAt, countRow, unknownRow, joinRow, looseRow, doubleRow, placeRow, recordRefusal}
 use Rattle.railway.proofs.Ends.{end-index, index-one, numbered-of}
 use Rattle.railway.proofs.Refusals.{refuse-none}
 
@@ -63,6 +63,8 @@ pub record Accepted (r : Railway) : Type 0 where
   pub bounds : Bounded (r .sections) (r .points) (r .trains)
   pub link-known : (i : ℕ) (f : End) → i < allEnds → linkAt r i ≡ With f → (known r (endAt i) ≡ true) × (known r f ≡ true)
   pub signal-known : (i : ℕ) → i < sectionEnds → flagAt r i ≡ true → known r (endAt i) ≡ true
+  pub closed-known : (x : ℕ) → x < mostSections → isClosed r x ≡ true → x < r .sections
+  pub places-kept : (t : ℕ) → t < r .trains → (isClosed r (trainOf r t .start .0) ≡ false) × (isClosed r (trainOf r t .destination .0) ≡ false)
   pub train-known : (t : ℕ) → t < r .trains → (trainOf r t .start .0 < r .sections) × (trainOf r t .destination .0 < r .sections)
   pub link-right : (i : ℕ) (f : End) → i < allEnds → linkAt r i ≡ With f → Right r (endAt i) f
   pub port-joined : (n : ℕ) (l : Leg) → n < r .points → joined r (Port (record { 0 = n }) l) ≡ Nothing → ⊥
@@ -103,24 +105,29 @@ module _ (r : Railway) where
       let links = anyBelow (unknownLinkAt r) allEnds in
       let flags = anyBelow (unknownSignalAt r) sectionEnds in
       let roster = anyBelow (unknownTrainAt r) (r .trains) in
-      let a = or-false (links || flags) roster (r4 .0) in
-      let b = or-false links flags (a .0) in
+      let shut = anyBelow (unknownClosedAt r) mostSections in
+      let a = or-false (links || flags || shut) roster (r4 .0) in
+      let s = or-false (links || flags) shut (a .0) in
+      let b = or-false links flags (s .0) in
+      let pl = or-false (anyBelow (sharesAt r) (r .trains)) (anyBelow (shutOutAt r) (r .trains)) (r8 .0) in
       let j = or-false (anyBelow (wrongLinkAt r) allEnds) (anyBelow (unreturnedAt r) allEnds) (r5 .0) in
       record {
         bounds = bounded (r .sections) (r .points) (r .trains) (r3 .0);
         link-known = λ i f h l. not-and (known r (endAt i)) (known r f) (rw l at (any-false (unknownLinkAt r) allEnds (b .0) i h));
         signal-known = λ i h l. not-is (known r (endAt i)) (rw l at (any-false (unknownSignalAt r) sectionEnds (b .1) i h));
+        closed-known = λ x h l. ltb-true x (r .sections) (not-is (ltb x (r .sections)) (rw l at (any-false (unknownClosedAt r) mostSections (s .1) x h)));
+        places-kept = λ t h. or-false (isClosed r (trainOf r t .start .0)) (isClosed r (trainOf r t .destination .0)) (any-false (shutOutAt r) (r .trains) (pl .1) t h);
         train-known = λ t h.
             let w = not-and (ltb (trainOf r t .start .0) (r .sections)) (ltb (trainOf r t .destination .0) (r .sections)) (any-false (unknownTrainAt r) (r .trains) (a .1) t h) in
             (ltb-true (trainOf r t .start .0) (r .sections) (w .0), ltb-true (trainOf r t .destination .0) (r .sections) (w .1));
         link-right = λ i f h l.
             right-of r (endAt i) f (rw l at (any-false (wrongLinkAt r) allEnds (j .0) i h)) (rw l at (any-false (unreturnedAt r) allEnds (j .1) i h));
         port-joined = λ n l h q. clash refl (rw q at (loose-none r n (any-false (looseAt r) (r .points) (r6 .0) n h) l));
-        starts = λ t u h g. eqb-false (trainOf r u .start .0) (trainOf r t .start .0) (apart (r8 .0) t u h g .0);
-        destinations = λ t u h g. eqb-false (trainOf r u .destination .0) (trainOf r t .destination .0) (apart (r8 .0) t u h g .1);
+        starts = λ t u h g. eqb-false (trainOf r u .start .0) (trainOf r t .start .0) (apart (pl .0) t u h g .0);
+        destinations = λ t u h g. eqb-false (trainOf r u .destination .0) (trainOf r t .destination .0) (apart (pl .0) t u h g .1);
       }
     where
-      apart : placeRow r ≡ false → (t u : ℕ) → u < t → t < r .trains → (eqb (trainOf r u .start .0) (trainOf r t .start .0) ≡ false) × (eqb (trainOf r u .destination .0) (trainOf r t .destination .0) ≡ false)
+      apart : anyBelow (sharesAt r) (r .trains) ≡ false → (t u : ℕ) → u < t → t < r .trains → (eqb (trainOf r u .start .0) (trainOf r t .start .0) ≡ false) × (eqb (trainOf r u .destination .0) (trainOf r t .destination .0) ≡ false)
       apart p t u h g =
           or-false (eqb (trainOf r u .start .0) (trainOf r t .start .0)) (eqb (trainOf r u .destination .0) (trainOf r t .destination .0))
           (any-false (sharesWith r t) t (any-false (sharesAt r) (r .trains) p t g) u h)
@@ -143,6 +150,10 @@ module _ (r : Railway) where
     unknown-signal i true b l = simp (w .signal-known i b l)
     unknown-signal i false b l = refl
 
+    unknown-closed : (x : ℕ) (p : Bool) → x < mostSections → isClosed r x ≡ p → (p && not (ltb x (r .sections))) ≡ false
+    unknown-closed x true b l = simp (lt-ltb x (r .sections) (w .closed-known x b l))
+    unknown-closed x false b l = refl
+
     tight : (n : ℕ) (l : Leg) (j : Joined) → n < r .points → joined r (Port (record { 0 = n }) l) ≡ j → unjoined j ≡ false
     tight n l Nothing b h = absurd (w .port-joined n l b h)
     tight n l (With f) b h = refl
@@ -152,8 +163,10 @@ module _ (r : Railway) where
     no-unknown =
         or-none _ _
         (or-none _ _
+        (or-none _ _
         (none-any _ allEnds (λ i b. unknown-link i (linkAt r i) b refl))
         (none-any _ sectionEnds (λ i b. unknown-signal i (flagAt r i) b refl)))
+        (none-any _ mostSections (λ x b. unknown-closed x (isClosed r x) b refl)))
         (none-any _ (r .trains) (λ t b.
         let k = w .train-known t b in
         simp (lt-ltb (trainOf r t .start .0) (r .sections) (k .0), lt-ltb (trainOf r t .destination .0) (r .sections) (k .1))))
@@ -175,11 +188,13 @@ module _ (r : Railway) where
     no-place : placeRow r ≡ false
     unfolding placeRow
     no-place =
-        none-any _ (r .trains) (λ t b.
+        or-none _ _
+        (none-any _ (r .trains) (λ t b.
         none-any _ t (λ u h.
         or-none _ _
         (ne-eqb (trainOf r u .start .0) (trainOf r t .start .0) (w .starts t u h b))
-        (ne-eqb (trainOf r u .destination .0) (trainOf r t .destination .0) (w .destinations t u h b))))
+        (ne-eqb (trainOf r u .destination .0) (trainOf r t .destination .0) (w .destinations t u h b)))))
+        (none-any _ (r .trains) (λ t b. or-none _ _ (w .places-kept t b .0) (w .places-kept t b .1)))
 
     pub facts-accepted : recordRefusal r ≡ none
     unfolding recordRefusal first

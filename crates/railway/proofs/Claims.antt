@@ -92,5 +92,6 @@ none-alike r q s =
       legs = λ n h. rw (s .points, s .legs);
       joins = λ i h. same-byte (getD (r .links) i noLink) (getD (q .links) i noLink) (s .links i h);
       signals = λ i h. rw (s .signals);
+      closed = λ x h. rw (s .closed);
       roster = λ t h. rw (s .trains, s .roster);
     }

@@ -17,7 +17,7 @@ use Rattle.railway.specs.declared.Joined.the-variants.{Nothing, With}
 use Rattle.railway.specs.declared.Railway.{Railway}
 use Rattle.railway.specs.Ends.{endIndex, endAt}
 use Rattle.railway.specs.Refusals.{first, numberOf}
-use Rattle.railway.specs.Record.{bareRailway, emptyRailway, joinedBy, joined, hasSignal, legsOf, trainOf, sideOf, withLinks, setLink, withJoin, withSignal, withLegs, withTrain}
+use Rattle.railway.specs.Record.{isClosed, bareRailway, emptyRailway, joinedBy, joined, hasSignal, legsOf, trainOf, sideOf, withLinks, setLink, withJoin, withSignal, withLegs, withTrain}
 use Rattle.railway.specs.Rows.{unknownRow, joinRow, looseRow, placeRow, recordRefusal}
 
 -- records, with the document's numbers: what is added to bare counts
@@ -124,7 +124,7 @@ cases =
     ∷ []
 
 numbers : map (λ k. numberOf (recordRefusal (k .of))) cases ≡ map (λ k. k .number) cases
-unfolding anyBelow endAt first joinedBy joined hasSignal legsOf trainOf withJoin withSignal withLegs withTrain unknownRow joinRow looseRow placeRow recordRefusal u d port train join half byte signal legs two two2 fork gets cases
+unfolding anyBelow endAt first joinedBy joined hasSignal isClosed legsOf trainOf withJoin withSignal withLegs withTrain unknownRow joinRow looseRow placeRow recordRefusal u d port train join half byte signal legs two two2 fork gets cases
 numbers = refl
 
 -- LOOKUPS in such a record, the values written out: found from both ends, nothing elsewhere, nothing at ends that no railway has.

@@ -17,10 +17,10 @@ use Rattle.railway.specs.declared.Legs.{Legs}
 use Rattle.railway.specs.declared.Joined.{Joined}
 use Rattle.railway.specs.declared.Joined.the-variants.{Nothing}
 use Rattle.railway.specs.declared.Railway.{Railway}
-use Rattle.railway.specs.Bounds.{sectionEnds, allEnds}
+use Rattle.railway.specs.Bounds.{mostSections, sectionEnds, allEnds}
 use Rattle.railway.specs.Ends.{endIndex}
-use Rattle.railway.specs.Lent.{LinksOf, SignalsOf}
-use Rattle.railway.specs.Record.{noLegs, noLink, noTrain, joinedBy, linkAt, flagAt, joined, hasSignal, legsOf, trainOf}
+use Rattle.railway.specs.Lent.{LinksOf, SignalsOf, ClosedOf}
+use Rattle.railway.specs.Record.{closedAt, isClosed, noLegs, noLink, noTrain, joinedBy, linkAt, flagAt, joined, hasSignal, legsOf, trainOf}
 
 -- within a count, beyond it, where what would be read is what stands for nothing, and where it is so beyond the count
 module _ {A : Type 0} (n k : ℕ) (x d : A) where
@@ -96,6 +96,18 @@ signal-flag r e h = go (ltb (endIndex e) sectionEnds) refl h
     go : (b : Bool) → ltb (endIndex e) sectionEnds ≡ b → cond b (flagAt r (endIndex e)) false ≡ true → Flagged r e
     go true l f = record { below = ltb-true (endIndex e) sectionEnds l; flag = f }
     go false l f = clash f refl
+
+module _ (r : Railway) (x : ℕ) where
+  pub closed-there : x < mostSections → closedAt r x ≡ isClosed r x
+  unfolding isClosed
+  closed-there h = within x mostSections (closedAt r x) false h
+
+  pub closed-none : mostSections ≤ x → false ≡ isClosed r x
+  unfolding isClosed
+  closed-none h = beyond x mostSections (closedAt r x) false h
+
+  pub lent-closed : (closed : List Bool) → ClosedOf r closed → x < mostSections → getD closed x false ≡ isClosed r x
+  lent-closed closed h l = ap (λ (flags : List Bool). getD flags x false) (sym (h .are)) ∙ closed-there l
 
 module _ (r : Railway) (n : ℕ) where
   pub legs-there : n < r .points → getD (r .legs) n noLegs .side ≡ legsOf r n

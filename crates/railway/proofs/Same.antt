@@ -14,10 +14,10 @@ use Rattle.railway.specs.declared.Joined.{Joined}
 use Rattle.railway.specs.declared.Joined.the-variants.{Nothing, With}
 use Rattle.railway.specs.declared.Refusal.the-variants.{Count, Unknown, Join, Loose, Double, Place}
 use Rattle.railway.specs.declared.Railway.{Railway}
-use Rattle.railway.specs.Bounds.{sectionEnds, allEnds}
+use Rattle.railway.specs.Bounds.{mostSections, sectionEnds, allEnds}
 use Rattle.railway.specs.Ends.{endIndex, endAt}
-use Rattle.railway.specs.Record.{linkAt, flagAt, joined, hasSignal, legsOf, trainOf, sideOf}
-use Rattle.railway.specs.Rows.{known, unknownLink, unknownLinkAt, unknownSignalAt, unknownTrainAt, wrongLink, wrongLinkAt, unreturned, unreturnedAt, looseAt, sharesWith, sharesAt, countRow, unknownRow, joinRow, looseRow, placeRow, recordRefusal}
+use Rattle.railway.specs.Record.{linkAt, flagAt, closedAt, joined, hasSignal, isClosed, legsOf, trainOf, sideOf}
+use Rattle.railway.specs.Rows.{known, unknownLink, unknownLinkAt, unknownSignalAt, unknownClosedAt, unknownTrainAt, wrongLink, wrongLinkAt, unreturned, unreturnedAt, looseAt, sharesWith, sharesAt, shutOutAt, countRow, unknownRow, joinRow, looseRow, placeRow, recordRefusal}
 use Rattle.railway.specs.Same.{SameRailway}
 use Rattle.railway.proofs.Lookups.{legs-none, roster-none}
 use Rattle.railway.proofs.Refusals.{first-same}
@@ -32,6 +32,7 @@ same-refl r =
       legs = λ n b. refl;
       joins = λ i b. refl;
       signals = λ i b. refl;
+      closed = λ x b. refl;
       roster = λ t b. refl;
     }
 
@@ -44,6 +45,7 @@ same-sym h =
       legs = λ n b. sym (h .legs n (rw (h .points) b));
       joins = λ i b. sym (h .joins i b);
       signals = λ i b. sym (h .signals i b);
+      closed = λ x b. sym (h .closed x b);
       roster = λ t b. sym (h .roster t (rw (h .trains) b));
     }
 
@@ -56,6 +58,7 @@ same-trans h g =
       legs = λ n b. h .legs n b ∙ g .legs n (rw (h .points) at b);
       joins = λ i b. h .joins i b ∙ g .joins i b;
       signals = λ i b. h .signals i b ∙ g .signals i b;
+      closed = λ x b. h .closed x b ∙ g .closed x b;
       roster = λ t b. h .roster t b ∙ g .roster t (rw (h .trains) at b);
     }
 
@@ -75,6 +78,10 @@ module _ (r q : Railway) (h : SameRailway r q) where
   pub signal-same : (e : End) → hasSignal r e ≡ hasSignal q e
   unfolding hasSignal
   signal-same e = guarded (endIndex e) sectionEnds (flagAt r (endIndex e)) (flagAt q (endIndex e)) false (h .signals (endIndex e))
+
+  pub closed-same : (x : ℕ) → isClosed r x ≡ isClosed q x
+  unfolding isClosed
+  closed-same x = guarded x mostSections (closedAt r x) (closedAt q x) false (h .closed x)
 
   pub legs-same : (n : ℕ) → legsOf r n ≡ legsOf q n
   legs-same n = cases (ltb n (r .points)) refl
@@ -118,9 +125,11 @@ module _ (r q : Railway) (h : SameRailway r q) where
       = any-same (unknownLinkAt r) (unknownLinkAt q) allEnds (λ i b. (let z = h .joins i b in rw z (unknown-link-same (endAt i) (linkAt q i)))) in
       let b : anyBelow (unknownSignalAt r) sectionEnds ≡ anyBelow (unknownSignalAt q) sectionEnds
       = any-same (unknownSignalAt r) (unknownSignalAt q) sectionEnds (λ i b. (let z = h .signals i b in rw (z, known-same (endAt i)))) in
+      let d : anyBelow (unknownClosedAt r) mostSections ≡ anyBelow (unknownClosedAt q) mostSections
+      = any-same (unknownClosedAt r) (unknownClosedAt q) mostSections (λ x b. rw (closed-same x, h .sections)) in
       let c : anyBelow (unknownTrainAt r) (r .trains) ≡ anyBelow (unknownTrainAt q) (r .trains)
       = any-same (unknownTrainAt r) (unknownTrainAt q) (r .trains) (λ t b. rw (roster-same t, h .sections)) in
-      rw (a, b, c, h .trains)
+      rw (a, b, d, c, h .trains)
 
   join-same : joinRow r ≡ joinRow q
   unfolding joinRow
@@ -143,7 +152,9 @@ module _ (r q : Railway) (h : SameRailway r q) where
   place-same =
       let a : anyBelow (sharesAt r) (r .trains) ≡ anyBelow (sharesAt q) (r .trains)
       = any-same (sharesAt r) (sharesAt q) (r .trains) (λ t b. any-same (sharesWith r t) (sharesWith q t) t (λ u c. rw (roster-same u, roster-same t))) in
-      rw (a, h .trains)
+      let b : anyBelow (shutOutAt r) (r .trains) ≡ anyBelow (shutOutAt q) (r .trains)
+      = any-same (shutOutAt r) (shutOutAt q) (r .trains) (λ t b. rw (roster-same t, closed-same (trainOf q t .start .0), closed-same (trainOf q t .destination .0))) in
+      rw (a, b, h .trains)
 
   count-same : countRow r ≡ countRow q
   count-same = rw (h .sections, h .points, h .trains)

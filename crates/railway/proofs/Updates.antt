@@ -14,9 +14,9 @@ use Rattle.railway.specs.declared.End.{End}
 use Rattle.railway.specs.declared.Joined.the-variants.{With}
 use Rattle.railway.specs.declared.Train.{Train}
 use Rattle.railway.specs.declared.Railway.{Railway}
-use Rattle.railway.specs.Bounds.{mostPoints, mostTrains, sectionEnds, allEnds}
+use Rattle.railway.specs.Bounds.{mostSections, mostPoints, mostTrains, sectionEnds, allEnds}
 use Rattle.railway.specs.Ends.{Numbered, endIndex}
-use Rattle.railway.specs.Record.{noLink, joinedBy, linkAt, joined, withLinks, setLink, withJoin, withSignal, withLegs, withTrain}
+use Rattle.railway.specs.Record.{noLink, joinedBy, linkAt, joined, withLinks, setLink, withJoin, withSignal, withLegs, withTrain, withClosed}
 use Rattle.railway.proofs.Ends.{index-below, index-one, numbered-of}
 use Rattle.railway.proofs.Bytes.{byte-back}
 
@@ -84,7 +84,7 @@ module _ (r : Railway) (a b : End) (room : length (r .links) ≡ allEnds) (ha : 
 -- THE OTHER UPDATES, as code makes them
 module _ (r : Railway) (e : End) (i : ℕ) (is : i ≡ endIndex e) where
   pub signal-added : (q : Railway) → i < sectionEnds
-      → q ≡ record { sections = r .sections; points = r .points; trains = r .trains; legs = r .legs; links = r .links; signals = set (r .signals) i true; roster = r .roster }
+      → q ≡ record { sections = r .sections; points = r .points; trains = r .trains; legs = r .legs; links = r .links; signals = set (r .signals) i true; closed = r .closed; roster = r .roster }
       → q ≡ withSignal r e
   unfolding withSignal
   signal-added q h hq = rw (← is, lt-ltb i sectionEnds h) hq
@@ -95,7 +95,7 @@ module _ (r : Railway) (e : End) (i : ℕ) (is : i ≡ endIndex e) where
 
 module _ (r : Railway) (n : ℕ) where
   pub legs-set : (side : Side) (q : Railway) → n < mostPoints
-      → q ≡ record { sections = r .sections; points = r .points; trains = r .trains; legs = set (r .legs) n (record { side = side }); links = r .links; signals = r .signals; roster = r .roster }
+      → q ≡ record { sections = r .sections; points = r .points; trains = r .trains; legs = set (r .legs) n (record { side = side }); links = r .links; signals = r .signals; closed = r .closed; roster = r .roster }
       → q ≡ withLegs r n side
   unfolding withLegs
   legs-set side q h hq = rw (lt-ltb n mostPoints h) hq
@@ -105,7 +105,7 @@ module _ (r : Railway) (n : ℕ) where
   legs-out side h = rw (le-ltb n mostPoints h)
 
   pub train-set : (train : Train) (q : Railway) → n < mostTrains
-      → q ≡ record { sections = r .sections; points = r .points; trains = r .trains; legs = r .legs; links = r .links; signals = r .signals; roster = set (r .roster) n train }
+      → q ≡ record { sections = r .sections; points = r .points; trains = r .trains; legs = r .legs; links = r .links; signals = r .signals; closed = r .closed; roster = set (r .roster) n train }
       → q ≡ withTrain r n train
   unfolding withTrain
   train-set train q h hq = rw (lt-ltb n mostTrains h) hq
@@ -113,3 +113,13 @@ module _ (r : Railway) (n : ℕ) where
   pub train-out : (train : Train) → mostTrains ≤ n → r ≡ withTrain r n train
   unfolding withTrain
   train-out train h = rw (le-ltb n mostTrains h)
+
+  pub closed-set : (q : Railway) → n < mostSections
+      → q ≡ record { sections = r .sections; points = r .points; trains = r .trains; legs = r .legs; links = r .links; signals = r .signals; closed = set (r .closed) n true; roster = r .roster }
+      → q ≡ withClosed r n
+  unfolding withClosed
+  closed-set q h hq = rw (lt-ltb n mostSections h) hq
+
+  pub closed-out : mostSections ≤ n → r ≡ withClosed r n
+  unfolding withClosed
+  closed-out h = rw (le-ltb n mostSections h)

@@ -22,7 +22,7 @@ use Rattle.railway.specs.declared.Railway.{Railway}
 use Rattle.railway.specs.declared.Refusal.{Refusal}
 use Rattle.railway.specs.declared.Refusal.the-variants.{Count, Unknown, Join, Loose, Double, Place}
 use Rattle.railway.specs.Ends.{Numbered, endIndex, endAt}
-use Rattle.railway.specs.Record.{noLink, joinedBy, joined, legsOf, trainOf, withLinks, withJoin, withSignal, withLegs, withTrain}
+use Rattle.railway.specs.Record.{isClosed, noLink, joinedBy, joined, legsOf, trainOf, withLinks, withJoin, withSignal, withLegs, withTrain}
 use Rattle.railway.specs.Refusals.{number, Row, row, Applying, NotApplying, numberOf}
 use Rattle.railway.specs.Rows.{known, unknownRow, joinRow, looseRow, placeRow, recordRows, recordRefusal}
 use Rattle.railway.specs.Yards.{yardA, lineT}
@@ -42,7 +42,7 @@ off xs h = every-more (λ y. Applying y → ⊥) _ xs (λ p. clash p refl) h
 
 -- It gets 8: row 8 applies, and none of rows 3 to 7.
 eight : numberOf (recordRefusal shared) ≡ some 8
-unfolding anyBelow endAt joinedBy joined legsOf trainOf withJoin withSignal withLegs withTrain unknownRow joinRow looseRow placeRow shared
+unfolding anyBelow endAt joinedBy joined legsOf trainOf withJoin withSignal withLegs withTrain unknownRow joinRow looseRow placeRow shared isClosed
 eight =
     record-numbers .given shared Place .1
     (record {
@@ -61,7 +61,7 @@ eight-alone f e = record-numbers .one f Place (some-one (sym e ∙ eight))
 five-tells : (f : Refusal) → number f ≡ 5 → f ≡ Join
 five-tells f e = record-numbers .one f Join e
 
--- A record that gets 8 has two trains with one start or one destination.
+-- To a record that gets 8 the row for places applies.
 other : (f : Refusal) (b : Bool) (xs : List Row) → (number f ≡ 8 → ⊥) → List·Memᴰ (row Place true) (row f b ∷ xs) → List·Memᴰ (row Place true) xs
 other f b xs n (List·Memᴰ·head e) = absurd (n (sym (ap (λ (x : Row). number (x .refusal)) e)))
 other f b xs n (List·Memᴰ·tail m) = m
@@ -80,7 +80,7 @@ none-off : (xs : List Row) {f : Refusal} → Every NotApplying xs → Every NotA
 none-off xs h = every-more NotApplying _ xs refl h
 
 yard-a-accepted : numberOf (recordRefusal yardA) ≡ none
-unfolding anyBelow endAt joinedBy joined legsOf trainOf withJoin withSignal withLegs withTrain unknownRow joinRow looseRow placeRow
+unfolding anyBelow endAt joinedBy joined legsOf trainOf withJoin withSignal withLegs withTrain unknownRow joinRow looseRow placeRow isClosed
 yard-a-accepted = record-numbers .accepted yardA .1 (none-off _ (none-off _ (none-off _ (none-off _ (none-off _ (none-off _ (every-none NotApplying)))))))
 
 ports-joined : (r : Railway) → numberOf (recordRefusal r) ≡ none → looseRow r ≡ false
@@ -143,7 +143,7 @@ blank = withLinks yardA (set (yardA .links) 0 200)
 blank-same : SameButForNone yardA blank
 unfolding blank withJoin withSignal withLegs withTrain
 blank-same =
-    record { sections = refl; points = refl; trains = refl; legs = refl; signals = refl; roster = refl; links = λ i h. bytes i }
+    record { sections = refl; points = refl; trains = refl; legs = refl; signals = refl; closed = refl; roster = refl; links = λ i h. bytes i }
   where
     bytes : (i : ℕ) → SameByte (getD (yardA .links) i noLink) (getD (blank .links) i noLink)
     bytes zero = inr (omega arith, omega arith)

@@ -1,4 +1,4 @@
--- The links and the signals of a record, as they are lent to functions that ask them many times. Nothing of the documents rests on this file; contracts
+-- The links, the signals and the closed sections of a record, as they are lent to functions that ask them many times. Nothing of the documents rests on this file; contracts
 -- cite it. Assumes nothing.
 use mathlib.Core.Path.{_≡_}
 use mathlib.Core.Bool.{Bool}
@@ -6,7 +6,7 @@ use mathlib.Core.List.{List}
 use Prim.Native.Nat.{ℕ}
 use lib.ListN.{length}
 use Rattle.railway.specs.declared.Railway.{Railway}
-use Rattle.railway.specs.Bounds.{sectionEnds, allEnds}
+use Rattle.railway.specs.Bounds.{mostSections, sectionEnds, allEnds}
 
 -- These are the record's links, one for each end.
 pub record LinksOf (r : Railway) (links : List ℕ) : Type 0 where
@@ -17,3 +17,8 @@ pub record LinksOf (r : Railway) (links : List ℕ) : Type 0 where
 pub record SignalsOf (r : Railway) (signals : List Bool) : Type 0 where
   pub are : r .signals ≡ signals
   pub many : length signals ≡ sectionEnds
+
+-- These are its closed sections, a flag for each section.
+pub record ClosedOf (r : Railway) (closed : List Bool) : Type 0 where
+  pub are : r .closed ≡ closed
+  pub many : length closed ≡ mostSections

@@ -1,5 +1,5 @@
 -- The railway record: the empty one, what it answers when it is asked, and its updates (document 01, "The railway").
--- What is asked of something that is not there has an answer too: no join, no signal, legs up, a train up from section 1 to 1.
+-- What is asked of something that is not there has an answer too: no join, no signal, not closed, legs up, a train up from section 1 to 1.
 -- An update of what no railway can have changes nothing. Assumes nothing.
 use mathlib.Core.Bool.{Bool, true, false, cond, _&&_}
 use mathlib.Core.List.{List}
@@ -15,7 +15,7 @@ use Rattle.railway.specs.declared.Joined.the-variants.{Nothing, With}
 use Rattle.railway.specs.declared.Legs.{Legs}
 use Rattle.railway.specs.declared.Train.{Train}
 use Rattle.railway.specs.declared.Railway.{Railway}
-use Rattle.railway.specs.Bounds.{mostPoints, mostTrains, sectionEnds, allEnds}
+use Rattle.railway.specs.Bounds.{mostSections, mostPoints, mostTrains, sectionEnds, allEnds}
 use Rattle.railway.specs.Ends.{portSide, endIndex, endAt}
 
 -- WHAT STANDS FOR SOMETHING THAT IS NOT THERE. Legs: up.
@@ -40,6 +40,7 @@ bareRailway s p k =
       legs = replicate mostPoints noLegs;
       links = replicate allEnds noLink;
       signals = replicate sectionEnds false;
+      closed = replicate mostSections false;
       roster = replicate mostTrains noTrain;
     }
 
@@ -64,6 +65,10 @@ linkAt r i = joinedBy (getD (r .links) i noLink)
 abbrev pub flagAt : Railway → ℕ → Bool
 flagAt r i = getD (r .signals) i false
 
+-- Whether the section with this index is closed (document 02, Q-5: under repair).
+abbrev pub closedAt : Railway → ℕ → Bool
+closedAt r x = getD (r .closed) x false
+
 -- ASKED BY NAME. What an end is joined to; nothing at a section end is where the track ends.
 unfoldable pub joined : Railway → End → Joined
 joined r e = cond (ltb (endIndex e) allEnds) (linkAt r (endIndex e)) Nothing
@@ -71,6 +76,10 @@ joined r e = cond (ltb (endIndex e) allEnds) (linkAt r (endIndex e)) Nothing
 -- A signal stands at this section end.
 unfoldable pub hasSignal : Railway → End → Bool
 hasSignal r e = cond (ltb (endIndex e) sectionEnds) (flagAt r (endIndex e)) false
+
+-- This section is closed: who enters it loses.
+unfoldable pub isClosed : Railway → ℕ → Bool
+isClosed r x = cond (ltb x mostSections) (closedAt r x) false
 
 -- The side of a point's legs.
 unfoldable pub legsOf : Railway → ℕ → Side
@@ -95,6 +104,7 @@ withLinks r links =
       legs = r .legs;
       links = links;
       signals = r .signals;
+      closed = r .closed;
       roster = r .roster;
     }
 
@@ -117,6 +127,22 @@ withSignal r e =
       legs = r .legs;
       links = r .links;
       signals = set (r .signals) (endIndex e) true;
+      closed = r .closed;
+      roster = r .roster;
+    }) r
+
+-- A section closed.
+unfoldable pub withClosed : Railway → ℕ → Railway
+withClosed r x =
+    cond (ltb x mostSections)
+    (record {
+      sections = r .sections;
+      points = r .points;
+      trains = r .trains;
+      legs = r .legs;
+      links = r .links;
+      signals = r .signals;
+      closed = set (r .closed) x true;
       roster = r .roster;
     }) r
 
@@ -131,6 +157,7 @@ withLegs r n side =
       legs = set (r .legs) n (record { side = side });
       links = r .links;
       signals = r .signals;
+      closed = r .closed;
       roster = r .roster;
     }) r
 
@@ -145,5 +172,6 @@ withTrain r t train =
       legs = r .legs;
       links = r .links;
       signals = r .signals;
+      closed = r .closed;
       roster = set (r .roster) t train;
     }) r

@@ -18,7 +18,7 @@ use Rattle.railway.specs.declared.Refusal.the-variants.{Count, Unknown, 
 use Rattle.railway.specs.Bounds.{fewestSections, fewestTrains, mostSections, mostPoints, mostTrains, sectionEnds, allEnds}
 use Rattle.railway.specs.Ends.{sameSide, endIndex, endAt}
 use Rattle.railway.specs.Refusals.{Row, row, first}
-use Rattle.railway.specs.Record.{linkAt, flagAt, joined, trainOf, sideOf}
+use Rattle.railway.specs.Record.{linkAt, flagAt, joined, isClosed, trainOf, sideOf}
 
 -- Too few or too many sections, points or trains.
 abbrev pub outside : ℕ → ℕ → ℕ → Bool
@@ -50,13 +50,19 @@ unknownSignalAt r i = flagAt r i && not (known r (endAt i))
 abbrev pub unknownTrainAt : Railway → ℕ → Bool
 unknownTrainAt r t = not (ltb (trainOf r t .start .0) (r .sections) && ltb (trainOf r t .destination .0) (r .sections))
 
+-- A closed section that is not there.
+abbrev pub unknownClosedAt : Railway → ℕ → Bool
+unknownClosedAt r x = isClosed r x && not (ltb x (r .sections))
+
 -- 4, unknown: something in the record refers to a section or a point beyond the counts.
--- A link at an end beyond the counts, and a link to one, is a join that names it; a flag beyond the sections is a signal that does.
+-- A link at an end beyond the counts, and a link to one, is a join that names it; a flag beyond the sections is a signal, or a
+-- closed section, that does.
 -- Legs of points and trains beyond the counts name nothing, and are not looked at.
 unfoldable pub unknownRow : Railway → Bool
 unknownRow r =
     anyBelow (unknownLinkAt r) allEnds
     || anyBelow (unknownSignalAt r) sectionEnds
+    || anyBelow (unknownClosedAt r) mostSections
     || anyBelow (unknownTrainAt r) (r .trains)
 
 -- What is asked of each end of a pair: the section it belongs to (none for a port) and its side. Records and case texts share this.
@@ -132,7 +138,7 @@ looseAt r n =
 unfoldable pub looseRow : Railway → Bool
 looseRow r = anyBelow (looseAt r) (r .points)
 
--- 7, double: never so in a record, which has one flag for each end.
+-- 7, double: never so in a record, which has one flag for each section end and one for each section.
 abbrev pub doubleRow : Railway → Bool
 doubleRow r = false
 
@@ -144,9 +150,13 @@ sharesWith r t u = eqb (trainOf r u .start .0) (trainOf r t .start .0) || eqb (t
 abbrev pub sharesAt : Railway → ℕ → Bool
 sharesAt r t = anyBelow (sharesWith r t) t
 
--- 8, place: two trains would begin, or would end, on one section.
+-- A train starts or ends on a closed section.
+abbrev pub shutOutAt : Railway → ℕ → Bool
+shutOutAt r t = isClosed r (trainOf r t .start .0) || isClosed r (trainOf r t .destination .0)
+
+-- 8, place: two trains would begin, or would end, on one section, or one would on a closed one.
 unfoldable pub placeRow : Railway → Bool
-placeRow r = anyBelow (sharesAt r) (r .trains)
+placeRow r = anyBelow (sharesAt r) (r .trains) || anyBelow (shutOutAt r) (r .trains)
 
 -- Rows 3 to 8 in the table's order, by whether each applies.
 abbrev pub rowsBy : Bool → Bool → Bool → Bool → Bool → Bool → List Row

@@ -8,7 +8,7 @@ use Rattle.railway.specs.declared.Leg.the-variants.{Stem, Plus, Minus}
 use Rattle.railway.specs.declared.End.{End}
 use Rattle.railway.specs.declared.End.the-variants.{Section, Port}
 use Rattle.railway.specs.declared.Railway.{Railway}
-use Rattle.railway.specs.Record.{bareRailway, withJoin, withSignal, withLegs, withTrain}
+use Rattle.railway.specs.Record.{bareRailway, withJoin, withSignal, withClosed, withLegs, withTrain}
 
 -- The H line: the counts, nothing else there yet. Numbers are the document's; each line below is added to the record that stands behind it.
 abbrev pub yardH : ℕ → ℕ → ℕ → Railway
@@ -25,6 +25,10 @@ lineJ a b r = withJoin r a b
 -- A G line: a signal at a section end.
 abbrev pub lineG : End → Railway → Railway
 lineG e r = withSignal r e
+
+-- An X line: the section, closed.
+abbrev pub lineX : ℕ → Railway → Railway
+lineX n r = withClosed r (n - 1)
 
 -- A T line: a train's heading, start and destination.
 abbrev pub lineT : ℕ → Side → ℕ → ℕ → Railway → Railway

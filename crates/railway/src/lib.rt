@@ -1,15 +1,15 @@
-// The railway record: sections, points, trains, joins and signals in tables of fixed size. It goes by value, and is small: what
-// an end is joined to stands there as one byte. Every lookup and every update is total: what no railway can have is joined to
-// nothing, has no signal, and changes nothing.
+// The railway record: sections, points, trains, joins, signals and closed sections in tables of fixed size. It goes by value, and is
+// small: what an end is joined to stands there as one byte. Every lookup and every update is total: what no railway can have is joined
+// to nothing, has no signal, is not closed, and changes nothing.
 // The test of a record, rows 3 to 8 of the table of numbers, is the crate `acceptance`.
 ghost use mathlib.Core.Path.{_≡_};
 ghost use lib.ListN.{getD};
 ghost use Rattle.railway.specs.declared.Railway.{Railway};
 ghost use Rattle.railway.specs.Bounds.{fewestSections, fewestTrains, mostSections, mostPoints, mostTrains, sectionEnds, allEnds};
 ghost use Rattle.railway.specs.Ends.{opposite, sideIndex, legIndex, endIndex, sideAt, legAt, endAt, portSide};
-ghost use Rattle.railway.specs.Record.{noLink, noTrain, emptyRailway, joinedBy, linkAt, flagAt, joined, hasSignal, legsOf, trainOf, sideOf, withJoin, withSignal, withLegs, withTrain};
+ghost use Rattle.railway.specs.Record.{noLink, noTrain, emptyRailway, joinedBy, linkAt, flagAt, joined, hasSignal, isClosed, legsOf, trainOf, sideOf, withJoin, withSignal, withLegs, withTrain, withClosed};
 ghost use Rattle.railway.specs.Refusals.{number};
-ghost use Rattle.railway.specs.Lent.{LinksOf, SignalsOf};
+ghost use Rattle.railway.specs.Lent.{LinksOf, SignalsOf, ClosedOf};
 
 pub enum Side {
     Up,
@@ -71,7 +71,7 @@ pub enum CaseAnswer {
     Refused(Refusal),
 }
 
-// Legs by point; links by end, in the order of `index_of`; signals by section end; the roster by train. A link is the byte of the
+// Legs by point; links by end, in the order of `index_of`; signals by section end; closed sections; the roster by train. A link is the byte of the
 // end that is joined there, which is its index, or any byte past the last end's for no join.
 pub struct Railway {
     pub sections: u8,
@@ -80,13 +80,16 @@ pub struct Railway {
     pub legs: [Legs; Railway::POINTS as usize],
     pub links: Links,
     pub signals: Signals,
+    pub closed: Closed,
     pub roster: [Train; Railway::TRAINS as usize],
 }
 
-// The links of a record and its signals, as they are lent to functions that ask them many times.
+// The links of a record, its signals and its closed sections, as they are lent to functions that ask them many times.
 pub type Links = [u8; Railway::ENDS as usize];
 
 pub type Signals = [bool; Railway::SECTION_ENDS as usize];
+
+pub type Closed = [bool; Railway::SECTIONS as usize];
 
 impl Railway {
     // The bounds of a railway.
@@ -126,6 +129,7 @@ impl Railway {
             legs: legs,
             links: [Railway::NO_LINK; Railway::ENDS as usize],
             signals: [false; Railway::SECTION_ENDS as usize],
+            closed: [false; Railway::SECTIONS as usize],
             roster: roster,
         }
     }
@@ -163,6 +167,18 @@ impl Railway {
         let at = i as usize;
         if i < Railway::SECTION_ENDS {
             self.signals[at]
+        } else {
+            false
+        }
+    }
+
+    // Whether a section is closed; one that no railway can have is not.
+    pub fn closed_at(self, x: u8) -> bool
+        ensures { λ b. ⌜ b ≡ isClosed self x ⌝ }
+    {
+        let at = x as usize;
+        if x < Railway::SECTIONS {
+            self.closed[at]
         } else {
             false
         }
@@ -237,6 +253,18 @@ impl Railway {
         let mut next = self;
         if i < Railway::SECTION_ENDS {
             next.signals[at] = true;
+        }
+        next
+    }
+
+    // The record with a section closed; unchanged for a section that no railway can have.
+    pub fn with_closed(self, x: u8) -> Railway
+        ensures { λ r. ⌜ r ≡ withClosed self x ⌝ }
+    {
+        let at = x as usize;
+        let mut next = self;
+        if x < Railway::SECTIONS {
+            next.closed[at] = true;
         }
         next
     }
@@ -407,6 +435,18 @@ pub fn signal_in(signals: &Signals, i: u8) -> bool
     let at = i as usize;
     if i < Railway::SECTION_ENDS {
         signals[at]
+    } else {
+        false
+    }
+}
+
+// Whether a section is closed, from the closed sections of a record; one that no railway can have is not.
+pub fn closed_in(closed: &Closed, x: u8) -> bool
+    ensures { λ b. ⌜ ((r : Railway) → ClosedOf r (now (closed .entry)) → b ≡ isClosed r x) ⌝ }
+{
+    let at = x as usize;
+    if x < Railway::SECTIONS {
+        closed[at]
     } else {
         false
     }

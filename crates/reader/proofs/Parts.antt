@@ -4,7 +4,7 @@ use Prim.Native.Nat.{ℕ, _<_, _≤_}
 use mathlib.Core.Path.{_≡_, refl, sym, _∙_, ap}
 use mathlib.Core.Logic.{inl, inr}
 use mathlib.Core.Bool.{Bool, true, false}
-use mathlib.Core.List.{List}
+use mathlib.Core.List.{List, _∷_}
 use mathlib.Core.Option.{Option, none, some}
 use native.Mathlib.Omega.{arith}
 use lib.Dec.{ltb}
@@ -23,10 +23,12 @@ use Rattle.railway.specs.declared.CaseAnswer.{CaseAnswer}
 use Rattle.railway.specs.declared.CaseAnswer.the-variants as given
 use Rattle.casefile.specs.Given.{accepted, refused}
 use Rattle.casefile.specs.Reading.{Counts, headerAt}
+use Rattle.walk.specs.Walking.{asLines}
+use Rattle.walk.proofs.Turns.{lines-as}
 use Rattle.drafts.specs.declared.Draft.{Draft}
-use Rattle.drafts.specs.declared.Kind.the-variants.{P, J, G, T}
+use Rattle.drafts.specs.declared.Kind.{Kind}
 use Rattle.drafts.specs.declared.Lines.{Lines}
-use Rattle.drafts.specs.Drafting.{cap, opened, linesInto, endAt, draftOf, linesGot, draftRows, answerOf, draftAnswer}
+use Rattle.drafts.specs.Drafting.{cap, opened, entry, kinds, linesInto, endAt, kindsInto, draftOf, linesGot, draftRows, answerOf, draftAnswer}
 
 -- NUMBERS
 pub cap-low : (n : ℕ) → n ≤ 255 → n ≡ cap n
@@ -62,7 +64,7 @@ module _ (s p k : ℕ) where
 
     pub begin-in : x ≡ false → (r : Railway) → r ≡ emptyRailway → (d : Draft)
         → d ≡ record {
-          railway = record { sections = a; points = b; trains = c; legs = r .legs; links = r .links; signals = r .signals; roster = r .roster };
+          railway = record { sections = a; points = b; trains = c; legs = r .legs; links = r .links; signals = r .signals; closed = r .closed; roster = r .roster };
           unknown = false;
           wrong = false;
           double = false;
@@ -97,22 +99,28 @@ in-turn : {B D E : Type 0} (g : Got B) (f : B → ℕ → Got D) (k : D → ℕ 
 in-turn bad f k = refl
 in-turn (got x c) f k = refl
 
--- lines behind others, and what comes behind them
-behind : (l m : Lines) (f k : Draft → ℕ → Got Draft) → linesGot m ≡ then (linesGot l) f → then (linesGot m) k ≡ then (linesGot l) (λ d c. then (f d c) k)
-behind l m f k e = rw e (in-turn (linesGot l) f k)
-
 module _ (s : List ℕ) where
   pub header-bad : headerAt s 0 ≡ bad → bad ≡ draftOf s
   unfolding draftOf
   header-bad e = rw e
 
-  module _ (h : Counts) (c : ℕ) (eh : headerAt s 0 ≡ got h c) (w : Draft) (hw : w ≡ opened (h .sections) (h .points) (h .trains)) (l0 : Lines)
-      (e0 : l0 ≡ record { good = true; draft = w; next = record { at = c } }) (l1 l2 l3 l4 l5 : Lines) (e1 : linesGot l1 ≡ then (linesGot l0) (λ d c. linesInto s P (h .points) c d))
-      (e2 : linesGot l2 ≡ then (linesGot l1) (λ d c. linesInto s J 0 c d)) (e3 : linesGot l3 ≡ then (linesGot l2) (λ d c. linesInto s G 0 c d))
-      (e4 : linesGot l4 ≡ then (linesGot l3) (λ d c. linesInto s T (h .trains) c d)) (e5 : linesGot l5 ≡ then (linesGot l4) (λ d c. endAt s d c)) where
-    pub whole : linesGot l5 ≡ draftOf s
+  module _ (h : Counts) (c : ℕ) (is : headerAt s 0 ≡ got h c) where
+    -- what the lines behind some others give
+    abbrev pub behind : Lines → List Kind → Got Draft
+    behind l rest = then (linesGot l) (λ d c. kindsInto s h rest c d)
+
+    -- the lines of a kind, and those of the kinds behind it
+    pub one-kind : (l m : Lines) (kind : Kind) (rest : List Kind) → m ≡ asLines l (then (linesGot l) (λ d c. linesInto s kind (entry kind .count h) c d))
+        → behind m rest ≡ behind l (kind ∷ rest)
+    one-kind l m kind rest e =
+        let g = then (linesGot l) (λ d c. linesInto s kind (entry kind .count h) c d) in
+        let z : linesGot m ≡ g = ap linesGot e ∙ lines-as l g in
+        rw z (in-turn (linesGot l) _ _)
+
+    pub all-kinds : (w : Draft) → w ≡ opened (h .sections) (h .points) (h .trains) → (l : Lines) → l ≡ record { good = true; draft = w; next = record { at = c } }
+        → behind l kinds ≡ draftOf s
     unfolding draftOf
-    whole = e5 ∙ behind l3 l4 _ _ e4 ∙ behind l2 l3 _ _ e3 ∙ behind l1 l2 _ _ e2 ∙ behind l0 l1 _ _ e1 ∙ rw (e0, hw, eh)
+    all-kinds w hw l e = rw (e, hw, is)
 
 -- THE ANSWER, by the number that the rows give
 module _ (d : Draft) where

@@ -12,7 +12,7 @@ use Rattle.laws.proofs.Lists.{every-none, every-more}
 use Rattle.text.specs.Text.{bytes}
 use Rattle.railway.specs.declared.Side.the-variants.{Down}
 use Rattle.railway.specs.declared.Railway.{Railway}
-use Rattle.railway.specs.declared.Refusal.the-variants.{Length, Form}
+use Rattle.railway.specs.declared.Refusal.the-variants.{Length, Form, Place}
 use Rattle.railway.specs.Refusals.{numberGiven, first, numberOf}
 use Rattle.railway.specs.Record.{emptyRailway, trainOf, withJoin, withSignal, withTrain}
 use Rattle.railway.specs.Rows.{recordRefusal}
@@ -20,7 +20,7 @@ use Rattle.railway.specs.Yards.{headOn}
 use Rattle.casefile.specs.declared.CaseRead.{CaseRead}
 use Rattle.casefile.specs.Given.{accepted, refused, Applies, ReaderPost}
 use Rattle.casefile.specs.YardTexts.{YardText, yardTexts, AllAccepted}
-use Rattle.casefile.proofs.Uses.{nothing-said}
+use Rattle.casefile.proofs.Uses.{nothing-said, textShutOut, shut-out}
 use Rattle.casefile.proofs.YardTexts.{yards-accepted}
 use Rattle.reader.proofs.Consequences.{reader-accepts, reader-refuses, reader-settles, reader-gives}
 
@@ -56,6 +56,10 @@ empty-refused a p =
       not-before = every-more (λ f. Applies [] f → ⊥) Length [] (λ h. omega (arith, h)) (every-none (λ f. Applies [] f → ⊥));
     }) in
     (ap (λ (x : CaseRead). numberGiven (x .answer)) e, ap (λ (x : CaseRead). x .railway) e)
+
+-- A text whose train starts on a closed section gets 8.
+shut-out-refused : (a : CaseRead) → ReaderPost (bytes textShutOut) a → numberGiven (a .answer) ≡ some 8
+shut-out-refused a p = ap (λ (x : CaseRead). numberGiven (x .answer)) (reader-refuses (bytes textShutOut) a p Place .1 shut-out)
 
 -- A text that is refused with 1 has more than 4,096 bytes.
 long-refused : (text : List ℕ) (a : CaseRead) → ReaderPost text a → a ≡ refused Length → 4096 < length text

@@ -1,6 +1,6 @@
 // The reader of a case text: accepted with its railway, or refused with the first of rows 1 to 8 that applies. One walk over the text, line by
 // line (`walk`). The record is built on the way, beside three flags for what it cannot show: a name that is not there, a join that may not be, a
-// signal named twice. Any bytes may come in, of any length.
+// signal or a closed section named twice. Any bytes may come in, of any length.
 ghost use mathlib.Core.Path.{_≡_};
 ghost use mathlib.Core.Bool.{false};
 ghost use Rattle.text.specs.Reading.{then};
@@ -65,7 +65,8 @@ fn read_lines(text: &[u8]) -> Lines
     let points = walk::lines_of(text, Kind::P, p, header);
     let joins = walk::lines_of(text, Kind::J, 0, points);
     let signals = walk::lines_of(text, Kind::G, 0, joins);
-    let trains = walk::lines_of(text, Kind::T, k, signals);
+    let closed = walk::lines_of(text, Kind::X, 0, signals);
+    let trains = walk::lines_of(text, Kind::T, k, closed);
     to_end(text, trains)
 }
 

@@ -1,7 +1,7 @@
 // Records and what their test answers: each row 3 to 8, its edges, and rows that apply together. A line each: what the record is,
 // a tab, and `accepted` or `refused` with the number. A record is given by its counts and by pieces of five bytes: `P1d..` legs,
-// `J1u2d` a join, `G1u..` a signal, `T123.` train 1 up from section 2 to 3, with the case file's numbers, letters and signs.
-// Row 7 has no line of its own: a record has one flag a signal, and a signal set twice is set.
+// `J1u2d` a join, `G1u..` a signal, `X2...` a closed section, `T123.` train 1 up from section 2 to 3, with the case file's numbers, letters and signs.
+// Row 7 has no line of its own: a record has one flag a signal and one a section, and what is set twice is set.
 use libc::STDOUT_FILENO;
 use railway::CaseAnswer;
 use railway::End;
@@ -43,6 +43,7 @@ fn with_piece(r: Railway, letter: u8, a: u8, b: u8, c: u8, d: u8) -> Railway {
         b'P' => r.with_legs(PointNo(number(a)), side(b)),
         b'J' => r.with_join(end(number(a), b), end(number(c), d)),
         b'G' => r.with_signal(end(number(a), b)),
+        b'X' => r.with_closed(number(a)),
         b'T' => r.with_train(
             number(a),
             Train {
@@ -107,6 +108,7 @@ fn accepted() {
     show(b"a join, a signal set twice", 2, 0, 1, b"J1u2dG2u..G2u..");
     show(b"legs down", 3, 1, 1, b"P1d..J1s3dJ1u1+J1-2u");
     show(b"legs up", 3, 1, 1, b"P1u..J1s1uJ2d1+J1-3d");
+    show(b"sections closed, one twice", 4, 0, 1, b"X2...X4...X2...");
     show(b"4 trains", 4, 0, 4, b"T222.T333.T444.");
     show_record(b"bytes 144 and 254 for no join", other_nones());
 }
@@ -131,6 +133,7 @@ fn row4() {
     show(b"a join to section 3 of 2", 2, 0, 1, b"J1u3d");
     show(b"a join to a point of none", 2, 0, 1, b"J1u1s");
     show(b"a signal at section 3 of 2", 2, 0, 1, b"G3d..");
+    show(b"section 3 of 2 closed", 2, 0, 1, b"X3...");
     show(b"a start on section 3 of 2", 2, 0, 1, b"T131.");
     show(b"a destination on section 3 of 2", 2, 0, 1, b"T113.");
     show_record(b"byte 143, the last port's", last_port());
@@ -178,6 +181,17 @@ fn row8() {
     );
 }
 
+fn closed() {
+    show(b"a start on a closed section", 3, 0, 1, b"X1...T112.");
+    show(
+        b"a destination on a closed section",
+        3,
+        0,
+        2,
+        b"X3...T111.T223.",
+    );
+}
+
 fn together() {
     show(b"3 and 4", 49, 0, 1, b"J1u1s");
     show(b"4 and 5", 2, 0, 1, b"J1u2uG3d..");
@@ -189,6 +203,8 @@ fn together() {
     show(b"3 and 5", 49, 0, 1, b"J1u2u");
     show(b"3 and 6", 49, 1, 1, b"");
     show(b"4 and 8", 2, 0, 2, b"T131.T221.");
+    show(b"4 and 8, closed", 2, 0, 1, b"X1...X3...");
+    show(b"5 and 8, closed", 2, 0, 1, b"X1...J1u2u");
 }
 
 fn main() {
@@ -198,5 +214,6 @@ fn main() {
     row5();
     row6();
     row8();
+    closed();
     together();
 }

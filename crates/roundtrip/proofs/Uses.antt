@@ -4,7 +4,7 @@
 use mathlib.Core.Path.{_≡_, refl, sym, _∙_, ap, subst}
 use mathlib.Core.Logic.{inl, inr}
 use mathlib.Core.Bool.{true}
-use mathlib.Core.List.{List, List·Memᴰ, List·Memᴰ·head, List·Memᴰ·tail}
+use mathlib.Core.List.{List, [], _∷_, List·Memᴰ, List·Memᴰ·head, List·Memᴰ·tail}
 use Prim.Native.Nat.{ℕ}
 use native.Mathlib.Omega.{arith}
 use lib.ListN.{take, replicate}
@@ -19,7 +19,7 @@ use Rattle.railway.specs.declared.End.{End}
 use Rattle.railway.specs.declared.End.the-variants.{Section, Port}
 use Rattle.railway.specs.declared.Joined.the-variants.{Nothing, With}
 use Rattle.railway.specs.declared.Railway.{Railway}
-use Rattle.railway.specs.Record.{flagAt, joined, hasSignal, legsOf, trainOf, withJoin, withSignal, withLegs, withTrain}
+use Rattle.railway.specs.Record.{flagAt, closedAt, joined, hasSignal, isClosed, legsOf, trainOf, withJoin, withSignal, withClosed, withLegs, withTrain}
 use Rattle.railway.specs.Yards.{yardA}
 use Rattle.casefile.specs.declared.CaseRead.{CaseRead}
 use Rattle.casefile.specs.declared.Written.{Written}
@@ -32,9 +32,9 @@ use Rattle.casefile.specs.Reading.{caseAnswer}
 use Rattle.casefile.proofs.Exactly.{accepted-exactly, reader-answers}
 use Rattle.casefile.proofs.Call.{promised}
 use Rattle.casefile.proofs.YardTexts.{yards-accepted}
-use Rattle.casefile.proofs.Uses.{descriptionA, says-a, says-a-only}
+use Rattle.casefile.proofs.Uses.{descriptionA, says-a, says-a-only, shut, textShut, sayingShut, says-shut-only}
 use Rattle.reader.proofs.Consequences.{reader-accepts}
-use Rattle.writer.proofs.Uses.{bytes-written}
+use Rattle.writer.proofs.Uses.{bytes-written, shut-written}
 use Rattle.reader.proofs.read_case.Kinds as read
 use Rattle.reader.proofs.read_case.Reads.{Asked as ReadAsked}
 use Rattle.reader.proofs.read_case.Statement.{statement as ReadMet}
@@ -163,9 +163,20 @@ module _ (answer : CaseRead) (c : ReadCall (bytes textA) answer) (q : Railway) (
   first-train : (trainOf q 0 .heading ≡ Up) × (trainOf q 0 .start .0 ≡ 1) × (trainOf q 0 .destination .0 ≡ 2)
   first-train = let t = said .roster 0 (omega arith) in (t .heading, omega (arith, t .start), omega (arith, t .destination))
 
+-- Whatever railway is given for the text of the yard in which 3 and 4 are closed has 3 closed, by an X line, and not 1.
+no-closed : List·Memᴰ {A = ℕ} 1 (3 ∷ 4 ∷ []) → ⊥
+no-closed (List·Memᴰ·head e) = omega (arith, e)
+no-closed (List·Memᴰ·tail (List·Memᴰ·head e)) = omega (arith, e)
+
+closed-said : (answer : CaseRead) → ReadCall (bytes textShut) answer → (q : Railway) → answer ≡ accepted q → (isClosed q 2 ≡ true) × (isClosed q 0 ≡ true → ⊥)
+closed-said answer c q given =
+    let t = roundtrip-runs .described (bytes textShut) answer c q given in
+    let said : AsDescribed (sayingShut (3 ∷ 4 ∷ [])) q = rw (says-shut-only (t .0) (t .1)) at (t .2) in
+    (said .closed 2 .1 (List·Memᴰ·head refl), λ e. no-closed (said .closed 0 .0 e))
+
 -- WRITTEN AND READ BACK. Yard A's record, written into a buffer of 4,096 bytes: it takes 68, and these are read as a railway with its signal at 1d.
-write-promise : (w : Written) (after : List ℕ) → WriteCall yardA (replicate 4096 7) w after → WriterPost yardA (replicate 4096 7) w after
-write-promise w after c =
+write-promise : (r : Railway) (w : Written) (after : List ℕ) → WriteCall r (replicate 4096 7) w after → WriterPost r (replicate 4096 7) w after
+write-promise r w after c =
     let p : WriterPost (c .arguments .0) (now (c .arguments .1 .0)) w (now (c .left .1 .0)) =
     subst (λ (P : Type 0). P) (roundtrip-runs .writer-promises (c .lifetimes) (c .arguments) w (c .left)) (c .learnt) in
     rw (← c .handed .0, ← c .handed .1, ← c .leaves) p
@@ -174,5 +185,13 @@ signal-back : (w : Written) (after : List ℕ) → WriteCall yardA (replicate 40
     → flagAt (answer .railway) 0 ≡ true
 unfolding withJoin withSignal withLegs withTrain
 signal-back w after c answer d =
-    let t = roundtrip-runs .read-back yardA (replicate 4096 7) after w c 68 (bytes-written w after (write-promise w after c)) answer d in
+    let t = roundtrip-runs .read-back yardA (replicate 4096 7) after w c 68 (bytes-written w after (write-promise yardA w after c)) answer d in
     ap (λ (x : CaseRead). flagAt (x .railway) 0) (t .1) ∙ sym (t .2 .signals 0 (omega arith))
+
+-- The other yard's record takes 34 bytes, and these are read as a railway that has 3 closed.
+closed-back : (w : Written) (after : List ℕ) → WriteCall shut (replicate 4096 7) w after → (answer : CaseRead) → ReadCall (take 34 after) answer
+    → closedAt (answer .railway) 2 ≡ true
+unfolding withJoin withClosed withTrain
+closed-back w after c answer d =
+    let t = roundtrip-runs .read-back shut (replicate 4096 7) after w c 34 (shut-written w after (write-promise shut w after c)) answer d in
+    ap (λ (x : CaseRead). closedAt (x .railway) 2) (t .1) ∙ sym (t .2 .closed 2 (omega arith))

@@ -12,11 +12,11 @@ use Rattle.railway.specs.Yards.{yardH, lineP, lineJ, lineG, lineT, sec, port, y
 use Rattle.laws.specs.Below.{allBelow, anyBelow, sumBelow, lowest}
 use Rattle.laws.specs.Bits.{fromBits}
 use Rattle.railway.specs.Ends.{endAt}
-use Rattle.railway.specs.Record.{joinedBy, joined, hasSignal, trainOf, withJoin, withSignal, withLegs, withTrain}
+use Rattle.railway.specs.Record.{isClosed, joinedBy, joined, hasSignal, trainOf, withJoin, withSignal, withLegs, withTrain}
 use Rattle.game.specs.Local.{keepsTest}
 use Rattle.game.specs.Placement.{codeOf, sectionsIn, standsOn, shared}
 use Rattle.game.specs.Setting.{headsFor, held, mayMove, free, signalOpen}
-use Rattle.game.specs.Moves.{passes, occupied, moveOf}
+use Rattle.game.specs.Moves.{entered, passes, occupied, moveOf}
 use Rattle.tables.specs.Entries.{settingAt, entryFrom}
 use Rattle.tables.specs.Find.{tryOpen, firstFound, find}
 use Rattle.tables.specs.Tables.{noFigure, figureIn}
@@ -91,5 +91,5 @@ abbrev given : First → Option ℕ
 given x = firstKeeping (x .yard) (figureIn (x .figures)) (x .code) (x .figure)
 
 pub firsts-hold : map given firsts ≡ map (λ x. x .entry) firsts
-unfolding firstKeeping find tryOpen firstFound keepsTest settingAt entryFrom fromBits lowest moveOf passes occupied mayMove free held signalOpen headsFor standsOn sectionsIn codeOf sumBelow trainOf endAt joinedBy joined hasSignal allBelow anyBelow shared withJoin withSignal withLegs withTrain
+unfolding firstKeeping find tryOpen firstFound keepsTest settingAt entryFrom fromBits lowest moveOf passes occupied mayMove free held signalOpen headsFor standsOn sectionsIn codeOf sumBelow trainOf endAt joinedBy joined hasSignal allBelow anyBelow shared withJoin withSignal withLegs withTrain entered isClosed
 firsts-hold = refl

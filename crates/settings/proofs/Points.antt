@@ -20,7 +20,7 @@ use Rattle.railway.specs.declared.Railway.{Railway}
 use Rattle.railway.specs.Bounds.{mostPoints}
 use Rattle.railway.specs.Record.{joined}
 use Rattle.game.specs.Setting.{Setting, headsFor}
-use Rattle.game.specs.Moves.{Passage, through, pastPoint, pastJoin, passes, enters, moveOf}
+use Rattle.game.specs.Moves.{Passage, through, pastPoint, pastJoin, passes, inUse, entered, enters, moveOf}
 use Rattle.game.proofs.Accepted.{Known, Facts}
 use Rattle.tables.specs.Find.{meetsPoint}
 use Rattle.compiled.specs.Table.{noByte, pointByte}
@@ -79,5 +79,5 @@ module _ (r : Railway) where
 
   -- where it goes, by how that point lies
   pub move-by : (p t : ℕ) (s : Setting) (b : Bool) → b ≡ s .plus (pointMet r p t) → moveOf r p s t ≡ moveOf r p (allAt b) t
-  unfolding moveOf
-  move-by p t s b e = ap (λ (w : Passage). enters r p t (w .reached)) (by-point r (s .plus) (headsFor r p t) _ b refl e)
+  unfolding moveOf entered
+  move-by p t s b e = ap (λ (w : Passage). enters r p t (inUse r (w .reached))) (by-point r (s .plus) (headsFor r p t) _ b refl e)

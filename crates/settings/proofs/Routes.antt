@@ -22,10 +22,10 @@ use Rattle.railway.specs.Bounds.{mostPoints}
 use Rattle.game.specs.Game.{derailment, collision, lost, at}
 use Rattle.game.specs.Local.{isBelow}
 use Rattle.game.specs.Setting.{headsFor, held, free}
-use Rattle.game.specs.Moves.{passes, occupied, codeWith, moveOf}
+use Rattle.game.specs.Moves.{entered, occupied, codeWith, moveOf}
 use Rattle.game.proofs.Accepted.{Facts, facts}
 use Rattle.game.specs.Placement.{codeOn}
-use Rattle.game.proofs.Moves.{passes-below}
+use Rattle.game.proofs.Moves.{entered-below}
 use Rattle.tables.specs.Tables.{noFigure, figureIn}
 use Rattle.tables.specs.Find.{needsPlus}
 use Rattle.compiled.specs.Table.{noByte, sectionByte}
@@ -37,7 +37,7 @@ use Rattle.settings.specs.Routes.{Asked, pointMet, endsBelow, failsAtMin
 use Rattle.settings.proofs.Points.{meets-is, met-small}
 
 -- A TRAIN'S MOVE, the figure looked at before the other trains
-module _ (r : Railway) (p : ℕ) (table : List ℕ) (q : Placement) (on : On r p table q) (figs : List ℕ) (n t : ℕ) (plus : Bool) (there : t < r .trains) (y : ℕ) (leads : y ≡ sectionByte (passes r (λ i. plus) (headsFor r p t) .reached)) where
+module _ (r : Railway) (p : ℕ) (table : List ℕ) (q : Placement) (on : On r p table q) (figs : List ℕ) (n t : ℕ) (plus : Bool) (there : t < r .trains) (y : ℕ) (leads : y ≡ sectionByte (entered r (λ i. plus) (headsFor r p t))) where
   pub ends-derailed : y ≡ noByte → false ≡ endsBelow r (figureIn figs) p n plus t
   ends-derailed z = let e : lost derailment ≡ moveOf r p (allAt plus) t = some-one (derails r p table q on t plus y leads z) in rw (← e)
 
@@ -47,7 +47,7 @@ module _ (r : Railway) (p : ℕ) (table : List ℕ) (q : Placement) (on : On r p
     ok = facts r (on .compiled .accepted)
 
     inside : y < r .sections
-    inside = passes-below r ok (λ i. plus) (headsFor r p t) y (arrives r p table q on t plus y leads z)
+    inside = entered-below r ok (λ i. plus) (headsFor r p t) y (arrives r p table q on t plus y leads z)
 
     after-is : b ≡ codeWith r p t y
     after-is = code-put-is r p table q on t y there inside c x w s b code here sections stride put

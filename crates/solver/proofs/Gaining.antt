@@ -20,7 +20,7 @@ use Rattle.game.specs.Claim.{Below, figureOf, Keeps}
 use Rattle.game.specs.Local.{isBelow, keepsTest}
 use Rattle.game.specs.Placement.{placements}
 use Rattle.game.specs.Setting.{Setting, headsFor}
-use Rattle.game.specs.Moves.{Passage, passes, enters, moveOf, gameOf}
+use Rattle.game.specs.Moves.{Passage, passes, inUse, entered, enters, moveOf, gameOf}
 use Rattle.game.proofs.Turns.{is-below, keeps-test, may-train}
 use Rattle.game.proofs.Accepted.{facts}
 use Rattle.game.proofs.Moves.{move-inside}
@@ -83,10 +83,10 @@ module _ {S : Type 0} (g : Game S) (F : ℕ → Option ℕ) (p : ℕ) (s : S) (k
 
 -- all points as the one that the train meets
 alike : (r : Railway) (p : ℕ) (s : Setting) (t c : ℕ) → moveOf r p s t ≡ at c → By r c t p
-unfolding moveOf
+unfolding moveOf entered
 alike r p s t c e =
     let n = pointByte (passes r (λ i. false) (headsFor r p t) .met) in
-    record { plus = s .plus n; moves = sym (ap (λ (w : Passage). enters r p t (w .reached)) (by-point r (s .plus) (headsFor r p t) n (s .plus n) refl refl)) ∙ e }
+    record { plus = s .plus n; moves = sym (ap (λ (w : Passage). enters r p t (inUse r (w .reached))) (by-point r (s .plus) (headsFor r p t) n (s .plus n) refl refl)) ∙ e }
 
 module _ (r : Railway) (accepted : recordRefusal r ≡ none) (k : ℕ) (figs sets : List ℕ) (t : RoundTables r k figs sets) where
   pub gains-before : (p v : ℕ) → p < placements r → figureIn figs p ≡ none → over (gameOf r) p ≡ false → find r (figureIn figs) p (suc k) ≡ some v → Before r (suc k) figs 0 (placements r) p

@@ -16,12 +16,12 @@ use Rattle.railway.specs.declared.Railway.{Railway}
 use Rattle.railway.specs.declared.Refusal.the-variants.{Space}
 use Rattle.railway.specs.Ends.{endAt}
 use Rattle.railway.specs.Refusals.{first, numberOf}
-use Rattle.railway.specs.Record.{joinedBy, joined, hasSignal, legsOf, trainOf, withJoin, withSignal, withLegs, withTrain}
+use Rattle.railway.specs.Record.{isClosed, joinedBy, joined, hasSignal, legsOf, trainOf, withJoin, withSignal, withLegs, withTrain}
 use Rattle.railway.specs.Rows.{unknownRow, joinRow, looseRow, placeRow}
 use Rattle.game.specs.Game.{Outcome, lost, derailment, at as reaches}
 use Rattle.game.specs.Placement.{codeOf, sectionsIn, standsOn}
 use Rattle.game.specs.Setting.{Setting, headsFor, held, signalOpen}
-use Rattle.game.specs.Moves.{passes, occupied, moveOf}
+use Rattle.game.specs.Moves.{entered, passes, occupied, moveOf}
 use Rattle.railway.specs.Yards.{yardH, lineP, lineJ, lineG, lineT, sec, port, yardA, headOn}
 use Rattle.tables.specs.declared.SolverAnswer.the-variants.{Refused, Unsolvable, Figure}
 use Rattle.tables.specs.Entries.{settingAt, entryFrom, entryOf}
@@ -48,7 +48,7 @@ refusals :
     × (numberGiven Unsolvable ≡ none)
     × (figureGiven (Figure 2) ≡ some 2)
     × (figureGiven Unsolvable ≡ none)
-unfolding caseRefusal tablesShort first unknownRow joinRow looseRow placeRow endAt joinedBy joined hasSignal legsOf trainOf withJoin withSignal withLegs withTrain anyBelow
+unfolding caseRefusal tablesShort first unknownRow joinRow looseRow placeRow endAt joinedBy joined hasSignal legsOf trainOf withJoin withSignal withLegs withTrain anyBelow isClosed
 refusals = (refl, refl, refl, refl, refl, refl, refl, refl, refl, refl)
 
 -- ENTRIES AND FIGURES. In Yard A's placement of code 1 train 1 is held and train 2 parked, in that of code 7 train 2 is free; head on, in
@@ -152,5 +152,5 @@ several-points :
     × (moved 6 0 ≡ reaches 44)
     × (moved 3 1 ≡ reaches 14)
     × (moved 4 1 ≡ lost derailment)
-unfolding settingAt entryFrom signalOpen held headsFor standsOn sectionsIn codeOf moveOf passes occupied caseRefusal tablesShort first unknownRow joinRow looseRow placeRow endAt joinedBy joined hasSignal legsOf trainOf withJoin withSignal withLegs withTrain anyBelow sumBelow listBelow fromBits
+unfolding settingAt entryFrom signalOpen held headsFor standsOn sectionsIn codeOf moveOf passes occupied entered isClosed caseRefusal tablesShort first unknownRow joinRow looseRow placeRow endAt joinedBy joined hasSignal legsOf trainOf withJoin withSignal withLegs withTrain anyBelow sumBelow listBelow fromBits
 several-points = (refl, refl, refl, refl, refl, refl, refl, refl, refl, refl, refl, refl, refl, refl, refl)

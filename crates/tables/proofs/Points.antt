@@ -28,7 +28,7 @@ use Rattle.game.specs.Claim.{Below, figureOf, Keeps}
 use Rattle.game.specs.Local.{isBelow}
 use Rattle.game.specs.Placement.{shared}
 use Rattle.game.specs.Setting.{Setting, headsFor, held, free, mayMove}
-use Rattle.game.specs.Moves.{Passage, through, pastPoint, pastJoin, passes, enters, moveOf, gameOf}
+use Rattle.game.specs.Moves.{Passage, through, pastPoint, pastJoin, passes, inUse, entered, enters, moveOf, gameOf}
 use Rattle.game.proofs.Turns.{below-is, is-below, may-train, may-allowed, keeps-test, test-keeps}
 use Rattle.game.proofs.Accepted.{Known, Facts}
 use Rattle.tables.specs.Entries.{settingAt, entryFrom}
@@ -79,7 +79,7 @@ module _ (r : Railway) (ok : Facts r) (p : ℕ) where
     same : (s o : Setting) → s .plus q ≡ o .plus q → moveOf r p s t ≡ moveOf r p o t
 
   move-meets : (t : ℕ) → ((q : ℕ) × Decides t q) ⊎ ((s o : Setting) → moveOf r p s t ≡ moveOf r p o t)
-  unfolding moveOf passes
+  unfolding moveOf entered passes
   move-meets t = elim (join-meets r (atMinus .plus) (joined r (headsFor r p t)) (ok .joins (headsFor r p t))) [
     | inl x ↦ inl (
       x .0,
@@ -87,10 +87,10 @@ module _ (r : Railway) (ok : Facts r) (p : ℕ) where
         there = x .1 .there;
         meets = x .1 .meets;
         only = x .1 .only;
-        same = λ s o e. ap (λ (w : Passage). enters r p t (w .reached)) (x .1 .decides (s .plus) (o .plus) e);
+        same = λ s o e. ap (λ (w : Passage). enters r p t (inUse r (w .reached))) (x .1 .decides (s .plus) (o .plus) e);
       },
     )
-    | inr x ↦ inr (λ s o. ap (λ (w : Passage). enters r p t (w .reached)) (x (s .plus) (o .plus)))
+    | inr x ↦ inr (λ s o. ap (λ (w : Passage). enters r p t (inUse r (w .reached))) (x (s .plus) (o .plus)))
   ]
 
   module _ (apart : shared r p ≡ false) (F : ℕ → Option ℕ) (n : ℕ) (opens : ℕ → Bool) where

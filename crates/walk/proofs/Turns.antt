@@ -15,14 +15,14 @@ use Rattle.laws.proofs.Bools.{bool?, lt?, and-true, clash}
 use Rattle.text.specs.Text.{line}
 use Rattle.text.specs.Reading.{Got, bad, got, then}
 use Rattle.text.proofs.Walking.{steps}
-use Rattle.casefile.specs.Form.{joinLine, signalLine}
-use Rattle.casefile.specs.Reading.{joinLineAt, signalLineAt}
-use Rattle.casefile.proofs.Lines.{join-sound, signal-sound}
+use Rattle.casefile.specs.Form.{joinLine, signalLine, closedLine, Writable, WritableJoin, WritableSignal}
+use Rattle.casefile.specs.Reading.{joinLineAt, signalLineAt, closedLineAt}
+use Rattle.casefile.proofs.Lines.{WrittenLine, join-sound, signal-sound, closed-sound}
 use Rattle.drafts.specs.declared.Draft.{Draft}
 use Rattle.drafts.specs.declared.Kind.{Kind}
-use Rattle.drafts.specs.declared.Kind.the-variants.{P, J, G, T}
+use Rattle.drafts.specs.declared.Kind.the-variants.{P, J, G, X, T}
 use Rattle.drafts.specs.declared.Lines.{Lines}
-use Rattle.drafts.specs.Drafting.{putJoin, putSignal, lineInto, letter, counted, foldCounted, foldWhile, linesInto, linesGot}
+use Rattle.drafts.specs.Drafting.{putJoin, putSignal, putClosed, lineInto, letter, counted, foldCounted, foldWhile, linesInto, linesGot}
 use Rattle.walk.specs.declared.Walk.{Walk}
 use Rattle.walk.specs.Walking.{another, goesOn, numberDue, dueInto, withLine, soFar, restInto, asLines}
 
@@ -78,29 +78,42 @@ module _ (s : List ℕ) where
   moved : (l : List ℕ) (a m c : ℕ) (w e : Draft) → got w m ≡ got e c → drop a s ≡ l ++ drop m s → 1 ≤ length l → a < length s → a < c
   moved l a m c w e g q h b = let z : m ≡ c = cc in rw z at (ahead s l a m q h b)
 
-  -- OF THE KINDS WITHOUT A COUNT, a line moves the reader forward and has no number
-  forward : (k : Kind) → counted k ≡ false → (a c : ℕ) (d e : Draft) → lineInto s k 0 a d ≡ got e c → a < length s → a < c
+  -- a line that is read is one byte at least, so the next begins further on
+  further : {A : Type 0} (good : A → Type 0) (spelling : A → List ℕ) (read : ℕ → Got A) (put : A → Draft)
+      → ((a : ℕ) (x : A) (c : ℕ) → read a ≡ got x c → WrittenLine good spelling s a x c) → ((x : A) → 1 ≤ length (spelling x))
+      → (a c : ℕ) (e : Draft) → then (read a) (λ x c. got (put x) c) ≡ got e c → a < length s → a < c
+  further good spelling read put sound long a c e h b =
+      let t = steps (read a) (λ x c. got (put x) c) e c h in
+      moved (spelling (t .value)) a (t .cursor) c _ e (t .second) (sound a (t .value) (t .cursor) (t .first) .text) (long (t .value)) b
+
+  -- OF EVERY KIND: its letter is a byte; and where it has no count, its lines have no numbers, and move the reader forward
+  record Lawful (k : Kind) : Type 0 where
+    pub letter-some : 0 < letter k
+    pub unnumbered : counted k ≡ false → (n c : ℕ) (d : Draft) → lineInto s k n c d ≡ lineInto s k 0 c d
+    pub forward : counted k ≡ false → (a c : ℕ) (d e : Draft) → lineInto s k 0 a d ≡ got e c → a < length s → a < c
+
+  lawful : (k : Kind) → Lawful k
   unfolding line
-  forward P n a c d e h b = clash refl n
-  forward J n a c d e h b =
-      let t = steps (joinLineAt s a) (λ x c. got (putJoin d x) c) e c h in
-      moved (joinLine (t .value)) a (t .cursor) c _ e (t .second) (join-sound s a (t .value) (t .cursor) (t .first) .text) (omega arith) b
-  forward G n a c d e h b =
-      let t = steps (signalLineAt s a) (λ x c. got (putSignal d x) c) e c h in
-      moved (signalLine (t .value)) a (t .cursor) c _ e (t .second) (signal-sound s a (t .value) (t .cursor) (t .first) .text) (omega arith) b
-  forward T n a c d e h b = clash refl n
-
-  unnumbered : (k : Kind) → counted k ≡ false → (n c : ℕ) (d : Draft) → lineInto s k n c d ≡ lineInto s k 0 c d
-  unnumbered P h n c d = clash refl h
-  unnumbered J h n c d = refl
-  unnumbered G h n c d = refl
-  unnumbered T h n c d = clash refl h
-
-  letter-some : (k : Kind) → 0 < letter k
-  letter-some P = omega arith
-  letter-some J = omega arith
-  letter-some G = omega arith
-  letter-some T = omega arith
+  lawful P = record { letter-some = omega arith; unnumbered = λ h n c d. clash refl h; forward = λ h a c d e q b. clash refl h }
+  lawful J =
+      record {
+        letter-some = omega arith;
+        unnumbered = λ h n c d. refl;
+        forward = λ h a c d e q b. further WritableJoin joinLine (joinLineAt s) (putJoin d) (join-sound s) (λ x. omega arith) a c e q b;
+      }
+  lawful G =
+      record {
+        letter-some = omega arith;
+        unnumbered = λ h n c d. refl;
+        forward = λ h a c d e q b. further WritableSignal signalLine (signalLineAt s) (putSignal d) (signal-sound s) (λ x. omega arith) a c e q b;
+      }
+  lawful X =
+      record {
+        letter-some = omega arith;
+        unnumbered = λ h n c d. refl;
+        forward = λ h a c d e q b. further Writable closedLine (closedLineAt s) (putClosed d) (closed-sound s) (λ x. omega arith) a c e q b;
+      }
+  lawful T = record { letter-some = omega arith; unnumbered = λ h n c d. clash refl h; forward = λ h a c d e q b. clash refl h }
 
   abbrev begins : Kind → ℕ → Bool
   begins k c = eqb (getD s c 0) (letter k)
@@ -108,7 +121,7 @@ module _ (s : List ℕ) where
   begins-inside : (k : Kind) (c : ℕ) → begins k c ≡ true → c < length s
   begins-inside k c e =
       let z = eqb-true (getD s c 0) (letter k) e in
-      elim (lt? c (length s)) [ inl q ↦ q | inr q ↦ omega (arith, letter-some k, List·getD-eq-default s 0 q) ]
+      elim (lt? c (length s)) [ inl q ↦ q | inr q ↦ omega (arith, lawful k .letter-some, List·getD-eq-default s 0 q) ]
 
   -- HOW OFTEN another line may follow, and what that many turns give
   pub record Enough (t c read count : ℕ) (k : Kind) : Type 0 where
@@ -158,7 +171,7 @@ module _ (s : List ℕ) where
       | inr y ↦
           let p : begins k c ≡ true = rw y at b in
           let i = begins-inside k c p in
-          let f = while-turn (begins k) (lineInto s k 0) (e .room y) p i (q ∙ unnumbered k y n c d) (λ w j l. forward k y c j d w l i) in
+          let f = while-turn (begins k) (lineInto s k 0) (e .room y) p i (q ∙ lawful k .unnumbered y n c d) (λ w j l. lawful k .forward y c j d w l i) in
           record { left = f .left; less = f .less; is = rw y (f .is); on = λ w j l. record { due = λ z. clash z y; room = λ z. f .on w j l } }
     ]
 

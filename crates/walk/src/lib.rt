@@ -16,6 +16,7 @@ use lines::SideRead;
 use lines::SignalRead;
 use lines::TrainRead;
 use text::Cursor;
+use text::Number;
 
 // Lines of a kind: how many are due, where their kind has a count; how many were read; whether they and the lines before them were in form, and
 // the draft with them.
@@ -134,11 +135,12 @@ fn goes_on_at(text: &[u8], at: usize, w: Walk) -> bool
 {
     if w.good {
         let kind = w.kind;
-        if kind.is_counted() {
+        let mark = kind.mark();
+        if mark.counted {
             w.read < w.count
         } else {
             let here = text::peek(text, Cursor { at: at });
-            here == kind.letter()
+            here == mark.letter
         }
     } else {
         false
@@ -204,6 +206,7 @@ fn one_line(text: &[u8], c: Cursor, kind: Kind, n: u64, d: Draft) -> Lines
         Kind::P => take_point(text, c, n, d),
         Kind::J => take_join(text, c, d),
         Kind::G => take_signal(text, c, d),
+        Kind::X => take_closed(text, c, d),
         Kind::T => take_train(text, c, n, d),
     }
 }
@@ -233,6 +236,15 @@ fn take_signal(text: &[u8], c: Cursor, d: Draft) -> Lines
         return drafts::not_in_form(d);
     };
     drafts::in_form(drafts::put_signal(d, n, side), next)
+}
+
+fn take_closed(text: &[u8], c: Cursor, d: Draft) -> Lines
+    ensures { λ r. ⌜ linesGot r ≡ lineInto (now (text .entry)) Kind.X 0 (c .at) d ⌝ }
+{
+    let Number::Value(n, next) = lines::closed_line(text, c) else {
+        return drafts::not_in_form(d);
+    };
+    drafts::in_form(drafts::put_closed(d, n), next)
 }
 
 fn take_train(text: &[u8], c: Cursor, n: u64, d: Draft) -> Lines

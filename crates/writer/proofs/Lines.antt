@@ -1,5 +1,5 @@
 -- The lines of a case file as code writes them: each line is its fields, with the byte behind each, one behind the other; and a piece of a part is
--- the line that stands for a point, a section end or a train, or nothing.
+-- the line that stands for a point, a section end a section or a train, or nothing.
 -- Assumes nothing.
 use Prim.Native.Nat.{ℕ, suc, _+_, _<_, _≤_}
 use mathlib.Core.Path.{_≡_}
@@ -21,13 +21,13 @@ use Rattle.railway.specs.declared.Joined.the-variants.{Nothing, With}
 use Rattle.railway.specs.declared.Train.{Train}
 use Rattle.railway.specs.declared.Railway.{Railway}
 use Rattle.railway.specs.Ends.{endIndex, endAt}
-use Rattle.railway.specs.Record.{joined, hasSignal, legsOf, trainOf}
+use Rattle.railway.specs.Record.{joined, hasSignal, isClosed, legsOf, trainOf}
 use Rattle.casefile.specs.Form.{sideByte, legByte, endField, pointLine, trainLine}
 use Rattle.casefile.specs.Recording.{fieldOf}
 use Rattle.casefile.specs.Writing.{lineOfTrain}
 use Rattle.writer.specs.declared.Part.{Part}
-use Rattle.writer.specs.declared.Part.the-variants.{Points, Joins, Signals, Trains}
-use Rattle.writer.specs.Pieces.{headerText, joinPiece, signalPiece, pieceOf}
+use Rattle.writer.specs.declared.Part.the-variants.{Points, Joins, Signals, Closed, Trains}
+use Rattle.writer.specs.Pieces.{headerText, joinPiece, signalPiece, closedPiece, pieceOf}
 
 -- AN END and the byte behind it
 module _ {o o₁ o₂ : List ℕ} {a a₁ a₂ : ℕ} (e : End) (b after : ℕ) where
@@ -91,7 +91,16 @@ module _ (i : ℕ) (stands : Bool) {o : List ℕ} {a : ℕ} where
       → Appended o₁ a₁ (endField (fieldOf e) ++ (lineEnd ∷ [])) o₂ a₂ → Appended o a (signalPiece i stands) o₂ a₂
   signal-line e at h x y = let f = endField (fieldOf e) in rw (h, ← at) (line-more (byte "G" ∷ []) f [] x (line-last f y))
 
--- PIECES of the four parts
+-- A SECTION among the X lines
+module _ (i : ℕ) (shut : Bool) {o : List ℕ} {a : ℕ} where
+  pub closed-none : shut ≡ false → Appended o a (closedPiece i shut) o a
+  closed-none e = rw e (append-none o a)
+
+  pub closed-line : {o₁ o₂ : List ℕ} {a₁ a₂ : ℕ} → shut ≡ true → Appended o a (byte "X" ∷ tab ∷ []) o₁ a₁
+      → Appended o₁ a₁ (decimal (i + 1) ++ (lineEnd ∷ [])) o₂ a₂ → Appended o a (closedPiece i shut) o₂ a₂
+  closed-line h x y = let n = decimal (i + 1) in rw (h, ← add-one i) (line-more (byte "X" ∷ []) n [] x (line-last n y))
+
+-- PIECES of the parts
 module _ (r : Railway) (part : Part) (i : ℕ) {o o₁ : List ℕ} {a a₁ : ℕ} where
   pub point-piece : part ≡ Points → (s : Side) → s ≡ legsOf r i → Appended o a (pointLine (suc i) s) o₁ a₁ → Appended o a (pieceOf r part i) o₁ a₁
   point-piece e s is p = rw (e, ← is) p
@@ -101,6 +110,9 @@ module _ (r : Railway) (part : Part) (i : ℕ) {o o₁ : List ℕ} {a a₁ : ℕ
 
   pub signal-piece : part ≡ Signals → (e : End) (b : Bool) → e ≡ endAt i → b ≡ hasSignal r e → Appended o a (signalPiece i b) o₁ a₁ → Appended o a (pieceOf r part i) o₁ a₁
   signal-piece e x b at is p = let h : b ≡ hasSignal r (endAt i) = rw at at is in rw (e, ← h) p
+
+  pub closed-piece : part ≡ Closed → (b : Bool) → b ≡ isClosed r i → Appended o a (closedPiece i b) o₁ a₁ → Appended o a (pieceOf r part i) o₁ a₁
+  closed-piece e b is p = rw (e, ← is) p
 
   pub train-piece : part ≡ Trains → (t : Train) → t ≡ trainOf r i → Appended o a (trainLine (suc i) (lineOfTrain t)) o₁ a₁ → Appended o a (pieceOf r part i) o₁ a₁
   train-piece e t is p = rw (e, ← is) p

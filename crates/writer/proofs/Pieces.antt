@@ -1,5 +1,5 @@
 -- The pieces of each part, one behind the other, make the writer's text. Rising lines and lines for each element are pieces by induction on the
--- count; a section end's join and signal, asked by the end, are those at its index.
+-- count; a section end's join and signal, asked by the end, are those at its index, and so with a closed section.
 -- Assumes nothing.
 use Prim.Native.Nat.{ℕ, zero, suc, _+_, _<_}
 use mathlib.Core.Path.{_≡_, refl, sym, _∙_}
@@ -13,14 +13,14 @@ use Rattle.laws.proofs.Below.{list-length, gather-same}
 use Rattle.railway.specs.declared.Joined.{Joined}
 use Rattle.railway.specs.declared.Joined.the-variants.{Nothing, With}
 use Rattle.railway.specs.declared.Railway.{Railway}
-use Rattle.railway.specs.Bounds.{sectionEnds}
+use Rattle.railway.specs.Bounds.{mostSections, sectionEnds}
 use Rattle.railway.specs.Ends.{endIndex, endAt}
-use Rattle.railway.specs.Record.{linkAt, flagAt, legsOf, trainOf}
+use Rattle.railway.specs.Record.{linkAt, flagAt, closedAt, legsOf, trainOf}
 use Rattle.railway.proofs.Ends.{end-section, index-end}
-use Rattle.railway.proofs.Lookups.{joined-there, signal-there}
-use Rattle.casefile.specs.Form.{pointLine, joinLine, signalLine, trainLine, rising, spell}
-use Rattle.casefile.specs.Writing.{joinFrom, joinAt, signalAt, lineOfTrain, descriptionOf, writtenText}
-use Rattle.writer.specs.declared.Part.the-variants.{Points, Joins, Signals, Trains}
+use Rattle.railway.proofs.Lookups.{joined-there, signal-there, closed-there}
+use Rattle.casefile.specs.Form.{pointLine, joinLine, signalLine, closedLine, trainLine, rising, spell}
+use Rattle.casefile.specs.Writing.{joinFrom, joinAt, signalAt, closedLineOf, lineOfTrain, descriptionOf, writtenText}
+use Rattle.writer.specs.declared.Part.the-variants.{Points, Joins, Signals, Closed, Trains}
 use Rattle.writer.specs.Pieces.{headerText, joinPiece, pieceOf}
 
 -- RISING LINES, and a line for each element
@@ -70,17 +70,22 @@ module _ (r : Railway) where
   signal-piece i h =
       rw (← signal-there r (endAt i) i (sym (index-end i (omega arith))) h, end-section i h) (each-one signalLine (flagAt r i) _)
 
+  closed-piece : (x : ℕ) → x < mostSections → flatMap closedLine (closedLineOf r x) ≡ pieceOf r Closed x
+  closed-piece x h = rw (← closed-there r x h) (each-one closedLine (closedAt r x) _)
+
   -- THE WHOLE
   pub text-pieces : writtenText r
       ≡ headerText (r .sections) (r .points) (r .trains)
       ++ (gatherBelow (pieceOf r Points) (r .points)
       ++ (gatherBelow (pieceOf r Joins) sectionEnds
       ++ (gatherBelow (pieceOf r Signals) sectionEnds
-      ++ gatherBelow (pieceOf r Trains) (r .trains))))
+      ++ (gatherBelow (pieceOf r Closed) mostSections
+      ++ gatherBelow (pieceOf r Trains) (r .trains)))))
   unfolding writtenText spell descriptionOf
   text-pieces =
       let p = rising-pieces pointLine (legsOf r) (r .points) in
       let j = each-pieces joinLine (joinAt r) sectionEnds ∙ gather-same _ (pieceOf r Joins) sectionEnds join-piece in
       let g = each-pieces signalLine (signalAt r) sectionEnds ∙ gather-same _ (pieceOf r Signals) sectionEnds signal-piece in
+      let x = each-pieces closedLine (closedLineOf r) mostSections ∙ gather-same _ (pieceOf r Closed) mostSections closed-piece in
       let t = rising-pieces trainLine (λ t. lineOfTrain (trainOf r t)) (r .trains) in
-      rw (p, j, g, t)
+      rw (p, j, g, x, t)

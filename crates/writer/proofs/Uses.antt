@@ -2,7 +2,7 @@
 -- statements fast, for without one, or with a weaker one in its place, its fact is lost. `w` is what a call answers, `after` the buffer that it leaves.
 -- Assumes nothing.
 use mathlib.Core.Path.{_≡_, sym, _∙_, ap}
-use mathlib.Core.Bool.{true}
+use mathlib.Core.Bool.{true, false}
 use mathlib.Core.List.{List}
 use mathlib.Core.Option.{some}
 use Prim.Native.Nat.{ℕ, _≤_}
@@ -10,14 +10,14 @@ use native.Mathlib.Omega.{arith}
 use lib.ListN.{length, take, drop, replicate, length-replicate}
 use Rattle.text.specs.Text.{bytes}
 use Rattle.railway.specs.declared.Railway.{Railway}
-use Rattle.railway.specs.Record.{flagAt, withJoin, withSignal, withLegs, withTrain}
+use Rattle.railway.specs.Record.{flagAt, closedAt, withJoin, withSignal, withClosed, withLegs, withTrain}
 use Rattle.railway.specs.Yards.{yardA}
 use Rattle.casefile.specs.declared.Written.{Written}
 use Rattle.casefile.specs.Form.{Description}
 use Rattle.casefile.specs.Writing.{writtenText, writtenNumber, writtenCount, WriterPost}
 use Rattle.casefile.specs.YardTexts.{textA}
 use Rattle.casefile.proofs.RoundTrip.{same-text}
-use Rattle.casefile.proofs.Uses.{says-a-only, written-a}
+use Rattle.casefile.proofs.Uses.{says-a-only, written-a, shut, written-shut}
 use Rattle.writer.specs.Claims.{ReadBack}
 use Rattle.writer.proofs.Claims.{room-enough, bytes-read-back, refused-keeps}
 
@@ -50,6 +50,20 @@ module _ (w : Written) (after : List ℕ) (p : WriterPost yardA (replicate 4096 
 
   behind-kept : drop 68 after ≡ replicate 4028 7
   behind-kept = back .behind
+
+-- CLOSED SECTIONS. Of the yard in which 3 and 4 are closed 34 bytes are written; what is read back of them has 3 closed, and 2 not.
+pub shut-written : (w : Written) (after : List ℕ) → WriterPost shut (replicate 4096 7) w after → writtenCount w ≡ some 34
+unfolding bytes
+shut-written w after p =
+    let l = length-replicate {A = ℕ} 4096 7 in
+    room-enough shut (replicate 4096 7) w after p (written-shut .1) (omega (arith, l)) ∙ ap (λ (s : List ℕ). some (length s)) (written-shut .0)
+
+closed-read : (w : Written) (after : List ℕ) (p : WriterPost shut (replicate 4096 7) w after)
+    → let b = bytes-read-back shut (replicate 4096 7) w after p 34 (shut-written w after p) in (closedAt (b .railway) 2 ≡ true) × (closedAt (b .railway) 1 ≡ false)
+unfolding withJoin withClosed withTrain
+closed-read w after p =
+    let b = bytes-read-back shut (replicate 4096 7) w after p 34 (shut-written w after p) in
+    (sym (b .same .closed 2 (omega arith)), sym (b .same .closed 1 (omega arith)))
 
 -- Never are more bytes answered than a case text may have, or than the buffer has.
 no-more : (r : Railway) (buffer : List ℕ) (w : Written) (after : List ℕ) → WriterPost r buffer w after → (n : ℕ) → writtenCount w ≡ some n

@@ -1,4 +1,4 @@
--- The text of a case file piece by piece, as code writes it: a piece for each point, section end or train. Contracts cite this file; nothing of
+-- The text of a case file piece by piece, as code writes it: a piece for each point, section end, section or train. Contracts cite this file; nothing of
 -- document 01 rests on it, and proofs/Pieces ties it to the writer's text. Assumes nothing.
 use mathlib.Core.Bool.{Bool, cond}
 use mathlib.Core.List.{List, [], _∷_}
@@ -9,12 +9,12 @@ use Rattle.railway.specs.declared.Joined.{Joined}
 use Rattle.railway.specs.declared.Joined.the-variants.{Nothing, With}
 use Rattle.railway.specs.declared.Railway.{Railway}
 use Rattle.railway.specs.Ends.{endIndex, endAt}
-use Rattle.railway.specs.Record.{joined, hasSignal, legsOf, trainOf}
-use Rattle.casefile.specs.Form.{endField, pointLine, joinLine, trainLine}
+use Rattle.railway.specs.Record.{joined, hasSignal, isClosed, legsOf, trainOf}
+use Rattle.casefile.specs.Form.{endField, pointLine, joinLine, closedLine, trainLine}
 use Rattle.casefile.specs.Recording.{fieldOf}
 use Rattle.casefile.specs.Writing.{lineOfTrain}
 use Rattle.writer.specs.declared.Part.{Part}
-use Rattle.writer.specs.declared.Part.the-variants.{Points, Joins, Signals, Trains}
+use Rattle.writer.specs.declared.Part.the-variants.{Points, Joins, Signals, Closed, Trains}
 
 -- The first line.
 abbrev pub headerText : ℕ → ℕ → ℕ → List ℕ
@@ -29,9 +29,14 @@ joinPiece i (With f) = cond (ltb i (endIndex f)) (joinLine (record { one = field
 abbrev pub signalPiece : ℕ → Bool → List ℕ
 signalPiece i stands = cond stands (line ((byte "G" ∷ []) ∷ endField (fieldOf (endAt i)) ∷ [])) []
 
+-- What stands for a section among the X lines, given whether it is closed.
+abbrev pub closedPiece : ℕ → Bool → List ℕ
+closedPiece x shut = cond shut (closedLine (suc x)) []
+
 -- A piece of each part.
 abbrev pub pieceOf : Railway → Part → ℕ → List ℕ
 pieceOf r Points i = pointLine (suc i) (legsOf r i)
 pieceOf r Joins i = joinPiece i (joined r (endAt i))
 pieceOf r Signals i = signalPiece i (hasSignal r (endAt i))
+pieceOf r Closed x = closedPiece x (isClosed r x)
 pieceOf r Trains i = trainLine (suc i) (lineOfTrain (trainOf r i))

@@ -8,7 +8,7 @@ ghost use Rattle.text.specs.Appending.{Appended};
 ghost use Rattle.casefile.specs.Form.{sideByte, legByte, endField, pointLine, trainLine};
 ghost use Rattle.casefile.specs.Recording.{fieldOf};
 ghost use Rattle.casefile.specs.Writing.{lineOfTrain, writtenText, WriterPost};
-ghost use Rattle.writer.specs.Pieces.{headerText, joinPiece, signalPiece, pieceOf};
+ghost use Rattle.writer.specs.Pieces.{headerText, joinPiece, signalPiece, closedPiece, pieceOf};
 use casefile::Written;
 use railway::CaseAnswer;
 use railway::End;
@@ -28,6 +28,7 @@ enum Part {
     Points,
     Joins,
     Signals,
+    Closed,
     Trains,
 }
 
@@ -57,10 +58,11 @@ fn put_text(out: &mut [u8], r: Railway) -> usize
     let b = put_part(out, a, r, Part::Points, r.points);
     let c = put_part(out, b, r, Part::Joins, Railway::SECTION_ENDS);
     let d = put_part(out, c, r, Part::Signals, Railway::SECTION_ENDS);
-    put_part(out, d, r, Part::Trains, r.trains)
+    let e = put_part(out, d, r, Part::Closed, Railway::SECTIONS);
+    put_part(out, e, r, Part::Trains, r.trains)
 }
 
-// A part: what stands for each of the first n points, section ends or trains.
+// A part: what stands for each of the first n points, section ends, sections or trains.
 fn put_part(out: &mut [u8], at: usize, r: Railway, part: Part, n: u8) -> usize
     ensures { λ x. ⌜ Appended (now (out .entry)) at (gatherBelow (pieceOf r part) n) (now (out .exit)) x ⌝ }
 {
@@ -80,6 +82,7 @@ fn put_piece(out: &mut [u8], at: usize, r: Railway, part: Part, i: u8) -> usize
         Part::Points => put_point(out, at, i, r.legs_of(PointNo(i))),
         Part::Joins => put_join(out, at, i, r.joined(railway::end_at(i))),
         Part::Signals => put_signal(out, at, i, r.has_signal(railway::end_at(i))),
+        Part::Closed => put_closed(out, at, i, r.closed_at(i)),
         Part::Trains => put_train(out, at, i, r.train_of(i)),
     }
 }
@@ -128,6 +131,18 @@ fn put_signal(out: &mut [u8], at: usize, i: u8, stands: bool) -> usize
     if stands {
         let a = append::two(out, at, b'G', TAB);
         put_end(out, a, railway::end_at(i), LINE_END)
+    } else {
+        at
+    }
+}
+
+// The X line of a section, if it is closed; it counts from 0 here.
+fn put_closed(out: &mut [u8], at: usize, i: u8, shut: bool) -> usize
+    ensures { λ x. ⌜ Appended (now (out .entry)) at (closedPiece i shut) (now (out .exit)) x ⌝ }
+{
+    if shut {
+        let a = append::two(out, at, b'X', TAB);
+        append::number(out, a, i as u32 + 1, LINE_END)
     } else {
         at
     }

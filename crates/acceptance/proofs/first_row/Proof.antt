@@ -65,14 +65,14 @@ returns-4 c = judged (given-by (asked3 (third (c .before))) (sym (loose-is (c .b
 returns-5 : tie.Need-returns-5
 returns-5 c = judged (given-by (asked4 (c .before)) (c .if5 .taken))
 
-places-shared-requires : tie.Need-places-shared-requires
-places-shared-requires c κs = search needs
+misplaced-requires : tie.Need-misplaced-requires
+misplaced-requires c κs = search needs
 
 returns-6 : tie.Need-returns-6
-returns-6 c = judged (given-by (asked5 (c .before .before)) (sym (c .before .places-shared .ensures) ∙ c .if6 .taken))
+returns-6 c = judged (given-by (asked5 (c .before .before)) (sym (c .before .misplaced .ensures) ∙ c .if6 .taken))
 
 returns-7 : tie.Need-returns-7
-returns-7 c = judged (all-passed (passed (asked5 (c .before .before)) (sym (c .before .places-shared .ensures) ∙ c .if6 .left)))
+returns-7 c = judged (all-passed (passed (asked5 (c .before .before)) (sym (c .before .misplaced .ensures) ∙ c .if6 .left)))
 
 pub first-row-spec : {M : Type 1} → statement M
-first-row-spec = tie.close (tie.spec counts-outside-requires returns returns-2 returns-3 loose-ports-requires returns-4 returns-5 places-shared-requires returns-6 returns-7)
+first-row-spec = tie.close (tie.spec counts-outside-requires returns returns-2 returns-3 loose-ports-requires returns-4 returns-5 misplaced-requires returns-6 returns-7)

@@ -7,7 +7,7 @@ use mathlib.Core.Bool.{false}
 use Prim.Native.Nat.{_-_, _≤_}
 use Rattle.laws.specs.Below.{anyBelow}
 use Rattle.laws.proofs.Below.{any-next, any-none, any-one}
-use Rattle.railway.specs.Rows.{sharesAt, placeRow}
+use Rattle.railway.specs.Rows.{sharesAt}
 use Rattle.acceptance.proofs.places_shared.Statement.{statement}
 use Rattle.acceptance.proofs.places_shared.Tie as tie
 
@@ -25,7 +25,6 @@ any-flaw-requires : tie.Need-any-flaw-requires Inv-loop μ-loop
 any-flaw-requires c κs = search needs
 
 returns : tie.Need-returns Inv-loop μ-loop
-unfolding placeRow
 returns c = let l = c .before .before .before in let a = l .before .args in any-one (sharesAt (a .r)) _ (l .loop .t) (c .before .before .loop-test .taken) (sym (c .before .any-flaw .ensures) ∙ c .if1 .taken)
 
 add-t : tie.Need-add-t Inv-loop μ-loop
@@ -38,7 +37,6 @@ loop-again : tie.Need-loop-again Inv-loop μ-loop
 loop-again c = let l = c .before .before .before in let a = l .before .args in (omega arith, any-next (sharesAt (a .r)) _ (l .loop .inv .1) (sym (c .before .any-flaw .ensures) ∙ c .if1 .left))
 
 returns-2 : tie.Need-returns-2 Inv-loop μ-loop
-unfolding placeRow
 returns-2 c = let l = c .before in let a = l .before .args in any-none (sharesAt (a .r)) _ _ (l .loop .inv .1) (l .loop .inv .0) (c .loop-test .left)
 
 pub places-shared-spec : {M : Type 1} → statement M

@@ -7,17 +7,17 @@ use mathlib.Core.Path.{refl}
 use Prim.Native.Nat.{_-_, _≤_}
 use Rattle.laws.proofs.Filling.{FilledTo, fill-next}
 use Rattle.railway.specs.Bounds.{mostTrains}
-use Rattle.railway.proofs.Arrays.{own-links, own-signals}
+use Rattle.railway.proofs.Arrays.{own-links, own-signals, own-closed}
 use Rattle.compiled.specs.Table.{routeBytes, tableBytes, compiledByte, FilledBefore}
 use Rattle.compiled.proofs.Table.{filled-none, filled-routes, post-refused, post-accepted}
 use Rattle.compiled.proofs.compile.Statement.{statement}
 use Rattle.compiled.proofs.compile.Tie as tie
 
 abbrev Inv-loop : tie.InvT-loop
-Inv-loop r table₀ tested links signals trains t₀ table t = (t ≤ mostTrains) × FilledBefore r t table
+Inv-loop r table₀ tested links signals closed trains t₀ table t = (t ≤ mostTrains) × FilledBefore r t table
 
 abbrev μ-loop : tie.MeasureT-loop
-μ-loop r table₀ tested links signals trains t₀ table t = mostTrains - t
+μ-loop r table₀ tested links signals closed trains t₀ table t = mostTrains - t
 
 abbrev Inv-loop2 : tie.InvT-loop2
 Inv-loop2 r table₀ tested trains t i₀ table i = (routeBytes ≤ i) × FilledTo (compiledByte r) tableBytes table i
@@ -27,7 +27,7 @@ abbrev μ-loop2 : tie.MeasureT-loop2
 
 -- where the record was tested, and the start
 abbrev tested : tie.After-trains-of Inv-loop μ-loop Inv-loop2 μ-loop2 → tie.After-test-record Inv-loop μ-loop Inv-loop2 μ-loop2
-tested e = e .before .before .before .before .before
+tested e = e .before .before .before .before .before .before
 
 test-record-requires : tie.Need-test-record-requires Inv-loop μ-loop Inv-loop2 μ-loop2
 test-record-requires c κs = search needs
@@ -67,11 +67,11 @@ loop-less c = omega arith
 
 loop-again : tie.Need-loop-again Inv-loop μ-loop Inv-loop2 μ-loop2
 loop-again c =
-    let i = c .before .before .before .before .before in
+    let i = c .before .before .before .before .before .before in
     let l = i .before in
     let s = tested (l .before) .before in
     let r = s .args .r in
-    (omega arith, c .fill-routes .ensures r (own-links r _ (s .good .0)) (own-signals r _ (s .good .0)) (l .before .trains-of .ensures .each (l .loop .t) (i .loop-test .taken)) (l .loop .inv .1))
+    (omega arith, c .fill-routes .ensures r (own-links r _ (s .good .0)) (own-signals r _ (s .good .0)) (own-closed r _ (s .good .0)) (l .before .trains-of .ensures .each (l .loop .t) (i .loop-test .taken)) (l .loop .inv .1))
 
 loop2-holds : tie.Need-loop2-holds Inv-loop μ-loop Inv-loop2 μ-loop2
 loop2-holds c = let l = c .before in (omega arith, filled-routes (tested (l .before) .before .args .r) _ _ (l .loop .inv .0) (c .loop-test .left) (l .loop .inv .1))
@@ -104,7 +104,7 @@ returns-2 c =
     let m = c .before in
     let e = m .before .before .before in
     let t = tested e in
-    post-accepted (t .before .args .r) _ (t .test-record .ensures) _ _ (e .before .before .before .enum-told .given .1) (m .loop2 .inv .1) (c .loop2-test .left)
+    post-accepted (t .before .args .r) _ (t .test-record .ensures) _ _ (e .before .before .before .before .enum-told .given .1) (m .loop2 .inv .1) (c .loop2-test .left)
 
 pub compile-spec : {M : Type 1} → statement M
 compile-spec =

@@ -8,24 +8,24 @@ use Rattle.laws.proofs.Filling.{FilledTo}
 use Rattle.railway.specs.declared.Railway.{Railway}
 use Rattle.railway.specs.Bounds.{mostSections}
 use Rattle.railway.specs.Record.{trainOf}
-use Rattle.railway.specs.Lent.{LinksOf, SignalsOf}
+use Rattle.railway.specs.Lent.{LinksOf, SignalsOf, ClosedOf}
 use Rattle.compiled.specs.Table.{tableBytes, compiledByte, FilledBefore}
 use Rattle.compiled.proofs.Table.{routes-next, filled-first, filled-last}
 use Rattle.compiled.proofs.fill_routes.Statement.{statement}
 use Rattle.compiled.proofs.fill_routes.Tie as tie
 
 abbrev Inv-loop : tie.InvT-loop
-Inv-loop table₀ links signals train t first x₀ table x =
-    (x ≤ mostSections) × ((r : Railway) → LinksOf r links → SignalsOf r signals → train ≡ trainOf r t → FilledBefore r t table₀ → FilledTo (compiledByte r) tableBytes table (4 * (48 * t + x)))
+Inv-loop table₀ links signals closed train t first x₀ table x =
+    (x ≤ mostSections) × ((r : Railway) → LinksOf r links → SignalsOf r signals → ClosedOf r closed → train ≡ trainOf r t → FilledBefore r t table₀ → FilledTo (compiledByte r) tableBytes table (4 * (48 * t + x)))
 
 abbrev μ-loop : tie.MeasureT-loop
-μ-loop table₀ links signals train t first x₀ table x = mostSections - x
+μ-loop table₀ links signals closed train t first x₀ table x = mostSections - x
 
 mul-first : tie.Need-mul-first Inv-loop μ-loop
 mul-first c = search needs
 
 loop-holds : tie.Need-loop-holds Inv-loop μ-loop
-loop-holds c = (omega arith, λ r l g h k. filled-first r _ _ (c .pre) k)
+loop-holds c = (omega arith, λ r l g x h k. filled-first r _ _ (c .pre) k)
 
 cast-at : tie.Need-cast-at Inv-loop μ-loop
 cast-at c = search needs
@@ -70,10 +70,10 @@ loop-again : tie.Need-loop-again Inv-loop μ-loop
 loop-again c =
     let i = c .before in
     let l = i .before in
-    (omega arith, λ r k g h f. routes-next r _ _ (l .before .pre) (i .loop-test .taken) _ h _ (c .route-of .ensures r k g) _ (l .loop .inv .1 r k g h f))
+    (omega arith, λ r k g x h f. routes-next r _ _ (l .before .pre) (i .loop-test .taken) _ h _ (c .route-of .ensures r k g x) _ (l .loop .inv .1 r k g x h f))
 
 returns : tie.Need-returns Inv-loop μ-loop
-returns c = λ r k g h f. let l = c .before in filled-last r _ _ _ (c .loop-test .left) (l .loop .inv .1 r k g h f)
+returns c = λ r k g x h f. let l = c .before in filled-last r _ _ _ (c .loop-test .left) (l .loop .inv .1 r k g x h f)
 
 pub fill-routes-spec : {M : Type 1} → statement M
 fill-routes-spec =

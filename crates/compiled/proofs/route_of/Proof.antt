@@ -30,15 +30,15 @@ stand-byte-requires c κs = search needs
 point-met-requires : tie.Need-point-met-requires
 point-met-requires c κs = search needs
 
-section-past-join-requires : tie.Need-section-past-join-requires
-section-past-join-requires c κs = search needs
+section-entered-requires : tie.Need-section-entered-requires
+section-entered-requires c κs = search needs
 
-section-past-join-requires-2 : tie.Need-section-past-join-requires-2
-section-past-join-requires-2 c κs = search needs
+section-entered-requires-2 : tie.Need-section-entered-requires-2
+section-entered-requires-2 c κs = search needs
 
 returns : tie.Need-returns
 returns c =
-    λ r l g.
+    λ r l g x.
     let m = c .before in
     let p = m .before in
     let b = p .before in
@@ -48,7 +48,7 @@ returns c =
     let a = i .before .args in
     let n = section-index (Section (record { 0 = a .x }) (a .train .heading)) (record { 0 = a .x }) (a .train .heading) _ refl (i .before .pre) (i .side-index .ensures) in
     route-is r _ _ _ _ _ n (omega (arith, side-small (i .before .args .train .heading), i .side-index .ensures, i .before .pre)) (f .signal-in .ensures r g) (k .link-in .ensures r l) _ _ _ _
-    (b .stand-byte .ensures) (p .point-met .ensures r) (m .section-past-join .ensures r l) (c .section-past-join2 .ensures r l)
+    (b .stand-byte .ensures) (p .point-met .ensures r) (m .section-entered .ensures r l x) (c .section-entered2 .ensures r l x)
 
 pub route-of-spec : {M : Type 1} → statement M
 route-of-spec =
@@ -61,6 +61,6 @@ route-of-spec =
     signal-in-requires
     stand-byte-requires
     point-met-requires
-    section-past-join-requires
-    section-past-join-requires-2
+    section-entered-requires
+    section-entered-requires-2
     returns)

@@ -27,6 +27,12 @@ take-signal-requires c κs = search needs
 enum-told-4 : tie.Need-enum-told-4
 enum-told-4 c = search needs
 
+take-closed-requires : tie.Need-take-closed-requires
+take-closed-requires c κs = search needs
+
+enum-told-5 : tie.Need-enum-told-5
+enum-told-5 c = search needs
+
 take-train-requires : tie.Need-take-train-requires
 take-train-requires c κs = search needs
 
@@ -40,7 +46,10 @@ returns-3 : tie.Need-returns-3
 returns-3 c = let t = c .before in let a = t .before .before .before .args in by-kind (now (a .text)) _ _ _ _ _ (t .enum-told3 .given .1) (c .take-signal .ensures)
 
 returns-4 : tie.Need-returns-4
-returns-4 c = let t = c .before in let a = t .before .before .before .args in by-kind (now (a .text)) _ _ _ _ _ (t .enum-told4 .given .1) (c .take-train .ensures)
+returns-4 c = let t = c .before in let a = t .before .before .before .args in by-kind (now (a .text)) _ _ _ _ _ (t .enum-told4 .given .1) (c .take-closed .ensures)
+
+returns-5 : tie.Need-returns-5
+returns-5 c = let t = c .before in let a = t .before .before .before .args in by-kind (now (a .text)) _ _ _ _ _ (t .enum-told5 .given .1) (c .take-train .ensures)
 
 pub one-line-spec : {M : Type 1} → statement M
-one-line-spec = tie.close (tie.spec enum-told take-point-requires enum-told-2 take-join-requires enum-told-3 take-signal-requires enum-told-4 take-train-requires returns returns-2 returns-3 returns-4)
+one-line-spec = tie.close (tie.spec enum-told take-point-requires enum-told-2 take-join-requires enum-told-3 take-signal-requires enum-told-4 take-closed-requires enum-told-5 take-train-requires returns returns-2 returns-3 returns-4 returns-5)

@@ -1,7 +1,7 @@
 -- `writer::put_piece` meets its contract: a line of the part, made of what the record says.
 -- Assumes nothing.
 use borrow.Author.Needs.{needs}
-use Rattle.writer.proofs.Lines.{point-piece, join-piece, signal-piece, train-piece}
+use Rattle.writer.proofs.Lines.{point-piece, join-piece, signal-piece, closed-piece, train-piece}
 use Rattle.writer.proofs.put_piece.Statement.{statement}
 use Rattle.writer.proofs.put_piece.Tie as tie
 
@@ -41,6 +41,15 @@ put-signal-requires c κs = search needs
 enum-told-4 : tie.Need-enum-told-4
 enum-told-4 c = search needs
 
+closed-at-requires : tie.Need-closed-at-requires
+closed-at-requires c κs = search needs
+
+put-closed-requires : tie.Need-put-closed-requires
+put-closed-requires c κs = search needs
+
+enum-told-5 : tie.Need-enum-told-5
+enum-told-5 c = search needs
+
 train-of-requires : tie.Need-train-of-requires
 train-of-requires c κs = search needs
 
@@ -69,7 +78,13 @@ same-length-4 : tie.Need-same-length-4
 same-length-4 c = search needs
 
 returns-4 : tie.Need-returns-4
-returns-4 c = let a = c .before .before .before .before .before .before .before .before .args in train-piece (a .r) (a .part) (a .i) (c .before .before .before .before .before .enum-told4 .given .1) _ (c .before .before .before .train-of .ensures) (c .before .before .put-train .ensures)
+returns-4 c = let a = c .before .before .before .before .before .before .before .before .args in closed-piece (a .r) (a .part) (a .i) (c .before .before .before .before .before .enum-told4 .given .1) _ (c .before .before .before .closed-at .ensures) (c .before .before .put-closed .ensures)
+
+same-length-5 : tie.Need-same-length-5
+same-length-5 c = search needs
+
+returns-5 : tie.Need-returns-5
+returns-5 c = let a = c .before .before .before .before .before .before .before .before .args in train-piece (a .r) (a .part) (a .i) (c .before .before .before .before .before .enum-told5 .given .1) _ (c .before .before .before .train-of .ensures) (c .before .before .put-train .ensures)
 
 pub put-piece-spec : {M : Type 1} → statement M
 put-piece-spec =
@@ -87,6 +102,9 @@ put-piece-spec =
     has-signal-requires
     put-signal-requires
     enum-told-4
+    closed-at-requires
+    put-closed-requires
+    enum-told-5
     train-of-requires
     put-train-requires
     same-length
@@ -96,4 +114,6 @@ put-piece-spec =
     same-length-3
     returns-3
     same-length-4
-    returns-4)
+    returns-4
+    same-length-5
+    returns-5)

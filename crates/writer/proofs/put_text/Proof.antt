@@ -1,4 +1,4 @@
--- `writer::put_text` meets its contract: the first line and the four parts, one behind the other, make the text.
+-- `writer::put_text` meets its contract: the first line and the parts, one behind the other, make the text.
 -- Assumes nothing.
 use borrow.Author.Needs.{needs}
 use Rattle.text.proofs.Appending.{append-then}
@@ -21,17 +21,21 @@ put-part-requires-3 c κs = search needs
 put-part-requires-4 : tie.Need-put-part-requires-4
 put-part-requires-4 c κs = search needs
 
+put-part-requires-5 : tie.Need-put-part-requires-5
+put-part-requires-5 c κs = search needs
+
 same-length : tie.Need-same-length
 same-length c = search needs
 
 returns : tie.Need-returns
 returns c =
     let trains = c .before .before in
-    let signals = trains .before .before .before .before in
+    let closed = trains .before .before .before .before in
+    let signals = closed .before .before .before .before in
     let joins = signals .before .before .before .before in
     let points = joins .before .before .before .before in
     let header = points .before .before .before .before in
-    rw (text-pieces (header .before .before .before .args .r)) (append-then (header .put-header .ensures) (append-then (points .put-part .ensures) (append-then (joins .put-part2 .ensures) (append-then (signals .put-part3 .ensures) (trains .put-part4 .ensures)))))
+    rw (text-pieces (header .before .before .before .args .r)) (append-then (header .put-header .ensures) (append-then (points .put-part .ensures) (append-then (joins .put-part2 .ensures) (append-then (signals .put-part3 .ensures) (append-then (closed .put-part4 .ensures) (trains .put-part5 .ensures))))))
 
 pub put-text-spec : {M : Type 1} → statement M
 put-text-spec =
@@ -42,5 +46,6 @@ put-text-spec =
     put-part-requires-2
     put-part-requires-3
     put-part-requires-4
+    put-part-requires-5
     same-length
     returns)
