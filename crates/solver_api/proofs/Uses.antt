@@ -1,10 +1,11 @@
--- The exported calls for a plan at work: in Yard A the whole plan and its end, in a yard without a plan that
+-- The exported calls at work: in Yard A its tables, the whole plan and its end, in a yard without a plan that
 -- there is none, its check from fresh tables to the test, and texts and tables that are refused, with all as it was. Assumes nothing.
 use mathlib.Core.Path.{_≡_, refl, sym, _∙_, ap}
 use mathlib.Core.List.{List, [], _∷_, _++_}
 use mathlib.Core.Option.{Option, none, some, Option·getD}
 use Prim.Native.Nat.{ℕ}
-use lib.ListN.{replicate}
+use lib.ListN.{getD, replicate}
+use native.Mathlib.Omega.{arith}
 use Rattle.laws.specs.Below.{lowest, allBelow, anyBelow, sumBelow, whichBelow, listBelow}
 use Rattle.laws.specs.Bits.{fromBits}
 use Rattle.laws.specs.Lists.{any, all}
@@ -32,8 +33,10 @@ use Rattle.game.specs.Setting.{headsFor, held, mayMove, free, signalOpen}
 use Rattle.game.specs.Moves.{entered, passes, occupied, moveOf}
 use Rattle.tables.specs.KnownYards.{planA}
 use Rattle.tables.specs.Entries.{entryFrom}
-use Rattle.tables.specs.Tables.{noFigure, tablesShort, caseRefusal}
-use Rattle.tables.proofs.KnownYards.{figsA, setsA}
+use Rattle.tables.specs.Tables.{noFigure, figureEntry, figureIn, tablesShort, caseRefusal}
+use Rattle.tables.specs.Solver.{SolverTables}
+use Rattle.tables.proofs.Unique.{figs-one, sets-one}
+use Rattle.tables.proofs.KnownYards.{figsA, setsA, yardA-accepted, yardA-filled}
 use Rattle.plan.specs.declared.PlanPlace.the-variants.{Top, From}
 use Rattle.plan.specs.declared.Emitted.{Emitted}
 use Rattle.plan.specs.declared.Emitted.the-variants.{Line, End, NoPlan}
@@ -50,6 +53,7 @@ use Rattle.plan.specs.Computed.{placementPasses, testHolds}
 use Rattle.plan.specs.Emitter.{Wrote, emitLine}
 use Rattle.plan.specs.Checker.{Checking, Left, left, freshened, testNumber, takeLine, testPlan}
 use Rattle.plan.specs.Several.{runFrom, emitLines, linesOf, frontOf, frontNumber, takeFront}
+use Rattle.solver_api.specs.Exported.{SolvedText}
 use Rattle.solver_api.specs.Plans.{lineNumber, Writing, writing, wroteTo, WrittenRailway, WrittenText, Lent, lent, lentOf, begunWith, BegunText, takenWith, bytesWith, TakenText, TestedText}
 use Rattle.solver_api.proofs.Plans.{told-apart}
 
@@ -123,6 +127,29 @@ tests-so : (testPlan yardA all-taken .answer ≡ Pass)
     × (testPlan yardA (record { state = Begun 1 8; figs = figsA; sets = setsA }) .answer ≡ Refused PlanFault)
 unfolding testPlan caseRefusal tablesShort first unknownRow joinRow looseRow placeRow endAt joinedBy joined hasSignal legsOf trainOf withJoin withSignal withLegs withTrain allBelow anyBelow sumBelow whichBelow listBelow fromBits any all codeOf testHolds placementPasses listedSetting keepsTest sectionsIn standsOn startCode atHome shared headsFor mayMove free held signalOpen passes occupied moveOf entered isClosed
 tests-so = (refl, refl, refl)
+
+-- THE SOLVER: in Yard A the start's figure is 2 and its entry lets train 2 over the point at plus, and what stands past the last code stays; a table that is
+-- too short and a text out of form leave both tables
+module _ (n : ℕ) (figs′ sets′ : List ℕ) where
+  solved : SolvedText caseA fives (replicate 12 5) n figs′ sets′ → (n ≡ 0) × (figureIn figs′ 7 ≡ some 2) × (getD sets′ 7 0 ≡ getD setsA 7 0) × (getD sets′ 10 0 ≡ 5)
+  unfolding withJoin withSignal withLegs withTrain
+  solved c =
+      let w = c .accepted yardA (read-so .0) in
+      let l : SolverTables yardA fives (replicate 12 5) figs′ sets′ = rw (cases-so .0) at (w .leaves) in (
+        w .numbered ∙ ap (λ (x : Option Refusal). Option·getD (numberOf x) 0) (cases-so .0),
+        ap figureEntry (figs-one yardA yardA-accepted figs′ sets′ figsA setsA (l .filled) yardA-filled 7 (omega arith)),
+        sets-one yardA yardA-accepted figs′ sets′ figsA setsA (l .filled) yardA-filled 7 (omega arith),
+        l .kept-sets .past 10 (omega arith),
+      )
+
+  not-solved : SolvedText caseA short fives n figs′ sets′ → (n ≡ 9) × (figs′ ≡ short) × (sets′ ≡ fives)
+  not-solved c =
+      let w = c .accepted yardA (read-so .0) in
+      let l : (figs′ ≡ short) × (sets′ ≡ fives) = rw (cases-so .1) at (w .leaves) in
+      (w .numbered ∙ ap (λ (x : Option Refusal). Option·getD (numberOf x) 0) (cases-so .1), l .0, l .1)
+
+  unread-case : SolvedText (bytes "H\n") fives fives n figs′ sets′ → (n ≡ 2) × (figs′ ≡ fives) × (sets′ ≡ fives)
+  unread-case c = c .refused Form form-refused
 
 -- THE PLAN'S LINES: what an answer and a buffer leave
 written : (r : Railway) (figs sets : List ℕ) (old : Writing) (n : ℕ) (new : Writing) (w : WrittenRailway r figs sets old n new) (x : Wrote) → w .answer ≡ x .answer → new .buffer ≡ x .buffer
