@@ -7,6 +7,7 @@
 namespace {
 
 constexpr u32 BUFFER = 1 << 16, STRETCHES = 1 << 12;
+constexpr int MOST_WAYS = 16;                       // into a section: over four points, each with two legs
 
 // The placements that got their figure in one round.
 struct Round {
@@ -33,7 +34,7 @@ struct Back {
 template <int K> struct Frontier {
     const Yard& y;
     u32 *figures, *settings;
-    Back back[K][SECTIONS][2];
+    Back back[K][SECTIONS][MOST_WAYS];
     int backs[K][SECTIONS] = {};
     u32 inverse;                                    // of the number of sections, times 2^32, rounded up: exact for codes below 2^26
     int shift = 0;                                  // from codes to stretches
@@ -47,15 +48,11 @@ template <int K> struct Frontier {
         for (int t = 0; t < K; t++)
             for (int x = 0; x < y.sections; x++) {
                 const Step& step = y.step[t][x];
-                add_back(t, x, step.minus, 0);
-                if (step.point) add_back(t, x, step.plus, step.point);
+                for (const Way* w = y.begin(step); w < y.end(step); w++) {
+                    int z = x + w->change / (int32_t)y.stride[t];
+                    back[t][z][backs[t][z]++] = {-w->change, (u32)x, w->plus | (step.signal ? open_bit(t) : 0), step.signal};
+                }
             }
-    }
-    void add_back(int t, int x, int32_t change, u32 plus) {
-        if (change == 0) return;
-        int z = x + change / (int32_t)y.stride[t];
-        bool signal = y.step[t][x].signal;
-        back[t][z][backs[t][z]++] = {-change, (u32)x, plus | (signal ? open_bit(t) : 0), signal};
     }
 
     void decode(u32 code, u32* x) const {
@@ -67,17 +64,35 @@ template <int K> struct Frontier {
         x[K - 1] = code;
     }
 
-    // The points that bring each free train below n, or NONE. Two free trains that meet the same point are lost.
+    // The least points that bring each free train from t on below n, with those that are met so far lying so; or NONE. Every way of one train is tried with
+    // every way of the next.
+    template <int t> u32 combine(u32 code, const u32* x, u32 n, u32 met, u32 plus) const {
+        if constexpr (t == K) {
+            return plus;
+        } else {
+            const Step& s = y.step[t][x[t]];
+            if (!s.free) return combine<t + 1>(code, x, n, met, plus);
+            u32 least = NONE;
+            for (const Way* w = y.begin(s); w < y.end(s); w++) {
+                if ((met & w->met & (plus ^ w->plus)) || figures[code + w->change] >= n) continue;
+                least = std::min(least, combine<t + 1>(code, x, n, met | w->met, plus | w->plus));
+            }
+            return least;
+        }
+    }
+
+    // The least points that bring each free train below n, or NONE. Where no two meet the same point each takes the first of its ways that does.
     u32 guide(u32 code, const u32* x, u32 n) const {
         u32 plus = 0, met = 0;
         for (int t = 0; t < K; t++) {
             const Step& s = y.step[t][x[t]];
             if (!s.free) continue;
-            if (met & s.point) return NONE;
-            met |= s.point;
-            if (figures[code + s.minus] < n) continue;
-            if (figures[code + s.plus] >= n) return NONE;
-            plus |= s.point;
+            if (met & s.met) return combine<0>(code, x, n, 0, 0);
+            met |= s.met;
+            const Way *w = y.begin(s), *end = y.end(s);
+            while (w < end && figures[code + w->change] >= n) w++;
+            if (w == end) return NONE;
+            plus |= w->plus;
         }
         return plus;
     }

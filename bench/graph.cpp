@@ -66,15 +66,15 @@ struct Graph {
     }
     void set(Vertex v) {
         u32 met = 0;
-        for (int t = 0; t < y.trains; t++) if (step(v, t).free) met |= step(v, t).point;
+        for (int t = 0; t < y.trains; t++) if (step(v, t).free) met |= step(v, t).met;
         set_points(v, 0, met);
-        for (int t = 0; t < y.trains; t++) if (step(v, t).signal) set_points(v, open_bit(t), met | step(v, t).point);
+        for (int t = 0; t < y.trains; t++) if (step(v, t).signal) set_points(v, open_bit(t), met | step(v, t).met);
     }
     void move(Vertex v) {
         for (int t = 0; t < y.trains; t++) {
             const Step& s = step(v, t);
             if (!s.free && !(s.signal && setting(v) & open_bit(t))) continue;
-            int32_t change = setting(v) & s.point ? s.plus : s.minus;
+            int32_t change = y.change(s, setting(v));
             u32 to = change == 0 ? 0 : section(v, t) + change / (int32_t)y.stride[t];
             successors.push_back((placement(v) & ~(u64(255) << 8 * t)) | u64(to) << 8 * t);
         }

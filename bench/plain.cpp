@@ -118,7 +118,7 @@ bool keeps(const Yard& y, const Sections& s, u32 code, const Tables& tables) {
         bool opened = setting & open_bit(t);
         if (opened && !step.signal) return false;
         if (!opened && !step.free) continue;
-        int32_t change = setting & step.point ? step.plus : step.minus;
+        int32_t change = y.change(step, setting);
         if (change == 0 || tables.figures[code + change] >= tables.figures[code]) return false;
         some = true;
     }

@@ -20,27 +20,43 @@ struct Sweep {
 
     bool below(u32 code, int32_t change, u32 n) const { return figures[code + change] < n; }
 
+    // Of the points met, the first lie under which each of the free trains ends below n; or NONE. Every lie is tried.
+    u32 try_points(u32 code, const u32* x, u32 n) const {
+        u32 met = 0, plus = 0;
+        for (int t = 0; t < y.trains; t++) if (y.step[t][x[t]].free) met |= y.step[t][x[t]].met;
+        do {
+            bool all = true;
+            for (int t = 0; t < y.trains; t++) if (const Step& s = y.step[t][x[t]]; s.free) all &= below(code, y.change(s, plus), n);
+            if (all) return plus;
+            plus = (plus - met) & met;
+        } while (plus);
+        return NONE;
+    }
+
+    // The first of its ways that ends below n, or null.
+    const Way* first_way(u32 code, const Step& s, u32 n) const {
+        for (const Way* w = y.begin(s); w < y.end(s); w++) if (below(code, w->change, n)) return w;
+        return nullptr;
+    }
+
     // The first setting in the plan's order under which every move ends below n, or NONE. With free trains no signal is opened and each of them
-    // must end below n. Of two that meet the same point one can derail or run into the other.
+    // must end below n: where no two meet the same point, each by the first of its ways that does.
     u32 first_setting(u32 code, const u32* x, u32 n) const {
         u32 plus = 0, met = 0;
         bool free = false;
         for (int t = 0; t < y.trains; t++) {
             const Step& s = y.step[t][x[t]];
             if (!s.free) continue;
-            if (met & s.point) return NONE;
+            if (met & s.met) return try_points(code, x, n);
             free = true;
-            met |= s.point;
-            if (below(code, s.minus, n)) continue;
-            if (!below(code, s.plus, n)) return NONE;
-            plus |= s.point;
+            met |= s.met;
+            const Way* w = first_way(code, s, n);
+            if (!w) return NONE;
+            plus |= w->plus;
         }
         if (free) return plus;
-        for (int t = 0; t < y.trains; t++) {
-            const Step& s = y.step[t][x[t]];
-            if (below(code, s.minus, n)) return open_bit(t);
-            if (below(code, s.plus, n)) return open_bit(t) | s.point;
-        }
+        for (int t = 0; t < y.trains; t++)
+            if (const Way* w = first_way(code, y.step[t][x[t]], n)) return open_bit(t) | w->plus;
         return NONE;
     }
 

@@ -42,21 +42,32 @@ struct Track {
     Track() { std::fill(joined, joined + ENDS, -1); }
     void join(int a, int b) { joined[a] = b; joined[b] = a; }
 
-    Step step(int end, int32_t stride) const {
-        auto change = [&](int to) { return to < 0 || closed[to / 2] ? 0 : (to / 2 - end / 2) * stride; };
+    // The ways on from an end, over the points met so far. In an accepted railway they come to a section after four points at most, and meet none twice.
+    void follow(int end, Way way, int from, int32_t stride, std::vector<Way>& ways) const {
+        int to = joined[end];
+        if (to < 0) return;
+        if (to < PORTS) {
+            if (closed[to / 2] || to / 2 == from) return;
+            way.change = (to / 2 - from) * stride;
+            ways.push_back(way);
+            return;
+        }
+        int point = (to - PORTS) / 3, leg = (to - PORTS) % 3, stem = PORTS + 3 * point;
+        way.met |= 1u << point;
+        if (leg != 1) follow(leg == 0 ? stem + 2 : stem, way, from, stride, ways);
+        way.plus |= 1u << point;
+        if (leg != 2) follow(leg == 0 ? stem + 1 : stem, way, from, stride, ways);
+    }
+
+    Step step(int end, int32_t stride, std::vector<Way>& ways) const {
         Step s;
         s.signal = signal[end];
         s.free = !s.signal;
-        int to = joined[end];
-        if (to < PORTS) {
-            s.minus = s.plus = change(to);
-            return s;
-        }
-        int point = (to - PORTS) / 3, leg = (to - PORTS) % 3;
-        const int* port = joined + PORTS + 3 * point;
-        s.point = 1u << point;
-        if (leg != 2) s.plus = change(port[leg == 0 ? 1 : 0]);
-        if (leg != 1) s.minus = change(port[leg == 0 ? 2 : 0]);
+        s.first = ways.size();
+        follow(end, {}, end / 2, stride, ways);
+        s.last = ways.size();
+        std::sort(ways.begin() + s.first, ways.end(), [](const Way& a, const Way& b) { return a.plus < b.plus; });
+        for (u32 i = s.first; i < s.last; i++) s.met |= ways[i].met;
         return s;
     }
 };
@@ -80,7 +91,7 @@ Yard read_yard(std::string_view text) {
             int destination = in.number() - 1;
             y.home += destination * y.stride[t];
             y.placements *= y.sections;
-            for (int x = 0; x < y.sections; x++) if (x != destination) y.step[t][x] = track.step(2 * x + heading, (int32_t)y.stride[t]);
+            for (int x = 0; x < y.sections; x++) if (x != destination) y.step[t][x] = track.step(2 * x + heading, (int32_t)y.stride[t], y.ways);
         }
     }
     return y;

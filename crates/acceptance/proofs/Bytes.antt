@@ -1,7 +1,7 @@
 -- The test of links as code makes it, on bytes: an index below the number of all ends is that of one end, so what is asked of the end can be asked of
 -- its byte. Past that number a byte is no join, and no row finds anything there.
 -- Assumes nothing.
-use Prim.Native.Nat.{ℕ, _+_, _-_, _*_, _/_, _%_, _<_, _≤_}
+use Prim.Native.Nat.{ℕ, zero, suc, _+_, _-_, _*_, _/_, _%_, _<_, _≤_}
 use mathlib.Core.Path.{_≡_, refl, sym, _∙_, ap}
 use mathlib.Core.Logic.{inl, inr}
 use mathlib.Core.Bool.{Bool, true, false, cond, not, _&&_, _||_}
@@ -10,51 +10,58 @@ use native.Mathlib.Omega.{arith}
 use native.Mathlib.Numerals.{add-one}
 use lib.Dec.{ltb, leb, eqb}
 use lib.ListN.{getD}
-use borrow.Author.Tests.{eqb-true, eqb-false, eq-eqb, ne-eqb, le-leb, lt-leb, le-ltb}
+use borrow.Author.Tests.{ltb-true, leb-true, lt-ltb, eqb-true, eqb-false, eq-eqb, ne-eqb, le-leb, lt-leb, le-ltb}
 use Rattle.laws.specs.Below.{anyBelow}
-use Rattle.laws.proofs.Bools.{lt?}
+use Rattle.laws.proofs.Bools.{lt?, bool?, same-bool, and-true, either}
+use Rattle.laws.proofs.Below.{any-of, none-any}
 use Rattle.laws.proofs.Filling.{FilledTo}
 use Rattle.railway.specs.declared.Side.{Side}
 use Rattle.railway.specs.declared.Side.the-variants.{Up, Down}
 use Rattle.railway.specs.declared.Leg.{Leg}
 use Rattle.railway.specs.declared.Leg.the-variants.{Stem, Plus, Minus}
-use Rattle.railway.specs.declared.End.the-variants.{Port}
+use Rattle.railway.specs.declared.SectionNo.{SectionNo}
+use Rattle.railway.specs.declared.End.the-variants.{Section, Port}
 use Rattle.railway.specs.declared.Joined.the-variants.{Nothing, With}
 use Rattle.railway.specs.declared.Legs.{Legs}
 use Rattle.railway.specs.declared.Railway.{Railway}
 use Rattle.railway.specs.Bounds.{mostPoints, sectionEnds, allEnds}
-use Rattle.railway.specs.Ends.{opposite, sameSide, portSide, sideIndex, legIndex, legAt, endAt}
-use Rattle.railway.specs.Record.{noLegs, noLink, joinedBy, linkAt, joined, legsOf, sideOf}
-use Rattle.railway.specs.Rows.{known, unknownLinkAt, sectionOf, bothPorts, oneSection, tied, wrongPair, wrongLinkAt, leadsTo, unreturnedAt, unjoined, looseAt, looseRow}
+use Rattle.railway.specs.Ends.{opposite, sameSide, portSide, sideIndex, legIndex, sideAt, legAt, endAt}
+use Rattle.railway.specs.Record.{isClosed, noLegs, noLink, joinedBy, linkAt, flagAt, joined, legsOf, sideOf}
+use Rattle.railway.specs.Rows.{known, unknownLinkAt, Owner, ofSection, ofPoint, ownerOf, oneOwner, tied, wrongPair, wrongLinkAt, leadsTo, unreturnedAt, unknownSignalAt, unknownClosedAt, unjoined, looseAt, looseRow, longer, mostBehind, chainedAt, chainRow}
 use Rattle.railway.proofs.Ends.{leg-small, index-end, end-section, end-port, port-index}
 use Rattle.railway.proofs.Bytes.{byte-there, byte-past}
 use Rattle.railway.proofs.Lookups.{joined-there}
-use Rattle.acceptance.specs.Answers.{Counts, Sided, Looked}
+use Rattle.acceptance.specs.Answers.{Counts, Sided, seenAt, Looked}
 
 -- ENDS BY THEIR INDEX. Whether the section or point is there
-module _ (r : Railway) (s p i : ℕ) (c : Counts r s p) where
-  pub known-section : i < sectionEnds → ltb (i / 2) s ≡ known r (endAt i)
-  known-section h = rw (end-section i h, c .sections)
+module _ (r : Railway) (ends ports i : ℕ) (c : Counts r ends ports) where
+  pub known-section : i < sectionEnds → ltb i ends ≡ known r (endAt i)
+  known-section h =
+      rw (end-section i h)
+      (same-bool (ltb i ends) (ltb (i / 2) (r .sections)) (λ l. lt-ltb (i / 2) (r .sections) (omega (arith, ltb-true i ends l, c .sections))) (λ l. lt-ltb i ends (omega (arith, ltb-true (i / 2) (r .sections) l, c .sections))))
 
-  pub known-port : sectionEnds ≤ i → ltb ((i - sectionEnds) / 3) p ≡ known r (endAt i)
-  known-port h = rw (end-port i h, c .points)
+  pub known-port : sectionEnds ≤ i → ltb i ports ≡ known r (endAt i)
+  known-port h =
+      let n = (i - sectionEnds) / 3 in
+      rw (end-port i h)
+      (same-bool (ltb i ports) (ltb n (r .points)) (λ l. lt-ltb n (r .points) (omega (arith, ltb-true i ports l, c .points))) (λ l. lt-ltb i ports (omega (arith, ltb-true n (r .points) l, c .points))))
 
--- two ports, or one section
+-- one section, or one point
 module _ (i j : ℕ) where
-  abbrev PortsOrOne : Bool
-  PortsOrOne = bothPorts (sectionOf (endAt i)) (sectionOf (endAt j)) || oneSection (sectionOf (endAt i)) (sectionOf (endAt j))
+  abbrev OneOwner : Bool
+  OneOwner = oneOwner (ownerOf (endAt i)) (ownerOf (endAt j))
 
-  pub both-sections : i < sectionEnds → j < sectionEnds → eqb (i / 2) (j / 2) ≡ PortsOrOne
+  pub both-sections : i < sectionEnds → j < sectionEnds → eqb (i / 2) (j / 2) ≡ OneOwner
   both-sections h g = rw (end-section i h, end-section j g)
 
-  pub section-port : i < sectionEnds → sectionEnds ≤ j → false ≡ PortsOrOne
+  pub section-port : i < sectionEnds → sectionEnds ≤ j → false ≡ OneOwner
   section-port h g = rw (end-section i h, end-port j g)
 
-  pub from-port : sectionEnds ≤ i → leb sectionEnds j ≡ PortsOrOne
-  from-port h = elim (lt? j sectionEnds) [
-    | inl g ↦ rw (end-port i h, end-section j g) (lt-leb sectionEnds j g)
-    | inr g ↦ rw (end-port i h, end-port j g) (le-leb sectionEnds j g)
-  ]
+  pub port-section : sectionEnds ≤ i → j < sectionEnds → false ≡ OneOwner
+  port-section h g = rw (end-port i h, end-section j g)
+
+  pub both-ports : sectionEnds ≤ i → sectionEnds ≤ j → eqb ((i - sectionEnds) / 3) ((j - sectionEnds) / 3) ≡ OneOwner
+  both-ports h g = rw (end-port i h, end-port j g)
 
 -- the side, by its index
 side-back : (i : ℕ) (b : Bool) → eqb (i % 2) 0 ≡ b → i % 2 ≡ sideIndex (cond b Down Up)
@@ -96,7 +103,7 @@ module _ (r : Railway) (i : ℕ) where
     leg-of m = rw (end-port i above) (legs-there ∙ ap sideIndex (sym (leg-side (legsOf r ((i - sectionEnds) / 3)) ((i - sectionEnds) % 3) m)))
 
 -- two ends that no join may tie
-module _ (r : Railway) (i j : ℕ) (b : Bool) (is : b ≡ PortsOrOne i j) where
+module _ (r : Railway) (i j : ℕ) (b : Bool) (is : b ≡ OneOwner i j) where
   pub pair-wrong : b ≡ true → true ≡ wrongPair (tied r (endAt i)) (tied r (endAt j))
   pair-wrong e = rw (← is, e)
 
@@ -139,6 +146,63 @@ module _ (r : Railway) (i j : ℕ) (is : j ≡ getD (r .links) i noLink) where
         let e : joined r (endAt j) ≡ joinedBy k = sym (joined-there r (endAt j) j (sym (index-end j there)) there) ∙ ap joinedBy (sym hk) in
         rw (linked, e, leads-byte k i h)
 
+-- A LINK THAT IS MET AGAIN is as it was
+module _ (r : Railway) (i j : ℕ) (is : j ≡ getD (r .links) i noLink) where
+  pub none-seen : allEnds ≤ j → true ≡ seenAt r i
+  none-seen h = rw (← is, le-leb allEnds j h)
+
+  module _ (there : j < allEnds) where
+    pub seen-byte : (k : ℕ) → k ≡ getD (r .links) j noLink → j < i → eqb k i ≡ seenAt r i
+    seen-byte k his l = rw (← is, ← his, lt-ltb j i l, lt-leb allEnds j there)
+
+    pub unseen-byte : i ≤ j → false ≡ seenAt r i
+    unseen-byte l = rw (← is, le-ltb j i l, lt-leb allEnds j there)
+
+eqb-turned : (m n : ℕ) → eqb m n ≡ eqb n m
+eqb-turned m n = same-bool (eqb m n) (eqb n m) (λ h. eq-eqb n m (sym (eqb-true m n h))) (λ h. eq-eqb m n (sym (eqb-true n m h)))
+
+one-turned : (a b : Owner) → oneOwner a b ≡ oneOwner b a
+one-turned (ofSection m) (ofSection n) = eqb-turned m n
+one-turned (ofSection m) (ofPoint n) = refl
+one-turned (ofPoint m) (ofSection n) = refl
+one-turned (ofPoint m) (ofPoint n) = eqb-turned m n
+
+side-turned : (a b : Side) → sameSide a b ≡ sameSide b a
+side-turned Up Up = refl
+side-turned Up Down = refl
+side-turned Down Up = refl
+side-turned Down Down = refl
+
+and-turned : (a b : Bool) → (a && b) ≡ (b && a)
+and-turned true true = refl
+and-turned true false = refl
+and-turned false true = refl
+and-turned false false = refl
+
+record Seen (r : Railway) (i : ℕ) : Type 0 where
+  other : ℕ
+  before : other < i
+  unknown : unknownLinkAt r i ≡ unknownLinkAt r other
+  wrong : wrongLinkAt r i ≡ wrongLinkAt r other
+  returned : unreturnedAt r i ≡ false
+
+seen-other : (r : Railway) (i : ℕ) → i < allEnds → getD (r .links) i noLink < i → getD (r .links) (getD (r .links) i noLink) noLink ≡ i → Seen r i
+seen-other r i h l q =
+    let j = getD (r .links) i noLink in
+    let b : j < allEnds = omega arith in
+    let x : linkAt r i ≡ With (endAt j) = linked r i j refl b in
+    let y : linkAt r j ≡ With (endAt i) = linked r j i (sym q) h in
+    record {
+      other = j;
+      before = l;
+      unknown = rw (x, y) (ap not (and-turned (known r (endAt i)) (known r (endAt j))));
+      wrong =
+          rw (x, y)
+          (ap (λ (c : Bool). c || sameSide (sideOf r (endAt i)) (sideOf r (endAt j))) (one-turned (ownerOf (endAt i)) (ownerOf (endAt j)))
+          ∙ ap (λ (c : Bool). oneOwner (ownerOf (endAt j)) (ownerOf (endAt i)) || c) (side-turned (sideOf r (endAt i)) (sideOf r (endAt j))));
+      returned = sym (link-unreturned r i j refl b h i (sym q)) ∙ ap not (eq-eqb i i refl);
+    }
+
 -- an end in no join
 pub loose-byte : (r : Railway) (i j : ℕ) → j ≡ getD (r .links) i noLink → leb allEnds j ≡ unjoined (linkAt r i)
 loose-byte r i j is = rw (← is) (elim (lt? j allEnds) [ inl l ↦ rw (byte-there j l) (lt-leb allEnds j l) | inr l ↦ rw (byte-past j l) (le-leb allEnds j l) ])
@@ -165,6 +229,70 @@ pub points-loose : (r : Railway) (p : ℕ) (u : Bool) → r .points ≡ p → u 
 unfolding looseRow
 points-loose r p u e h = h ∙ ap (anyBelow (looseAt r)) (sym e)
 
+-- A WALK OVER THE LINKS: past no join, or to a section, no point is met; to a port one, and then what is met behind it
+no-join-past : (r : Railway) (k : ℕ) → longer r k Nothing ≡ false
+unfolding longer
+no-join-past r zero = refl
+no-join-past r (suc k) = refl
+
+section-past : (r : Railway) (k : ℕ) (n : SectionNo) (s : Side) → longer r k (With (Section n s)) ≡ false
+unfolding longer
+section-past r zero n s = refl
+section-past r (suc k) n s = refl
+
+module _ (r : Railway) (j : ℕ) where
+  pub long-section : (k : ℕ) → j < sectionEnds → false ≡ longer r k (joinedBy j)
+  long-section k h = rw (byte-there j (omega arith), end-section j h) (sym (section-past r k (record { 0 = j / 2 }) (sideAt (j % 2))))
+
+  pub long-none : (k : ℕ) → allEnds ≤ j → false ≡ longer r k (joinedBy j)
+  long-none k h = rw (byte-past j h) (sym (no-join-past r k))
+
+  module _ (above : sectionEnds ≤ j) (below : j < allEnds) where
+    pub long-here : (k : ℕ) → k ≡ 0 → true ≡ longer r k (joinedBy j)
+    unfolding longer
+    long-here k z = rw (z, byte-there j below, end-port j above)
+
+    joined-port : (l : Leg) (i m : ℕ) → sectionEnds + 3 * ((j - sectionEnds) / 3) + legIndex l ≡ i → m ≡ getD (r .links) i noLink → joined r (Port (record { 0 = (j - sectionEnds) / 3 }) l) ≡ joinedBy m
+    joined-port l i m e is = sym (port-link r ((j - sectionEnds) / 3) (omega arith) l i e) ∙ ap joinedBy (sym is)
+
+    pub long-stem : (k : ℕ) → (k ≡ 0 → ⊥) → (j - sectionEnds) % 3 ≡ 0 → (a b : Bool) (m n : ℕ) → m ≡ getD (r .links) (j + 1) noLink → n ≡ getD (r .links) (j + 2) noLink → a ≡ longer r (k - 1) (joinedBy m) → b ≡ longer r (k - 1) (joinedBy n) → (a || b) ≡ longer r k (joinedBy j)
+    unfolding longer
+    long-stem zero z h a b m n hm hn ha hb = absurd (z refl)
+    long-stem (suc k) z h a b m n hm hn ha hb =
+        let e : suc k - 1 ≡ k = omega arith in
+        rw (byte-there j below, end-port j above, eq-eqb ((j - sectionEnds) % 3) 0 h, joined-port Plus (j + 1) m (omega arith) hm, joined-port Minus (j + 2) n (omega arith) hn, ha, hb, e)
+
+    pub long-leg : (k : ℕ) → (k ≡ 0 → ⊥) → ((j - sectionEnds) % 3 ≡ 0 → ⊥) → (a : Bool) (m : ℕ) → m ≡ getD (r .links) (j - (j - sectionEnds) % 3) noLink → a ≡ longer r (k - 1) (joinedBy m) → a ≡ longer r k (joinedBy j)
+    unfolding longer
+    long-leg zero z h a m hm ha = absurd (z refl)
+    long-leg (suc k) z h a m hm ha =
+        let e : suc k - 1 ≡ k = omega arith in
+        let x = joined-port Stem (j - (j - sectionEnds) % 3) m (omega arith) hm in
+        rw (byte-there j below, end-port j above, ne-eqb ((j - sectionEnds) % 3) 0 h) (cases (eqb ((j - sectionEnds) % 3) 1) (rw (x, ← e) ha))
+      where
+        cases : (b : Bool) → a ≡ longer r k (joined r (Port (record { 0 = (j - sectionEnds) / 3 }) Stem)) → a ≡ longer r (suc k) (With (Port (record { 0 = (j - sectionEnds) / 3 }) (cond b Plus Minus)))
+        cases true q = q
+        cases false q = q
+
+pub long-link : (r : Railway) (i j : ℕ) → j ≡ getD (r .links) i noLink → (b : Bool) → b ≡ longer r mostBehind (joinedBy j) → b ≡ longer r mostBehind (linkAt r i)
+long-link r i j is b h = h ∙ ap (λ (m : ℕ). longer r mostBehind (joinedBy m)) is
+
+module _ (r : Railway) (n : ℕ) where
+  pub port-chained : n < mostPoints → (a b c : Bool) → a ≡ longer r mostBehind (linkAt r (sectionEnds + 3 * n)) → b ≡ longer r mostBehind (linkAt r (sectionEnds + 3 * n + 1)) → c ≡ longer r mostBehind (linkAt r (sectionEnds + 3 * n + 2)) → ((a || b) || c) ≡ chainedAt r n
+  port-chained h a b c ha hb hc =
+      let es = port-link r n h Stem (sectionEnds + 3 * n) (omega arith) in
+      let ep = port-link r n h Plus (sectionEnds + 3 * n + 1) refl in
+      let em = port-link r n h Minus (sectionEnds + 3 * n + 2) refl in
+      rw (ha, hb, hc, es, ep, em)
+
+  pub no-port-chained : mostPoints ≤ n → false ≡ chainedAt r n
+  unfolding joined
+  no-port-chained h = rw (le-ltb n mostPoints h, no-join-past r mostBehind)
+
+pub points-chained : (r : Railway) (p : ℕ) (u : Bool) → r .points ≡ p → u ≡ anyBelow (chainedAt r) p → u ≡ chainRow r
+unfolding chainRow
+points-chained r p u e h = h ∙ ap (anyBelow (chainedAt r)) (sym e)
+
 -- THE SIDES OF ALL LEGS
 pub legs-next : (r : Railway) (legs : List Legs) (p n b : ℕ) → r .legs ≡ legs → r .points ≡ p → b ≡ sideIndex (cond (ltb n p) (getD legs n noLegs .side) Up) → b ≡ sideIndex (legsOf r n)
 unfolding legsOf
@@ -173,14 +301,58 @@ legs-next r legs p n b e f h = rw (e, f) h
 pub all-sided : (r : Railway) (sides : List ℕ) (n : ℕ) → FilledTo (λ n. sideIndex (legsOf r n)) mostPoints sides n → mostPoints ≤ n → Sided r sides
 all-sided r sides n h l = record { each = λ m b. h .below m (omega arith) }
 
+and-never : (b : Bool) → (b && false) ≡ false
+and-never true = refl
+and-never false = refl
+
+and-always : (b : Bool) → (b && true) ≡ b
+and-always true = refl
+and-always false = refl
+
+or-nothing : (b : Bool) → (b || false) ≡ b
+or-nothing true = refl
+or-nothing false = refl
+
 -- NOTED ON THE WAY: whether some number passes a test, place after place
 module _ (f : ℕ → Bool) (i : ℕ) (u : Bool) (h : u ≡ anyBelow f i) where
   pub noted-next : (x : Bool) → x ≡ f i → (u || x) ≡ anyBelow f (i + 1)
   unfolding anyBelow
   noted-next x hx = rw (add-one i, h, hx)
 
+  noted-not : f i ≡ false → u ≡ anyBelow f (i + 1)
+  unfolding anyBelow
+  noted-not t = rw (add-one i, t) (h ∙ sym (or-nothing (anyBelow f i)))
+
+  -- what shows at i shows before, or not at all
+  noted-before : (j : ℕ) → j < i → f i ≡ f j → u ≡ anyBelow f (i + 1)
+  noted-before j l e = elim (bool? (f j)) [
+    | inl t ↦ h ∙ any-of f i j l t ∙ sym (any-of f (i + 1) j (omega arith) t)
+    | inr t ↦ noted-not (e ∙ t)
+  ]
+
   pub noted-all : (k : ℕ) → i ≤ k → k ≤ i → u ≡ anyBelow f k
   noted-all k l g = let e : i ≡ k = omega arith in rw e at h
+
+-- PAST THE COUNTS: signals and closed sections that are there tell nothing, and all others are unknown
+section-end-known : (r : Railway) (i : ℕ) → i < sectionEnds → ltb i (2 * r .sections) ≡ known r (endAt i)
+section-end-known r i h = known-section r (2 * r .sections) (sectionEnds + 3 * r .points) i (record { sections = refl; points = refl }) h
+
+module _ (r : Railway) (ends : ℕ) (c : 2 * r .sections ≡ ends) where
+  pub signals-known : ends ≤ sectionEnds → false ≡ anyBelow (unknownSignalAt r) ends
+  signals-known h = sym (none-any (unknownSignalAt r) ends (λ i l. known-here i (omega arith) l))
+    where
+      known-here : (i : ℕ) → i < sectionEnds → i < ends → unknownSignalAt r i ≡ false
+      known-here i g l = rw (← section-end-known r i g, lt-ltb i (2 * r .sections) (omega arith)) (and-never (flagAt r i))
+
+  pub signal-past : (i : ℕ) → ends ≤ i → i < sectionEnds → (b : Bool) → b ≡ flagAt r i → b ≡ unknownSignalAt r i
+  signal-past i h g b e = rw (← section-end-known r i g, le-ltb i (2 * r .sections) (omega arith)) (e ∙ sym (and-always (flagAt r i)))
+
+module _ (r : Railway) (s : ℕ) (c : r .sections ≡ s) where
+  pub closed-known : false ≡ anyBelow (unknownClosedAt r) s
+  closed-known = sym (none-any (unknownClosedAt r) s (λ x l. rw (lt-ltb x (r .sections) (omega arith)) (and-never (isClosed r x))))
+
+  pub closed-past : (x : ℕ) → s ≤ x → (b : Bool) → b ≡ isClosed r x → b ≡ unknownClosedAt r x
+  closed-past x h b e = rw (le-ltb x (r .sections) (omega arith)) (e ∙ sym (and-always (isClosed r x)))
 
 -- the pass over the links
 module _ (r : Railway) where
@@ -195,6 +367,32 @@ module _ (r : Railway) where
         wrong = noted-next (wrongLinkAt r) i w (h .wrong) y hy;
         unreturned = noted-next (unreturnedAt r) i b (h .unreturned) z hz;
       }
+
+  pub looked-again : (i : ℕ) (u w b x : Bool) → Looked r i u w b → i < allEnds → x ≡ seenAt r i → x ≡ true → Looked r (i + 1) u w b
+  looked-again i u w b x h l is e =
+      let j = getD (r .links) i noLink in
+      elim (either (leb allEnds j) (ltb j i && eqb (getD (r .links) j noLink) i) (sym is ∙ e)) [
+        | inl n ↦ without (leb-true allEnds j n)
+        | inr n ↦
+            let a = and-true (ltb j i) (eqb (getD (r .links) j noLink) i) n in
+            met (seen-other r i l (ltb-true j i (a .0)) (eqb-true (getD (r .links) j noLink) i (a .1)))
+      ]
+    where
+      without : allEnds ≤ getD (r .links) i noLink → Looked r (i + 1) u w b
+      without n =
+          record {
+            unknown = noted-not (unknownLinkAt r) i u (h .unknown) (sym (none-unknown r i (getD (r .links) i noLink) refl n));
+            wrong = noted-not (wrongLinkAt r) i w (h .wrong) (sym (none-wrong r i (getD (r .links) i noLink) refl n));
+            unreturned = noted-not (unreturnedAt r) i b (h .unreturned) (sym (none-unreturned r i (getD (r .links) i noLink) refl n));
+          }
+
+      met : Seen r i → Looked r (i + 1) u w b
+      met s =
+          record {
+            unknown = noted-before (unknownLinkAt r) i u (h .unknown) (s .other) (s .before) (s .unknown);
+            wrong = noted-before (wrongLinkAt r) i w (h .wrong) (s .other) (s .before) (s .wrong);
+            unreturned = noted-not (unreturnedAt r) i b (h .unreturned) (s .returned);
+          }
 
   pub looked-all : (i : ℕ) (u w b : Bool) → Looked r i u w b → i ≤ allEnds → allEnds ≤ i → Looked r allEnds u w b
   looked-all i u w b h l g = let e : i ≡ allEnds = omega arith in rw e at h

@@ -1,32 +1,49 @@
 -- The test of a record as code makes it: each function's answer is the definition's, by what it looked up and what it found.
 -- Assumes nothing.
-use Prim.Native.Nat.{ℕ}
-use mathlib.Core.Path.{_≡_, refl, _∙_, ap}
+use Prim.Native.Nat.{ℕ, _≤_, _<_}
+use mathlib.Core.Path.{_≡_, refl, sym, _∙_, ap}
 use mathlib.Core.Bool.{Bool, true, false, not, _&&_, _||_}
 use mathlib.Core.List.{List, [], _∷_}
 use mathlib.Core.Option.{Option, none, some}
-use lib.Dec.{ltb}
-use lib.ListN.{drop}
+use native.Mathlib.Omega.{arith}
+use lib.Dec.{ltb, eqb}
+use lib.ListN.{drop, getD}
 use Rattle.laws.specs.Below.{anyBelow}
 use Rattle.railway.specs.declared.Train.{Train}
 use Rattle.railway.specs.declared.Railway.{Railway}
 use Rattle.railway.specs.declared.Refusal.{Refusal}
-use Rattle.railway.specs.Bounds.{mostSections, sectionEnds, allEnds}
-use Rattle.railway.specs.Record.{isClosed, trainOf}
+use Rattle.railway.specs.declared.Refusal.the-variants.{Count}
+use Rattle.railway.specs.Bounds.{mostSections, mostPoints, mostTrains, sectionEnds, allEnds}
+use Rattle.railway.specs.Record.{isClosed, noTrain, trainOf}
 use Rattle.railway.specs.Refusals.{Row, numberOf, first}
-use Rattle.railway.specs.Rows.{unknownSignalAt, unknownClosedAt, unknownTrainAt, shutOutAt, rowsBy, countRow, unknownRow, joinRow, looseRow, placeRow, recordRefusal}
-use Rattle.acceptance.specs.Answers.{Looked}
+use Rattle.railway.specs.Rows.{outside, unknownSignalAt, unknownClosedAt, unknownTrainAt, sharesWith, sharesAt, shutOutAt, rowsBy, countRow, unknownRow, joinRow, looseRow, chainRow, placeRow, recordRefusal}
+use Rattle.railway.proofs.Accepted.{bounded}
+use Rattle.railway.proofs.Lookups.{roster-there}
+use Rattle.acceptance.specs.Answers.{Looked, RosterOf}
 
--- a train's start and destination
-module _ (r : Railway) (t : ℕ) (x : Train) (is : x ≡ trainOf r t) where
-  pub train-unknown : not (ltb (x .start .0) (r .sections) && ltb (x .destination .0) (r .sections)) ≡ unknownTrainAt r t
-  train-unknown = rw (← is)
+-- THE TRAINS, one by one
+module _ (r : Railway) (roster : List Train) (k : ℕ) (h : RosterOf r roster k) where
+  train-there : (t : ℕ) → t < k → getD roster t noTrain ≡ trainOf r t
+  train-there t l = ap (λ (xs : List Train). getD xs t noTrain) (sym (h .are)) ∙ roster-there r t (omega (arith, h .count))
 
-  pub shut-start : isClosed r (x .start .0) ≡ true → true ≡ shutOutAt r t
-  shut-start h = rw (← is, h)
+  pub unknown-at : (t s : ℕ) (b : Bool) → t < k → r .sections ≡ s → b ≡ not (ltb (getD roster t noTrain .start .0) s && ltb (getD roster t noTrain .destination .0) s) → b ≡ unknownTrainAt r t
+  unknown-at t s b l e q = rw (← train-there t l, e) q
 
-  pub shut-end : isClosed r (x .start .0) ≡ false → (b : Bool) → b ≡ isClosed r (x .destination .0) → b ≡ shutOutAt r t
-  shut-end h b e = rw (← is, h) e
+  pub shut-at : (t : ℕ) (b : Bool) → t < k → b ≡ (isClosed r (getD roster t noTrain .start .0) || isClosed r (getD roster t noTrain .destination .0)) → b ≡ shutOutAt r t
+  shut-at t b l q = rw (← train-there t l) q
+
+  pub shares-at : (t u : ℕ) (b : Bool) → t < k → u < t → b ≡ (eqb (getD roster u noTrain .start .0) (getD roster t noTrain .start .0) || eqb (getD roster u noTrain .destination .0) (getD roster t noTrain .destination .0)) → b ≡ sharesWith r t u
+  shares-at t u b l m q = rw (← train-there t l, ← train-there u (omega arith)) q
+
+  pub all-trains : (f : ℕ → Bool) (b : Bool) → b ≡ anyBelow f k → b ≡ anyBelow f (r .trains)
+  all-trains f b q = q ∙ ap (anyBelow f) (sym (h .count))
+
+  pub places-by : (a b : Bool) → a ≡ anyBelow (sharesAt r) k → b ≡ anyBelow (shutOutAt r) k → (a || b) ≡ placeRow r
+  unfolding placeRow
+  places-by a b ha hb =
+      let x : a ≡ anyBelow (sharesAt r) (r .trains) = all-trains (sharesAt r) a ha in
+      let y : b ≡ anyBelow (shutOutAt r) (r .trains) = all-trains (shutOutAt r) b hb in
+      rw (x, y)
 
 -- tests by their parts
 pub first-holds : (a b : Bool) → a ≡ true → true ≡ (a || b)
@@ -63,8 +80,17 @@ none-asked rows = record { gives = refl }
 pub judged : {o g : Option Refusal} → o ≡ g → numberOf o ≡ numberOf g
 judged h = ap numberOf h
 
--- the test of a record: what is found in its links, its signals, its closed sections and its trains
-pub tested : (r : Railway) (n : Option ℕ) (u w b g x t : Bool) → n ≡ numberOf (first (rowsBy (countRow r) (((u || g) || x) || t) (w || b) (looseRow r) false (placeRow r)))
+-- counts within their bounds are as small as tables need them
+pub few-counted : (s p k : ℕ) (b : Bool) → b ≡ outside s p k → b ≡ false → (s ≤ mostSections) × (p ≤ mostPoints) × (k ≤ mostTrains)
+few-counted s p k b h e = let w = bounded s p k (sym h ∙ e) in (w .few-sections, w .few-points, w .few-trains)
+
+-- the test of a record: a count outside its bounds comes before all else
+pub count-given : (r : Railway) (b : Bool) → b ≡ countRow r → b ≡ true → numberOf (some Count) ≡ numberOf (recordRefusal r)
+unfolding recordRefusal first
+count-given r b h e = let z : countRow r ≡ true = sym h ∙ e in rw z
+
+-- else it is what is found in its links, its signals, its closed sections and its trains
+pub tested : (r : Railway) (n : Option ℕ) (u w b g x t : Bool) → n ≡ numberOf (first (rowsBy (countRow r) (((u || g) || x) || t) (w || b) (looseRow r) (chainRow r) false (placeRow r)))
     → Looked r allEnds u w b → g ≡ anyBelow (unknownSignalAt r) sectionEnds → x ≡ anyBelow (unknownClosedAt r) mostSections → t ≡ anyBelow (unknownTrainAt r) (r .trains) → n ≡ numberOf (recordRefusal r)
 unfolding recordRefusal unknownRow joinRow
 tested r n u w b g x t e h hg hx ht = e ∙ rw (h .unknown, h .wrong, h .unreturned, hg, hx, ht)

@@ -1,19 +1,20 @@
-// The test of a record: accepted, or refused with the first of rows 3 to 8 that applies. Any record may come in, also one that
+// The test of a record: accepted, or refused with the first of rows 3 to 8 and 13 that applies. Any record may come in, also one that
 // no text describes; each row looks at every place that it concerns. Besides the test, some of its parts are public for the
 // reader of case texts: they judge one row, pair or place of a record by itself, and are no entry points.
 ghost use mathlib.Core.Path.{_≡_};
-ghost use mathlib.Core.Bool.{_||_, cond};
-ghost use Prim.Native.Nat.{_<_};
+ghost use mathlib.Core.Bool.{_&&_, _||_, cond, not};
+ghost use Prim.Native.Nat.{ℕ, _*_, _<_, _≤_};
+ghost use lib.Dec.{ltb, eqb};
 ghost use Rattle.laws.specs.Below.{anyBelow};
 ghost use Rattle.railway.specs.declared.Railway.{Railway};
 ghost use Rattle.railway.specs.declared.Side.the-variants.{Up};
-ghost use Rattle.railway.specs.Bounds.{mostSections, sectionEnds, allEnds};
+ghost use Rattle.railway.specs.Bounds.{mostSections, mostTrains, sectionEnds, allEnds};
 ghost use Rattle.railway.specs.Ends.{sameSide, sideIndex, endAt};
-ghost use Rattle.railway.specs.Record.{linkAt, sideOf};
+ghost use Rattle.railway.specs.Record.{isClosed, joinedBy, linkAt, sideOf};
 ghost use Rattle.railway.specs.Refusals.{numberGiven, numberOf, first};
-ghost use Rattle.railway.specs.Rows.{rowsBy, countRow, looseRow, outside, known, unknownLinkAt, unknownSignalAt, unknownClosedAt, unknownTrainAt, sectionOf, bothPorts, oneSection, tied, wrongPair, wrongLinkAt, unreturnedAt, unjoined, looseAt, sharesWith, sharesAt, shutOutAt, placeRow};
+ghost use Rattle.railway.specs.Rows.{rowsBy, countRow, looseRow, outside, known, unknownLinkAt, unknownSignalAt, unknownClosedAt, unknownTrainAt, ownerOf, oneOwner, tied, wrongPair, wrongLinkAt, unreturnedAt, unjoined, looseAt, longer, mostBehind, chainedAt, chainRow, sharesAt, shutOutAt, placeRow};
 ghost use Rattle.railway.specs.Lent.{LinksOf, SignalsOf, ClosedOf};
-ghost use Rattle.acceptance.specs.Answers.{Judged, flawAt, Counts, Sided, Lent, Looked};
+ghost use Rattle.acceptance.specs.Answers.{Judged, Counts, Sided, Lent, seenAt, Looked, RosterOf};
 use railway::CaseAnswer;
 use railway::Closed;
 use railway::End;
@@ -24,9 +25,13 @@ use railway::Railway;
 use railway::Refusal;
 use railway::Side;
 use railway::Signals;
+use railway::Train;
 
 // The side of each point's legs, by its index.
 type Sides = [u8; Railway::POINTS as usize];
+
+// The trains of a record.
+type Roster = [Train; Railway::TRAINS as usize];
 
 // What rows 4 and 5 find in the links: one at or to an end that is not there, one that ties ends which no join may tie, one that is not returned.
 struct Found {
@@ -35,35 +40,35 @@ struct Found {
     unreturned: bool,
 }
 
-// What the rows look for, train by train. `SharesWith` is asked of a train and of those before it.
-enum Flaw {
-    UnknownTrain,
-    ShutOut,
-    SharesWith(u8),
-}
-
-// The test of a record, rows 3 to 8 in the table's order. (Row 7 cannot apply: a record has one flag a signal and one a section.)
+// The test of a record, rows 3 to 8 with 13 behind 6, the order in which they are given. (Row 7 cannot apply: a record has one flag a signal and one a section.)
 pub fn test_record(r: Railway) -> CaseAnswer
     ensures { λ t. ⌜ Judged r t ⌝ }
 {
+    let s = r.sections;
+    let p = r.points;
+    let k = r.trains;
+    if counts_outside(s, p, k) {
+        return CaseAnswer::Refused(Refusal::Count);
+    }
     let links = r.links;
     let signals = r.signals;
     let closed = r.closed;
     let legs = r.legs;
-    let s = r.sections;
-    let p = r.points;
+    let roster = r.roster;
     let sides = sides_of(legs, p);
-    let found = look(&links, &sides, s, p);
+    let ends = 2 * s;
+    let ports = Railway::SECTION_ENDS + 3 * p;
+    let found = look(&links, &sides, ends, ports);
     let unknown = found.unknown
-        | unknown_signals(&signals, s, p)
+        | unknown_signals(&signals, ends)
         | unknown_closed(&closed, s)
-        | any_flaw(r, Flaw::UnknownTrain, r.trains);
+        | unknown_trains(roster, k, s);
     first_row(r, unknown, found.wrong | found.unreturned, false)
 }
 
-// The first of rows 3 to 8 that applies, given what rows 4, 5 and 7 say.
+// The first of these rows that applies, given what rows 4, 5 and 7 say.
 pub fn first_row(r: Railway, unknown: bool, wrong: bool, double: bool) -> CaseAnswer
-    ensures { λ t. ⌜ numberGiven t ≡ numberOf (first (rowsBy (countRow r) unknown wrong (looseRow r) double (placeRow r))) ⌝ }
+    ensures { λ t. ⌜ numberGiven t ≡ numberOf (first (rowsBy (countRow r) unknown wrong (looseRow r) (chainRow r) double (placeRow r))) ⌝ }
 {
     if counts_outside(r.sections, r.points, r.trains) {
         return CaseAnswer::Refused(Refusal::Count);
@@ -78,10 +83,15 @@ pub fn first_row(r: Railway, unknown: bool, wrong: bool, double: bool) -> CaseAn
     if loose_ports(&links, r.points) {
         return CaseAnswer::Refused(Refusal::Loose);
     }
+    if chained(&links, r.points) {
+        return CaseAnswer::Refused(Refusal::Chain);
+    }
     if double {
         return CaseAnswer::Refused(Refusal::Double);
     }
-    if misplaced(r) {
+    let closed = r.closed;
+    let roster = r.roster;
+    if misplaced(roster, &closed, r.trains) {
         return CaseAnswer::Refused(Refusal::Place);
     }
     CaseAnswer::Accepted
@@ -106,19 +116,24 @@ pub fn counts_outside(s: u8, p: u8, k: u8) -> bool
     Railway::TRAINS < k
 }
 
-// THE LINKS, lent byte by byte; what is promised is promised of every record with these links, counts and legs. Rows 4 and 5, one pass over them.
-fn look(links: &Links, sides: &Sides, s: u8, p: u8) -> Found
-    ensures { λ f. ⌜ ((r : Railway) → Lent r (now (links .entry)) (now (sides .entry)) s p → Looked r allEnds (f .unknown) (f .wrong) (f .unreturned)) ⌝ }
+// THE LINKS, lent byte by byte; what is promised is promised of every record with these links, counts and legs. Rows 4 and 5, one pass over them. Counts
+// come as the numbers of section ends that are there, and of all ends up to the last port that is. A join is judged at the first of its ends.
+fn look(links: &Links, sides: &Sides, ends: u8, ports: u8) -> Found
+    ensures { λ f. ⌜ ((r : Railway) → Lent r (now (links .entry)) (now (sides .entry)) ends ports → Looked r allEnds (f .unknown) (f .wrong) (f .unreturned)) ⌝ }
 {
     let mut unknown = false;
     let mut wrong = false;
     let mut unreturned = false;
     let mut i: u8 = 0;
     while i < Railway::ENDS {
-        unknown = unknown | unknown_link(links, s, p, i);
-        wrong = wrong | wrong_link(links, sides, i);
-        unreturned = unreturned | is_unreturned(links, i);
-        i += 1;
+        if is_seen(links, i) {
+            i += 1;
+        } else {
+            unknown = unknown | unknown_link(links, ends, ports, i);
+            wrong = wrong | wrong_link(links, sides, i);
+            unreturned = unreturned | is_unreturned(links, i);
+            i += 1;
+        }
     }
     Found {
         unknown: unknown,
@@ -127,12 +142,27 @@ fn look(links: &Links, sides: &Sides, s: u8, p: u8) -> Found
     }
 }
 
-fn unknown_link(links: &Links, s: u8, p: u8, i: u8) -> bool
-    ensures { λ b. ⌜ ((r : Railway) → LinksOf r (now (links .entry)) → Counts r s p → b ≡ unknownLinkAt r i) ⌝ }
+// The end of an index is in no join, or joined to one before it, which returns the link.
+fn is_seen(links: &Links, i: u8) -> bool
+    ensures { λ b. ⌜ ((r : Railway) → LinksOf r (now (links .entry)) → b ≡ seenAt r i) ⌝ }
+{
+    let j = railway::link_in(links, i);
+    if Railway::ENDS <= j {
+        return true;
+    }
+    if j < i {
+        railway::link_in(links, j) == i
+    } else {
+        false
+    }
+}
+
+fn unknown_link(links: &Links, ends: u8, ports: u8, i: u8) -> bool
+    ensures { λ b. ⌜ ((r : Railway) → LinksOf r (now (links .entry)) → Counts r ends ports → b ≡ unknownLinkAt r i) ⌝ }
 {
     let j = railway::link_in(links, i);
     if j < Railway::ENDS {
-        !(known_at(s, p, i) & known_at(s, p, j))
+        !(known_at(ends, ports, i) & known_at(ends, ports, j))
     } else {
         false
     }
@@ -163,13 +193,13 @@ fn is_unreturned(links: &Links, i: u8) -> bool
 }
 
 // The section or point of the end of an index is there.
-fn known_at(s: u8, p: u8, i: u8) -> bool
-    ensures { λ b. ⌜ ((r : Railway) → Counts r s p → b ≡ known r (endAt i)) ⌝ }
+fn known_at(ends: u8, ports: u8, i: u8) -> bool
+    ensures { λ b. ⌜ ((r : Railway) → Counts r ends ports → b ≡ known r (endAt i)) ⌝ }
 {
     if i < Railway::SECTION_ENDS {
-        i / 2 < s
+        i < ends
     } else {
-        (i - Railway::SECTION_ENDS) / 3 < p
+        i < ports
     }
 }
 
@@ -179,15 +209,15 @@ fn wrong_at(sides: &Sides, i: u8, j: u8) -> bool
     requires { ⌜ j < allEnds ⌝ }
     ensures { λ b. ⌜ ((r : Railway) → Sided r (now (sides .entry)) → b ≡ wrongPair (tied r (endAt i)) (tied r (endAt j))) ⌝ }
 {
-    if ports_or_one(i, j) {
+    if one_owner_at(i, j) {
         return true;
     }
     side_in(sides, i) == side_in(sides, j)
 }
 
-// They are of two ports, or of one section.
-fn ports_or_one(i: u8, j: u8) -> bool
-    ensures { λ b. ⌜ b ≡ (bothPorts (sectionOf (endAt i)) (sectionOf (endAt j)) || oneSection (sectionOf (endAt i)) (sectionOf (endAt j))) ⌝ }
+// They are of one section, or of one point.
+fn one_owner_at(i: u8, j: u8) -> bool
+    ensures { λ b. ⌜ b ≡ oneOwner (ownerOf (endAt i)) (ownerOf (endAt j)) ⌝ }
 {
     if i < Railway::SECTION_ENDS {
         if j < Railway::SECTION_ENDS {
@@ -196,7 +226,11 @@ fn ports_or_one(i: u8, j: u8) -> bool
             false
         }
     } else {
-        Railway::SECTION_ENDS <= j
+        if j < Railway::SECTION_ENDS {
+            false
+        } else {
+            (i - Railway::SECTION_ENDS) / 3 == (j - Railway::SECTION_ENDS) / 3
+        }
     }
 }
 
@@ -245,27 +279,29 @@ fn legs_index(legs: Legs, there: bool) -> u8
     }
 }
 
-// Row 4 at the signals.
-fn unknown_signals(signals: &Signals, s: u8, p: u8) -> bool
-    ensures { λ b. ⌜ ((r : Railway) → SignalsOf r (now (signals .entry)) → Counts r s p → b ≡ anyBelow (unknownSignalAt r) sectionEnds) ⌝ }
+// Row 4 at the signals: past the section ends that are there none may stand.
+fn unknown_signals(signals: &Signals, ends: u8) -> bool
+    requires { ⌜ ends ≤ sectionEnds ⌝ }
+    ensures { λ b. ⌜ ((r : Railway) → SignalsOf r (now (signals .entry)) → 2 * r .sections ≡ ends → b ≡ anyBelow (unknownSignalAt r) sectionEnds) ⌝ }
 {
     let mut found = false;
-    let mut i: u8 = 0;
+    let mut i = ends;
     while i < Railway::SECTION_ENDS {
-        found = found | (railway::signal_in(signals, i) & !known_at(s, p, i));
+        found = found | railway::signal_in(signals, i);
         i += 1;
     }
     found
 }
 
-// Row 4 at the closed sections.
+// Row 4 at the closed sections: past those that are there none may be closed.
 fn unknown_closed(closed: &Closed, s: u8) -> bool
+    requires { ⌜ s ≤ mostSections ⌝ }
     ensures { λ b. ⌜ ((r : Railway) → ClosedOf r (now (closed .entry)) → r .sections ≡ s → b ≡ anyBelow (unknownClosedAt r) mostSections) ⌝ }
 {
     let mut found = false;
-    let mut x: u8 = 0;
+    let mut x = s;
     while x < Railway::SECTIONS {
-        found = found | (railway::closed_in(closed, x) & !(x < s));
+        found = found | railway::closed_in(closed, x);
         x += 1;
     }
     found
@@ -302,108 +338,171 @@ fn is_loose(links: &Links, i: u8) -> bool
     Railway::ENDS <= railway::link_in(links, i)
 }
 
-// Row 8.
-fn misplaced(r: Railway) -> bool
-    ensures { λ b. ⌜ b ≡ placeRow r ⌝ }
+// Row 13.
+fn chained(links: &Links, p: u8) -> bool
+    ensures { λ b. ⌜ ((r : Railway) → LinksOf r (now (links .entry)) → r .points ≡ p → b ≡ chainRow r) ⌝ }
 {
-    if places_shared(r) {
+    let mut found = false;
+    let mut n: u8 = 0;
+    while n < p {
+        found = found | chained_at(links, n);
+        n += 1;
+    }
+    found
+}
+
+fn chained_at(links: &Links, n: u8) -> bool
+    ensures { λ b. ⌜ ((r : Railway) → LinksOf r (now (links .entry)) → b ≡ chainedAt r n) ⌝ }
+{
+    if n < Railway::POINTS {
+        let stem = Railway::SECTION_ENDS + 3 * n;
+        is_long(links, stem) | is_long(links, stem + 1) | is_long(links, stem + 2)
+    } else {
+        false
+    }
+}
+
+// Past the join of the end of an index more points can be met than may be behind one.
+fn is_long(links: &Links, i: u8) -> bool
+    ensures { λ b. ⌜ ((r : Railway) → LinksOf r (now (links .entry)) → b ≡ longer r mostBehind (linkAt r i)) ⌝ }
+{
+    is_longer(links, railway::link_in(links, i), 3)
+}
+
+// Past the join that byte j says, more than k points can be met: a walk from point to point, by either leg behind a stem.
+fn is_longer(links: &Links, j: u8, k: u8) -> bool
+    ensures { λ b. ⌜ ((r : Railway) → LinksOf r (now (links .entry)) → b ≡ longer r k (joinedBy j)) ⌝ }
+{
+    if j < Railway::SECTION_ENDS {
+        return false;
+    }
+    if Railway::ENDS <= j {
+        return false;
+    }
+    if k == 0 {
         return true;
     }
-    any_flaw(r, Flaw::ShutOut, r.trains)
+    let port = (j - Railway::SECTION_ENDS) % 3;
+    if port == 0 {
+        is_longer(links, railway::link_in(links, j + 1), k - 1)
+            | is_longer(links, railway::link_in(links, j + 2), k - 1)
+    } else {
+        is_longer(links, railway::link_in(links, j - port), k - 1)
+    }
 }
 
-// Two trains have one start, or one destination.
-fn places_shared(r: Railway) -> bool
-    ensures { λ b. ⌜ b ≡ anyBelow (sharesAt r) (r .trains) ⌝ }
+// THE TRAINS. Row 4 at them.
+fn unknown_trains(roster: Roster, k: u8, s: u8) -> bool
+    requires { ⌜ k ≤ mostTrains ⌝ }
+    ensures { λ b. ⌜ ((r : Railway) → RosterOf r roster k → r .sections ≡ s → b ≡ anyBelow (unknownTrainAt r) k) ⌝ }
 {
-    let k = r.trains;
+    let mut found = false;
     let mut t: u8 = 0;
     while t < k {
-        if any_flaw(r, Flaw::SharesWith(t), t) {
-            return true;
-        }
+        let at = t as usize;
+        found = found | is_unknown(roster[at], s);
         t += 1;
     }
-    false
+    found
 }
 
-// Whether a flaw shows at one of the first n trains.
-fn any_flaw(r: Railway, f: Flaw, n: u8) -> bool
-    ensures { λ b. ⌜ b ≡ anyBelow (flawAt r f) n ⌝ }
+// A train's start or destination is not there.
+fn is_unknown(x: Train, s: u8) -> bool
+    ensures { λ b. ⌜ b ≡ not (ltb (x .start .0) s && ltb (x .destination .0) s) ⌝ }
 {
-    let mut i: u8 = 0;
-    while i < n {
-        if has_flaw(r, f, i) {
-            return true;
-        }
-        i += 1;
-    }
-    false
-}
-
-fn has_flaw(r: Railway, f: Flaw, i: u8) -> bool
-    ensures { λ b. ⌜ b ≡ flawAt r f i ⌝ }
-{
-    match f {
-        Flaw::UnknownTrain => unknown_train(r, i),
-        Flaw::ShutOut => shut_out(r, i),
-        Flaw::SharesWith(t) => shares_with(r, t, i),
-    }
-}
-
-fn unknown_train(r: Railway, t: u8) -> bool
-    ensures { λ b. ⌜ b ≡ unknownTrainAt r t ⌝ }
-{
-    let x = r.train_of(t);
-    let s = r.sections;
     !((x.start.0 < s) & (x.destination.0 < s))
 }
 
-fn shut_out(r: Railway, t: u8) -> bool
-    ensures { λ b. ⌜ b ≡ shutOutAt r t ⌝ }
+// Row 8.
+fn misplaced(roster: Roster, closed: &Closed, k: u8) -> bool
+    requires { ⌜ k ≤ mostTrains ⌝ }
+    ensures { λ b. ⌜ ((r : Railway) → RosterOf r roster k → ClosedOf r (now (closed .entry)) → b ≡ placeRow r) ⌝ }
 {
-    let x = r.train_of(t);
-    if r.closed_at(x.start.0) {
-        true
-    } else {
-        r.closed_at(x.destination.0)
-    }
+    places_shared(roster, k) | shut_out(roster, closed, k)
 }
 
-fn shares_with(r: Railway, t: u8, u: u8) -> bool
-    ensures { λ b. ⌜ b ≡ sharesWith r t u ⌝ }
+// Two trains have one start, or one destination.
+fn places_shared(roster: Roster, k: u8) -> bool
+    requires { ⌜ k ≤ mostTrains ⌝ }
+    ensures { λ b. ⌜ ((r : Railway) → RosterOf r roster k → b ≡ anyBelow (sharesAt r) k) ⌝ }
 {
-    let x = r.train_of(u);
-    let y = r.train_of(t);
-    if x.start.0 == y.start.0 {
-        true
-    } else {
-        x.destination.0 == y.destination.0
+    let mut found = false;
+    let mut t: u8 = 0;
+    while t < k {
+        found = found | shares_before(roster, t);
+        t += 1;
     }
+    found
+}
+
+// A train shares its start or its destination with one before it.
+fn shares_before(roster: Roster, t: u8) -> bool
+    requires { ⌜ t < mostTrains ⌝ }
+    ensures { λ b. ⌜ ((r : Railway) (k : ℕ) → RosterOf r roster k → t < k → b ≡ sharesAt r t) ⌝ }
+{
+    let at = t as usize;
+    let x = roster[at];
+    let mut found = false;
+    let mut u: u8 = 0;
+    while u < t {
+        let before = u as usize;
+        found = found | shares(roster[before], x);
+        u += 1;
+    }
+    found
+}
+
+// Two trains have one start, or one destination.
+fn shares(x: Train, y: Train) -> bool
+    ensures { λ b. ⌜ b ≡ (eqb (x .start .0) (y .start .0) || eqb (x .destination .0) (y .destination .0)) ⌝ }
+{
+    (x.start.0 == y.start.0) | (x.destination.0 == y.destination.0)
+}
+
+// Some train starts or ends on a closed section.
+fn shut_out(roster: Roster, closed: &Closed, k: u8) -> bool
+    requires { ⌜ k ≤ mostTrains ⌝ }
+    ensures { λ b. ⌜ ((r : Railway) → RosterOf r roster k → ClosedOf r (now (closed .entry)) → b ≡ anyBelow (shutOutAt r) k) ⌝ }
+{
+    let mut found = false;
+    let mut t: u8 = 0;
+    while t < k {
+        let at = t as usize;
+        found = found | is_shut(roster[at], closed);
+        t += 1;
+    }
+    found
+}
+
+// A train's start or destination is closed.
+fn is_shut(x: Train, closed: &Closed) -> bool
+    ensures { λ b. ⌜ ((r : Railway) → ClosedOf r (now (closed .entry)) → b ≡ (isClosed r (x .start .0) || isClosed r (x .destination .0))) ⌝ }
+{
+    railway::closed_in(closed, x.start.0) | railway::closed_in(closed, x.destination.0)
 }
 
 // Two ends that no join may tie.
 pub fn wrong_pair(r: Railway, e: End, f: End) -> bool
     ensures { λ b. ⌜ b ≡ wrongPair (tied r e) (tied r f) ⌝ }
 {
-    if both_or_one(e, f) {
+    if one_owner(e, f) {
         return true;
     }
     same_side(r.side_of(e), r.side_of(f))
 }
 
-// Two ports, or two ends of one section.
-fn both_or_one(e: End, f: End) -> bool
-    ensures { λ b. ⌜ b ≡ (bothPorts (sectionOf e) (sectionOf f) || oneSection (sectionOf e) (sectionOf f)) ⌝ }
+// Two ends of one section, or of one point.
+fn one_owner(e: End, f: End) -> bool
+    ensures { λ b. ⌜ b ≡ oneOwner (ownerOf e) (ownerOf f) ⌝ }
 {
     match e {
         End::Section(m, _) => match f {
             End::Section(n, _) => m.0 == n.0,
             End::Port(_, _) => false,
         },
-        End::Port(_, _) => match f {
+        End::Port(m, _) => match f {
             End::Section(_, _) => false,
-            End::Port(_, _) => true,
+            End::Port(n, _) => m.0 == n.0,
         },
     }
 }

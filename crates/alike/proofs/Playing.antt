@@ -1,7 +1,7 @@
 -- Two records of the same railway have one game. Whatever the game asks of a record is a lookup, and lookups agree; so each of the game's functions
 -- gives the same at every argument.
 -- Assumes nothing.
-use Prim.Native.Nat.{ℕ}
+use Prim.Native.Nat.{ℕ, zero, suc}
 use mathlib.Core.Path.{_≡_, refl, _∙_, ap, fun-ext}
 use mathlib.Core.Bool.{Bool, _&&_}
 use mathlib.Core.Option.{Option, none, some}
@@ -16,12 +16,13 @@ use Rattle.railway.specs.declared.Joined.the-variants.{Nothing, With}
 use Rattle.railway.specs.declared.Railway.{Railway}
 use Rattle.railway.specs.Ends.{endIndex}
 use Rattle.railway.specs.Record.{joined, hasSignal, trainOf}
+use Rattle.railway.specs.Passing.{Passage, through, mostMet, meeting, pastPoint, pastJoin, follow, passes, inUse, entered}
 use Rattle.railway.specs.Same.{SameRailway}
 use Rattle.railway.proofs.Same.{closed-same, joined-same, signal-same, roster-same}
 use Rattle.game.specs.Game.{Outcome, Game}
 use Rattle.game.specs.Placement.{standsOn, placements, startCode, arrived, atHome, standsWith, sharesLower, shared}
 use Rattle.game.specs.Setting.{Setting, headsFor, held, free, signalOpen, mayMove}
-use Rattle.game.specs.Moves.{through, pastPoint, pastJoin, passes, inUse, entered, otherOn, occupied, enters, moveOf, gameOf}
+use Rattle.game.specs.Moves.{otherOn, occupied, enters, moveOf, gameOf}
 
 module _ (r q : Railway) (h : SameRailway r q) where
   pub placements-same : placements r ≡ placements q
@@ -85,18 +86,24 @@ module _ (r q : Railway) (h : SameRailway r q) where
     enters-same t none = refl
     enters-same t (some x) = rw (occupied-same t x, h .sections, h .trains)
 
-  point-same : (n : PointNo) (o : Option Leg) → pastPoint r n o ≡ pastPoint q n o
-  point-same n none = refl
-  point-same n (some l) = rw (joined-same r q h (Port n l))
+  -- where a train comes to, however many points are allowed
+  point-same : (f g : Joined → Passage) → ((j : Joined) → f j ≡ g j) → (n : PointNo) (o : Option Leg) → pastPoint r f n o ≡ pastPoint q g n o
+  point-same f g e n none = refl
+  point-same f g e n (some l) = ap (meeting n) (ap f (joined-same r q h (Port n l)) ∙ e (joined q (Port n l)))
 
-  past-same : (plus : ℕ → Bool) (j : Joined) → pastJoin r plus j ≡ pastJoin q plus j
-  past-same plus Nothing = refl
-  past-same plus (With (Section n s)) = refl
-  past-same plus (With (Port n l)) = point-same n (through l (plus (n .0)))
+  past-same : (f g : PointNo → Leg → Passage) → ((n : PointNo) (l : Leg) → f n l ≡ g n l) → (j : Joined) → pastJoin f j ≡ pastJoin g j
+  past-same f g e Nothing = refl
+  past-same f g e (With (Section n s)) = refl
+  past-same f g e (With (Port n l)) = e n l
+
+  follow-same : (plus : ℕ → Bool) (k : ℕ) (j : Joined) → follow r plus k j ≡ follow q plus k j
+  unfolding follow
+  follow-same plus zero j = refl
+  follow-same plus (suc k) j = past-same _ _ (λ n l. point-same (follow r plus k) (follow q plus k) (follow-same plus k) n (through l (plus (n .0)))) j
 
   passes-same : (plus : ℕ → Bool) (e : End) → passes r plus e ≡ passes q plus e
   unfolding passes
-  passes-same plus e = past-same plus (joined r e) ∙ ap (pastJoin q plus) (joined-same r q h e)
+  passes-same plus e = follow-same plus mostMet (joined r e) ∙ ap (follow q plus mostMet) (joined-same r q h e)
 
   use-same : (o : Option ℕ) → inUse r o ≡ inUse q o
   use-same none = refl

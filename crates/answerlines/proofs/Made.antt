@@ -8,7 +8,7 @@ use Rattle.text.specs.Text.{digits, decimal, tab, lineEnd, line, bytes}
 use Rattle.text.specs.Appending.{Appended}
 use Rattle.text.proofs.Appending.{line-more, line-last, front-text}
 use Rattle.railway.specs.declared.Refusal.{Refusal}
-use Rattle.railway.specs.declared.Refusal.the-variants.{Length, Form, Count, Unknown, Join, Loose, Double, Place, Space, PlanForm, PlanFault}
+use Rattle.railway.specs.declared.Refusal.the-variants.{Length, Form, Count, Unknown, Join, Loose, Chain, Double, Place, Space, PlanForm, PlanFault}
 use Rattle.railway.specs.Refusals.{number}
 use Rattle.casefile.specs.declared.Written.{Written}
 use Rattle.plan.specs.declared.TestAnswer.{TestAnswer}
@@ -27,6 +27,7 @@ refusal-short Count = omega arith
 refusal-short Unknown = omega arith
 refusal-short Join = omega arith
 refusal-short Loose = omega arith
+refusal-short Chain = omega arith
 refusal-short Double = omega arith
 refusal-short Place = omega arith
 refusal-short Space = omega arith

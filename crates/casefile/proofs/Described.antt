@@ -33,7 +33,7 @@ use Rattle.casefile.specs.Rows.{known}
 use Rattle.casefile.specs.Recording.{endOf, fieldOf, partner, signalOf, trainOfLine, noTrainLine, railwayOf}
 use Rattle.casefile.specs.Claims.{Names, Joins, Signals, TrainSaid, AsDescribed, ReadAsDescribed}
 use Rattle.casefile.proofs.Exactly.{accepted-exactly}
-use Rattle.casefile.proofs.Faultless.{Faultless, faultless-facts, within-is}
+use Rattle.casefile.proofs.Faultless.{Laid, Faultless, faultless-facts, within-is}
 use Rattle.casefile.proofs.Ends.{signal-is, signal-self, end-field, Counted, Ties, forth, back, partner-ties, partner-one, partner-other}
 
 -- NAMES. The written end of a record's end names it, and no other does.
@@ -121,7 +121,7 @@ pub same-signal : (g h : SignalLine) → g ≡ h → sameSignal g h ≡ true
 same-signal g h p = rw p (signal-self h)
 
 -- WHAT THE LINES SAY
-module _ (d : Description) (w : Faultless d) where
+module _ (d : Description) (w : Laid d) where
   pub counted-end : (a : EndField) → known d a ≡ true → Counted a
   counted-end (section n s) h = within-is n (d .sections) h .0
   counted-end (port n l) h = within-is n (d .points) h .0
@@ -157,6 +157,7 @@ module _ (d : Description) (w : Faultless d) where
             joined-at d joinable e (numbered-named (j .other) e (k .1) (h .1)) ∙ (rw (names-is (j .other) e (h .1), names-is (j .one) f (h .0), end-field f) at p)
       ]
 
+module _ (d : Description) (w : Faultless d) where
   signals-described : (e : End) → Flagged (railwayOf d) e → Signals (d .signals) e
   signals-described e t =
       let i = endIndex e in
@@ -167,7 +168,7 @@ module _ (d : Description) (w : Faultless d) where
   described-signal : (n : SectionNo) (s : Side) → Signals (d .signals) (Section n s) → hasSignal (railwayOf d) (Section n s) ≡ true
   unfolding hasSignal
   described-signal n s t =
-      let b = w .bounds in
+      let b = w .laid .bounds in
       let g = t .signal in
       let k = within-is (g .number) (d .sections) (w .signal-known g (t .member)) in
       let e = t .names .0 in
@@ -190,7 +191,7 @@ module _ (d : Description) (w : Faultless d) where
 
   described-closed : (x : ℕ) → List·Memᴰ (suc x) (d .closed) → isClosed (railwayOf d) x ≡ true
   described-closed x m =
-      let b = w .bounds in
+      let b = w .laid .bounds in
       let k = within-is (suc x) (d .sections) (w .closed-known (suc x) m) in
       let l : x < mostSections = omega arith in
       sym (closed-there (railwayOf d) x l) ∙ closed-at d x l ∙ any-true (eqb (suc x)) (d .closed) (suc x) m (eq-eqb (suc x) (suc x) refl)
@@ -210,7 +211,7 @@ module _ (d : Description) (w : Faultless d) where
     roster-described : (t : ℕ) → t < d .trains → TrainSaid (getD (d .roster) t noTrainLine) (trainOf (railwayOf d) t)
     roster-described t h =
         let k = roster-known t h in
-        rw (roster-at d t h (w .bounds .few-trains)) (record { heading = refl; start = omega arith; destination = omega arith })
+        rw (roster-at d t h (w .laid .bounds .few-trains)) (record { heading = refl; start = omega arith; destination = omega arith })
 
     pub as-described : AsDescribed d (railwayOf d)
     unfolding railwayOf
@@ -219,8 +220,9 @@ module _ (d : Description) (w : Faultless d) where
           sections = refl;
           points = refl;
           trains = refl;
-          legs = λ n h. legs-at d n h (w .bounds .few-points);
-          joins = λ e x. (λ h. joins-described e x (partner-ties (d .joins) (fieldOf e) x (sym (joined-at d joinable e (joined-numbered (railwayOf d) e x h)) ∙ h)), described-joins e x);
+          legs = λ n h. legs-at d n h (w .laid .bounds .few-points);
+          joins = λ e x.
+              (λ h. joins-described d (w .laid) e x (partner-ties (d .joins) (fieldOf e) x (sym (joined-at d (joinable d (w .laid)) e (joined-numbered (railwayOf d) e x h)) ∙ h)), described-joins d (w .laid) e x);
           signals = λ e. (λ h. signals-described e (signal-flag (railwayOf d) e h), described-signals e);
           closed = λ x. (closed-described x, described-closed x);
           roster = roster-described;

@@ -20,10 +20,10 @@ use Rattle.railway.specs.declared.End.{End}
 use Rattle.railway.specs.declared.End.the-variants.{Section, Port}
 use Rattle.railway.specs.declared.Joined.the-variants.{Nothing, With}
 use Rattle.railway.specs.Ends.{sameSide, legIndex, legAt}
-use Rattle.railway.specs.Rows.{bothPorts, oneSection}
+use Rattle.railway.specs.Rows.{oneOwner}
 use Rattle.railway.specs.Rows as RR
 use Rattle.casefile.specs.Form.{EndField, section, port, JoinLine, SignalLine, sameEnd, sameSignal}
-use Rattle.casefile.specs.Rows.{sectionOf, joinEnds}
+use Rattle.casefile.specs.Rows.{ownerOf, joinEnds}
 use Rattle.casefile.specs.Recording.{endOf, fieldOf, partner}
 
 -- THE SAME END, the same signal
@@ -88,23 +88,18 @@ pub field-end : (e : EndField) → Counted e → fieldOf (endOf e) ≡ e
 field-end (section n s) h = let z : suc (n - 1) ≡ n = omega arith in rw z
 field-end (port n l) h = let z : suc (n - 1) ≡ n = omega arith in rw z
 
--- the tests of row 5, of ends as written and of the record's
-pub ports-same : (a b : EndField) → bothPorts (RR.sectionOf (endOf a)) (RR.sectionOf (endOf b)) ≡ bothPorts (sectionOf a) (sectionOf b)
-ports-same (section m s) (section n t) = refl
-ports-same (section m s) (port n l) = refl
-ports-same (port m l) (section n s) = refl
-ports-same (port m l) (port n k) = refl
-
+-- the test of row 5 for owners, of ends as written and of the record's
 pub less-one : (m n : ℕ) → 1 ≤ m → 1 ≤ n → eqb (m - 1) (n - 1) ≡ eqb m n
 less-one m n a b = elim (bool? (eqb m n)) [
   | inl e ↦ let p = eqb-true m n e in rw e (eq-eqb (m - 1) (n - 1) (omega arith))
   | inr e ↦ let p = eqb-false m n e in rw e (ne-eqb (m - 1) (n - 1) (λ q. p (omega arith)))
 ]
 
-pub one-same : (a b : EndField) → Counted a → Counted b → oneSection (RR.sectionOf (endOf a)) (RR.sectionOf (endOf b)) ≡ oneSection (sectionOf a) (sectionOf b)
+pub one-same : (a b : EndField) → Counted a → Counted b → oneOwner (RR.ownerOf (endOf a)) (RR.ownerOf (endOf b)) ≡ oneOwner (ownerOf a) (ownerOf b)
 one-same (section m s) (section n t) p q = less-one m n p q
 one-same (section m s) (port n l) p q = refl
-one-same (port m l) b p q = refl
+one-same (port m l) (section n s) p q = refl
+one-same (port m l) (port n k) p q = less-one m n p q
 
 -- the ends of the J lines
 pub one-end : (js : List JoinLine) (j : JoinLine) → List·Memᴰ j js → List·Memᴰ (j .one) (joinEnds js)

@@ -26,12 +26,14 @@ use Rattle.casefile.specs.declared.CaseRead.{CaseRead}
 use Rattle.railway.specs.declared.CaseAnswer.{CaseAnswer}
 use Rattle.railway.specs.declared.CaseAnswer.the-variants.{Accepted, Refused}
 use Rattle.casefile.specs.Form.{Description, Describes}
-use Rattle.casefile.specs.Rows.{mostBytes, countRow, unknownRow, joinRow, looseRow, doubleRow, placeRow, descriptionRows, descriptionTable}
+use Rattle.casefile.specs.Rows.{mostBytes, countRow, unknownRow, joinRow, looseRow, chainRow, doubleRow, placeRow, descriptionRows, descriptionTable}
 use Rattle.casefile.specs.Recording.{railwayOf}
 use Rattle.casefile.specs.Given.{accepted, refused, railwayGiven, Says, Applies, caseTable, RefusedWith, AcceptedWith, ReaderPost}
 use Rattle.casefile.specs.Reading.{read, caseRows, judged, caseAnswer}
 use Rattle.casefile.specs.Claims.{RefusedExactly, AcceptedExactly, ReaderAnswers, AlwaysAnswered}
 use Rattle.casefile.proofs.Whole.{read-sound, read-complete, describes-one, form-decided}
+-- (Examples is named so that it is checked before: a wrong definition then shows at a computed value.)
+use Rattle.casefile.proofs.Examples as Examples
 
 -- a computed row applies exactly where the table's does
 pub record Agrees (text : List ℕ) (x : Row) : Type 0 where
@@ -55,9 +57,10 @@ module _ (text : List ℕ) where
         (every-more (Agrees text) _ _ (record { on = says unknownRow; off = unsaid unknownRow })
         (every-more (Agrees text) _ _ (record { on = says joinRow; off = unsaid joinRow })
         (every-more (Agrees text) _ _ (record { on = says looseRow; off = unsaid looseRow })
+        (every-more (Agrees text) _ _ (record { on = says chainRow; off = unsaid chainRow })
         (every-more (Agrees text) _ _ (record { on = says doubleRow; off = unsaid doubleRow })
         (every-more (Agrees text) _ _ (record { on = says placeRow; off = unsaid placeRow })
-        (every-none (Agrees text)))))))
+        (every-none (Agrees text))))))))
 
   rows-agree : (o : Option Description) → read text ≡ o → Every (Agrees text) (caseRows text o)
   rows-agree none e =

@@ -57,7 +57,7 @@ yard-a : (given (caseAnswer (bytes textA) .answer) ≡ 0) × (recordRefusal reco
     × (map (hasSignal recordA) (down 0 ∷ up 0 ∷ down 1 ∷ up 1 ∷ down 2 ∷ up 2 ∷ []) ≡ true ∷ false ∷ false ∷ true ∷ false ∷ false ∷ [])
     × (trainOf recordA 0 ≡ record { heading = Up; start = record { 0 = 1 }; destination = record { 0 = 2 } })
     × (trainOf recordA 1 ≡ record { heading = Down; start = record { 0 = 2 }; destination = record { 0 = 0 } })
-unfolding bytes recordA given first digits line isDigit byteAt digitsAt numberAt counted while sideFieldAt legFieldAt endFieldAt headerAt pointLineAt joinLineAt signalLineAt closedLineAt trainLineAt walk read caseAnswer anyBelow listBelow any repeats joinEnds unknownRow joinRow looseRow doubleRow placeRow partner railwayOf endAt joinedBy joined hasSignal legsOf trainOf R.unknownRow R.joinRow R.looseRow R.placeRow recordRefusal isClosed
+unfolding bytes recordA given first digits line isDigit byteAt digitsAt numberAt counted while sideFieldAt legFieldAt endFieldAt headerAt pointLineAt joinLineAt signalLineAt closedLineAt trainLineAt walk read caseAnswer anyBelow listBelow any repeats joinEnds unknownRow joinRow looseRow doubleRow placeRow partner railwayOf endAt joinedBy joined hasSignal legsOf trainOf R.unknownRow R.joinRow R.looseRow R.placeRow recordRefusal isClosed R.chainRow R.longer
 yard-a = (refl, refl, (refl, refl, refl, refl), refl, refl, refl, refl)
 
 -- THE TABLE of texts, each with the number that it is refused with; 0: it is accepted.
@@ -161,14 +161,35 @@ cases =
     -- with no points, 1+ is unknown, and no wrong or loose join
     record { number = 4; text = "H\t1\t0\t1\nJ\t1u\t1+\nT\t1\tu\t1\t1\n" }
     ∷
-    -- 1u with 1d, 1u with 2u, an end with itself, two ports
+    -- 1u with 1d, 1u with 2u, an end with itself; ports of one point, a port with itself, two ports of the same side
     record { number = 5; text = "H\t2\t0\t1\nJ\t1u\t1d\nT\t1\tu\t1\t1\n" }
     ∷
     record { number = 5; text = "H\t2\t0\t1\nJ\t1u\t2u\nT\t1\tu\t1\t1\n" }
     ∷
     record { number = 5; text = "H\t2\t0\t1\nJ\t1u\t1u\nT\t1\tu\t1\t1\n" }
     ∷
-    record { number = 5; text = "H\t1\t2\t1\nP\t1\tu\nP\t2\tu\nJ\t1s\t2+\nT\t1\tu\t1\t1\n" }
+    record { number = 5; text = "H\t1\t1\t1\nP\t1\tu\nJ\t1s\t1+\nT\t1\tu\t1\t1\n" }
+    ∷
+    record { number = 5; text = "H\t1\t1\t1\nP\t1\tu\nJ\t1-\t1-\nT\t1\tu\t1\t1\n" }
+    ∷
+    record { number = 5; text = "H\t1\t2\t1\nP\t1\tu\nP\t2\tu\nJ\t1+\t2+\nT\t1\tu\t1\t1\n" }
+    ∷
+    record { number = 5; text = "H\t1\t2\t1\nP\t1\tu\nP\t2\td\nJ\t2+\t1s\nT\t1\tu\t1\t1\n" }
+    ∷
+    -- ports of two points, side against side: no fault of theirs, where other ports are loose; two points in a row; a crossover
+    record { number = 6; text = "H\t1\t2\t1\nP\t1\tu\nP\t2\tu\nJ\t1s\t2+\nT\t1\tu\t1\t1\n" }
+    ∷
+    record { number = 0; text = "H\t4\t2\t1\nP\t1\tu\nP\t2\tu\nJ\t1u\t2s\nJ\t2d\t2-\nJ\t3d\t1+\nJ\t4d\t1-\nJ\t1s\t2+\nT\t1\tu\t1\t1\n" }
+    ∷
+    record { number = 0; text = "H\t4\t2\t1\nP\t1\tu\nP\t2\td\nJ\t1u\t1s\nJ\t2d\t1+\nJ\t3u\t2+\nJ\t4d\t2s\nJ\t2-\t1-\nT\t1\tu\t1\t4\n" }
+    ∷
+    -- four points in a row, and five
+    record { number = 0; text = "H\t6\t4\t1\nP\t1\tu\nP\t2\tu\nP\t3\tu\nP\t4\tu\nJ\t1u\t1s\nJ\t2d\t1-\nJ\t3d\t2-\nJ\t4d\t3-\nJ\t5d\t4-\nJ\t6d\t4+\nJ\t1+\t2s\nJ\t2+\t3s\nJ\t3+\t4s\nT\t1\tu\t1\t1\n" }
+    ∷
+    record { number = 13; text = "H\t7\t5\t1\nP\t1\tu\nP\t2\tu\nP\t3\tu\nP\t4\tu\nP\t5\tu\nJ\t1u\t1s\nJ\t2d\t1-\nJ\t3d\t2-\nJ\t4d\t3-\nJ\t5d\t4-\nJ\t6d\t5-\nJ\t7d\t5+\nJ\t1+\t2s\nJ\t2+\t3s\nJ\t3+\t4s\nJ\t4+\t5s\nT\t1\tu\t1\t1\n" }
+    ∷
+    -- a round of two points
+    record { number = 13; text = "H\t2\t2\t1\nP\t1\tu\nP\t2\tu\nJ\t1d\t1-\nJ\t2d\t2-\nJ\t1s\t2+\nJ\t1+\t2s\nT\t1\tu\t1\t1\n" }
     ∷
     -- an end in two joins; a join said twice, and turned round
     record { number = 5; text = "H\t3\t0\t1\nJ\t1u\t2d\nJ\t3d\t1u\nT\t1\tu\t1\t1\n" }
@@ -244,7 +265,7 @@ cases =
     ∷
     record { number = 7; text = "H\t3\t0\t1\nX\t1\nX\t1\nT\t1\tu\t1\t1\n" }
     ∷
-    -- of two rows that apply the first is given: 3 and 4, 4 and 5, 5 and 6, 6 and 7, 7 and 8
+    -- of two rows that apply the first is given: 3 and 4, 4 and 5, 5 and 6, 6 and 7, 7 and 8; 13 with a loose port elsewhere, and with a signal named twice
     record { number = 3; text = "H\t49\t0\t1\nG\t50u\nT\t1\tu\t1\t1\n" }
     ∷
     record { number = 4; text = "H\t2\t0\t1\nJ\t1u\t1d\nG\t3u\nT\t1\tu\t1\t1\n" }
@@ -255,10 +276,14 @@ cases =
     ∷
     record { number = 7; text = "H\t2\t0\t2\nG\t1u\nG\t1u\nT\t1\tu\t1\t2\nT\t2\tu\t1\t2\n" }
     ∷
+    record { number = 6; text = "H\t2\t2\t1\nP\t1\tu\nP\t2\tu\nJ\t1d\t1-\nJ\t1s\t2+\nJ\t1+\t2s\nT\t1\tu\t1\t1\n" }
+    ∷
+    record { number = 13; text = "H\t2\t2\t1\nP\t1\tu\nP\t2\tu\nJ\t1d\t1-\nJ\t2d\t2-\nJ\t1s\t2+\nJ\t1+\t2s\nG\t1u\nG\t1u\nT\t1\tu\t1\t1\n" }
+    ∷
     []
 
 numbers : map (λ c. given (caseAnswer (bytes (c .text)) .answer)) cases ≡ map (λ c. c .number) cases
-unfolding bytes given cases first digits line isDigit byteAt digitsAt numberAt counted while sideFieldAt legFieldAt endFieldAt headerAt pointLineAt joinLineAt signalLineAt closedLineAt trainLineAt walk read caseAnswer anyBelow listBelow any repeats joinEnds unknownRow joinRow looseRow doubleRow placeRow isClosed
+unfolding bytes given cases first digits line isDigit byteAt digitsAt numberAt counted while sideFieldAt legFieldAt endFieldAt headerAt pointLineAt joinLineAt signalLineAt closedLineAt trainLineAt walk read caseAnswer anyBelow listBelow any repeats joinEnds unknownRow joinRow looseRow doubleRow placeRow isClosed partner railwayOf endAt joinedBy joined R.chainRow R.longer
 numbers = refl
 
 -- byte 13 is what stands in the table above as such
@@ -272,11 +297,17 @@ writes : (written recordA (replicate 68 7) ≡ W.Bytes 68) × (bufferAfter recor
     × (written recordA (replicate 70 7) ≡ W.Bytes 68) × (bufferAfter recordA (replicate 70 7) ≡ bytes textA ++ (7 ∷ 7 ∷ []))
     × (written recordA (replicate 67 7) ≡ W.Refused Space) × (bufferAfter recordA (replicate 67 7) ≡ replicate 67 7)
     × (written emptyRailway [] ≡ W.Refused Count) × (bufferAfter emptyRailway (1 ∷ 2 ∷ []) ≡ 1 ∷ 2 ∷ [])
-unfolding bytes recordA first digits line isDigit byteAt digitsAt numberAt counted while sideFieldAt legFieldAt endFieldAt headerAt pointLineAt joinLineAt signalLineAt closedLineAt trainLineAt walk read caseAnswer anyBelow listBelow gatherBelow any repeats joinEnds unknownRow joinRow looseRow doubleRow placeRow partner railwayOf endAt joinedBy joined hasSignal legsOf trainOf R.unknownRow R.joinRow R.looseRow R.placeRow recordRefusal flatMap rising spell descriptionOf writtenText writerRefusal written bufferAfter isClosed
+unfolding bytes recordA first digits line isDigit byteAt digitsAt numberAt counted while sideFieldAt legFieldAt endFieldAt headerAt pointLineAt joinLineAt signalLineAt closedLineAt trainLineAt walk read caseAnswer anyBelow listBelow gatherBelow any repeats joinEnds unknownRow joinRow looseRow doubleRow placeRow partner railwayOf endAt joinedBy joined hasSignal legsOf trainOf R.unknownRow R.joinRow R.looseRow R.placeRow recordRefusal flatMap rising spell descriptionOf writtenText writerRefusal written bufferAfter isClosed R.chainRow R.longer
 writes = (refl, refl, refl, refl, refl, refl, refl, refl)
 
 -- Lines that come in disorder and turned round are written in the one order that the writer knows.
 sorts : writtenText (caseAnswer (bytes "H\t5\t1\t1\nP\t1\tu\nJ\t1s\t3u\nJ\t1-\t1d\nJ\t2d\t1u\nJ\t3d\t1+\nG\t2u\nG\t1u\nG\t1d\nX\t5\nX\t1\nX\t4\nT\t1\td\t3\t2\n") .railway)
     ≡ bytes "H\t5\t1\t1\nP\t1\tu\nJ\t1d\t1-\nJ\t1u\t2d\nJ\t3d\t1+\nJ\t3u\t1s\nG\t1d\nG\t1u\nG\t2u\nX\t1\nX\t4\nX\t5\nT\t1\td\t3\t2\n"
-unfolding bytes first digits line isDigit byteAt digitsAt numberAt counted while sideFieldAt legFieldAt endFieldAt headerAt pointLineAt joinLineAt signalLineAt closedLineAt trainLineAt walk read caseAnswer anyBelow listBelow gatherBelow any repeats joinEnds unknownRow joinRow looseRow doubleRow placeRow partner railwayOf endAt joinedBy joined hasSignal legsOf trainOf flatMap rising spell descriptionOf writtenText isClosed
+unfolding bytes first digits line isDigit byteAt digitsAt numberAt counted while sideFieldAt legFieldAt endFieldAt headerAt pointLineAt joinLineAt signalLineAt closedLineAt trainLineAt walk read caseAnswer anyBelow listBelow gatherBelow any repeats joinEnds unknownRow joinRow looseRow doubleRow placeRow partner railwayOf endAt joinedBy joined hasSignal legsOf trainOf flatMap rising spell descriptionOf writtenText isClosed R.chainRow R.longer
 sorts = refl
+
+-- Joins between points come last, in each the lower point first, and by first port in the order 1s, 1+, 1-, 2s.
+sorts-points : writtenText (caseAnswer (bytes "H\t7\t5\t1\nP\t1\tu\nP\t2\tu\nP\t3\tu\nP\t4\tu\nP\t5\tu\nJ\t5s\t2+\nJ\t2s\t1-\nJ\t3s\t1+\nJ\t4+\t1s\nJ\t5-\t7d\nJ\t6d\t5+\nJ\t5d\t2-\nJ\t4d\t3-\nJ\t3d\t3+\nJ\t2d\t4-\nJ\t1u\t4s\nT\t1\tu\t1\t2\n") .railway)
+    ≡ bytes "H\t7\t5\t1\nP\t1\tu\nP\t2\tu\nP\t3\tu\nP\t4\tu\nP\t5\tu\nJ\t1u\t4s\nJ\t2d\t4-\nJ\t3d\t3+\nJ\t4d\t3-\nJ\t5d\t2-\nJ\t6d\t5+\nJ\t7d\t5-\nJ\t1s\t4+\nJ\t1+\t3s\nJ\t1-\t2s\nJ\t2+\t5s\nT\t1\tu\t1\t2\n"
+unfolding bytes first digits line isDigit byteAt digitsAt numberAt counted while sideFieldAt legFieldAt endFieldAt headerAt pointLineAt joinLineAt signalLineAt closedLineAt trainLineAt walk read caseAnswer anyBelow listBelow gatherBelow any repeats joinEnds unknownRow joinRow looseRow doubleRow placeRow partner railwayOf endAt joinedBy joined hasSignal legsOf trainOf flatMap rising spell descriptionOf writtenText isClosed R.chainRow R.longer
+sorts-points = refl

@@ -1,4 +1,4 @@
--- What is written of an accepted railway is at most 4,096 bytes long: it has one H line, at most 16 P, 96 J, 96 G, 48 X and 4 T lines. Since a number
+-- What is written of an accepted railway is at most 4,096 bytes long: it has one H line, at most 16 P, 144 J, 96 G, 48 X and 4 T lines. Since a number
 -- below 1,000 has three digits at most, no line has more than 16 bytes, and no J, G or X line more than 12.
 -- Assumes nothing.
 use Prim.Native.Nat.{ℕ, zero, suc, _+_, _*_, _<_, _≤_}
@@ -16,7 +16,7 @@ use Rattle.railway.specs.declared.Side.{Side}
 use Rattle.railway.specs.declared.Joined.{Joined}
 use Rattle.railway.specs.declared.Joined.the-variants.{Nothing, With}
 use Rattle.railway.specs.declared.Railway.{Railway}
-use Rattle.railway.specs.Bounds.{mostSections, sectionEnds}
+use Rattle.railway.specs.Bounds.{mostSections, sectionEnds, allEnds}
 use Rattle.railway.specs.Ends.{endIndex, endAt}
 use Rattle.railway.specs.Record.{linkAt, flagAt, closedAt}
 use Rattle.railway.proofs.Accepted.{Accepted, accepted-facts}
@@ -81,9 +81,9 @@ one-join i Nothing = omega arith
 one-join i (With f) = one-at-most (record { one = fieldOf (endAt i); other = fieldOf f }) (ltb i (endIndex f))
 
 module _ (r : Railway) (w : Accepted r) where
-  few-joins : length (descriptionOf r .joins) ≤ sectionEnds
+  few-joins : length (descriptionOf r .joins) ≤ allEnds
   unfolding descriptionOf
-  few-joins = gather-short (joinAt r) (λ i. one-join i (linkAt r i)) sectionEnds
+  few-joins = gather-short (joinAt r) (λ i. one-join i (linkAt r i)) allEnds
 
   few-signals : length (descriptionOf r .signals) ≤ sectionEnds
   unfolding descriptionOf

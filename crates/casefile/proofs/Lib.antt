@@ -9,6 +9,7 @@ pub mod Ends
 pub mod Faultless
 pub mod Described
 pub mod Again
+pub mod Chained
 pub mod Writer
 pub mod Lengths
 pub mod RoundTrip

@@ -13,8 +13,10 @@ use Rattle.text.specs.Reading.{isDigit, byteAt, digitsAt, numberAt}
 use Rattle.railway.specs.declared.Side.the-variants.{Up}
 use Rattle.railway.specs.declared.Refusal.the-variants.{Length, Form, Double}
 use Rattle.railway.specs.Refusals.{first}
+use Rattle.railway.specs.Rows.{chainRow}
 use Rattle.casefile.specs.Form.{Description, rising, spell, Writable, WritableJoin, WritableSignal, WritableTrain, Describes}
 use Rattle.casefile.specs.Rows.{joinEnds, unknownRow, joinRow, looseRow, doubleRow, placeRow}
+use Rattle.casefile.specs.Recording.{railwayOf}
 use Rattle.casefile.specs.Given.{refused}
 use Rattle.casefile.specs.Reading.{headerAt, walk, read, caseAnswer}
 use Rattle.casefile.proofs.Exactly.{answer-of}
@@ -65,5 +67,5 @@ long-described a b =
 pub lengths : (length (spell (long 813 2)) ≡ 4096) × (caseAnswer (spell (long 813 2)) ≡ refused Double)
     × (length (spell (long 812 3)) ≡ 4097) × (caseAnswer (spell (long 812 3)) ≡ refused Length)
     × (caseAnswer (replicate 4096 0) ≡ refused Form) × (caseAnswer (replicate 4097 0) ≡ refused Length)
-unfolding long copies spell flatMap rising first digits line isDigit byteAt digitsAt numberAt headerAt walk read caseAnswer anyBelow any repeats joinEnds unknownRow joinRow looseRow doubleRow placeRow
+unfolding long copies spell flatMap rising first digits line isDigit byteAt digitsAt numberAt headerAt walk read caseAnswer anyBelow any repeats joinEnds unknownRow joinRow looseRow doubleRow placeRow railwayOf chainRow
 lengths = (refl, answer-of (spell (long 813 2)) (long 813 2) (long-described 813 2), refl, answer-of (spell (long 812 3)) (long 812 3) (long-described 812 3), refl, refl)

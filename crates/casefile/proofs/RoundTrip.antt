@@ -1,37 +1,32 @@
 -- The round trip. An accepted record has what its own written lines say, field by field, as has the railway read from them; and two records that
--- have what the same lines say are the same railway.
+-- have what the same lines say are the same railway. So that railway is accepted as the record is, and row 13 does not apply to its lines.
 -- Assumes nothing.
-use Prim.Native.Nat.{ℕ, suc, _+_, _*_, _<_}
+use Prim.Native.Nat.{ℕ, suc, _<_}
 use mathlib.Core.Path.{_≡_, refl, sym, _∙_, ap}
-use mathlib.Core.Logic.{_⊎_, inl, inr}
+use mathlib.Core.Logic.{inl, inr}
 use mathlib.Core.Bool.{Bool, true, false}
 use mathlib.Core.List.{List·Memᴰ}
 use native.Mathlib.Omega.{arith}
 use lib.ListN.{getD}
-use borrow.Author.Tests.{eqb-false}
 use Rattle.laws.specs.Below.{listBelow, gatherBelow}
-use Rattle.laws.proofs.Bools.{clash, lt?}
 use Rattle.laws.proofs.Below.{list-same, gather-same, list-get}
 use Rattle.railway.specs.declared.Side.{Side}
 use Rattle.railway.specs.declared.Side.the-variants.{Up}
-use Rattle.railway.specs.declared.SectionNo.{SectionNo}
 use Rattle.railway.specs.declared.End.{End}
-use Rattle.railway.specs.declared.End.the-variants.{Section, Port}
 use Rattle.railway.specs.declared.Joined.{Joined}
 use Rattle.railway.specs.declared.Joined.the-variants.{Nothing, With}
 use Rattle.railway.specs.declared.Train.{Train}
 use Rattle.railway.specs.declared.Railway.{Railway}
 use Rattle.railway.specs.Bounds.{mostSections, sectionEnds, allEnds}
-use Rattle.railway.specs.Ends.{Numbered, sideIndex, endIndex, endAt}
+use Rattle.railway.specs.Ends.{endIndex, endAt}
 use Rattle.railway.specs.Record.{joined, hasSignal, isClosed, legsOf, trainOf}
-use Rattle.railway.specs.Rows.{bothPorts, oneSection}
-use Rattle.railway.specs.Rows as RR
 use Rattle.railway.specs.Same.{SameRailway}
-use Rattle.railway.proofs.Ends.{side-small, end-index, index-end, section-index, section-below, port-behind, numbered-of}
+use Rattle.railway.proofs.Ends.{end-index, index-below, index-end, numbered-of}
 use Rattle.railway.proofs.Lookups.{joined-there, signal-there, closed-there, Flagged, signal-flag}
-use Rattle.railway.proofs.Accepted.{Accepted, accepted-facts, known-numbered, joined-known, joined-right, joined-back}
+use Rattle.railway.proofs.Accepted.{Accepted, no-chain, accepted-facts, facts-accepted, known-numbered, joined-known, joined-right, joined-back}
 use Rattle.railway.proofs.Same.{refusal-same, same-sym, same-trans}
 use Rattle.casefile.specs.Form.{EndField, section, TrainLine, Description, spell, Describes}
+use Rattle.casefile.specs.Rows.{chainRow}
 use Rattle.casefile.specs.Recording.{fieldOf, signalOf, noTrainLine, railwayOf}
 use Rattle.casefile.specs.Writing.{joinAt, signalAt, closedLineOf, lineOfTrain, descriptionOf, writtenText}
 use Rattle.casefile.specs.Given.{accepted}
@@ -41,7 +36,7 @@ use Rattle.casefile.proofs.Exactly.{accepted-exactly, accepted-one}
 use Rattle.casefile.proofs.Faultless.{facts-faultless}
 use Rattle.casefile.proofs.Ends.{field-one}
 use Rattle.casefile.proofs.Described.{closed-flag, names-field, names-is, signal-names, as-described}
-use Rattle.casefile.proofs.Writer.{from-link, from-flag, from-closed, join-written, signal-written, closed-written, joined-link, link-joined, link-back, faultless, well-formed}
+use Rattle.casefile.proofs.Writer.{either-first, from-link, from-flag, from-closed, join-written, signal-written, closed-written, joined-link, link-joined, link-back, faultless, well-formed}
 use Rattle.casefile.proofs.Lengths.{short}
 
 -- THE SAME LINES, THE SAME RAILWAY
@@ -96,23 +91,6 @@ module _ (d : Description) (r q : Railway) (t : AsDescribed d r) (u : AsDescribe
       }
 
 -- WHAT THE WRITER SAYS OF A RECORD
--- of two ends that a join may tie, one has the earlier index, and that is a section's
-index-of : (n : SectionNo) (s : Side) → n .0 < mostSections → 2 * n .0 + sideIndex s ≡ endIndex (Section n s)
-index-of n s h = section-index (Section n s) n s (sideIndex s) refl h refl
-
-earlier : (e f : End) → Numbered e → Numbered f → bothPorts (RR.sectionOf e) (RR.sectionOf f) ≡ false → oneSection (RR.sectionOf e) (RR.sectionOf f) ≡ false
-    → ((endIndex e < sectionEnds) × (endIndex e < endIndex f)) ⊎ ((endIndex f < sectionEnds) × (endIndex f < endIndex e))
-earlier (Section m s) (Section n t) a b p o =
-    let x = index-of m s a in
-    let y = index-of n t b in
-    let u = side-small s in
-    let v = side-small t in
-    let d = eqb-false (m .0) (n .0) o in
-    elim (lt? (m .0) (n .0)) [ inl l ↦ inl (section-below m s a, omega arith) | inr l ↦ inr (section-below n t b, omega arith) ]
-earlier (Section m s) (Port n l) a b p o = let x = section-below m s a in let y = port-behind n l in inl (x, omega arith)
-earlier (Port m l) (Section n t) a b p o = let x = section-below n t b in let y = port-behind m l in inr (x, omega arith)
-earlier (Port m l) (Port n k) a b p o = clash refl p
-
 module _ (r : Railway) (w : Accepted r) where
   joins-described : (e f : End) → joined r e ≡ With f → Joins (descriptionOf r .joins) e f
   unfolding descriptionOf
@@ -120,18 +98,17 @@ module _ (r : Railway) (w : Accepted r) where
       let k = joined-known r w e f h in
       let n = known-numbered r w e (k .0) in
       let m = known-numbered r w f (k .1) in
-      let t = joined-right r w e f h in
-      elim (earlier e f n m (t .not-ports) (t .not-one)) [
+      elim (either-first e f n m (joined-right r w e f h .not-one)) [
         | inl l ↦
             record {
               join = _;
-              member = join-written r (endIndex e) f (l .0) (link-joined r w e f n h) (l .1);
+              member = join-written r (endIndex e) f (index-below e n) (link-joined r w e f n h) l;
               ties = inl (rw (end-index e n) (names-field e), names-field f);
             }
         | inr l ↦
             record {
               join = _;
-              member = join-written r (endIndex f) e (l .0) (link-joined r w f e m (joined-back r w e f h)) (l .1);
+              member = join-written r (endIndex f) e (index-below f m) (link-joined r w f e m (joined-back r w e f h)) l;
               ties = inr (rw (end-index f m) (names-field f), names-field e);
             }
       ]
@@ -144,10 +121,9 @@ module _ (r : Railway) (w : Accepted r) where
   described-joins e f t =
       let c = from-link r w (t .join) (t .member) in
       let o = c .origin in
-      let b : c .index < allEnds = omega (arith, c .below) in
       elim (t .ties) [
-        | inl h ↦ rw (named-one (t .join .one) e (endAt (c .index)) (h .0) (o .one), named-one (t .join .other) f (o .to) (h .1) (o .other)) (joined-link r w (c .index) (o .to) b (o .link))
-        | inr h ↦ rw (named-one (t .join .one) f (endAt (c .index)) (h .0) (o .one), named-one (t .join .other) e (o .to) (h .1) (o .other)) (link-back r w (c .index) (o .to) b (o .link))
+        | inl h ↦ rw (named-one (t .join .one) e (endAt (c .index)) (h .0) (o .one), named-one (t .join .other) f (o .to) (h .1) (o .other)) (joined-link r w (c .index) (o .to) (c .below) (o .link))
+        | inr h ↦ rw (named-one (t .join .one) f (endAt (c .index)) (h .0) (o .one), named-one (t .join .other) e (o .to) (h .1) (o .other)) (link-back r w (c .index) (o .to) (c .below) (o .link))
       ]
 
   signals-described : (e : End) → Flagged r e → Signals (descriptionOf r .signals) e
@@ -198,15 +174,20 @@ module _ (r : Railway) (w : Accepted r) where
   unfolding writtenText
   described = record { well-formed = well-formed r w; spelling = refl }
 
+  same : SameRailway r (railwayOf (descriptionOf r))
+  same = described-same (descriptionOf r) r (railwayOf (descriptionOf r)) self-described (as-described (descriptionOf r) (faultless r w) (well-formed r w))
+
+  unchained : chainRow (descriptionOf r) ≡ false
+  unchained =
+      let q = railwayOf (descriptionOf r) in
+      no-chain q (accepted-facts q (sym (refusal-same r q same) ∙ facts-accepted r w))
+
   trip : caseAnswer (writtenText r) ≡ accepted (railwayOf (descriptionOf r))
   unfolding writtenText
   trip =
       let d = descriptionOf r in
       accepted-exactly (writtenText r) (railwayOf d) .1
-      (record { short = short r w; description = d; described = described; no-row = facts-faultless d (faultless r w); railway = refl })
-
-  same : SameRailway r (railwayOf (descriptionOf r))
-  same = described-same (descriptionOf r) r (railwayOf (descriptionOf r)) self-described (as-described (descriptionOf r) (faultless r w) (well-formed r w))
+      (record { short = short r w; description = d; described = described; no-row = facts-faultless d (faultless r w) unchained; railway = refl })
 
 pub written-as-described : WrittenAsDescribed
 written-as-described r e = let w = accepted-facts r e in (descriptionOf r, described r w, self-described r w)
@@ -219,8 +200,8 @@ description-same : (r q : Railway) → SameRailway r q → descriptionOf r ≡ d
 unfolding descriptionOf
 description-same r q h =
     let a : listBelow (legsOf r) (r .points) ≡ listBelow (legsOf q) (r .points) = list-same (legsOf r) (legsOf q) (r .points) (h .legs) in
-    let b : gatherBelow (joinAt r) sectionEnds ≡ gatherBelow (joinAt q) sectionEnds
-    = gather-same (joinAt r) (joinAt q) sectionEnds (λ i l. (let z = h .joins i (omega arith) in rw z)) in
+    let b : gatherBelow (joinAt r) allEnds ≡ gatherBelow (joinAt q) allEnds
+    = gather-same (joinAt r) (joinAt q) allEnds (λ i l. (let z = h .joins i l in rw z)) in
     let c : gatherBelow (signalAt r) sectionEnds ≡ gatherBelow (signalAt q) sectionEnds
     = gather-same (signalAt r) (signalAt q) sectionEnds (λ i l. (let z = h .signals i l in rw z)) in
     let s : gatherBelow (closedLineOf r) mostSections ≡ gatherBelow (closedLineOf q) mostSections

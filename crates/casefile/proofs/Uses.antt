@@ -3,9 +3,10 @@
 -- Assumes nothing.
 use mathlib.Core.Path.{_≡_, refl, sym, _∙_, ap}
 use mathlib.Core.Bool.{true, false}
-use mathlib.Core.List.{List, [], _∷_, _++_, flatMap, List·Memᴰ, List·Memᴰ·head}
+use mathlib.Core.Logic.{_⊎_, inr}
+use mathlib.Core.List.{List, [], _∷_, _++_, flatMap, List·Memᴰ, List·Memᴰ·head, List·Memᴰ·tail}
 use mathlib.Core.Option.{none, some}
-use Prim.Native.Nat.{ℕ, zero, suc, _<_}
+use Prim.Native.Nat.{ℕ, zero, suc, _<_, _≤_}
 use Prim.Native.String.{String}
 use native.Mathlib.Omega.{arith}
 use lib.ListN.{length, take, replicate, length-replicate}
@@ -18,28 +19,32 @@ use Rattle.text.specs.Reading.{isDigit, byteAt, digitsAt, numberAt}
 use Rattle.railway.specs.declared.Side.the-variants.{Up, Down}
 use Rattle.railway.specs.declared.Leg.the-variants.{Stem, Plus, Minus}
 use Rattle.railway.specs.declared.End.the-variants.{Section}
+use Rattle.railway.specs.declared.Joined.the-variants.{With}
 use Rattle.railway.specs.declared.Railway.{Railway}
-use Rattle.railway.specs.declared.Refusal.the-variants.{Length, Place}
+use Rattle.railway.specs.declared.Refusal.the-variants.{Length, Chain, Place}
 use Rattle.railway.specs.Ends.{endAt}
 use Rattle.railway.specs.Refusals.{first}
-use Rattle.railway.specs.Record.{isClosed, flagAt, closedAt, joinedBy, joined, hasSignal, legsOf, trainOf, withJoin, withSignal, withClosed, withLegs, withTrain}
-use Rattle.railway.specs.Rows.{unknownRow, joinRow, looseRow, placeRow, recordRefusal}
+use Rattle.railway.specs.Record.{isClosed, linkAt, flagAt, closedAt, joinedBy, joined, hasSignal, legsOf, trainOf, withJoin, withSignal, withClosed, withLegs, withTrain}
+use Rattle.railway.specs.Rows.{unknownRow, joinRow, looseRow, longer, chainRow, placeRow, recordRefusal}
+use Rattle.railway.specs.Chains.{leftBy, LongWay, Round}
 use Rattle.railway.specs.Same.{SameRailway}
-use Rattle.railway.specs.Yards.{yardA, yardH, lineJ, lineT, sec}
+use Rattle.railway.specs.Yards.{yardA, yardH, lineP, lineJ, lineT, sec, port as portOf}
 use Rattle.casefile.specs.Form.{section, port, JoinLine, SignalLine, Description, rising, spell, Describes}
 use Rattle.casefile.specs.Rows.{FormRow, joinEnds}
 use Rattle.casefile.specs.Rows as D
+use Rattle.casefile.specs.Recording.{partner, railwayOf}
 use Rattle.casefile.specs.Given.{refused, RefusedWith}
 use Rattle.casefile.specs.Writing.{descriptionOf, writtenText}
 use Rattle.casefile.specs.YardTexts.{textA}
 use Rattle.casefile.specs.Reading.{counted, while, sideFieldAt, legFieldAt, endFieldAt, headerAt, pointLineAt, joinLineAt, signalLineAt, closedLineAt, trainLineAt, walk, read, caseAnswer}
-use Rattle.casefile.specs.Claims.{Signals, Sorted}
+use Rattle.casefile.specs.Claims.{JoinableLines, Joins, Signals, Sorted}
 use Rattle.casefile.proofs.Whole.{read-is-spelling, describes-one, form-decided}
 use Rattle.casefile.proofs.Exactly.{refused-exactly}
 use Rattle.casefile.proofs.Longest.{long, long-described, lengths}
 use Rattle.casefile.proofs.Cut.{cut-decides}
 use Rattle.casefile.proofs.RoundTrip.{written-as-described, same-refusal, same-text, text-same}
 use Rattle.casefile.proofs.Order.{writer-sorts}
+use Rattle.casefile.proofs.Chained.{chain-given}
 
 -- WHAT YARD A'S TEXT SAYS, but for the order of its J and G lines
 abbrev pub sayingA : List JoinLine → List SignalLine → List ℕ → Description
@@ -113,7 +118,7 @@ refused-anyway rest =
 
 -- WRITTEN. Yard A's record is written as its text,
 pub written-a : (writtenText yardA ≡ bytes textA) × (recordRefusal yardA ≡ none)
-unfolding bytes first digits line anyBelow listBelow gatherBelow endAt joinedBy joined legsOf trainOf withJoin withSignal withLegs withTrain unknownRow joinRow looseRow placeRow recordRefusal flatMap rising spell descriptionOf writtenText isClosed
+unfolding bytes first digits line anyBelow listBelow gatherBelow endAt joinedBy joined legsOf trainOf withJoin withSignal withLegs withTrain unknownRow joinRow looseRow longer chainRow placeRow recordRefusal flatMap rising spell descriptionOf writtenText isClosed
 written-a = (refl, refl)
 
 -- in which a G line names 1d, where it has a signal.
@@ -146,7 +151,7 @@ port-in-front : (r : Railway) → recordRefusal r ≡ none
 unfolding bytes digits line isDigit byteAt digitsAt numberAt counted while sideFieldAt legFieldAt endFieldAt headerAt pointLineAt joinLineAt signalLineAt closedLineAt trainLineAt walk read
 port-in-front =
     let d = sayingA (record { one = port 1 Plus; other = section 1 Up } ∷ joinMinus ∷ joinStem ∷ []) (signal1d ∷ signal2u ∷ []) [] in
-    unsorted _ d (read-is-spelling _ d .0 refl) (λ s. let e : 2000 < 3 = s .first _ (List·Memᴰ·head refl) in omega (arith, e))
+    unsorted _ d (read-is-spelling _ d .0 refl) (λ s. let e : 2004 < 3 = s .first _ (List·Memᴰ·head refl) in omega (arith, e))
 
 -- CLOSED SECTIONS. Four sections, 1u joined to 2d and a train from 1 up to 2, while 3 and 4 are closed. The record is written as its text,
 abbrev pub shut : Railway
@@ -174,7 +179,7 @@ unfolding bytes digits line isDigit byteAt digitsAt numberAt counted while sideF
 says-shut-only d w = let e = sayingShut (3 ∷ 4 ∷ []) in describes-one (bytes textShut) d e w (read-is-spelling (bytes textShut) e .0 refl)
 
 pub written-shut : (writtenText shut ≡ bytes textShut) × (recordRefusal shut ≡ none)
-unfolding bytes first digits line anyBelow listBelow gatherBelow endAt joinedBy joined legsOf trainOf withJoin withClosed withTrain unknownRow joinRow looseRow placeRow recordRefusal flatMap rising spell descriptionOf writtenText isClosed
+unfolding bytes first digits line anyBelow listBelow gatherBelow endAt joinedBy joined legsOf trainOf withJoin withClosed withTrain unknownRow joinRow looseRow longer chainRow placeRow recordRefusal flatMap rising spell descriptionOf writtenText isClosed
 written-shut = (refl, refl)
 
 -- an X line of what is written names 3, and none names 1;
@@ -203,8 +208,148 @@ abbrev pub textShutOut : String
 textShutOut = "H\t2\t0\t1\nX\t1\nT\t1\tu\t1\t2\n"
 
 pub shut-out : RefusedWith (bytes textShutOut) Place
-unfolding bytes first digits line isDigit byteAt digitsAt numberAt counted while sideFieldAt legFieldAt endFieldAt headerAt pointLineAt joinLineAt signalLineAt closedLineAt trainLineAt walk read caseAnswer anyBelow any repeats joinEnds D.unknownRow D.joinRow D.looseRow D.doubleRow D.placeRow
+unfolding bytes first digits line isDigit byteAt digitsAt numberAt counted while sideFieldAt legFieldAt endFieldAt headerAt pointLineAt joinLineAt signalLineAt closedLineAt trainLineAt walk read caseAnswer anyBelow any repeats joinEnds D.unknownRow D.joinRow D.looseRow chainRow railwayOf D.doubleRow D.placeRow
 shut-out = refused-exactly (bytes textShutOut) Place .0 refl
+
+-- POINTS JOINED TO POINTS. Two tracks and a crossover: 1 leads over point 1 to 2, and 3 over point 2 to 4; the minus ports of the points are joined. The
+-- record is written as its text,
+abbrev pub crossing : Railway
+crossing =
+    lineT 1 Up 1 4
+    (lineJ (portOf 1 Minus) (portOf 2 Minus)
+    (lineJ (sec 4 Down) (portOf 2 Stem)
+    (lineJ (sec 3 Up) (portOf 2 Plus)
+    (lineJ (sec 2 Down) (portOf 1 Plus)
+    (lineJ (sec 1 Up) (portOf 1 Stem)
+    (lineP 2 Down (lineP 1 Up (yardH 4 2 1))))))))
+
+abbrev pub textCrossing : String
+textCrossing = "H\t4\t2\t1\nP\t1\tu\nP\t2\td\nJ\t1u\t1s\nJ\t2d\t1+\nJ\t3u\t2+\nJ\t4d\t2s\nJ\t1-\t2-\nT\t1\tu\t1\t4\n"
+
+-- what its text says, but for its last two J lines;
+abbrev pub sayingCrossing : List JoinLine → Description
+sayingCrossing last =
+    record {
+      sections = 4;
+      points = 2;
+      trains = 1;
+      legs = Up ∷ Down ∷ [];
+      joins =
+          record { one = section 1 Up; other = port 1 Stem }
+          ∷ record { one = section 2 Down; other = port 1 Plus }
+          ∷ record { one = section 3 Up; other = port 2 Plus }
+          ∷ last;
+      signals = [];
+      closed = [];
+      roster = record { heading = Up; start = 1; destination = 4 } ∷ [];
+    }
+
+abbrev joinOuter : JoinLine
+joinOuter = record { one = section 4 Down; other = port 2 Stem }
+
+abbrev joinInner : JoinLine
+joinInner = record { one = port 1 Minus; other = port 2 Minus }
+
+abbrev pub descriptionCrossing : Description
+descriptionCrossing = sayingCrossing (joinOuter ∷ joinInner ∷ [])
+
+pub says-crossing-only : (d : Description) → Describes (bytes textCrossing) d → d ≡ descriptionCrossing
+unfolding bytes digits line isDigit byteAt digitsAt numberAt counted while sideFieldAt legFieldAt endFieldAt headerAt pointLineAt joinLineAt signalLineAt closedLineAt trainLineAt walk read
+says-crossing-only d w = describes-one (bytes textCrossing) d descriptionCrossing w (read-is-spelling (bytes textCrossing) descriptionCrossing .0 refl)
+
+pub written-crossing : (writtenText crossing ≡ bytes textCrossing) × (recordRefusal crossing ≡ none)
+unfolding bytes first digits line anyBelow listBelow gatherBelow endAt joinedBy joined legsOf trainOf withJoin withLegs withTrain unknownRow joinRow looseRow longer chainRow placeRow recordRefusal flatMap rising spell descriptionOf writtenText isClosed
+written-crossing = (refl, refl)
+
+-- in which a J line ties 1- to 2-.
+inner-written : (d : Description) → Describes (writtenText crossing) d → Joins (d .joins) (portOf 1 Minus) (portOf 2 Minus)
+unfolding joined joinedBy endAt withJoin withLegs withTrain
+inner-written d w =
+    let t = written-as-described crossing (written-crossing .1) in
+    rw (describes-one (writtenText crossing) d (t .0) w (t .1)) (t .2 .joins (portOf 1 Minus) (portOf 2 Minus) .0 refl)
+
+-- No record is written with the higher point first, or with such a join before one with a section end,
+points-turned : (r : Railway) → recordRefusal r ≡ none
+    → writtenText r ≡ bytes "H\t4\t2\t1\nP\t1\tu\nP\t2\td\nJ\t1u\t1s\nJ\t2d\t1+\nJ\t3u\t2+\nJ\t4d\t2s\nJ\t2-\t1-\nT\t1\tu\t1\t4\n" → ⊥
+unfolding bytes digits line isDigit byteAt digitsAt numberAt counted while sideFieldAt legFieldAt endFieldAt headerAt pointLineAt joinLineAt signalLineAt closedLineAt trainLineAt walk read
+points-turned =
+    let d = sayingCrossing (joinOuter ∷ record { one = port 2 Minus; other = port 1 Minus } ∷ []) in
+    unsorted _ d (read-is-spelling _ d .0 refl)
+    (λ s. let e : 2008 < 2005 = s .first _ (List·Memᴰ·tail (List·Memᴰ·tail (List·Memᴰ·tail (List·Memᴰ·tail (List·Memᴰ·head refl))))) in omega (arith, e))
+
+points-in-front : (r : Railway) → recordRefusal r ≡ none
+    → writtenText r ≡ bytes "H\t4\t2\t1\nP\t1\tu\nP\t2\td\nJ\t1u\t1s\nJ\t2d\t1+\nJ\t3u\t2+\nJ\t1-\t2-\nJ\t4d\t2s\nT\t1\tu\t1\t4\n" → ⊥
+unfolding bytes digits line isDigit byteAt digitsAt numberAt counted while sideFieldAt legFieldAt endFieldAt headerAt pointLineAt joinLineAt signalLineAt closedLineAt trainLineAt walk read rises
+points-in-front =
+    let d = sayingCrossing (joinInner ∷ joinOuter ∷ []) in
+    unsorted _ d (read-is-spelling _ d .0 refl) (λ s. clash (s .joins) refl)
+
+-- nor, of two such joins, with that of 1- before that of 1+.
+legs-turned : (r : Railway) → recordRefusal r ≡ none
+    → writtenText r ≡ bytes "H\t1\t3\t1\nP\t1\tu\nP\t2\tu\nP\t3\tu\nJ\t1-\t2s\nJ\t1+\t3s\nT\t1\tu\t1\t1\n" → ⊥
+unfolding bytes digits line isDigit byteAt digitsAt numberAt counted while sideFieldAt legFieldAt endFieldAt headerAt pointLineAt joinLineAt signalLineAt closedLineAt trainLineAt walk read rises
+legs-turned =
+    let d : Description =
+    record {
+      sections = 1;
+      points = 3;
+      trains = 1;
+      legs = Up ∷ Up ∷ Up ∷ [];
+      joins = record { one = port 1 Minus; other = port 2 Stem } ∷ record { one = port 1 Plus; other = port 3 Stem } ∷ [];
+      signals = [];
+      closed = [];
+      roster = record { heading = Up; start = 1; destination = 1 } ∷ [];
+    } in
+    unsorted _ d (read-is-spelling _ d .0 refl) (λ s. clash (s .joins) refl)
+
+-- Whatever accepted record is written so has 1- joined to 2-.
+inner-there : (r : Railway) → recordRefusal r ≡ none → writtenText r ≡ bytes textCrossing → linkAt r 98 ≡ With (portOf 2 Minus)
+unfolding joinedBy endAt withJoin withLegs withTrain
+inner-there r h e = text-same r crossing h (written-crossing .1) (e ∙ sym (written-crossing .0)) .joins 98 (omega arith)
+
+-- CHAINS. A text with a round of two points is refused with the row for chains, and with no other, though its signal is named twice;
+abbrev pub textRound : String
+textRound = "H\t2\t2\t1\nP\t1\tu\nP\t2\tu\nJ\t1d\t1-\nJ\t2d\t2-\nJ\t1s\t2+\nJ\t1+\t2s\nG\t1u\nG\t1u\nT\t1\tu\t1\t1\n"
+
+pub round-chain : RefusedWith (bytes textRound) Chain
+unfolding bytes first digits line isDigit byteAt digitsAt numberAt counted while sideFieldAt legFieldAt endFieldAt headerAt pointLineAt joinLineAt signalLineAt closedLineAt trainLineAt walk read caseAnswer anyBelow listBelow any repeats joinEnds D.unknownRow D.joinRow D.looseRow longer chainRow partner railwayOf endAt joinedBy joined
+round-chain = refused-exactly (bytes textRound) Chain .0 refl
+
+-- for there is a round in the railway of what it says: who leaves point 1 by its plus port comes over point 2 to leave it so again;
+abbrev sayingRound : Description
+sayingRound =
+    record {
+      sections = 2;
+      points = 2;
+      trains = 1;
+      legs = Up ∷ Up ∷ [];
+      joins =
+          record { one = section 1 Down; other = port 1 Minus }
+          ∷ record { one = section 2 Down; other = port 2 Minus }
+          ∷ record { one = port 1 Stem; other = port 2 Plus }
+          ∷ record { one = port 1 Plus; other = port 2 Stem }
+          ∷ [];
+      signals = record { number = 1; side = Up } ∷ record { number = 1; side = Up } ∷ [];
+      closed = [];
+      roster = record { heading = Up; start = 1; destination = 1 } ∷ [];
+    }
+
+goes-round : Round (railwayOf sayingRound)
+unfolding leftBy joined joinedBy endAt listBelow partner railwayOf
+goes-round = record { plus = λ n. true; point = record { 0 = 0 }; leg = Plus; further = 1; again = refl }
+
+ports-joined : JoinableLines sayingRound
+unfolding anyBelow any repeats joinEnds D.unknownRow D.joinRow D.looseRow
+ports-joined = record { count = refl; unknown = refl; join = refl; loose = refl }
+
+round-given : caseAnswer (bytes textRound) ≡ refused Chain
+unfolding bytes digits line isDigit byteAt digitsAt numberAt counted while sideFieldAt legFieldAt endFieldAt headerAt pointLineAt joinLineAt signalLineAt closedLineAt trainLineAt walk read
+round-given = chain-given (bytes textRound) sayingRound (omega arith) (read-is-spelling (bytes textRound) sayingRound .0 refl) ports-joined .1 (inr goes-round)
+
+-- and where rows 3 to 6 do not apply to what a text says and it is refused so, there is a way with more than four points, or a round.
+chain-there : (text : List ℕ) (d : Description) → length text ≤ 4096 → Describes text d → JoinableLines d → caseAnswer text ≡ refused Chain
+    → LongWay (railwayOf d) ⊎ Round (railwayOf d)
+chain-there text d short w h e = chain-given text d short w h .0 e
 
 -- THE SAME RAILWAY. A fourth train in Yard A's record, which has two, is not looked at: the record is accepted, and written as Yard A.
 abbrev fourth : Railway

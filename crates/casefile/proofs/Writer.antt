@@ -1,17 +1,18 @@
--- What the writer says of an accepted record: its description is well formed, and none of rows 3 to 8 applies to it. Each J line comes from a link at
--- the earlier of its two ends, and links are returned, so no end stands in two J lines; every port's link leads back to a section end, which has the
+-- What the writer says of an accepted record: its description is well formed, and none of rows 3 to 8 and 13 applies to it. Each J line comes from a link at
+-- the earlier of its two ends, and links are returned, so no end stands in two J lines; of a port and the end that its link leads to, the earlier has the
 -- J line.
 -- Assumes nothing.
-use Prim.Native.Nat.{ℕ, zero, suc, _-_, _/_, _%_, _<_, _≤_}
+use Prim.Native.Nat.{ℕ, zero, suc, _-_, _/_, _%_, _<_}
 use mathlib.Core.Path.{_≡_, refl, sym, _∙_, ap}
+use mathlib.Core.Logic.{_⊎_, inl, inr}
 use mathlib.Core.Bool.{Bool, true, false, cond}
 use mathlib.Core.List.{List, [], _∷_, _++_, map, List·Memᴰ, List·Memᴰ·head, List·Memᴰ·tail}
 use native.Mathlib.Omega.{arith}
 use lib.Dec.{ltb, eqb}
-use borrow.Author.Tests.{eqb-false, ne-eqb, lt-ltb, ltb-true}
+use borrow.Author.Tests.{eqb-false, eq-eqb, ne-eqb, lt-ltb, ltb-true}
 use Rattle.laws.specs.Below.{listBelow, gatherBelow}
 use Rattle.laws.specs.Lists.{any, repeats, Every}
-use Rattle.laws.proofs.Bools.{clash, not-true}
+use Rattle.laws.proofs.Bools.{clash, not-true, lt?}
 use Rattle.laws.proofs.Below.{list-length, list-get, listed, gathered, in-gathered}
 use Rattle.laws.proofs.Lists.{any-true, any-none, repeats-gather, repeats-list, map-append}
 use Rattle.railway.specs.declared.Side.the-variants.{Up}
@@ -26,32 +27,41 @@ use Rattle.railway.specs.Bounds.{mostSections, sectionEnds, allEnds}
 use Rattle.railway.specs.Ends.{Numbered, sideAt, endIndex, endAt}
 use Rattle.railway.specs.Record.{linkAt, flagAt, closedAt, joined, isClosed, legsOf, trainOf}
 use Rattle.railway.specs.Record as R
-use Rattle.railway.specs.Rows.{bothPorts, oneSection}
+use Rattle.railway.specs.Rows.{oneOwner}
 use Rattle.railway.specs.Rows as RR
-use Rattle.railway.proofs.Ends.{index-below, index-end, end-section, section-below, port-behind}
+use Rattle.railway.proofs.Ends.{index-one, index-below, index-end, end-index, end-section}
 use Rattle.railway.proofs.Lookups.{joined-there, closed-there}
-use Rattle.railway.proofs.Accepted.{Right, Accepted, joined-known, joined-right, joined-back}
+use Rattle.railway.proofs.Accepted.{Right, Accepted, known-numbered, joined-known, joined-right, joined-back}
 use Rattle.casefile.specs.Form.{EndField, section, port, JoinLine, SignalLine, TrainLine, Writable, WritableEnd, WritableSignal, WritableTrain, WellFormed, sameEnd, sameSignal}
-use Rattle.casefile.specs.Rows.{within, known, sectionOf, sideOf, joinEnds, closedIn}
+use Rattle.casefile.specs.Rows.{within, known, ownerOf, sideOf, joinEnds, closedIn}
 use Rattle.casefile.specs.Recording.{fieldOf, signalOf}
 use Rattle.casefile.specs.Writing.{joinFrom, joinAt, signalAt, closedLineOf, lineOfTrain, descriptionOf}
-use Rattle.casefile.proofs.Faultless.{Faultless, RightJoin, is-within}
-use Rattle.casefile.proofs.Ends.{same-self, not-same, signal-is, field-one, other-end}
+use Rattle.casefile.proofs.Faultless.{RightJoin, Laid, Faultless, is-within}
+use Rattle.casefile.proofs.Ends.{same-self, not-same, signal-is, field-one, one-end, other-end}
 
--- the tests of row 5, of the record's ends and of ends as written
-ports-same : (e f : End) → bothPorts (sectionOf (fieldOf e)) (sectionOf (fieldOf f)) ≡ bothPorts (RR.sectionOf e) (RR.sectionOf f)
-ports-same (Section m s) (Section n t) = refl
-ports-same (Section m s) (Port n l) = refl
-ports-same (Port m l) (Section n s) = refl
-ports-same (Port m l) (Port n k) = refl
-
+-- the test of row 5 for owners, of the record's ends and of ends as written
 more-one : (m n : ℕ) → eqb m n ≡ false → eqb (suc m) (suc n) ≡ false
 more-one m n h = ne-eqb (suc m) (suc n) (λ e. eqb-false m n h (omega arith))
 
-one-same : (e f : End) → oneSection (RR.sectionOf e) (RR.sectionOf f) ≡ false → oneSection (sectionOf (fieldOf e)) (sectionOf (fieldOf f)) ≡ false
+one-same : (e f : End) → oneOwner (RR.ownerOf e) (RR.ownerOf f) ≡ false → oneOwner (ownerOf (fieldOf e)) (ownerOf (fieldOf f)) ≡ false
 one-same (Section m s) (Section n t) h = more-one (m .0) (n .0) h
 one-same (Section m s) (Port n l) h = refl
-one-same (Port m l) f h = refl
+one-same (Port m l) (Section n s) h = refl
+one-same (Port m l) (Port n k) h = more-one (m .0) (n .0) h
+
+-- of two ends that a join may tie, one has the earlier index
+one-owner : (e : End) → oneOwner (RR.ownerOf e) (RR.ownerOf e) ≡ true
+one-owner (Section n s) = eq-eqb (n .0) (n .0) refl
+one-owner (Port n l) = eq-eqb (n .0) (n .0) refl
+
+pub either-first : (e f : End) → Numbered e → Numbered f → oneOwner (RR.ownerOf e) (RR.ownerOf f) ≡ false → (endIndex e < endIndex f) ⊎ (endIndex f < endIndex e)
+either-first e f a b o = elim (lt? (endIndex e) (endIndex f)) [
+  | inl l ↦ inl l
+  | inr l ↦ elim (lt? (endIndex f) (endIndex e)) [
+    | inl k ↦ inr k
+    | inr k ↦ let z : e ≡ f = index-one e f a b (omega arith) in clash (one-owner f) (rw z at o)
+  ]
+]
 
 -- WHERE A LINE COMES FROM. A line that stands there because of a flag.
 pub record Noted {A : Type 0} (flag : Bool) (line : A) (x : A) : Type 0 where
@@ -91,9 +101,9 @@ module _ (r : Railway) where
   pub origin : (i : ℕ) (j : JoinLine) → List·Memᴰ j (joinAt r i) → Origin i j
   origin i j m = origin-link i (linkAt r i) j refl m
 
-  pub join-written : (i : ℕ) (f : End) → i < sectionEnds → linkAt r i ≡ With f → i < endIndex f
-      → List·Memᴰ (record { one = fieldOf (endAt i); other = fieldOf f }) (gatherBelow (joinAt r) sectionEnds)
-  join-written i f b l h = in-gathered (joinAt r) sectionEnds i _ b (rw (l, lt-ltb i (endIndex f) h) (List·Memᴰ·head refl))
+  pub join-written : (i : ℕ) (f : End) → i < allEnds → linkAt r i ≡ With f → i < endIndex f
+      → List·Memᴰ (record { one = fieldOf (endAt i); other = fieldOf f }) (gatherBelow (joinAt r) allEnds)
+  join-written i f b l h = in-gathered (joinAt r) allEnds i _ b (rw (l, lt-ltb i (endIndex f) h) (List·Memᴰ·head refl))
 
   pub signal-origin : (i : ℕ) (g : SignalLine) → List·Memᴰ g (signalAt r i) → Noted (flagAt r i) (signalOf i) g
   signal-origin i g m = noted (flagAt r i) (signalOf i) (flagAt r i) g refl m
@@ -155,7 +165,7 @@ module _ (r : Railway) (w : Accepted r) where
   index-of : (e f : End) → fieldOf e ≡ fieldOf f → endIndex e ≡ endIndex f
   index-of e f p = ap endIndex (field-one e f p)
 
-  apart : (i j : ℕ) (x y : EndField) → i < j → j < sectionEnds → Named i x → Named j y → x ≡ y → ⊥
+  apart : (i j : ℕ) (x y : EndField) → i < j → j < allEnds → Named i x → Named j y → x ≡ y → ⊥
   apart i j x y h b (earlier f l k p) (earlier g m n q) e =
       omega (arith, sym (index-end i (omega arith)) ∙ index-of (endAt i) (endAt j) (sym p ∙ e ∙ q) ∙ index-end j (omega arith))
   apart i j x y h b (earlier f l k p) (later g m n q) e =
@@ -171,7 +181,7 @@ module _ (r : Railway) (w : Accepted r) where
       let v : endAt i ≡ endAt j = with-one (joined r g) (endAt i) (endAt j) u (link-back j g (omega arith) m) in
       omega (arith, sym (index-end i (omega arith)) ∙ ap endIndex v ∙ index-end j (omega arith))
 
-  once-later : (i : ℕ) (f : End) (p : Bool) → i < sectionEnds → ltb i (endIndex f) ≡ p
+  once-later : (i : ℕ) (f : End) (p : Bool) → i < allEnds → ltb i (endIndex f) ≡ p
       → repeats sameEnd (joinEnds (cond p (record { one = fieldOf (endAt i); other = fieldOf f } ∷ []) [])) ≡ false
   unfolding joinEnds repeats any
   once-later i f false b h = refl
@@ -179,15 +189,15 @@ module _ (r : Railway) (w : Accepted r) where
       let l = ltb-true i (endIndex f) h in
       rw (not-same (fieldOf (endAt i)) (fieldOf f) (λ e. omega (arith, sym (index-end i (omega arith)) ∙ index-of (endAt i) f e)))
 
-  once-link : (i : ℕ) (x : Joined) → i < sectionEnds → repeats sameEnd (joinEnds (joinFrom i x)) ≡ false
+  once-link : (i : ℕ) (x : Joined) → i < allEnds → repeats sameEnd (joinEnds (joinFrom i x)) ≡ false
   unfolding joinEnds repeats
   once-link i Nothing b = refl
   once-link i (With f) b = once-later i f (ltb i (endIndex f)) b refl
 
-  ends-once : repeats sameEnd (joinEnds (gatherBelow (joinAt r) sectionEnds)) ≡ false
+  ends-once : repeats sameEnd (joinEnds (gatherBelow (joinAt r) allEnds)) ≡ false
   ends-once =
-      rw (joinEnds-gather (joinAt r) sectionEnds)
-      (repeats-gather sameEnd (λ i. joinEnds (joinAt r i)) sectionEnds (λ i b. once-link i (linkAt r i) b)
+      rw (joinEnds-gather (joinAt r) allEnds)
+      (repeats-gather sameEnd (λ i. joinEnds (joinAt r i)) allEnds (λ i b. once-link i (linkAt r i) b)
       (λ i j x y h b m n. not-same x y (apart i j x y h b (named i x m) (named j y n))))
 
   -- SIGNALS AND SECTIONS NAMED TWICE: none.
@@ -223,15 +233,15 @@ module _ (r : Railway) (w : Accepted r) where
   -- a J line: its index, and the link there
   pub record FromLink (j : JoinLine) : Type 0 where
     pub index : ℕ
-    pub below : index < sectionEnds
+    pub below : index < allEnds
     pub origin : Origin r index j
 
   pub from-link : (j : JoinLine) → List·Memᴰ j (descriptionOf r .joins) → FromLink j
   unfolding descriptionOf
-  from-link j m = let t = gathered (joinAt r) sectionEnds j m in record { index = t .index; below = t .below; origin = origin r (t .index) j (t .there) }
+  from-link j m = let t = gathered (joinAt r) allEnds j m in record { index = t .index; below = t .below; origin = origin r (t .index) j (t .there) }
 
   link-ends : (j : JoinLine) (t : FromLink j) → (RR.known r (endAt (t .index)) ≡ true) × (RR.known r (t .origin .to) ≡ true)
-  link-ends j t = w .link-known (t .index) (t .origin .to) (omega (arith, t .below)) (t .origin .link)
+  link-ends j t = w .link-known (t .index) (t .origin .to) (t .below) (t .origin .link)
 
   join-known : (j : JoinLine) → List·Memᴰ j (descriptionOf r .joins) → (known (descriptionOf r) (j .one) ≡ true) × (known (descriptionOf r) (j .other) ≡ true)
   join-known j m =
@@ -242,7 +252,6 @@ module _ (r : Railway) (w : Accepted r) where
   right-by : (j : JoinLine) (e f : End) → j .one ≡ fieldOf e → j .other ≡ fieldOf f → RR.known r e ≡ true → RR.known r f ≡ true → Right r e f → RightJoin (descriptionOf r) j
   right-by j e f p q ke kf t =
       record {
-        not-ports = rw (p, q) (ports-same e f ∙ t .not-ports);
         not-one = rw (p, q) (one-same e f (t .not-one));
         sides = rw (p, q, side-known e ke, side-known f kf) (t .sides);
       }
@@ -252,30 +261,30 @@ module _ (r : Railway) (w : Accepted r) where
       let t = from-link j m in
       let o = t .origin in
       let k = link-ends j t in
-      right-by j (endAt (t .index)) (o .to) (o .one) (o .other) (k .0) (k .1) (w .link-right (t .index) (o .to) (omega (arith, t .below)) (o .link))
+      right-by j (endAt (t .index)) (o .to) (o .one) (o .other) (k .0) (k .1) (w .link-right (t .index) (o .to) (t .below) (o .link))
 
-  -- EVERY PORT IS IN A J LINE: the one of the section end that its link leads to
-  port-by : (e f : End) → sectionEnds ≤ endIndex e → joined r e ≡ With f → bothPorts (RR.sectionOf e) (RR.sectionOf f) ≡ false
-      → any (sameEnd (fieldOf e)) (joinEnds (descriptionOf r .joins)) ≡ true
+  -- EVERY END THAT IS JOINED IS IN A J LINE, the one of the earlier of the two ends; and every port is joined
+  joined-named : (e f : End) → joined r e ≡ With f → any (sameEnd (fieldOf e)) (joinEnds (descriptionOf r .joins)) ≡ true
   unfolding descriptionOf
-  port-by (Section m s) f b l h = let k = ltb-true (m .0) (r .sections) (joined-known r w (Section m s) f l .0) in let c = w .bounds in absurd (omega (arith, section-below m s (omega arith)))
-  port-by (Port m k) (Port n i) b l h = clash refl h
-  port-by (Port m k) (Section n s) b l h =
-      let c = w .bounds in
-      let x = ltb-true (n .0) (r .sections) (joined-known r w (Port m k) (Section n s) l .1) in
-      let q = section-below n s (omega arith) in
-      let back = link-joined (Section n s) (Port m k) (omega arith) (joined-back r w (Port m k) (Section n s) l) in
-      let line = join-written r (endIndex (Section n s)) (Port m k) q back (omega arith) in
-      any-true (sameEnd (fieldOf (Port m k))) _ (fieldOf (Port m k)) (other-end _ _ line) (same-self (fieldOf (Port m k)))
+  joined-named e f l =
+      let k = joined-known r w e f l in
+      let n = known-numbered r w e (k .0) in
+      let m = known-numbered r w f (k .1) in
+      elim (either-first e f n m (joined-right r w e f l .not-one)) [
+        | inl h ↦
+            let line = join-written r (endIndex e) f (index-below e n) (link-joined e f n l) h in
+            any-true (sameEnd (fieldOf e)) _ (fieldOf (endAt (endIndex e))) (one-end _ _ line) (rw (end-index e n) (same-self (fieldOf e)))
+        | inr h ↦
+            let line = join-written r (endIndex f) e (index-below f m) (link-joined f e m (joined-back r w e f l)) h in
+            any-true (sameEnd (fieldOf e)) _ (fieldOf e) (other-end _ _ line) (same-self (fieldOf e))
+      ]
 
-  port-link : (e : End) (x : Joined) → sectionEnds ≤ endIndex e → (joined r e ≡ Nothing → ⊥) → joined r e ≡ x → any (sameEnd (fieldOf e)) (joinEnds (descriptionOf r .joins)) ≡ true
-  port-link e Nothing b h l = absurd (h l)
-  port-link e (With f) b h l = port-by e f b l (joined-right r w e f l .not-ports)
+  link-named : (e : End) (x : Joined) → (joined r e ≡ Nothing → ⊥) → joined r e ≡ x → any (sameEnd (fieldOf e)) (joinEnds (descriptionOf r .joins)) ≡ true
+  link-named e Nothing h l = absurd (h l)
+  link-named e (With f) h l = joined-named e f l
 
   port-joined : (n : ℕ) (l : Leg) → n < r .points → any (sameEnd (port (suc n) l)) (joinEnds (descriptionOf r .joins)) ≡ true
-  port-joined n l b =
-      let e = Port (record { 0 = n }) l in
-      port-link e (joined r e) (port-behind (record { 0 = n }) l) (w .port-joined n l b) refl
+  port-joined n l b = let e = Port (record { 0 = n }) l in link-named e (joined r e) (w .port-joined n l b) refl
 
   -- TRAINS
   pub from-train : (P : TrainLine → Type 0) → ((t : ℕ) → t < r .trains → P (lineOfTrain (trainOf r t))) → Every P (descriptionOf r .roster)
@@ -322,12 +331,15 @@ module _ (r : Railway) (w : Accepted r) where
       let k : RR.known r (Section (record { 0 = i / 2 }) (sideAt (i % 2))) ≡ true = rw (end-section i b) at (w .signal-known i b l) in
       ltb-true (i / 2) (r .sections) k
 
+  laid : Laid (descriptionOf r)
+  unfolding descriptionOf
+  laid = record { bounds = w .bounds; join-known = join-known; join-right = join-right; ends-once = ends-once; port-joined = port-joined }
+
   pub faultless : Faultless (descriptionOf r)
   unfolding descriptionOf
   faultless =
       record {
-        bounds = w .bounds;
-        join-known = join-known;
+        laid = laid;
         signal-known =
             from-flag (λ g. within (g .number) (r .sections) ≡ true)
             (λ i b l. let k = flag-section i b l in is-within (suc (i / 2)) (r .sections) (omega arith) (omega arith));
@@ -339,9 +351,6 @@ module _ (r : Railway) (w : Accepted r) where
             (λ t h.
             let k = w .train-known t h in
             (is-within (suc (trainOf r t .start .0)) (r .sections) (omega arith) (omega arith), is-within (suc (trainOf r t .destination .0)) (r .sections) (omega arith) (omega arith)));
-        join-right = join-right;
-        ends-once = ends-once;
-        port-joined = port-joined;
         signals-once = signals-once;
         closed-once = closed-once;
         starts = no-repeat (λ t. t .start) (λ t. t .start .0) (λ t. refl) (w .starts);

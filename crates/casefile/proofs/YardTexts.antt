@@ -7,7 +7,8 @@ use Rattle.text.specs.Text.{digits, line, bytes}
 use Rattle.text.specs.Reading.{isDigit, byteAt, digitsAt, numberAt}
 use Rattle.railway.specs.Ends.{endAt}
 use Rattle.railway.specs.Refusals.{first}
-use Rattle.railway.specs.Record.{isClosed, withJoin, withSignal, withLegs, withTrain}
+use Rattle.railway.specs.Record.{isClosed, joinedBy, joined, withJoin, withSignal, withLegs, withTrain}
+use Rattle.railway.specs.Rows.{longer, chainRow}
 use Rattle.casefile.specs.Rows.{joinEnds, unknownRow, joinRow, looseRow, doubleRow, placeRow}
 use Rattle.casefile.specs.Recording.{partner, railwayOf}
 use Rattle.casefile.specs.Given.{accepted}
@@ -21,7 +22,7 @@ AllAnswered [] = Unit {0}
 AllAnswered (x ∷ xs) = (caseAnswer (bytes (x .text)) ≡ accepted (x .yard)) × AllAnswered xs
 
 all-answered : AllAnswered yardTexts
-unfolding yardTexts bytes first digits line isDigit byteAt digitsAt numberAt counted while sideFieldAt legFieldAt endFieldAt headerAt pointLineAt joinLineAt signalLineAt closedLineAt trainLineAt walk read caseAnswer anyBelow listBelow any repeats joinEnds unknownRow joinRow looseRow doubleRow placeRow partner railwayOf endAt withJoin withSignal withLegs withTrain isClosed
+unfolding yardTexts bytes first digits line isDigit byteAt digitsAt numberAt counted while sideFieldAt legFieldAt endFieldAt headerAt pointLineAt joinLineAt signalLineAt closedLineAt trainLineAt walk read caseAnswer anyBelow listBelow any repeats joinEnds unknownRow joinRow looseRow doubleRow placeRow partner railwayOf endAt withJoin withSignal withLegs withTrain isClosed joinedBy joined longer chainRow
 all-answered = (refl, (refl, (refl, (refl, (refl, (refl, (refl, (refl, tt))))))))
 
 each-accepted : (xs : List YardText) → AllAnswered xs → AllAccepted xs

@@ -1,11 +1,11 @@
--- What is claimed of the case file, a sentence to each: of the lines, the writer's order and the same railway (document 01, "The case file"; document 02, Q-5), and of
--- which number is given (there, "Numbers that a desk can get"). proofs/ has the proofs. Assumes nothing.
+-- What is claimed of the case file, a sentence to each: of the lines, the writer's order and the same railway (document 01, "The case file"; document 02, Q-5
+-- and Q-6), and of which number is given (there, "Numbers that a desk can get"). proofs/ has the proofs. Assumes nothing.
 use mathlib.Core.Path.{_≡_}
-use mathlib.Core.Bool.{true}
+use mathlib.Core.Bool.{true, false}
 use mathlib.Core.Logic.{_↔_, _⊎_}
 use mathlib.Core.List.{List, map, List·Memᴰ}
 use mathlib.Core.Option.{none, some}
-use Prim.Native.Nat.{ℕ, suc, _*_, _<_, _≤_}
+use Prim.Native.Nat.{ℕ, suc, _+_, _*_, _<_, _≤_}
 use lib.ListN.{length, getD, take}
 use Rattle.laws.specs.Lists.{Every, rises}
 use Rattle.railway.specs.declared.Side.the-variants.{Up, Down}
@@ -15,13 +15,16 @@ use Rattle.railway.specs.declared.Joined.the-variants.{With}
 use Rattle.railway.specs.declared.Train.{Train}
 use Rattle.railway.specs.declared.Railway.{Railway}
 use Rattle.railway.specs.declared.Refusal.{Refusal}
+use Rattle.railway.specs.declared.Refusal.the-variants.{Chain}
+use Rattle.railway.specs.Ends.{legIndex}
 use Rattle.railway.specs.Record.{joined, hasSignal, isClosed, legsOf, trainOf}
 use Rattle.railway.specs.Rows.{recordRefusal}
+use Rattle.railway.specs.Chains.{LongWay, Round}
 use Rattle.railway.specs.Same.{SameRailway}
 use Rattle.casefile.specs.declared.CaseRead.{CaseRead}
 use Rattle.casefile.specs.Form.{EndField, section, port, JoinLine, SignalLine, TrainLine, Description, Describes}
-use Rattle.casefile.specs.Rows.{mostBytes, FormRow}
-use Rattle.casefile.specs.Recording.{noTrainLine}
+use Rattle.casefile.specs.Rows.{mostBytes, FormRow, countRow, unknownRow, joinRow, looseRow}
+use Rattle.casefile.specs.Recording.{noTrainLine, railwayOf}
 use Rattle.casefile.specs.Writing.{writtenText}
 use Rattle.casefile.specs.Given.{accepted, refused, RefusedWith, AcceptedWith, ReaderPost}
 use Rattle.casefile.specs.Reading.{read, caseAnswer}
@@ -49,6 +52,20 @@ AcceptedExactly = (text : List ℕ) (r : Railway) → (caseAnswer text ≡ accep
 -- The answer is the only one that keeps a reader's promise, which any program that answers so keeps.
 abbrev pub ReaderAnswers : Type 0
 ReaderAnswers = (text : List ℕ) (a : CaseRead) → (a ≡ caseAnswer text) ↔ ReaderPost text a
+
+-- ROW 13, IN WORDS (document 02, Q-6). Rows 3 to 6, which come before it, do not apply to what is said.
+pub record JoinableLines (d : Description) : Type 0 where
+  pub count : countRow d ≡ false
+  pub unknown : unknownRow d ≡ false
+  pub join : joinRow d ≡ false
+  pub loose : looseRow d ≡ false
+
+-- A text to which no row before it applies is refused with it exactly where, in the railway that is described, some setting of the points has a way between
+-- section ends that meets more than four of them, or a round.
+abbrev pub ChainGiven : Type 0
+ChainGiven =
+    (text : List ℕ) (d : Description) → length text ≤ mostBytes → Describes text d → JoinableLines d
+    → (caseAnswer text ≡ refused Chain) ↔ (LongWay (railwayOf d) ⊎ Round (railwayOf d))
 
 -- Every text is accepted with a railway or refused.
 abbrev pub AlwaysAnswered : Type 0
@@ -115,14 +132,15 @@ WrittenFits = (r : Railway) → recordRefusal r ≡ none → length (writtenText
 abbrev pub AcceptedAgain : Type 0
 AcceptedAgain = (text : List ℕ) (r : Railway) → caseAnswer text ≡ accepted r → recordRefusal r ≡ none
 
--- THE WRITER'S ORDER. Where an end stands in it: section ends by number, down before up, and ports behind them all
+-- THE WRITER'S ORDER. Where an end stands in it: section ends by number, down before up; behind them all the ports by point, stem before plus before minus
 -- (2,000 is past every section end, for numbers are below 1,000).
 abbrev pub rank : EndField → ℕ
 rank (section n Down) = 2 * n
 rank (section n Up) = suc (2 * n)
-rank (port n l) = 2000
+rank (port n l) = 2000 + (3 * n + legIndex l)
 
--- Of a J line the earlier end comes first, which so is a section's; J and G lines rise by the end that they begin with, X lines by their section.
+-- Of a J line the earlier end comes first: a section's where there is one, else the lower point's. J and G lines rise by the end that they begin with, so joins
+-- between points come last; X lines rise by their section.
 pub record Sorted (d : Description) : Type 0 where
   pub first : Every (λ j. rank (j .one) < rank (j .other)) (d .joins)
   pub joins : rises 0 (map (λ j. rank (j .one)) (d .joins)) ≡ true

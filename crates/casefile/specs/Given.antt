@@ -11,14 +11,14 @@ use lib.ListN.{length}
 use Rattle.laws.specs.Lists.{Every}
 use Rattle.railway.specs.declared.Railway.{Railway}
 use Rattle.railway.specs.declared.Refusal.{Refusal}
-use Rattle.railway.specs.declared.Refusal.the-variants.{Length, Form, Count, Unknown, Join, Loose, Double, Place, Space, PlanForm, PlanFault}
+use Rattle.railway.specs.declared.Refusal.the-variants.{Length, Form, Count, Unknown, Join, Loose, Chain, Double, Place, Space, PlanForm, PlanFault}
 use Rattle.railway.specs.declared.CaseAnswer.{CaseAnswer}
 use Rattle.railway.specs.declared.CaseAnswer.the-variants.{Accepted, Refused}
 use Rattle.railway.specs.Refusals.{number, numberGiven, NotApplying, FirstOf}
 use Rattle.railway.specs.Record.{emptyRailway}
 use Rattle.casefile.specs.declared.CaseRead.{CaseRead}
 use Rattle.casefile.specs.Form.{Description, Describes}
-use Rattle.casefile.specs.Rows.{mostBytes, LengthRow, FormRow, countRow, unknownRow, joinRow, looseRow, doubleRow, placeRow, descriptionRows, descriptionTable}
+use Rattle.casefile.specs.Rows.{mostBytes, LengthRow, FormRow, countRow, unknownRow, joinRow, looseRow, chainRow, doubleRow, placeRow, descriptionRows, descriptionTable}
 use Rattle.casefile.specs.Recording.{railwayOf}
 
 -- The answer that accepts a text, with its railway.
@@ -48,13 +48,14 @@ Applies text Count = Says text countRow
 Applies text Unknown = Says text unknownRow
 Applies text Join = Says text joinRow
 Applies text Loose = Says text looseRow
+Applies text Chain = Says text chainRow
 Applies text Double = Says text doubleRow
 Applies text Place = Says text placeRow
 Applies text Space = ⊥
 Applies text PlanForm = ⊥
 Applies text PlanFault = ⊥
 
--- The rows that judge a case text, in the table's order: these two, then those that judge what it says.
+-- The rows that judge a case text, in the order in which they are given: these two, then those that judge what it says.
 abbrev pub caseTable : List Refusal
 caseTable = Length ∷ Form ∷ descriptionTable
 
@@ -62,7 +63,7 @@ caseTable = Length ∷ Form ∷ descriptionTable
 abbrev pub RefusedWith : List ℕ → Refusal → Type 0
 RefusedWith text f = FirstOf (Applies text) caseTable f
 
--- The text is not too long, says something to which none of rows 3 to 8 applies, and the railway is that of what it says.
+-- The text is not too long, says something to which none of rows 3 to 8 and 13 applies, and the railway is that of what it says.
 pub record AcceptedWith (text : List ℕ) (r : Railway) : Type 0 where
   pub short : length text ≤ mostBytes
   pub description : Description

@@ -1,6 +1,6 @@
 pub mod Form
-pub mod Rows
 pub mod Recording
+pub mod Rows
 pub mod Writing
 pub mod Given
 pub mod Reading

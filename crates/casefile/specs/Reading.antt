@@ -130,12 +130,12 @@ module _ (s : List ℕ) where
   unfoldable pub read : Option Description
   read = value walk
 
--- THE ANSWER. Rows 2 to 8, given what was read of a text; where nothing was, the form is at fault.
+-- THE ANSWER. Rows 2 to 8 and 13, given what was read of a text; where nothing was, the form is at fault.
 abbrev pub formRows : Option Description → List Row
 formRows none = row Form true ∷ []
 formRows (some d) = row Form false ∷ descriptionRows d
 
--- Rows 1 to 8 of a text, given what was read of it.
+-- Row 1 and these of a text, given what was read of it.
 abbrev pub caseRows : List ℕ → Option Description → List Row
 caseRows text o = row Length (ltb mostBytes (length text)) ∷ formRows o
 

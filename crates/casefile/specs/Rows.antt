@@ -1,8 +1,8 @@
--- Rows 1 to 8 of the table of numbers, for a case text: one definition a row, in the table's order. Rows 3 to 8 judge what the text says.
+-- Rows 1 to 8 and 13 of the table of numbers, for a case text: one definition a row, in the order in which they are given. From row 3 on they judge what
+-- the text says.
 -- Assumes nothing.
 use mathlib.Core.Bool.{Bool, false, not, _&&_, _||_}
 use mathlib.Core.List.{List, [], _∷_, map}
-use mathlib.Core.Option.{Option, none, some}
 use Prim.Native.Nat.{ℕ, suc, _-_, _<_}
 use lib.Dec.{leb, eqb}
 use lib.ListN.{length, getD}
@@ -14,8 +14,10 @@ use Rattle.railway.specs.declared.Leg.the-variants.{Stem, Plus, Minus}
 use Rattle.railway.specs.declared.Refusal.{Refusal}
 use Rattle.railway.specs.Ends.{portSide}
 use Rattle.railway.specs.Refusals.{Row}
-use Rattle.railway.specs.Rows.{outside, Tied, wrongPair, rowsBy}
+use Rattle.railway.specs.Rows.{outside, Owner, ofSection, ofPoint, Tied, wrongPair, rowsBy}
+use Rattle.railway.specs.Rows as Record
 use Rattle.casefile.specs.Form.{EndField, section, port, JoinLine, SignalLine, TrainLine, Description, sameEnd, sameSignal, Describes}
+use Rattle.casefile.specs.Recording.{railwayOf}
 
 -- The bytes that a case text may have.
 abbrev pub mostBytes : ℕ
@@ -66,10 +68,10 @@ unknownRow d =
     || any (unknownClosed d) (d .closed)
     || any (unknownTrain d) (d .roster)
 
--- The section that an end belongs to; a port belongs to none.
-abbrev pub sectionOf : EndField → Option ℕ
-sectionOf (section n s) = some n
-sectionOf (port n l) = none
+-- What an end belongs to.
+abbrev pub ownerOf : EndField → Owner
+ownerOf (section n s) = ofSection n
+ownerOf (port n l) = ofPoint n
 
 -- An end's side: a section's own, a port's by the P line of its point.
 abbrev pub sideOf : Description → EndField → Side
@@ -78,9 +80,9 @@ sideOf d (port n l) = portSide (getD (d .legs) (n - 1) Up) l
 
 -- What row 5 asks of an end.
 abbrev pub tied : Description → EndField → Tied
-tied d e = record { section = sectionOf e; side = sideOf d e }
+tied d e = record { owner = ownerOf e; side = sideOf d e }
 
--- The ends of a J line are two ports, or two of one section, or lie on the same side.
+-- The ends of a J line belong to one section or to one point, or lie on the same side.
 abbrev pub wrongJoin : Description → JoinLine → Bool
 wrongJoin d j = wrongPair (tied d (j .one)) (tied d (j .other))
 
@@ -105,6 +107,10 @@ looseAt d i = looseEnd d (port (suc i) Stem) || looseEnd d (port (suc i) Plus) |
 unfoldable pub looseRow : Description → Bool
 looseRow d = anyBelow (looseAt d) (d .points)
 
+-- 13, chain (document 02, Q-6): more than four points can be met in a row in the railway that the lines describe.
+abbrev pub chainRow : Description → Bool
+chainRow d = Record.chainRow (railwayOf d)
+
 -- 7, double: two G lines name one section end, or two X lines one section.
 unfoldable pub doubleRow : Description → Bool
 doubleRow d = repeats sameSignal (d .signals) || repeats eqb (d .closed)
@@ -124,10 +130,10 @@ placeRow d =
     || repeats eqb (map (λ t. t .destination) (d .roster))
     || any (shutOut d) (d .roster)
 
--- Rows 3 to 8 of what a text says, in the table's order.
+-- These rows of what a text says, from 3 on, in the order in which they are given.
 abbrev pub descriptionRows : Description → List Row
-descriptionRows d = rowsBy (countRow d) (unknownRow d) (joinRow d) (looseRow d) (doubleRow d) (placeRow d)
+descriptionRows d = rowsBy (countRow d) (unknownRow d) (joinRow d) (looseRow d) (chainRow d) (doubleRow d) (placeRow d)
 
 -- Their refusals, in that order.
 abbrev pub descriptionTable : List Refusal
-descriptionTable = map (λ x. x .refusal) (rowsBy false false false false false false)
+descriptionTable = map (λ x. x .refusal) (rowsBy false false false false false false false)

@@ -1,4 +1,4 @@
--- The writer (document 01, "The case file", last paragraph; row 9 of the table of numbers): the text that it makes of a railway, and what it
+-- The writer (document 01, "The case file", last paragraph; document 02, Q-6; row 9 of the table of numbers): the text that it makes of a railway, and what it
 -- answers and leaves when it is handed a record and a lent buffer. Assumes nothing.
 use mathlib.Core.Path.{_≡_}
 use mathlib.Core.Bool.{Bool, cond}
@@ -14,7 +14,7 @@ use Rattle.railway.specs.declared.Train.{Train}
 use Rattle.railway.specs.declared.Railway.{Railway}
 use Rattle.railway.specs.declared.Refusal.{Refusal}
 use Rattle.railway.specs.declared.Refusal.the-variants.{Space}
-use Rattle.railway.specs.Bounds.{mostSections, sectionEnds}
+use Rattle.railway.specs.Bounds.{mostSections, sectionEnds, allEnds}
 use Rattle.railway.specs.Ends.{endIndex, endAt}
 use Rattle.railway.specs.Refusals.{number, numberOf, Row, row, first}
 use Rattle.railway.specs.Record.{linkAt, flagAt, closedAt, legsOf, trainOf}
@@ -24,15 +24,15 @@ use Rattle.casefile.specs.declared.Written.the-variants.{Bytes, Refused}
 use Rattle.casefile.specs.Form.{JoinLine, SignalLine, TrainLine, Description, spell}
 use Rattle.casefile.specs.Recording.{fieldOf, signalOf}
 
--- THE TEXT. A walk over the section ends by index, where a section's down end goes before its up end, makes the J lines, and another one the G lines; one over the sections
--- makes the X lines.
--- The J line that begins with the section end of index i, by what that end is joined to: there is one if the other end has a later index, and so is a
--- later section end or a port.
+-- THE TEXT. A walk over all ends by index makes the J lines: section by section, the down end before the up end, and then point by point, the stem before the
+-- plus port and that before the minus port. A walk over the section ends makes the G lines; one over the sections makes the X lines.
+-- The J line that begins with the end of index i, by what that end is joined to: there is one if the other end has a later index. So a section end
+-- stands before a port, and of two points the lower one comes first.
 abbrev pub joinFrom : ℕ → Joined → List JoinLine
 joinFrom i Nothing = []
 joinFrom i (With f) = cond (ltb i (endIndex f)) (record { one = fieldOf (endAt i); other = fieldOf f } ∷ []) []
 
--- The J line that begins with the section end of index i in a record, if there is one.
+-- The J line that begins with the end of index i in a record, if there is one.
 abbrev pub joinAt : Railway → ℕ → List JoinLine
 joinAt r i = joinFrom i (linkAt r i)
 
@@ -48,7 +48,7 @@ closedLineOf r x = cond (closedAt r x) (suc x ∷ []) []
 abbrev pub lineOfTrain : Train → TrainLine
 lineOfTrain t = record { heading = t .heading; start = suc (t .start .0); destination = suc (t .destination .0) }
 
--- What the writer's text says: all that the record has, by rising point, section end, section and train.
+-- What the writer's text says: all that the record has, by rising point, end, section and train.
 unfoldable pub descriptionOf : Railway → Description
 descriptionOf r =
     record {
@@ -56,7 +56,7 @@ descriptionOf r =
       points = r .points;
       trains = r .trains;
       legs = listBelow (legsOf r) (r .points);
-      joins = gatherBelow (joinAt r) sectionEnds;
+      joins = gatherBelow (joinAt r) allEnds;
       signals = gatherBelow (signalAt r) sectionEnds;
       closed = gatherBelow (closedLineOf r) mostSections;
       roster = listBelow (λ t. lineOfTrain (trainOf r t)) (r .trains);
@@ -70,7 +70,7 @@ writtenText r = spell (descriptionOf r)
 abbrev pub spaceRow : Railway → List ℕ → Bool
 spaceRow r buffer = ltb (length buffer) (length (writtenText r))
 
--- The rows that it looks at: 3 to 8 of the record, then 9.
+-- The rows that it looks at: those of the record, then 9.
 abbrev pub writerRows : Railway → List ℕ → List Row
 writerRows r buffer = recordRows r ++ (row Space (spaceRow r buffer) ∷ [])
 

@@ -13,7 +13,7 @@ use Rattle.tables.specs.Tables.{caseRefusal}
 use Rattle.compiled.specs.declared.Compilation.{Compilation}
 use Rattle.compiled.specs.Table.{Compiled, tableBytes}
 
--- The first of rows 3 to 9 is given, by its number, with a table that is all zero; where none applies, the railway's table.
+-- The first row of the case that applies is given, by its number, with a table that is all zero; where none applies, the railway's table.
 pub record CasePost (r : Railway) (figs sets : List ℕ) (c : Compilation) : Type 0 where
   pub numbered : numberGiven (c .tested) ≡ numberOf (caseRefusal r figs sets)
   pub compiled : caseRefusal r figs sets ≡ none → Compiled r (c .table)

@@ -1,8 +1,11 @@
-// A case handed in with two lent tables: judged by rows 3 to 9, and compiled where none applies. Solver, emitter and checker begin with it.
+// A case handed in with two lent tables: judged by the rows of the record, then 9, and compiled where none applies. Solver, emitter and checker begin with it; the ways are made
+// apart, for calls that ask where moves lead.
 ghost use mathlib.Core.Path.{_≡_};
 ghost use lib.ListN.{replicate};
 ghost use Rattle.railway.specs.declared.Refusal.the-variants.{Space};
 ghost use Rattle.railway.specs.declared.CaseAnswer.the-variants.{Refused};
+ghost use Rattle.railway.specs.Record.{isClosed};
+ghost use Rattle.routes.specs.Routes.{Laid};
 ghost use Rattle.compiled.specs.Table.{tableBytes};
 ghost use Rattle.cases.specs.Cases.{CasePost};
 use compiled::Compilation;
@@ -10,6 +13,7 @@ use compiled::TABLE;
 use railway::CaseAnswer;
 use railway::Railway;
 use railway::Refusal;
+use routes::Ways;
 
 // The record is tested first, then the length of the tables. Where anything is refused the compiled table is all zero.
 pub fn open_case(r: Railway, figures: &[u32], settings: &[u32]) -> Compilation
@@ -39,4 +43,13 @@ fn short() -> Compilation
         tested: CaseAnswer::Refused(Refusal::Space),
         table: [0u8; TABLE],
     }
+}
+
+// The ways of a record's railway, into sections that are not closed.
+pub fn case_ways(r: Railway) -> Ways
+    ensures { λ ways. ⌜ Laid r (isClosed r) ways ⌝ }
+{
+    let links = r.links;
+    let closed = r.closed;
+    routes::ways_of(&links, &closed)
 }

@@ -6,6 +6,8 @@ ghost use Prim.Native.Nat.{ℕ, _≤_, _<_};
 ghost use lib.ListN.{length, drop, set, replicate};
 ghost use mathlib.Core.Option.{none};
 ghost use Rattle.railway.specs.declared.Railway.{Railway};
+ghost use Rattle.railway.specs.Record.{isClosed};
+ghost use Rattle.routes.specs.Routes.{Laid};
 ghost use Rattle.compiled.specs.Table.{Compiled};
 ghost use Rattle.moves.specs.Steps.{noCode};
 ghost use Rattle.tables.specs.Tables.{caseRefusal};
@@ -26,6 +28,7 @@ use planreader::LineRead;
 use railway::CaseAnswer;
 use railway::Railway;
 use railway::Refusal;
+use routes::Ways;
 
 // What the checker keeps between calls, beside the tables.
 pub struct Checker {
@@ -72,7 +75,7 @@ impl Checker {
         }
     }
 
-    // A LINE. Rows 3 to 9 come before its form.
+    // A LINE. The rows of the case come before its form.
     pub fn take(
         self,
         r: Railway,
@@ -109,7 +112,7 @@ impl Checker {
         self.enter(line, figures, settings)
     }
 
-    // THE LINES IN FRONT of a text, up to the first that is refused: so many calls for a line each. Rows 3 to 9 refuse the call; no line does.
+    // THE LINES IN FRONT of a text, up to the first that is refused: so many calls for a line each. The rows of the case refuse the call; no line does.
     pub fn take_front(
         self,
         r: Railway,
@@ -220,7 +223,7 @@ impl Checker {
         }
     }
 
-    // THE TEST, after the last line: rows 3 to 9, then the lines taken.
+    // THE TEST, after the last line: the rows of the case, then the lines taken.
     pub fn test(self, r: Railway, figures: &[u32], settings: &[u32]) -> TestReply
         ensures { λ x. ⌜ TestPost r (checking self (now (figures .entry)) (now (settings .entry))) (x .answer) (checking (x .checker) (now (figures .entry)) (now (settings .entry))) ⌝ }
     {
@@ -231,7 +234,8 @@ impl Checker {
             CaseAnswer::Refused(f) => self.tested(TestAnswer::Refused(f)),
             CaseAnswer::Accepted => {
                 let table = c.table;
-                let a = verdict(state, &table, figures, settings);
+                let ways = cases::case_ways(r);
+                let a = verdict(state, &table, &ways, figures, settings);
                 self.tested(a)
             }
         }
@@ -249,13 +253,19 @@ impl Checker {
 }
 
 // The test of the lines taken: before the first line there is no plan.
-fn verdict(state: CheckerState, table: &Table, figures: &[u32], settings: &[u32]) -> TestAnswer
-    ensures { λ a. ⌜ ((r : Railway) (c : Checker) → Compiled r (now (table .entry)) → a ≡ tests r (checking c (now (figures .entry)) (now (settings .entry))) none state) ⌝ }
+fn verdict(
+    state: CheckerState,
+    table: &Table,
+    ways: &Ways,
+    figures: &[u32],
+    settings: &[u32],
+) -> TestAnswer
+    ensures { λ a. ⌜ ((r : Railway) (c : Checker) → Compiled r (now (table .entry)) → Laid r (isClosed r) (now (ways .entry)) → a ≡ tests r (checking c (now (figures .entry)) (now (settings .entry))) none state) ⌝ }
 {
     match state {
         CheckerState::Fresh => TestAnswer::Refused(Refusal::PlanForm),
         CheckerState::Begun(m, _) => {
-            if plantest::test_holds(table, figures, settings, m) {
+            if plantest::test_holds(table, ways, figures, settings, m) {
                 return TestAnswer::Pass;
             }
             TestAnswer::Refused(Refusal::PlanFault)

@@ -1,4 +1,4 @@
--- Moves under whole settings: the table is the railway's, a move on it is that under the entry's setting, and a setting acts as its entry. Assumes nothing.
+-- Moves under whole settings: table and ways are the railway's, a move on them is that under the entry's setting, and a setting acts as its entry. Assumes nothing.
 use mathlib.Core.Path.{_≡_, refl, sym, _∙_}
 use mathlib.Core.Logic.{inl, inr}
 use mathlib.Core.Bool.{true, false, cond}
@@ -6,6 +6,8 @@ use mathlib.Core.Option.{none, some}
 use Prim.Native.Nat.{ℕ}
 use Rattle.laws.proofs.Bools.{bool?}
 use Rattle.railway.specs.declared.Railway.{Railway}
+use Rattle.railway.specs.Record.{isClosed}
+use Rattle.routes.specs.Routes.{Laid}
 use Rattle.game.specs.Game.{may}
 use Rattle.game.specs.Claim.{Alike}
 use Rattle.game.specs.Setting.{Setting}
@@ -14,6 +16,7 @@ use Rattle.tables.specs.Entries.{settingAt}
 use Rattle.tables.proofs.Acting.{entry-acts}
 use Rattle.compiled.proofs.compile.Met as compile
 use Rattle.compiled.specs.Table.{Compiled}
+use Rattle.cases.proofs.case_ways.Met as ways
 use Rattle.moves.specs.Answers.{moveUnder}
 use Rattle.moves.proofs.move_of.Met as move
 use Rattle.demand3.specs.Moving.{MovesHold, MovesRun}
@@ -27,14 +30,17 @@ move-alike r p v s t like = elim (bool? (may (gameOf r) p s t)) [
 ]
 
 pub moves-hold : MovesHold
-moves-hold κs a c left accepted compiled κs′ b m left′ same moved apart s entry =
+moves-hold κs a c left accepted compiled κsʷ d w leftʷ one laid κs′ b m left′ same ways moved apart s entry =
     let table : Compiled (a .0) (c .table) = compiled .accepted accepted in
-    moved (a .0) (rw same table) ∙ move-alike (a .0) (b .1 .0) (b .1 .1 .0) s (b .1 .1 .1 .0) (rw entry (entry-acts (a .0) accepted (b .1 .0) apart s))
+    let way : Laid (a .0) (isClosed (a .0)) w = rw one at laid in
+    moved (a .0) (rw same table) (rw ways way)
+    ∙ move-alike (a .0) (b .1 .1 .0) (b .1 .1 .1 .0) s (b .1 .1 .1 .1 .0) (rw entry (entry-acts (a .0) accepted (b .1 .1 .0) apart s))
 
 pub moves-run : MovesRun
 moves-run =
     record {
       whole = moves-hold;
       compile = record { asks = λ κs a. tt; tells = λ κs a answer left. refl; meets = compile.met };
+      ways = record { asks = λ κs a. tt; tells = λ κs a answer left. refl; meets = ways.met };
       move = record { asks = λ κs a. tt; tells = λ κs a answer left. refl; meets = move.met };
     }

@@ -21,12 +21,13 @@ use Rattle.railway.specs.Ends.{endAt}
 use Rattle.railway.specs.declared.CaseAnswer.{CaseAnswer}
 use Rattle.railway.specs.Refusals.{first, numberGiven as caseNumber}
 use Rattle.railway.specs.Record.{isClosed, joinedBy, joined, hasSignal, legsOf, trainOf, withJoin, withSignal, withLegs, withTrain}
-use Rattle.railway.specs.Rows.{unknownRow, joinRow, looseRow, placeRow}
+use Rattle.railway.specs.Rows.{unknownRow, joinRow, looseRow, longer, chainRow, placeRow}
 use Rattle.railway.specs.Yards.{yardA}
 use Rattle.game.specs.Game.{at, may}
 use Rattle.game.specs.Placement.{codeOf, sectionsIn, placements, standsOn, startCode, shared}
 use Rattle.game.specs.Setting.{Setting, headsFor, held, mayMove, signalOpen, free}
-use Rattle.game.specs.Moves.{entered, passes, occupied, moveOf, gameOf}
+use Rattle.railway.specs.Passing.{entered, follow, passes}
+use Rattle.game.specs.Moves.{occupied, moveOf, gameOf}
 use Rattle.game.proofs.Figures.{figure-one}
 use Rattle.tables.specs.declared.SolverAnswer.{SolverAnswer}
 use Rattle.tables.specs.Entries.{entryFrom, entryOf}
@@ -83,6 +84,10 @@ use Rattle.compiled.proofs.compile.Kinds as compile
 use Rattle.compiled.proofs.compile.Reads.{Asked as CompileAsked, Learnt as CompileLearnt}
 use Rattle.compiled.proofs.compile.Statement.{statement as CompileMeets}
 use Rattle.moves.specs.Answers.{ended, moveUnder}
+use Rattle.routes.specs.Routes.{Laid}
+use Rattle.cases.proofs.case_ways.Kinds as ways
+use Rattle.cases.proofs.case_ways.Reads.{Asked as WaysAsked, Learnt as WaysLearnt}
+use Rattle.cases.proofs.case_ways.Statement.{statement as WaysMeet}
 use Rattle.moves.proofs.move_of.Kinds as move
 use Rattle.moves.proofs.move_of.Reads.{Asked as MoveAsked, Learnt as MoveLearnt}
 use Rattle.moves.proofs.move_of.Statement.{statement as MoveMeets}
@@ -109,7 +114,8 @@ asked :
     × ((κs : Lfts 3) (a : Dens κs lines.ps) → LinesAsked κs a)
     × ((κs : Lfts 3) (a : Dens κs front.ps) → FrontAsked κs a)
     × ((κs : Lfts 0) (a : Dens κs compile.ps) → CompileAsked κs a)
-    × ((κs : Lfts 1) (a : Dens κs move.ps) → MoveAsked κs a)
+    × ((κs : Lfts 0) (a : Dens κs ways.ps) → WaysAsked κs a)
+    × ((κs : Lfts 2) (a : Dens κs move.ps) → MoveAsked κs a)
 asked = (
   demand3-runs .solver .asks,
   demand3-runs .emitter .asks,
@@ -119,6 +125,7 @@ asked = (
   demand3-runs .lines .asks,
   demand3-runs .front .asks,
   moves-run .compile .asks,
+  moves-run .ways .asks,
   moves-run .move .asks,
 )
 
@@ -147,6 +154,9 @@ module _ {M : Type 1} where
   compile-met : CompileMeets M
   compile-met = moves-run .compile .meets
 
+  ways-met : WaysMeet M
+  ways-met = moves-run .ways .meets
+
   move-met : MoveMeets M
   move-met = moves-run .move .meets
 
@@ -162,27 +172,27 @@ solve-two κs a answer left yard nine₁ nine₂ learnt =
 
 -- what the promises compute to: 9 for tables of eight entries; the first line emitted, and taken; 10 for a test that comes first
 solver-nine : (a : SolverAnswer) (figs sets : List ℕ) → SolverPost yardA a (replicate 8 5) (replicate 9 6) figs sets → (numberGiven a ≡ some 9) × (figs ≡ replicate 8 5) × (sets ≡ replicate 9 6)
-unfolding caseRefusal tablesShort first unknownRow joinRow looseRow placeRow endAt joinedBy joined hasSignal legsOf trainOf withJoin withSignal withLegs withTrain anyBelow isClosed
+unfolding caseRefusal tablesShort first unknownRow joinRow looseRow chainRow longer placeRow endAt joinedBy joined hasSignal legsOf trainOf withJoin withSignal withLegs withTrain anyBelow isClosed
 solver-nine a figs sets p = (p .numbered, p .leaves .0, p .leaves .1)
 
 lines-nine : (place : PlanPlace) (b b′ : List ℕ) (a : Emitted) → EmitLinesPost yardA (replicate 8 5) (replicate 9 6) place b a b′ → emitNumber a ≡ some 9
-unfolding caseRefusal tablesShort first unknownRow joinRow looseRow placeRow endAt joinedBy joined hasSignal legsOf trainOf withJoin withSignal withLegs withTrain anyBelow isClosed
+unfolding caseRefusal tablesShort first unknownRow joinRow looseRow chainRow longer placeRow endAt joinedBy joined hasSignal legsOf trainOf withJoin withSignal withLegs withTrain anyBelow isClosed
 lines-nine place b b′ a p = p .numbered
 
 front-nine : (c : CheckerState) (text : List ℕ) (a : FrontAnswer) (c′ : Checking) → FrontPost yardA (record { state = c; figs = replicate 8 5; sets = replicate 9 6 }) text a c′ → frontNumber a ≡ some 9
-unfolding caseRefusal tablesShort first unknownRow joinRow looseRow placeRow endAt joinedBy joined hasSignal legsOf trainOf withJoin withSignal withLegs withTrain anyBelow isClosed
+unfolding caseRefusal tablesShort first unknownRow joinRow looseRow chainRow longer placeRow endAt joinedBy joined hasSignal legsOf trainOf withJoin withSignal withLegs withTrain anyBelow isClosed
 front-nine c text a c′ p = p .numbered
 
 first-written : (a : Emitted) (b : List ℕ) → EmitterPost yardA figsA setsA Top (replicate 9 7) a b → (a ≡ Line 7 (From 0)) × (b ≡ bytes "plan\t2\n" ++ (7 ∷ 7 ∷ []))
-unfolding bytes emitLine spell line digits codeOf sumBelow listBelow startCode caseRefusal tablesShort first unknownRow joinRow looseRow placeRow endAt joinedBy joined hasSignal legsOf trainOf withJoin withSignal withLegs withTrain anyBelow isClosed
+unfolding bytes emitLine spell line digits codeOf sumBelow listBelow startCode caseRefusal tablesShort first unknownRow joinRow looseRow chainRow longer placeRow endAt joinedBy joined hasSignal legsOf trainOf withJoin withSignal withLegs withTrain anyBelow isClosed
 first-written a b p = (p .answer, p .buffer)
 
 first-taken : (a : LineAnswer) (c : Checking) → LinePost yardA (freshChecking 9 9) (bytes "plan\t2\n") a c → (a ≡ Taken) × (c .state ≡ Begun 2 0)
-unfolding bytes takeLine listBelow whichBelow any all readLine guess fields valueOf sameText spell line digits fits caseRefusal tablesShort first unknownRow joinRow looseRow placeRow endAt joinedBy joined hasSignal legsOf trainOf withJoin withSignal withLegs withTrain anyBelow isClosed
+unfolding bytes takeLine listBelow whichBelow any all readLine guess fields valueOf sameText spell line digits fits caseRefusal tablesShort first unknownRow joinRow looseRow chainRow longer placeRow endAt joinedBy joined hasSignal legsOf trainOf withJoin withSignal withLegs withTrain anyBelow isClosed
 first-taken a c p = (p .answer, ap (λ (x : Checking). x .state) (p .checking))
 
 early-ten : (a : TestAnswer) (c : Checking) → TestPost yardA (freshChecking 9 9) a c → a ≡ Refused PlanForm
-unfolding testPlan caseRefusal tablesShort first unknownRow joinRow looseRow placeRow endAt joinedBy joined hasSignal legsOf trainOf withJoin withSignal withLegs withTrain anyBelow isClosed
+unfolding testPlan caseRefusal tablesShort first unknownRow joinRow looseRow chainRow longer placeRow endAt joinedBy joined hasSignal legsOf trainOf withJoin withSignal withLegs withTrain anyBelow isClosed
 early-ten a c p = p .answer
 
 solve-nine : (κs : Lfts 2) (a : Dens κs solve.ps) (answer : resT solve.r κs .Denot) (left : AtExit (endedOf 2 solve.ps solve.r) κs)
@@ -263,7 +273,7 @@ module _ (lent₁ lent₂ : List ℕ) (answered : CaseAnswer) (c : Checking) (en
 
 -- a text without its line end is refused with 10, and so is the test behind it
 cut-off : (u : LineCalls) → u ≡ callLines yardA (bytes "plan\t2" ∷ []) madeFresh → (u .answers ≡ LineRefused PlanForm ∷ []) × (takenTexts (u .answers) (bytes "plan\t2" ∷ []) ≡ [])
-unfolding bytes callLines takenTexts takeLine listBelow whichBelow any all readLine guess fields valueOf sameText spell line digits fits caseRefusal tablesShort first unknownRow joinRow looseRow placeRow endAt joinedBy joined hasSignal legsOf trainOf withJoin withSignal withLegs withTrain anyBelow isClosed
+unfolding bytes callLines takenTexts takeLine listBelow whichBelow any all readLine guess fields valueOf sameText spell line digits fits caseRefusal tablesShort first unknownRow joinRow looseRow chainRow longer placeRow endAt joinedBy joined hasSignal legsOf trainOf withJoin withSignal withLegs withTrain anyBelow isClosed
 cut-off u e = (ap (λ (x : LineCalls). x .answers) e, ap (λ (x : LineCalls). takenTexts (x .answers) (bytes "plan\t2" ∷ [])) e)
 
 out-of-form : (said : CaseAnswer) (c : Checking) → FreshPost yardA lent wider said c → (u : LineCalls) → Taking yardA c (bytes "plan\t2" ∷ []) u
@@ -273,25 +283,30 @@ out-of-form said c made u calls a c′ tests =
     let x = cut-off u (rw s at (taking-one yardA c (bytes "plan\t2" ∷ []) u calls)) in
     (x .0, checker-runs .whole yardA yardA-accepted lent wider said c (omega (arith, nine)) (omega (arith, nine)) made (bytes "plan\t2" ∷ []) u calls a c′ tests .1 .early .1 (x .1))
 
--- MOVES. With all points at plus and all signals open, train 2 goes from (2, 3) to section 1, by the table that was compiled from Yard A.
+-- MOVES. With all points at plus and all signals open, train 2 goes from (2, 3) to section 1, by the table that was compiled from Yard A and its ways.
 abbrev wide : Setting
 wide = record { plus = λ n. true; isOpen = λ i. true }
 
 moved-on : (entryOf yardA 7 wide ≡ 65537) × (shared yardA 7 ≡ false) × (cond (may (gameOf yardA) 7 wide 1) (some (moveOf yardA 7 wide 1)) none ≡ some (at 1))
-unfolding entryFrom fromBits signalOpen mayMove free held headsFor standsOn sectionsIn shared trainOf hasSignal withJoin withSignal withLegs withTrain moveOf passes occupied codeOf sumBelow endAt joinedBy joined anyBelow entered isClosed
+unfolding entryFrom fromBits signalOpen mayMove free held headsFor standsOn sectionsIn shared trainOf hasSignal withJoin withSignal withLegs withTrain moveOf passes follow occupied codeOf sumBelow endAt joinedBy joined anyBelow entered isClosed
 moved-on = (refl, refl, refl)
 
 move-on : (κs : Lfts 0) (a : Dens κs compile.ps) (c : resT compile.r κs .Denot) (left : AtExit (endedOf 0 compile.ps compile.r) κs) → a .0 ≡ yardA → CompileLearnt κs a c left
-    → (κs′ : Lfts 1) (b : Dens κs′ move.ps) (m : resT move.r κs′ .Denot) (left′ : AtExit (endedOf 1 move.ps move.r) κs′)
-    → now (b .0) ≡ c .table → b .1 .0 ≡ 7 → b .1 .1 .0 ≡ 65537 → b .1 .1 .1 .0 ≡ 1 → MoveLearnt κs′ b m left′ → ended m ≡ some (at 1)
-move-on κs a c left yard compiled κs′ b m left′ table place entry train moved =
-    let e = moves-run .whole κs a c left (rw yard yardA-accepted) compiled κs′ b m left′ table moved (rw (yard, place) (moved-on .1)) wide (rw (yard, place, entry) (sym (moved-on .0))) in
+    → (κsʷ : Lfts 0) (d : Dens κsʷ ways.ps) (w : resT ways.r κsʷ .Denot) (leftʷ : AtExit (endedOf 0 ways.ps ways.r) κsʷ) → d .0 ≡ a .0 → WaysLearnt κsʷ d w leftʷ
+    → (κs′ : Lfts 2) (b : Dens κs′ move.ps) (m : resT move.r κs′ .Denot) (left′ : AtExit (endedOf 2 move.ps move.r) κs′)
+    → now (b .0) ≡ c .table → now (b .1 .0) ≡ w → b .1 .1 .0 ≡ 7 → b .1 .1 .1 .0 ≡ 65537 → b .1 .1 .1 .1 .0 ≡ 1 → MoveLearnt κs′ b m left′ → ended m ≡ some (at 1)
+move-on κs a c left yard compiled κsʷ d w leftʷ one laid κs′ b m left′ table way place entry train moved =
+    let e = moves-run .whole κs a c left (rw yard yardA-accepted) compiled κsʷ d w leftʷ one laid κs′ b m left′ table way moved (rw (yard, place) (moved-on .1)) wide (rw (yard, place, entry) (sym (moved-on .0))) in
     (rw (yard, place, train) at e) ∙ moved-on .2
 
 compile-yard : (κs : Lfts 0) (a : Dens κs compile.ps) (c : resT compile.r κs .Denot) (left : AtExit (endedOf 0 compile.ps compile.r) κs) → a .0 ≡ yardA → CompileLearnt κs a c left
     → Compiled yardA (c .table)
 compile-yard κs a c left yard learnt = let p : CompilePost yardA c = rw yard at (same (moves-run .compile .tells κs a c left) learnt) in p .accepted yardA-accepted
 
-move-told : (κs : Lfts 1) (b : Dens κs move.ps) (m : resT move.r κs .Denot) (left : AtExit (endedOf 1 move.ps move.r) κs) → MoveLearnt κs b m left
-    → Compiled yardA (now (b .0)) → ended m ≡ moveUnder yardA (b .1 .0) (b .1 .1 .0) (b .1 .1 .1 .0)
-move-told κs b m left learnt compiled = same (moves-run .move .tells κs b m left) learnt yardA compiled
+ways-yard : (κs : Lfts 0) (a : Dens κs ways.ps) (w : resT ways.r κs .Denot) (left : AtExit (endedOf 0 ways.ps ways.r) κs) → a .0 ≡ yardA → WaysLearnt κs a w left
+    → Laid yardA (isClosed yardA) w
+ways-yard κs a w left yard learnt = rw yard at (same (moves-run .ways .tells κs a w left) learnt)
+
+move-told : (κs : Lfts 2) (b : Dens κs move.ps) (m : resT move.r κs .Denot) (left : AtExit (endedOf 2 move.ps move.r) κs) → MoveLearnt κs b m left
+    → Compiled yardA (now (b .0)) → Laid yardA (isClosed yardA) (now (b .1 .0)) → ended m ≡ moveUnder yardA (b .1 .1 .0) (b .1 .1 .1 .0) (b .1 .1 .1 .1 .0)
+move-told κs b m left learnt compiled laid = same (moves-run .move .tells κs b m left) learnt yardA compiled laid

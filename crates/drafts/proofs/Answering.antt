@@ -24,7 +24,7 @@ use Rattle.railway.specs.declared.Joined.the-variants.{Nothing, With}
 use Rattle.railway.specs.declared.Train.{Train}
 use Rattle.railway.specs.declared.Railway.{Railway}
 use Rattle.railway.specs.declared.Refusal.{Refusal}
-use Rattle.railway.specs.declared.Refusal.the-variants.{Count, Unknown, Join, Loose, Double, Place}
+use Rattle.railway.specs.declared.Refusal.the-variants.{Count, Unknown, Join, Loose, Chain, Double, Place}
 use Rattle.railway.specs.Bounds.{mostSections, sectionEnds}
 use Rattle.railway.specs.Refusals.{Row, row, first}
 use Rattle.railway.specs.Record.{isClosed, bareRailway, emptyRailway, joined, trainOf}
@@ -37,7 +37,7 @@ use Rattle.casefile.specs.Form.{EndField, port, JoinLine, SignalLine, TrainLine
 use Rattle.casefile.specs.Rows.{within, known, unknownJoin, unknownSignal, unknownClosed, unknownTrain, wrongJoin, joinEnds, looseEnd, looseAt, countRow, unknownRow, joinRow, looseRow, doubleRow, closedIn, shutOut, placeRow, descriptionRows}
 use Rattle.casefile.specs.Recording.{partner, trainOfLine, noTrainLine, railwayOf}
 use Rattle.casefile.specs.Reading.{judged}
-use Rattle.casefile.proofs.Faultless.{within-is}
+use Rattle.casefile.proofs.Faultless.{within-is, known-parts}
 use Rattle.casefile.proofs.Ends.{less-one, partner-nothing}
 use Rattle.casefile.proofs.Described.{Joinable, joined-at, closed-at, roster-at}
 use Rattle.drafts.specs.declared.Draft.{Draft}
@@ -208,32 +208,20 @@ module _ (d : Description) (f : WellFormed d) where
     unknown-same = rw h3 (unknown-noted d _ (sized-bare (d .sections) (d .points) (d .trains)) refl f)
 
     module _ (h4 : unknownRow d ≡ false) where
-      -- the parts of row 4
-      known-parts : (any (unknownJoin d) (d .joins) ≡ false) × (any (unknownSignal d) (d .signals) ≡ false) × (any (unknownClosed d) (d .closed) ≡ false) × (any (unknownTrain d) (d .roster) ≡ false)
-      unfolding unknownRow
-      known-parts =
-          let joins = any (unknownJoin d) (d .joins) in
-          let signals = any (unknownSignal d) (d .signals) in
-          let closed = any (unknownClosed d) (d .closed) in
-          let a = or-false (joins || signals || closed) (any (unknownTrain d) (d .roster)) h4 in
-          let c = or-false (joins || signals) closed (a .0) in
-          let e = or-false joins signals (c .0) in
-          (e .0, e .1, c .1, a .1)
-
       kj : Every (KnownJoin d) (d .joins)
-      kj j m = not-and (known d (j .one)) (known d (j .other)) (any-false (unknownJoin d) (d .joins) j (known-parts .0) m)
+      kj j m = not-and (known d (j .one)) (known d (j .other)) (any-false (unknownJoin d) (d .joins) j (known-parts d h4 .0) m)
 
       joinable : Joinable d
       joinable j m = (numbered-known d b (j .one) (kj j m .0), numbered-known d b (j .other) (kj j m .1))
 
       kg : Every (KnownSignal d) (d .signals)
-      kg g m = not-is (within (g .number) (d .sections)) (any-false (unknownSignal d) (d .signals) g (known-parts .1) m)
+      kg g m = not-is (within (g .number) (d .sections)) (any-false (unknownSignal d) (d .signals) g (known-parts d h4 .1) m)
 
       kx : Every (KnownClosed d) (d .closed)
-      kx n m = not-is (within n (d .sections)) (any-false (unknownClosed d) (d .closed) n (known-parts .2) m)
+      kx n m = not-is (within n (d .sections)) (any-false (unknownClosed d) (d .closed) n (known-parts d h4 .2) m)
 
       kt : Every (KnownTrain d) (d .roster)
-      kt t m = not-and (within (t .start) (d .sections)) (within (t .destination) (d .sections)) (any-false (unknownTrain d) (d .roster) t (known-parts .3) m)
+      kt t m = not-and (within (t .start) (d .sections)) (within (t .destination) (d .sections)) (any-false (unknownTrain d) (d .roster) t (known-parts d h4 .3) m)
 
       is : drafted d ≡ record {
         railway = built d f b h3 kj kg kx kt;
@@ -259,7 +247,7 @@ module _ (d : Description) (f : WellFormed d) where
           ap (λ (w : Draft). w .wrong) is
           ∙ same-test _ _ (λ e. join-of (faults-fit d b (d .joins) _ (ready d f b h3 kj kg kx kt) kj e)) (λ e. fit-faults d b (d .joins) _ (ready d f b h3 kj kg kx kt) kj (fit-of e))
 
-      -- ROWS 6 TO 8
+      -- ROWS 6 TO 8 and 13
       module _ (h5 : joinRow d ≡ false) where
         railway-same : drafted d .railway ≡ railwayOf d
         railway-same = ap (λ (w : Draft). w .railway) is ∙ built-is d f b h3 kj kg kx kt (fit-of h5)
@@ -291,8 +279,9 @@ module _ (d : Description) (f : WellFormed d) where
       first-then Unknown _ _ _ _ (unknown-same h3) (λ h4.
       first-then Join _ _ _ _ (wrong-same h3 h4) (λ h5.
       first-then Loose _ _ _ _ (ap RR.looseRow (railway-same h3 h4 h5) ∙ loose-same d (b h3) (joinable h3 h4)) (λ h6.
+      first-then Chain _ _ _ _ (ap RR.chainRow (railway-same h3 h4 h5)) (λ h13.
       first-then Double _ _ _ _ (double-same h3 h4 h5) (λ h7.
-      first-then Place _ _ _ _ (ap RR.placeRow (railway-same h3 h4 h5) ∙ place-same d f (b h3) (kt h3 h4)) (λ h8. refl))))))
+      first-then Place _ _ _ _ (ap RR.placeRow (railway-same h3 h4 h5) ∙ place-same d f (b h3) (kt h3 h4)) (λ h8. refl)))))))
 
   railway-given : first (descriptionRows d) ≡ none → drafted d .railway ≡ railwayOf d
   unfolding first

@@ -30,7 +30,7 @@ use Rattle.casefile.specs.Form.{EndField, section, port, JoinLine, Description,
 use Rattle.casefile.specs.Rows.{known, sideOf, tied, wrongJoin, joinEnds}
 use Rattle.casefile.specs.Recording.{endOf, fieldOf, partner}
 use Rattle.casefile.proofs.Faultless.{within-is}
-use Rattle.casefile.proofs.Ends.{same-is, same-self, not-same, end-field, Counted, field-end, ports-same, one-same}
+use Rattle.casefile.proofs.Ends.{same-is, same-self, not-same, end-field, Counted, field-end, one-same}
 use Rattle.drafts.specs.Drafting.{faulty}
 use Rattle.drafts.proofs.Sized.{sized-join}
 use Rattle.drafts.proofs.Known.{SizedBy}
@@ -60,7 +60,7 @@ partner-none (j ∷ js) f h =
 -- an end may not be tied to itself
 self-wrong : (d : Description) (e : EndField) → wrongPair (tied d e) (tied d e) ≡ true
 self-wrong d (section n s) = rw (eq-eqb n n refl)
-self-wrong d (port n l) = refl
+self-wrong d (port n l) = rw (eq-eqb n n refl)
 
 end-one : (a e : EndField) → Counted a → Counted e → endOf e ≡ endOf a → a ≡ e
 end-one a e p q h = sym (field-end a p) ∙ ap fieldOf (sym h) ∙ field-end e q
@@ -106,7 +106,7 @@ module _ (d : Description) (b : Bounded (d .sections) (d .points) (d .trains)) w
 
   pair-same : (r : Railway) → Ready r → (j : JoinLine) → KnownJoin d j → wrongPair (RR.tied r (endOf (j .one))) (RR.tied r (endOf (j .other))) ≡ wrongJoin d j
   pair-same r y j h =
-      rw (ports-same (j .one) (j .other), one-same (j .one) (j .other) (counted-known (j .one) (h .0)) (counted-known (j .other) (h .1)), side-same r y (j .one) (h .0), side-same r y (j .other) (h .1))
+      rw (one-same (j .one) (j .other) (counted-known (j .one) (h .0)) (counted-known (j .other) (h .1)), side-same r y (j .one) (h .0), side-same r y (j .other) (h .1))
 
   -- J lines that may all be added
   pub record Fit (r : Railway) (js : List JoinLine) : Type 0 where

@@ -15,7 +15,7 @@ use Rattle.railway.specs.declared.Railway.{Railway}
 use Rattle.railway.specs.declared.Refusal.{Refusal}
 use Rattle.railway.specs.Refusals.{Row, first}
 use Rattle.railway.specs.Record.{bareRailway, emptyRailway, joined, hasSignal, isClosed, withJoin, withSignal, withClosed, withLegs, withTrain}
-use Rattle.railway.specs.Rows.{outside, tied, wrongPair, unjoined, countRow, looseRow, placeRow, rowsBy}
+use Rattle.railway.specs.Rows.{outside, tied, wrongPair, unjoined, countRow, looseRow, chainRow, placeRow, rowsBy}
 use Rattle.casefile.specs.declared.CaseRead.{CaseRead}
 use Rattle.casefile.specs.Form.{EndField, section, port, JoinLine, SignalLine, TrainLine}
 use Rattle.casefile.specs.Rows.{within}
@@ -176,9 +176,9 @@ draftOf s = then (headerAt s 0) (λ h c. kindsInto s h kinds c (opened (h .secti
 abbrev pub linesGot : Lines → Got Draft
 linesGot l = cond (l .good) (got (l .draft) (l .next .at)) bad
 
--- THE ANSWER: rows 3 to 8, by the record and the flags.
+-- THE ANSWER: rows 3 to 8 and 13, by the record and the flags.
 abbrev pub draftRows : Draft → List Row
-draftRows d = rowsBy (countRow (d .railway)) (d .unknown) (d .wrong) (looseRow (d .railway)) (d .double) (placeRow (d .railway))
+draftRows d = rowsBy (countRow (d .railway)) (d .unknown) (d .wrong) (looseRow (d .railway)) (chainRow (d .railway)) (d .double) (placeRow (d .railway))
 
 -- Accepted with the record where no row applies, else refused.
 abbrev pub answerOf : Railway → Option Refusal → CaseRead

@@ -27,7 +27,7 @@ use railway::Refusal;
 use tables::NO_FIGURE;
 use text::append;
 
-// Any record, tables, place and buffer: a line and the place behind it, or the end; that there is no plan; or the first of rows 3 to 9 that applies.
+// Any record, tables, place and buffer: a line and the place behind it, or the end; that there is no plan; or the first row of the case, or 9 for the buffer, that applies.
 pub fn emit_line(
     r: Railway,
     figures: &[u32],

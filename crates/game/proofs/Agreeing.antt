@@ -4,9 +4,12 @@
 use mathlib.Core.Path.{_≡_, refl, sym, _∙_, ap}
 use mathlib.Core.Logic.{inl, inr}
 use mathlib.Core.Bool.{Bool, true, false, not, _&&_}
-use Prim.Native.Nat.{ℕ, _<_}
+use mathlib.Core.Option.{Option, none, some}
+use Prim.Native.Nat.{ℕ, zero, suc, _<_}
 use borrow.Author.Tests.{ltb-true}
 use Rattle.laws.proofs.Bools.{bool?, clash, either, or-left, or-right, and-true, and-both}
+use Rattle.railway.specs.declared.Leg.{Leg}
+use Rattle.railway.specs.declared.PointNo.{PointNo}
 use Rattle.railway.specs.declared.End.{End}
 use Rattle.railway.specs.declared.End.the-variants.{Section, Port}
 use Rattle.railway.specs.declared.Joined.{Joined}
@@ -14,11 +17,12 @@ use Rattle.railway.specs.declared.Joined.the-variants.{Nothing, With}
 use Rattle.railway.specs.declared.Railway.{Railway}
 use Rattle.railway.specs.Ends.{endIndex}
 use Rattle.railway.specs.Record.{joined, hasSignal}
+use Rattle.railway.specs.Passing.{Passage, through, mostMet, meeting, pastPoint, pastJoin, follow, passes, inUse, entered}
 use Rattle.railway.proofs.Lookups.{Flagged, signal-flag}
 use Rattle.game.specs.Claim.{Alike}
 use Rattle.game.specs.Placement.{arrived}
 use Rattle.game.specs.Setting.{Setting, SameSetting, headsFor, held, free, opensFor, signalOpen, mayMove}
-use Rattle.game.specs.Moves.{Passage, pastJoin, passes, inUse, entered, enters, moveOf, gameOf, AgreeingAlike}
+use Rattle.game.specs.Moves.{enters, moveOf, gameOf, AgreeingAlike}
 use Rattle.game.proofs.Accepted.{Known, Facts, facts}
 
 module _ (r : Railway) where
@@ -82,14 +86,26 @@ abbrev pub SamePoints : Railway → (ℕ → Bool) → (ℕ → Bool) → Type 0
 SamePoints r a b = (n : ℕ) → n < r .points → a n ≡ b n
 
 module _ (r : Railway) (ok : Facts r) where
-  join-same : (a b : ℕ → Bool) → SamePoints r a b → (j : Joined) → Known r j → pastJoin r a j ≡ pastJoin r b j
-  join-same a b same Nothing k = refl
-  join-same a b same (With (Section n d)) k = refl
-  join-same a b same (With (Port n l)) k = let e : a (n .0) ≡ b (n .0) = same (n .0) (ltb-true (n .0) (r .points) k) in rw e
+  point-same : (f g : Joined → Passage) (n : PointNo) (o : Option Leg) → ((l : Leg) → f (joined r (Port n l)) ≡ g (joined r (Port n l))) → pastPoint r f n o ≡ pastPoint r g n o
+  point-same f g n none h = refl
+  point-same f g n (some l) h = ap (meeting n) (h l)
+
+  join-same : (f g : PointNo → Leg → Passage) (j : Joined) → Known r j → ((n : PointNo) (l : Leg) → n .0 < r .points → f n l ≡ g n l) → pastJoin f j ≡ pastJoin g j
+  join-same f g Nothing known h = refl
+  join-same f g (With (Section n d)) known h = refl
+  join-same f g (With (Port n l)) known h = h n l (ltb-true (n .0) (r .points) known)
+
+  -- however many points are allowed
+  pub follow-same : (a b : ℕ → Bool) → SamePoints r a b → (k : ℕ) (j : Joined) → Known r j → follow r a k j ≡ follow r b k j
+  unfolding follow
+  follow-same a b same zero j known = refl
+  follow-same a b same (suc k) j known = join-same _ _ j known (λ n l there.
+      let e : a (n .0) ≡ b (n .0) = same (n .0) there in
+      rw e (point-same (follow r a k) (follow r b k) n (through l (b (n .0))) (λ o. follow-same a b same k (joined r (Port n o)) (ok .joins (Port n o)))))
 
   pub passes-same : (a b : ℕ → Bool) → SamePoints r a b → (e : End) → passes r a e ≡ passes r b e
   unfolding passes
-  passes-same a b same e = join-same a b same (joined r e) (ok .joins e)
+  passes-same a b same e = follow-same a b same mostMet (joined r e) (ok .joins e)
 
   pub move-same : (a b : Setting) → SamePoints r (a .plus) (b .plus) → (p t : ℕ) → moveOf r p a t ≡ moveOf r p b t
   unfolding moveOf entered

@@ -14,7 +14,7 @@ use Rattle.railway.specs.Bounds.{sectionEnds}
 use Rattle.railway.specs.Ends.{endAt}
 use Rattle.railway.specs.Refusals.{first}
 use Rattle.railway.specs.Record.{isClosed, flagAt, joinedBy, joined, legsOf, trainOf, withJoin, withSignal, withLegs, withTrain}
-use Rattle.railway.specs.Rows.{unknownRow, joinRow, looseRow, placeRow, recordRefusal}
+use Rattle.railway.specs.Rows.{unknownRow, joinRow, looseRow, longer, chainRow, placeRow, recordRefusal}
 use Rattle.game.specs.Game.{at, Game}
 use Rattle.game.specs.Claim.{Keeps, Whole}
 use Rattle.game.specs.Local.{keepsTest, Inside}
@@ -55,7 +55,7 @@ unfolding table settle lowest keepsTest allBelow anyBelow
 small-figures = (refl, refl, refl)
 
 yard-facts : Facts yardA
-unfolding recordRefusal first unknownRow joinRow looseRow placeRow anyBelow joinedBy joined legsOf trainOf endAt withJoin withSignal withLegs withTrain isClosed
+unfolding recordRefusal first unknownRow joinRow looseRow chainRow longer placeRow anyBelow joinedBy joined legsOf trainOf endAt withJoin withSignal withLegs withTrain isClosed
 yard-facts = facts yardA refl
 
 -- settings that agree in Yard A, at its point and at 1d and 2u, and nowhere else

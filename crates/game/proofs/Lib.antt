@@ -7,6 +7,7 @@ pub mod Settle
 pub mod Codes
 pub mod Accepted
 pub mod Moves
+pub mod Back
 pub mod Agreeing
 pub mod Inhabited
 pub mod Uses

@@ -4,7 +4,7 @@ use mathlib.Core.Path.{_≡_, refl, _∙_, ap}
 use mathlib.Core.Bool.{Bool, true, false, cond}
 use mathlib.Core.List.{List}
 use mathlib.Core.Option.{Option, none, some}
-use Prim.Native.Nat.{ℕ, _^_, _<_}
+use Prim.Native.Nat.{ℕ, zero, suc, _^_, _<_}
 use native.Mathlib.Omega.{arith}
 use lib.ListN.{length, set, length-set}
 use borrow.Author.Tests.{ltb-true}
@@ -19,11 +19,12 @@ use Rattle.railway.specs.declared.Joined.{Joined}
 use Rattle.railway.specs.declared.Joined.the-variants.{Nothing, With}
 use Rattle.railway.specs.declared.Railway.{Railway}
 use Rattle.railway.specs.Record.{joined, isClosed, trainOf}
+use Rattle.railway.specs.Passing.{Passage, through, mostMet, nowhere, pastPoint, pastJoin, follow, passes, inUse, entered}
 use Rattle.game.specs.Game.{lost, at, collision}
 use Rattle.game.specs.Local.{Inside}
 use Rattle.game.specs.Placement.{sectionsIn, sectionsOf, standsOn, placements, startCode}
 use Rattle.game.specs.Setting.{Setting, headsFor}
-use Rattle.game.specs.Moves.{through, behindPort, pastPoint, pastJoin, passes, inUse, entered, occupied, codeWith, enters, moveOf, gameOf, ClosedLose}
+use Rattle.game.specs.Moves.{occupied, codeWith, enters, moveOf, gameOf, ClosedLose}
 use Rattle.game.proofs.Codes.{AllBelow, code-below, sections-code, sections-length, sections-below, set-below}
 use Rattle.game.proofs.Accepted.{Known, Facts}
 
@@ -34,23 +35,27 @@ module _ (r : Railway) (ok : Facts r) where
   section-below p t l = sections-below (r .sections) (r .trains) p (ok .one-section) t (rw (sections-length (r .sections) (r .trains) p) l)
 
   -- and comes to one
-  behind-below : (j : Joined) (x : ℕ) → Known r j → behindPort j ≡ some x → x < r .sections
-  behind-below Nothing x k e = some-none e refl
-  behind-below (With (Section n d)) x k e = let z : n .0 ≡ x = cc in omega (arith, ltb-true (n .0) (r .sections) k)
-  behind-below (With (Port n g)) x k e = some-none e refl
+  point-below : (f : Joined → Passage) (n : PointNo) (o : Option Leg) (x : ℕ) → ((l : Leg) → f (joined r (Port n l)) .reached ≡ some x → x < r .sections)
+      → pastPoint r f n o .reached ≡ some x → x < r .sections
+  point-below f n none x h e = some-none e refl
+  point-below f n (some l) x h e = h l e
 
-  point-below : (n : PointNo) (l : Option Leg) (x : ℕ) → pastPoint r n l .reached ≡ some x → x < r .sections
-  point-below n none x e = some-none e refl
-  point-below n (some l) x e = behind-below (joined r (Port n l)) x (ok .joins (Port n l)) e
+  join-below : (f : PointNo → Leg → Passage) (j : Joined) (x : ℕ) → Known r j → ((n : PointNo) (l : Leg) → f n l .reached ≡ some x → x < r .sections)
+      → pastJoin f j .reached ≡ some x → x < r .sections
+  join-below f Nothing x known h e = some-none e refl
+  join-below f (With (Section n d)) x known h e = let z : n .0 ≡ x = cc in omega (arith, ltb-true (n .0) (r .sections) known)
+  join-below f (With (Port n g)) x known h e = h n g e
 
-  join-below : (plus : ℕ → Bool) (j : Joined) (x : ℕ) → Known r j → pastJoin r plus j .reached ≡ some x → x < r .sections
-  join-below plus Nothing x k e = some-none e refl
-  join-below plus (With (Section n d)) x k e = let z : n .0 ≡ x = cc in omega (arith, ltb-true (n .0) (r .sections) k)
-  join-below plus (With (Port n g)) x k e = point-below n (through g (plus (n .0))) x e
+  follow-below : (plus : ℕ → Bool) (k : ℕ) (j : Joined) (x : ℕ) → Known r j → follow r plus k j .reached ≡ some x → x < r .sections
+  unfolding follow
+  follow-below plus zero j x known e = join-below (λ n l. nowhere) j x known (λ n l e. some-none e refl) e
+  follow-below plus (suc k) j x known e =
+      join-below (λ n l. pastPoint r (λ i. follow r plus k i) n (through l (plus (n .0)))) j x known
+      (λ n g e. point-below (follow r plus k) n (through g (plus (n .0))) x (λ l. follow-below plus k (joined r (Port n l)) x (ok .joins (Port n l))) e) e
 
   pub passes-below : (plus : ℕ → Bool) (e : End) (x : ℕ) → passes r plus e .reached ≡ some x → x < r .sections
   unfolding passes
-  passes-below plus e x h = join-below plus (joined r e) x (ok .joins e) h
+  passes-below plus e x h = follow-below plus mostMet (joined r e) x (ok .joins e) h
 
   -- a section that is entered is come to
   use-reached : (o : Option ℕ) (x : ℕ) → inUse r o ≡ some x → o ≡ some x

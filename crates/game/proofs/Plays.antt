@@ -1,8 +1,8 @@
--- Moves and plays by computation: one line for each clause of document 01, "A turn", and of document 02, Q-2 (parked trains) and Q-5 (closed
--- sections), and what a way and a choice are handed. No theorem
--- rests on these; they show what the definitions say, where the theorem on whole plays would not notice a slip. Assumes nothing. In Yard A
--- (three sections) placement (a, b) has code (a - 1) + 3 (b - 1): (2, 1) is 1, (3, 1) is 2, (1, 2) is 3, (3, 2) is 5, (1, 3) is 6, (2, 3)
--- is 7.
+-- Moves and plays by computation: one line for each clause of document 01, "A turn", and of document 02, Q-2 (parked trains), Q-5 (closed
+-- sections) and Q-6 (points joined to points), and what a way and a choice are handed. No theorem rests on these; they show what the definitions
+-- say, where the theorem on whole plays would not notice a slip. Assumes nothing. In Yard A (three sections) placement (a, b) has code
+-- (a - 1) + 3 (b - 1): (2, 1) is 1, (3, 1) is 2, (1, 2) is 3, (3, 2) is 5, (1, 3) is 6, (2, 3) is 7. In the crossover (four sections) it has code
+-- (a - 1) + 4 (b - 1): (2, 1) is 1, (4, 1) is 3, the start (1, 2) is 4, (4, 2) is 7, (2, 3) is 9, (2, 4) is 13.
 use mathlib.Core.Path.{_≡_, refl}
 use mathlib.Core.Bool.{Bool, true, false, cond, not, _&&_}
 use mathlib.Core.List.{List, [], _∷_}
@@ -16,12 +16,14 @@ use Rattle.railway.specs.declared.Railway.{Railway}
 use Rattle.railway.specs.Ends.{endAt}
 use Rattle.railway.specs.Refusals.{first}
 use Rattle.railway.specs.Record.{isClosed, withClosed, joinedBy, joined, hasSignal, legsOf, trainOf, withJoin, withSignal, withLegs, withTrain}
-use Rattle.railway.specs.Rows.{unknownRow, joinRow, looseRow, placeRow, recordRefusal}
+use Rattle.railway.specs.Passing.{follow, passes, entered}
+use Rattle.railway.specs.Rows.{unknownRow, joinRow, looseRow, longer, chainRow, placeRow, recordRefusal}
 use Rattle.game.specs.Game.{derailment, collision, lost, at, Turn, Way, Choice, lostByMove, standing, play}
 use Rattle.game.specs.Placement.{codeOf, sectionsIn, standsOn, sectionsOf, startCode, atHome, shared}
 use Rattle.game.specs.Setting.{Setting, headsFor, held, free, signalOpen, mayMove}
-use Rattle.game.specs.Moves.{entered, passes, occupied, moveOf, gameOf}
+use Rattle.game.specs.Moves.{occupied, moveOf, gameOf}
 use Rattle.railway.specs.Yards.{yardH, lineP, lineJ, lineG, lineX, lineT, sec, port, yardA, yardALess}
+use Rattle.railway.proofs.Passes.{crossover, lies}
 
 -- THE YARDS. A loop: up from 1 a train gets back to 1 over the plus leg, and to 2 over the minus leg.
 abbrev loop : Railway
@@ -70,9 +72,9 @@ shutLoop =
 
 yards : (recordRefusal yardA ≡ none) × (recordRefusal yardALess ≡ none) × (recordRefusal loop ≡ none) × (recordRefusal lines ≡ none) × (recordRefusal inTheWay ≡ none)
     × (recordRefusal shutLine ≡ none) × (recordRefusal shutLoop ≡ none)
-    × (startCode yardA ≡ 7) × (startCode lines ≡ 513) × (sectionsOf lines 524 ≡ 2 ∷ 4 ∷ 6 ∷ []) × (sectionsOf inTheWay 7 ≡ 1 ∷ 2 ∷ [])
-unfolding recordRefusal first unknownRow joinRow looseRow placeRow anyBelow joinedBy joined legsOf trainOf endAt withJoin withSignal withLegs withTrain startCode codeOf sumBelow listBelow sectionsIn withClosed isClosed
-yards = (refl, refl, refl, refl, refl, refl, refl, refl, refl, refl, refl)
+    × (startCode yardA ≡ 7) × (startCode lines ≡ 513) × (startCode crossover ≡ 4) × (sectionsOf lines 524 ≡ 2 ∷ 4 ∷ 6 ∷ []) × (sectionsOf inTheWay 7 ≡ 1 ∷ 2 ∷ [])
+unfolding recordRefusal first unknownRow joinRow looseRow chainRow longer placeRow anyBelow joinedBy joined legsOf trainOf endAt withJoin withSignal withLegs withTrain startCode codeOf sumBelow listBelow sectionsIn withClosed isClosed
+yards = (refl, refl, refl, refl, refl, refl, refl, refl, refl, refl, refl, refl)
 
 -- THE SETTINGS. All points at plus and all signals closed; all at minus and closed; all at minus and open.
 abbrev plus : Setting
@@ -83,6 +85,10 @@ shut = record { plus = λ n. false; isOpen = λ i. false }
 
 abbrev wide : Setting
 wide = record { plus = λ n. false; isOpen = λ i. true }
+
+-- The crossover's points, the first at plus or not, and the second; all signals open.
+abbrev laid : Bool → Bool → Setting
+laid a b = record { plus = lies a b; isOpen = λ i. true }
 
 -- The signal at 1d alone is open.
 abbrev first-open : Setting
@@ -109,10 +115,13 @@ moves :  -- from the stem, the point at plus and at minus
     -- into a closed section, free and with another train on it; round into the train's own; from one, to a free section and to one with a train
     × (moveOf shutLine 6 shut 0 ≡ lost derailment) × (moveOf shutLine 3 shut 0 ≡ lost derailment) × (moveOf shutLoop 4 plus 0 ≡ lost derailment)
     × (moveOf shutLine 1 shut 0 ≡ at 2) × (moveOf shutLine 7 shut 0 ≡ lost collision) × (moveOf shutLoop 8 shut 0 ≡ at 9)
-    -- the points met: one, also where the train derails at it; none
-    × (passes yardA (plus .plus) (sec 2 Up) .met ≡ 0 ∷ []) × (passes yardA (plus .plus) (sec 1 Down) .met ≡ []) × (passes lines (plus .plus) (sec 1 Up) .met ≡ [])
-unfolding moveOf passes occupied headsFor standsOn sectionsIn codeOf sumBelow trainOf endAt joinedBy joined anyBelow withJoin withSignal withClosed withLegs withTrain entered isClosed
-moves = (refl, refl, refl, refl, refl, refl, refl, refl, refl, refl, refl, refl, refl, refl, refl, refl, refl, refl, refl, refl)
+    -- over the crossover up from 1: across, derailed at the second point, straight on into the other train
+    × (moveOf crossover 4 (laid false false) 0 ≡ at 7) × (moveOf crossover 4 (laid false true) 0 ≡ lost derailment) × (moveOf crossover 4 (laid true false) 0 ≡ lost collision)
+    -- and down from 4: across, derailed at the other point, straight on; down from 2, train 1 having gone across
+    × (moveOf crossover 13 (laid false false) 1 ≡ at 1) × (moveOf crossover 13 (laid true false) 1 ≡ lost derailment) × (moveOf crossover 13 (laid false true) 1 ≡ at 9)
+    × (moveOf crossover 7 (laid true false) 1 ≡ at 3)
+unfolding moveOf passes follow occupied headsFor standsOn sectionsIn codeOf sumBelow trainOf endAt joinedBy joined anyBelow withJoin withSignal withClosed withLegs withTrain entered isClosed
+moves = (refl, refl, refl, refl, refl, refl, refl, refl, refl, refl, refl, refl, refl, refl, refl, refl, refl, refl, refl, refl, refl, refl, refl, refl)
 
 -- PLAYS
 abbrev turned : ℕ → Setting → Option ℕ → Turn Setting
@@ -144,6 +153,14 @@ by-first h p = cond (first-was 513 1 h) wide shut
 abbrev names-by-first : Choice Setting
 names-by-first h p s = cond (first-was 513 1 h) 0 1
 
+-- in the crossover: its first point at plus or not, the second at minus, and the signal at one end open, that at 1u (index 1) or that at 2d (2); the first
+-- at minus and 1u open while train 1 is at 1, then at plus and 2d open
+abbrev oneOpen : Bool → ℕ → Setting
+oneOpen a e = record { plus = lies a false; isOpen = λ i. eqb i e }
+
+abbrev across : Way Setting
+across h p = cond (eqb p 4) (oneOpen false 1) (oneOpen true 2)
+
 plays :  -- home in two turns, a setting for each anew; there the play has ended
     (play (gameOf yardA) by-placement (λ h p s. cond (eqb p 7) 1 0) 7 2 ≡ standing (turned 7 plus (some 1) ∷ turned 1 wide (some 0) ∷ []) 2)
     × (play (gameOf yardA) by-placement (λ h p s. cond (eqb p 7) 1 0) 7 4 ≡ standing (turned 7 plus (some 1) ∷ turned 1 wide (some 0) ∷ []) 2)
@@ -170,5 +187,9 @@ plays :  -- home in two turns, a setting for each anew; there the play has ended
     × (play (gameOf yardALess) by-placement (names 1) 7 2 ≡ standing (turned 7 plus (some 1) ∷ turned 1 wide (some 0) ∷ []) 2)
     -- into a parked train
     × (play (gameOf inTheWay) (always shut) (names 0) 7 1 ≡ lostByMove)
-unfolding play lowest moveOf passes occupied mayMove free held signalOpen headsFor standsOn sectionsIn codeOf sumBelow trainOf endAt joinedBy joined hasSignal allBelow anyBelow atHome shared withJoin withSignal withLegs withTrain entered isClosed
-plays = (refl, refl, refl, refl, refl, refl, refl, refl, refl, refl, refl, refl, refl, refl, refl, refl)
+    -- across, and then straight on over the same point, laid the other way
+    × (play (gameOf crossover) across (names 0) 4 2 ≡ standing (turned 4 (oneOpen false 1) (some 0) ∷ turned 7 (oneOpen true 2) (some 1) ∷ []) 3)
+    -- with the points left as they were the other train derails
+    × (play (gameOf crossover) (always (laid false false)) (names 0) 4 2 ≡ lostByMove)
+unfolding play lowest moveOf passes follow occupied mayMove free held signalOpen headsFor standsOn sectionsIn codeOf sumBelow trainOf endAt joinedBy joined hasSignal allBelow anyBelow atHome shared withJoin withSignal withLegs withTrain entered isClosed
+plays = (refl, refl, refl, refl, refl, refl, refl, refl, refl, refl, refl, refl, refl, refl, refl, refl, refl, refl)

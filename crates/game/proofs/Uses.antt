@@ -14,13 +14,14 @@ use Rattle.laws.proofs.Bools.{bool?, clash}
 use Rattle.railway.specs.Bounds.{mostSections}
 use Rattle.railway.specs.Ends.{endAt}
 use Rattle.railway.specs.Record.{isClosed, withClosed, joinedBy, joined, hasSignal, trainOf, withJoin, withSignal, withLegs, withTrain}
+use Rattle.railway.specs.Passing.{follow, passes, entered}
 use Rattle.railway.specs.Rows.{recordRefusal}
 use Rattle.railway.specs.Yards.{yardA}
 use Rattle.game.specs.Game.{derailment, lost, at, Way, Choice, following, positional, may, play, homeAt, HomeWithin, ComesHome}
 use Rattle.game.specs.Claim.{Whole}
 use Rattle.game.specs.Placement.{codeOf, sectionsIn, standsOn}
 use Rattle.game.specs.Setting.{Setting, SameSetting, headsFor, held, mayMove, free, signalOpen}
-use Rattle.game.specs.Moves.{entered, passes, occupied, moveOf, gameOf, ClosedSections}
+use Rattle.game.specs.Moves.{occupied, moveOf, gameOf, ClosedSections}
 use Rattle.game.specs.Local.{keepsTest}
 use Rattle.game.proofs.Figures.{figure-one, ended}
 use Rattle.game.proofs.Settle.{table, settle}
@@ -76,7 +77,7 @@ module _ (F : ℕ → Option ℕ) (f : ℕ → Bool) (claims : Whole small F f) 
 -- SETTINGS THAT AGREE. Whatever else it says, a setting that has Yard A's point at plus and its signals open lets train 1 go at (2, 3), and from (1, 2)
 -- takes it to (3, 2).
 agreed : recordRefusal yardA ≡ none → (s : Setting) → SameSetting yardA everywhere s → (may (gameOf yardA) 7 s 0 ≡ true) × (moveOf yardA 3 s 0 ≡ at 5)
-unfolding mayMove signalOpen free held headsFor standsOn sectionsIn trainOf hasSignal withJoin withSignal withLegs withTrain moveOf passes occupied codeOf sumBelow endAt joinedBy joined anyBelow entered isClosed
+unfolding mayMove signalOpen free held headsFor standsOn sectionsIn trainOf hasSignal withJoin withSignal withLegs withTrain moveOf passes follow occupied codeOf sumBelow endAt joinedBy joined anyBelow entered isClosed
 agreed accepted s same =
     (sym (agreeing-alike yardA accepted everywhere s same 7 .same-trains 0) ∙ lets .0, sym (agreeing-alike yardA accepted everywhere s same 3 .same-ends 0 (lets .1)) ∙ lets .2)
   where
@@ -88,19 +89,23 @@ unfolding isClosed withJoin withSignal withLegs withTrain
 none-shut x = elim (bool? (ltb x mostSections)) [ inl e ↦ rw (e, getD-replicate mostSections x false false (ltb-true x mostSections e)) refl | inr e ↦ rw e refl ]
 
 -- CLOSED SECTIONS. Whatever says so of the line whose middle section is closed: from 1 train 1 is lost there, and from there it goes on to 3; and in
--- Yard A, where none is closed, train 2 comes from (2, 3) to (2, 1).
+-- Yard A, where none is closed, train 2 comes from (2, 3) to (2, 1), and train 1 derails on the point, which does not lie for it.
 module _ (says : ClosedSections shutLine) (no-shut : ClosedSections yardA) where
   loses : moveOf shutLine 6 everywhere 0 ≡ lost derailment
-  unfolding passes headsFor standsOn sectionsIn trainOf endAt joinedBy joined withJoin withSignal withClosed withLegs withTrain isClosed
+  unfolding passes follow headsFor standsOn sectionsIn trainOf endAt joinedBy joined withJoin withSignal withClosed withLegs withTrain isClosed
   loses = says .entering 6 everywhere 0 1 refl refl
 
   leaves : moveOf shutLine 1 everywhere 0 ≡ at 2
-  unfolding passes headsFor standsOn sectionsIn trainOf endAt joinedBy joined withJoin withSignal withClosed withLegs withTrain isClosed occupied anyBelow codeOf sumBelow
+  unfolding passes follow headsFor standsOn sectionsIn trainOf endAt joinedBy joined withJoin withSignal withClosed withLegs withTrain isClosed occupied anyBelow codeOf sumBelow
   leaves = says .other 1 everywhere 0 2 refl refl
 
   as-before : moveOf yardA 7 everywhere 1 ≡ at 1
-  unfolding passes headsFor standsOn sectionsIn trainOf endAt joinedBy joined withJoin withSignal withLegs withTrain occupied anyBelow codeOf sumBelow
+  unfolding passes follow headsFor standsOn sectionsIn trainOf endAt joinedBy joined withJoin withSignal withLegs withTrain occupied anyBelow codeOf sumBelow
   as-before = no-shut .none-closed none-shut 7 everywhere 1
+
+  derails-as-before : moveOf yardA 7 everywhere 0 ≡ lost derailment
+  unfolding passes follow headsFor standsOn sectionsIn trainOf endAt joinedBy joined withJoin withSignal withLegs withTrain
+  derails-as-before = no-shut .none-closed none-shut 7 everywhere 0
 
 -- and so it is
 lost-there : moveOf shutLine 6 everywhere 0 ≡ lost derailment

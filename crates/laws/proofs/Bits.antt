@@ -1,7 +1,6 @@
 -- Laws of bits: a number below a power of two is made of its bits, what is made of bits has them, and two numbers can stand in one, the
 -- second above the first. Each goes by bit 0 and the bits above it. Assumes nothing.
 use mathlib.Core.Path.{_≡_, refl, sym, _∙_, fun-ext}
-use mathlib.Core.Logic.{inl, inr}
 use mathlib.Core.Bool.{Bool, true, false, cond, _||_}
 use Prim.Native.Nat.{ℕ, zero, suc, _+_, _*_, _/_, _%_, _^_, _≤_, _<_}
 use native.Mathlib.Omega.{arith}
@@ -9,7 +8,6 @@ use native.Mathlib.Nat.{pow-succ', mul-assoc, div-div-eq-div-mul, zero-div}
 use lib.Dec.{eqb, eqb·suc-suc}
 use borrow.Author.Tests.{eqb-true, eqb-false, ne-eqb}
 use Rattle.laws.specs.Bits.{bit, fromBits}
-use Rattle.laws.proofs.Bools.{bool?, clash}
 
 -- bit 0 and the bits above it
 pub bit-zero : (v : ℕ) → bit v 0 ≡ eqb (v % 2) 1
@@ -95,19 +93,6 @@ high-bit (suc k) b t u small =
     let d : (b + 2 ^ suc k * t) / 2 ≡ b / 2 + 2 ^ k * t = rw (double k t) (omega arith) in
     rw (m, bit-suc (b + 2 ^ suc k * t) (k + u), d) (high-bit k (b / 2) t u (omega arith))
 
--- bit by bit at most is at most
-pub bits-mono : (f g : ℕ → Bool) (k : ℕ) → ((n : ℕ) → n < k → f n ≡ true → g n ≡ true) → fromBits f k ≤ fromBits g k
-unfolding fromBits
-bits-mono f g zero h = omega arith
-bits-mono f g (suc k) h = go (f 0) (g 0) (h 0 (omega arith)) (bits-mono (λ n. f (suc n)) (λ n. g (suc n)) k (λ n l. h (suc n) (omega arith)))
-  where
-    go : (a b : Bool) → (a ≡ true → b ≡ true) → fromBits (λ n. f (suc n)) k ≤ fromBits (λ n. g (suc n)) k
-        → cond a 1 0 + 2 * fromBits (λ n. f (suc n)) k ≤ cond b 1 0 + 2 * fromBits (λ n. g (suc n)) k
-    go true true i l = omega arith
-    go true false i l = clash (i refl) refl
-    go false true i l = omega arith
-    go false false i l = omega arith
-
 -- zero has no bit
 pub bit-none : (n : ℕ) → bit 0 n ≡ false
 bit-none n = let e : 0 / (2 ^ n) ≡ 0 = zero-div (2 ^ n) in rw e
@@ -136,13 +121,3 @@ bits-add f (suc k) (suc x) l e =
     let z : (f 0 || eqb (suc x) 0) ≡ f 0 = rw (ne-eqb (suc x) 0 (λ z. omega arith)) (or-off (f 0)) in
     let w : 2 ^ suc x ≡ 2 * 2 ^ x = pow-succ' 2 x in
     rw (z, b, h, w) (omega arith)
-
--- a bit that was set changes nothing when it is set again, and neither does one past the last
-pub bits-again : (f : ℕ → Bool) (k x : ℕ) → f x ≡ true → fromBits (λ n. f n || eqb x n) k ≡ fromBits f k
-bits-again f k x e = bits-same (λ n. f n || eqb x n) f k (λ n h. elim (bool? (eqb x n)) [
-  | inl y ↦ let z : x ≡ n = eqb-true x n y in let w : f n ≡ true = rw z at e in rw w
-  | inr y ↦ rw y (or-off (f n))
-])
-
-pub bits-past : (f : ℕ → Bool) (k x : ℕ) → k ≤ x → fromBits (λ n. f n || eqb x n) k ≡ fromBits f k
-bits-past f k x l = bits-same (λ n. f n || eqb x n) f k (λ n h. rw (ne-eqb x n (λ z. omega arith)) (or-off (f n)))

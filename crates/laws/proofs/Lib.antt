@@ -5,3 +5,4 @@ pub mod Bits
 pub mod Which
 pub mod Snoc
 pub mod Filling
+pub mod Bitwise

@@ -12,6 +12,7 @@ use railway::Railway;
 use railway::SectionNo;
 use railway::Side;
 use railway::Train;
+use routes::Ways;
 use settings::Found;
 use tables::NO_FIGURE;
 
@@ -37,8 +38,8 @@ fn flag(label: &[u8], b: bool) {
     }
 }
 
-fn show_move(label: &[u8], table: &Table, p: u32, v: u32, t: u8) {
-    match moves::move_of(table, p, v, t) {
+fn show_move(label: &[u8], table: &Table, ways: &Ways, p: u32, v: u32, t: u8) {
+    match moves::move_of(table, ways, p, v, t) {
         Move::NotAllowed => word(label, b"-"),
         Move::Derails => word(label, b"x"),
         Move::Collides => word(label, b"c"),
@@ -46,8 +47,8 @@ fn show_move(label: &[u8], table: &Table, p: u32, v: u32, t: u8) {
     }
 }
 
-fn show_first(label: &[u8], table: &Table, figures: &[u32], p: u32, n: u32) {
-    match settings::find_setting(table, figures, p, n) {
+fn show_first(label: &[u8], table: &Table, ways: &Ways, figures: &[u32], p: u32, n: u32) {
+    match settings::find_setting(table, ways, figures, p, n) {
         Found::Nothing => word(label, b"none"),
         Found::Entry(v) => number(label, v),
     }
@@ -67,6 +68,12 @@ fn table_of(r: Railway) -> Table {
     c.table
 }
 
+fn ways_of(r: Railway) -> Ways {
+    let links = r.links;
+    let closed = r.closed;
+    routes::ways_of(&links, &closed)
+}
+
 fn up(n: u8) -> End {
     End::Section(SectionNo(n), Side::Up)
 }
@@ -76,7 +83,11 @@ fn down(n: u8) -> End {
 }
 
 fn port(l: Leg) -> End {
-    End::Port(PointNo(0), l)
+    port_of(0, l)
+}
+
+fn port_of(n: u8, l: Leg) -> End {
+    End::Port(PointNo(n), l)
 }
 
 fn counts(s: u8, p: u8, k: u8) -> Railway {
@@ -98,7 +109,7 @@ fn train(r: Railway, t: u8, heading: Side, from: u8, to: u8) -> Railway {
     )
 }
 
-// Yard A's point: sections 1 and 2 at its legs, 3 at its stem.
+// Yard A's point: sections 1 and 2 at its legs, 3 at its stem. All yards with it have the same ways.
 fn fork(k: u8) -> Railway {
     let r = counts(3, 1, k).with_legs(PointNo(0), Side::Down);
     let a = r.with_join(up(0), port(Leg::Plus));
@@ -155,20 +166,24 @@ fn codes() {
 }
 
 fn moves_of_a() {
-    let t = table_of(yard_a_less().with_signal(down(0)));
-    show_move(b"stem, plus set", &t, 7, 1, 1);
-    show_move(b"stem, minus set, section taken", &t, 7, 0, 1);
-    show_move(b"held", &t, 7, 1, 0);
-    show_move(b"set leg, section taken", &t, 7, 65536, 0);
-    show_move(b"leg not set", &t, 7, 65537, 0);
-    show_move(b"set leg", &t, 1, 65536, 0);
-    show_move(b"end of track", &t, 3, 131072, 1);
-    show_move(b"parked", &t, 1, 131072, 1);
-    show_move(b"no such train", &t, 7, 65536, 2);
+    let r = yard_a_less().with_signal(down(0));
+    let t = table_of(r);
+    let w = ways_of(r);
+    show_move(b"stem, plus set", &t, &w, 7, 1, 1);
+    show_move(b"stem, minus set, section taken", &t, &w, 7, 0, 1);
+    show_move(b"held", &t, &w, 7, 1, 0);
+    show_move(b"set leg, section taken", &t, &w, 7, 65536, 0);
+    show_move(b"leg not set", &t, &w, 7, 65537, 0);
+    show_move(b"set leg", &t, &w, 1, 65536, 0);
+    show_move(b"end of track", &t, &w, 3, 131072, 1);
+    show_move(b"parked", &t, &w, 1, 131072, 1);
+    show_move(b"no such train", &t, &w, 7, 65536, 2);
 }
 
 fn firsts_of_a() {
-    let t = table_of(yard_a_less().with_signal(down(0)));
+    let r = yard_a_less().with_signal(down(0));
+    let t = table_of(r);
+    let w = ways_of(r);
     let less = table_of(yard_a_less());
     let mut figures = [NO_FIGURE; 9];
     figures[1] = 1;
@@ -176,15 +191,17 @@ fn firsts_of_a() {
     show_first(
         b"(2,3) below 2: a free train, nothing opened",
         &t,
+        &w,
         &figures,
         7,
         2,
     );
-    show_first(b"(2,3) below 1", &t, &figures, 7, 1);
-    show_first(b"(2,1) below 1: one opened", &t, &figures, 1, 1);
+    show_first(b"(2,3) below 1", &t, &w, &figures, 7, 1);
+    show_first(b"(2,1) below 1: one opened", &t, &w, &figures, 1, 1);
     show_first(
         b"(2,1) below 1 without 1d: train 2 is parked",
         &less,
+        &w,
         &figures,
         1,
         1,
@@ -192,58 +209,83 @@ fn firsts_of_a() {
     show_first(
         b"(1,3): a free train derails or collides",
         &t,
+        &w,
         &figures,
         6,
         9,
     );
-    show_first(b"(1,1): lost", &t, &figures, 0, 9);
-    show_first(b"(2,3) with a short table", &t, &[], 7, 9);
+    show_first(b"(1,1): lost", &t, &w, &figures, 0, 9);
+    show_first(b"(2,3) with a short table", &t, &w, &[], 7, 9);
 }
 
 fn firsts_at_legs() {
     let zeros = [0u32; 9];
     let mut most = [0u32; 9];
     most[5] = NO_FIGURE;
-    show_first(
-        b"two free trains at one point",
-        &table_of(legs()),
-        &zeros,
-        3,
-        1,
-    );
-    show_first(
-        b"the free one at the plus leg",
-        &table_of(legs().with_signal(up(1))),
-        &zeros,
-        3,
-        1,
-    );
-    show_first(
-        b"the free one at the minus leg",
-        &table_of(legs().with_signal(up(0))),
-        &zeros,
-        3,
-        1,
-    );
+    let w = ways_of(legs());
+    let free = table_of(legs());
+    let first = table_of(legs().with_signal(up(1)));
+    let second = table_of(legs().with_signal(up(0)));
     let held = table_of(legs().with_signal(up(0)).with_signal(up(1)));
-    show_first(b"both held: the lowest", &held, &zeros, 3, 1);
-    show_first(b"both held: the lowest that works", &held, &most, 3, 1);
-    show_first(b"both held: below 0", &held, &zeros, 3, 0);
     let stem = table_of(train(fork(1), 0, Side::Down, 2, 0));
-    show_first(b"both legs good: minus", &stem, &zeros, 2, 1);
-    show_first(b"minus bad: plus", &stem, &[0, NO_FIGURE, 0], 2, 1);
+    show_first(b"two free trains at one point", &free, &w, &zeros, 3, 1);
+    show_first(b"the free one at the plus leg", &first, &w, &zeros, 3, 1);
+    show_first(b"the free one at the minus leg", &second, &w, &zeros, 3, 1);
+    show_first(b"both held: the lowest", &held, &w, &zeros, 3, 1);
+    show_first(b"both held: the lowest that works", &held, &w, &most, 3, 1);
+    show_first(b"both held: below 0", &held, &w, &zeros, 3, 0);
+    show_first(b"both legs good: minus", &stem, &w, &zeros, 2, 1);
+    show_first(b"minus bad: plus", &stem, &w, &[0, NO_FIGURE, 0], 2, 1);
 }
 
 // A loop: 1u leads to the stem, and plus back to 1d.
 fn ring() {
-    let r = counts(2, 1, 1).with_legs(PointNo(0), Side::Up);
-    let a = r.with_join(up(0), port(Leg::Stem));
-    let b = a.with_join(port(Leg::Plus), down(0));
-    let c = b.with_join(port(Leg::Minus), down(1));
-    let t = table_of(train(c, 0, Side::Up, 0, 1));
-    show_move(b"round into its own section", &t, 0, 1, 0);
-    show_move(b"round the other way", &t, 0, 0, 0);
-    show_first(b"below 1, home being 0", &t, &[NO_FIGURE, 0], 0, 1);
+    let a = counts(2, 1, 1).with_legs(PointNo(0), Side::Up);
+    let b = a.with_join(up(0), port(Leg::Stem));
+    let c = b.with_join(port(Leg::Plus), down(0));
+    let d = c.with_join(port(Leg::Minus), down(1));
+    let r = train(d, 0, Side::Up, 0, 1);
+    let t = table_of(r);
+    let w = ways_of(r);
+    show_move(b"round into its own section", &t, &w, 0, 1, 0);
+    show_move(b"round the other way", &t, &w, 0, 0, 0);
+    show_first(b"below 1, home being 0", &t, &w, &[NO_FIGURE, 0], 0, 1);
+}
+
+// Points joined to points: sections 1 and 2 lead to point 1, that to point 2, and from there the line goes by point 3 to section 4, the loop by section 3. Train 1
+// is to go up from 1 to 4, train 2 down from 4 to 2; both ends of 3 have signals.
+fn loop_yard() -> Railway {
+    let a = counts(4, 3, 2).with_legs(PointNo(0), Side::Down);
+    let b = a.with_legs(PointNo(1), Side::Up)
+        .with_legs(PointNo(2), Side::Down);
+    let c = b.with_join(up(0), port_of(0, Leg::Plus))
+        .with_join(up(1), port_of(0, Leg::Minus));
+    let d = c.with_join(down(2), port_of(1, Leg::Plus))
+        .with_join(up(2), port_of(2, Leg::Plus));
+    let e = d.with_join(down(3), port_of(2, Leg::Stem));
+    let f = e.with_join(port_of(0, Leg::Stem), port_of(1, Leg::Stem));
+    let g = f.with_join(port_of(1, Leg::Minus), port_of(2, Leg::Minus));
+    let h = g.with_signal(down(2)).with_signal(up(2));
+    train(train(h, 0, Side::Up, 0, 3), 1, Side::Down, 3, 1)
+}
+
+// At the start, (1,4), of code 12, each train by itself would have the points otherwise than both together.
+fn firsts_at_loop() {
+    let r = loop_yard();
+    let t = table_of(r);
+    let w = ways_of(r);
+    let n = NO_FIGURE;
+    let figures = [n, n, n, n, 1, n, 1, 0, 2, 2, n, 1, 3, 3, 2, n];
+    show_test(b"points joined to points", r);
+    show_move(b"over two points into the loop", &t, &w, 12, 3, 0);
+    show_move(b"over three points, section taken", &t, &w, 12, 1, 0);
+    show_move(b"leg not set, the second point", &t, &w, 12, 3, 1);
+    show_move(b"over one point into the loop", &t, &w, 12, 7, 1);
+    show_first(b"two free trains, one way each", &t, &w, &figures, 12, 3);
+    show_first(b"the same below 2", &t, &w, &figures, 12, 2);
+    show_first(b"two free trains that agree", &t, &w, &figures, 13, 3);
+    show_first(b"one opened, over one point", &t, &w, &figures, 6, 1);
+    show_first(b"the other opened, over two", &t, &w, &figures, 11, 1);
 }
 
 fn main() {
@@ -252,6 +294,7 @@ fn main() {
     firsts_of_a();
     firsts_at_legs();
     ring();
+    firsts_at_loop();
     show_test(b"the empty record", Railway::empty());
     show_test(b"A without 1d", yard_a_less());
 }

@@ -6,6 +6,7 @@ use libc::STDOUT_FILENO;
 use moves::Move;
 use railway::CaseAnswer;
 use railway::Railway;
+use routes::Ways;
 
 // How many sets of open trains there can be.
 const OPENS: u32 = 1u32 << Railway::TRAINS;
@@ -49,35 +50,39 @@ fn show(text: &[u8]) {
 fn placements(r: Railway) {
     let c = compiled::compile(r);
     let table = c.table;
+    let links = r.links;
+    let closed = r.closed;
+    let ways = routes::ways_of(&links, &closed);
     let n = moves::placements(&table);
     let mut p: u32 = 0;
     while p < n {
         if moves::is_lost(&table, p) {
             p += 1;
         } else {
-            settings(&table, r.trains, r.points, p);
+            settings(&table, &ways, r.trains, r.points, p);
             p += 1;
         }
     }
 }
 
 // Every set of open trains.
-fn settings(table: &Table, k: u8, q: u8, p: u32) {
+fn settings(table: &Table, ways: &Ways, k: u8, q: u8, p: u32) {
     let n = power(k);
     let mut mask: u32 = 0;
     while mask < n {
-        points(table, k, q, p, mask % OPENS);
+        points(table, ways, k, q, p, mask % OPENS);
         mask += 1;
     }
 }
 
 // Every way that the points may lie.
-fn points(table: &Table, k: u8, q: u8, p: u32, open: u32) {
+fn points(table: &Table, ways: &Ways, k: u8, q: u8, p: u32, open: u32) {
     let n = power(q);
     let mut bits: u32 = 0;
     while bits < n {
         line(
             table,
+            ways,
             k,
             p,
             (open % OPENS) * FIRST_TRAIN + bits % FIRST_TRAIN,
@@ -91,14 +96,14 @@ fn power(n: u8) -> u32 {
     if n < 17 { 1u32 << n } else { 1 }
 }
 
-fn line(table: &Table, k: u8, p: u32, v: u32) {
+fn line(table: &Table, ways: &Ways, k: u8, p: u32, v: u32) {
     io::print_decimal(STDOUT_FILENO, p as u64);
     tab();
     io::print_decimal(STDOUT_FILENO, v as u64);
     let mut t: u8 = 0;
     while t < k {
         tab();
-        outcome(table, p, v, t);
+        outcome(table, ways, p, v, t);
         t += 1;
     }
     line_end();
@@ -112,8 +117,8 @@ fn line_end() {
     io::write_all(STDOUT_FILENO, b"\n");
 }
 
-fn outcome(table: &Table, p: u32, v: u32, t: u8) {
-    match moves::move_of(table, p, v, t) {
+fn outcome(table: &Table, ways: &Ways, p: u32, v: u32, t: u8) {
+    match moves::move_of(table, ways, p, v, t) {
         Move::NotAllowed => {
             io::write_all(STDOUT_FILENO, b"-");
         }

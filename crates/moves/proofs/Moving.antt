@@ -1,5 +1,5 @@
--- Moves, read from a table: who may move, and what a move ends in. A train looks at the point that it meets and at no other, so a setting
--- may be replaced by one with all points as that one lies. Assumes nothing.
+-- Moves, read from a table and from the ways: who may move, and what a move ends in. The end that a train heads for is a section's, so it has an index
+-- and comes back from it, and the ways of that index are those of the train. Assumes nothing.
 use mathlib.Core.Path.{_≡_, refl, sym, _∙_, ap}
 use mathlib.Core.Logic.{inl, inr}
 use mathlib.Core.Bool.{Bool, true, false, cond, not, _&&_}
@@ -10,55 +10,40 @@ use native.Mathlib.Omega.{arith}
 use lib.Dec.{ltb, eqb}
 use lib.ListN.{length, getD, set, length-set}
 use lib.Seq.{ext-getD}
-use borrow.Author.Tests.{lt-ltb, le-ltb, ltb-true}
+use borrow.Author.Tests.{eq-eqb, lt-ltb, le-ltb, ltb-true}
 use Rattle.laws.specs.Below.{anyBelow, listBelow}
 use Rattle.laws.specs.Bits.{bit}
-use Rattle.laws.proofs.Bools.{lt?, and-true}
-use Rattle.laws.proofs.Below.{any-same, any-one, any-none, list-length, list-get}
+use Rattle.laws.proofs.Bools.{lt?, and-true, and-both}
+use Rattle.laws.proofs.Below.{any-same, any-one, any-none, none-any, list-length, list-get}
+use Rattle.laws.proofs.Bits.{high-bit, bit-none}
 use Rattle.railway.specs.declared.Side.{Side}
-use Rattle.railway.specs.declared.Leg.{Leg}
-use Rattle.railway.specs.declared.PointNo.{PointNo}
 use Rattle.railway.specs.declared.End.{End}
-use Rattle.railway.specs.declared.End.the-variants.{Section, Port}
-use Rattle.railway.specs.declared.Joined.{Joined}
-use Rattle.railway.specs.declared.Joined.the-variants.{Nothing, With}
+use Rattle.railway.specs.declared.End.the-variants.{Section}
 use Rattle.railway.specs.declared.Railway.{Railway}
-use Rattle.railway.specs.Bounds.{mostSections, mostTrains}
-use Rattle.railway.specs.Ends.{endIndex}
-use Rattle.railway.specs.Record.{joined, hasSignal, trainOf}
+use Rattle.railway.specs.Bounds.{mostSections, mostTrains, sectionEnds}
+use Rattle.railway.specs.Ends.{endIndex, endAt}
+use Rattle.railway.specs.Record.{hasSignal, trainOf}
+use Rattle.railway.specs.Passing.{entered}
+use Rattle.railway.proofs.Ends.{end-index, section-below}
 use Rattle.game.specs.Game.{derailment, collision, lost, at, may}
 use Rattle.game.specs.Placement.{codeOf, sectionsOf, standsOn, codeOn, arrived}
 use Rattle.game.specs.Setting.{headsFor, held, free, opensFor, mayMove}
-use Rattle.game.specs.Moves.{Passage, through, pastPoint, pastJoin, passes, inUse, entered, otherOn, occupied, codeWith, enters, moveOf, gameOf}
+use Rattle.game.specs.Moves.{otherOn, occupied, codeWith, enters, moveOf, gameOf}
 use Rattle.game.proofs.Codes.{sections-length}
 use Rattle.game.proofs.Agreeing.{may-free, may-held, may-neither}
 use Rattle.game.proofs.Accepted.{Facts}
-use Rattle.game.proofs.Moves.{section-below, entered-below, sections-with, code-with-below}
-use Rattle.tables.specs.Entries.{opensIn, opensEnd, settingAt}
+use Rattle.game.proofs.Moves.{section-below as stands-below, entered-below, sections-with, code-with-below}
+use Rattle.tables.specs.Entries.{trainBits, opensIn, opensEnd, settingAt}
 use Rattle.tables.proofs.Exists.{few-placements}
-use Rattle.compiled.specs.Table.{noByte, pointByte, sectionByte, endOn, parkedOn, heldOn, freeOn}
+use Rattle.routes.specs.Routes.{noSection, sectionByte}
+use Rattle.compiled.specs.Table.{parkedOn, heldOn, freeOn}
 use Rattle.placement.specs.declared.Placement.{Placement}
 use Rattle.moves.specs.declared.Move.{Move}
 use Rattle.moves.specs.Answers.{ended, moveUnder}
 use Rattle.placement.specs.ByValue.{sectionIn}
-use Rattle.moves.specs.Steps.{noCode, strideOf, codePut, On, movedTo, putIn, heldIn, freeIn, otherIn, allAt}
+use Rattle.moves.specs.Steps.{noCode, strideOf, codePut, On, movedTo, putIn, heldIn, freeIn, otherIn}
 use Rattle.moves.proofs.Coding.{stride-is, put-there, code-move}
 use Rattle.moves.proofs.Placing.{table-facts, past-trains, put-section, sections-listed}
-
--- ONE POINT AT MOST: past a join all depends on how the point met lies.
-module _ (r : Railway) (plus : ℕ → Bool) where
-  met-is : (n : PointNo) (o : Option Leg) → pointByte (pastPoint r n o .met) ≡ n .0
-  met-is n none = refl
-  met-is n (some l) = refl
-
-  join-by-point : (j : Joined) → pastJoin r plus j ≡ pastJoin r (λ i. plus (pointByte (pastJoin r (λ n. false) j .met))) j
-  join-by-point Nothing = refl
-  join-by-point (With (Section n s)) = refl
-  join-by-point (With (Port n l)) = rw (met-is n (through l false))
-
-  pub by-point : (e : End) (n : ℕ) (b : Bool) → n ≡ pointByte (passes r (λ i. false) e .met) → b ≡ plus n → passes r plus e ≡ passes r (λ i. b) e
-  unfolding passes
-  by-point e n b h g = let z : b ≡ plus (pointByte (pastJoin r (λ i. false) (joined r e) .met)) = rw (← h) g in rw z (join-by-point (joined r e))
 
 module _ (r : Railway) (p : ℕ) (table : List ℕ) (q : Placement) (on : On r p table q) where
   facts-of : Facts r
@@ -71,20 +56,8 @@ module _ (r : Railway) (p : ℕ) (table : List ℕ) (q : Placement) (on : On r p
 
   -- WHAT THE TABLE HAS on a train's route.
   module _ (t x : ℕ) (l : t < r .trains) (e : x ≡ sectionIn q t) where
-    pub train-small : t < mostTrains
-    train-small = omega (arith, facts-of .few-trains)
-
-    pub section-small : x < mostSections
-    section-small = rw (e ∙ on .stands t) (omega (arith, section-below r facts-of p t l, facts-of .few-sections))
-
-    pub end-on : endOn r t x ≡ headsFor r p t
-    end-on = end-is t x (trainOf r t .heading) e refl
-
-    pub point-is : (b : ℕ) → b ≡ pointByte (passes r (λ i. false) (endOn r t x) .met) → b ≡ pointByte (passes r (λ i. false) (headsFor r p t) .met)
-    point-is b h = rw end-on at h
-
-    pub section-is : (b : ℕ) (plus : Bool) → b ≡ sectionByte (entered r (λ i. plus) (endOn r t x)) → b ≡ sectionByte (entered r (λ i. plus) (headsFor r p t))
-    section-is b plus h = rw end-on at h
+    section-small : x < mostSections
+    section-small = rw (e ∙ on .stands t) (omega (arith, stands-below r facts-of p t l, facts-of .few-sections))
 
   -- HOW A TRAIN STANDS, any train: one that is not there stands on the first section.
   module _ (t x : ℕ) (e : x ≡ sectionIn q t) where
@@ -109,6 +82,22 @@ module _ (r : Railway) (p : ℕ) (table : List ℕ) (q : Placement) (on : On r p
     unfolding free
     free-is b h = h ∙ (rw (lt-ltb x mostSections some-section, parked-on, end-is t x (trainOf r t .heading) e refl) (within-is (ltb t mostTrains) (not (arrived r p t) && not (hasSignal r (headsFor r p t)))))
 
+  -- THE INDEX of the end that a train heads for, any train.
+  numbered : (t : ℕ) → standsOn r p t < mostSections
+  numbered t = rw (← on .stands t) (some-section t (sectionIn q t) refl)
+
+  pub front-small : (t : ℕ) → endIndex (headsFor r p t) < sectionEnds
+  unfolding headsFor
+  front-small t = section-below (record { 0 = standsOn r p t }) (trainOf r t .heading) (numbered t)
+
+  pub front-end : (t : ℕ) → endAt (endIndex (headsFor r p t)) ≡ headsFor r p t
+  unfolding headsFor
+  front-end t = end-index (Section (record { 0 = standsOn r p t }) (trainOf r t .heading)) (numbered t)
+
+  -- where the ways of that index lead, the train comes to
+  pub leads-is : (t v e x : ℕ) → e ≡ endIndex (headsFor r p t) → (e < sectionEnds → x ≡ sectionByte (entered r (bit v) (endAt e))) → x ≡ sectionByte (entered r (bit v) (headsFor r p t))
+  leads-is t v e x i h = h (omega (arith, front-small t)) ∙ ap (λ (z : End). sectionByte (entered r (bit v) z)) (ap endAt i ∙ front-end t)
+
   -- of a train that is there, what is said of one that can be there
   pub as-there : (t : ℕ) → t < r .trains → (b c : Bool) → b ≡ (ltb t mostTrains && c) → b ≡ c
   as-there t l b c h = let few : ltb t mostTrains ≡ true = lt-ltb t mostTrains (omega (arith, facts-of .few-trains)) in rw few at h
@@ -118,8 +107,8 @@ module _ (r : Railway) (p : ℕ) (table : List ℕ) (q : Placement) (on : On r p
     pub opens-not : (i u : ℕ) (b : Bool) → b ≡ bit v (16 + u) → b ≡ false → false ≡ opensEnd r p (opensIn v) i u
     opens-not i u b h e = rw (sym h ∙ e)
 
-    pub opens-if : (i u j : ℕ) (b : Bool) (e : End) → b ≡ bit v (16 + u) → b ≡ true → e ≡ headsFor r p u → j ≡ endIndex e → eqb i j ≡ opensEnd r p (opensIn v) i u
-    opens-if i u j b e h y g k = rw (sym h ∙ y, ← g, ← k)
+    pub opens-if : (i u j : ℕ) (b : Bool) → b ≡ bit v (16 + u) → b ≡ true → j ≡ endIndex (headsFor r p u) → eqb i j ≡ opensEnd r p (opensIn v) i u
+    opens-if i u j b h y k = rw (sym h ∙ y, ← k)
 
     pub some-opens : (i k u : ℕ) → k ≡ r .trains → u < k → opensEnd r p (opensIn v) i u ≡ true → true ≡ settingAt r p v .isOpen i
     unfolding settingAt
@@ -128,6 +117,23 @@ module _ (r : Railway) (p : ℕ) (table : List ℕ) (q : Placement) (on : On r p
     pub none-opens : (i k u : ℕ) → k ≡ r .trains → u ≤ k → k ≤ u → anyBelow (opensEnd r p (opensIn v) i) u ≡ false → false ≡ settingAt r p v .isOpen i
     unfolding settingAt
     none-opens i k u e l m h = any-none (opensEnd r p (opensIn v) i) (r .trains) u h (rw (sym e) l) (rw (sym e) m)
+
+    -- the signal before a train: open by the train's own bit, and closed where no train's is set
+    pub own-opens : (t : ℕ) (b : Bool) → t < r .trains → b ≡ bit v (16 + t) → b ≡ true → true ≡ opensFor r p (settingAt r p v) t
+    unfolding settingAt
+    own-opens t b l h e =
+        let i = endIndex (headsFor r p t) in
+        any-one (opensEnd r p (opensIn v) i) (r .trains) t l (and-both (opensIn v t) (eqb i i) (sym h ∙ e) (eq-eqb i i refl))
+
+    pub nobody-opens : (t : ℕ) → v < 2 ^ trainBits → false ≡ opensFor r p (settingAt r p v) t
+    unfolding settingAt
+    nobody-opens t l = sym (none-any (opensEnd r p (opensIn v) (endIndex (headsFor r p t))) (r .trains) (λ u m. let z : bit v (16 + u) ≡ false = none-set u in rw z))
+      where
+        none-set : (u : ℕ) → bit v (16 + u) ≡ false
+        none-set u = let z : v + 2 ^ 16 * 0 ≡ v = omega arith in ap (λ (x : ℕ). bit x (16 + u)) (sym z) ∙ high-bit 16 v 0 u l ∙ bit-none u
+
+    pub front-opens : (b : Bool) (t i : ℕ) → i ≡ endIndex (headsFor r p t) → b ≡ settingAt r p v .isOpen i → b ≡ opensFor r p (settingAt r p v) t
+    front-opens b t i e h = h ∙ ap (λ (j : ℕ). settingAt r p v .isOpen j) e
 
     pub not-there : (k t : ℕ) → k ≡ r .trains → k ≤ t → false ≡ may (gameOf r) p (settingAt r p v) t
     not-there k t e l = rw (le-ltb t (r .trains) (rw (sym e) l))
@@ -140,10 +146,10 @@ module _ (r : Railway) (p : ℕ) (table : List ℕ) (q : Placement) (on : On r p
       free-may z = let a : mayMove r p (settingAt r p v) t ≡ true = may-free r p (settingAt r p v) t (sym (free-as is-there) ∙ z) in rw (lt-ltb t (r .trains) is-there, a)
 
       module _ (z : f ≡ false) (h : Bool) (held-as : t < r .trains → h ≡ held r p t) where
-        pub held-may : (b : Bool) (end : End) (i : ℕ) → h ≡ true → end ≡ headsFor r p t → i ≡ endIndex end → b ≡ settingAt r p v .isOpen i → b ≡ may (gameOf r) p (settingAt r p v) t
-        held-may b end i y a d g =
+        pub held-may : (b : Bool) → h ≡ true → (t < r .trains → b ≡ opensFor r p (settingAt r p v) t) → b ≡ may (gameOf r) p (settingAt r p v) t
+        held-may b y g =
             let m : mayMove r p (settingAt r p v) t ≡ opensFor r p (settingAt r p v) t = may-held r p (settingAt r p v) t (sym (held-as is-there) ∙ y) in
-            rw (lt-ltb t (r .trains) is-there, m) (g ∙ ap (λ (j : ℕ). settingAt r p v .isOpen j) (d ∙ ap endIndex a))
+            rw (lt-ltb t (r .trains) is-there, m) (g is-there)
 
         pub parked-may : h ≡ false → false ≡ may (gameOf r) p (settingAt r p v) t
         parked-may y =
@@ -195,32 +201,32 @@ module _ (r : Railway) (p : ℕ) (table : List ℕ) (q : Placement) (on : On r p
           let few : ltb t mostTrains ≡ true = lt-ltb t mostTrains (omega (arith, facts-of .few-trains)) in
           record { compiled = on .compiled; stands = λ u. (rw few at (h u)) ∙ put-each l u ∙ ap (λ (xs : List ℕ). getD xs u 0) (sym (sections-with r facts-of p t x lx)) }
 
-  module _ (t : ℕ) (plus : Bool) (x : ℕ) (leads : x ≡ sectionByte (entered r (λ i. plus) (headsFor r p t))) where
+  module _ (v t x : ℕ) (leads : x ≡ sectionByte (entered r (bit v) (headsFor r p t))) where
     abbrev route : Option ℕ
-    route = entered r (λ i. plus) (headsFor r p t)
+    route = entered r (bit v) (headsFor r p t)
 
-    pub derails : x ≡ noByte → some (lost derailment) ≡ some (moveOf r p (allAt plus) t)
-    unfolding moveOf
-    derails z = go route (λ y. entered-below r facts-of (λ i. plus) (headsFor r p t) y) (sym leads ∙ z)
+    pub derails : x ≡ noSection → some (lost derailment) ≡ some (moveOf r p (settingAt r p v) t)
+    unfolding moveOf settingAt
+    derails z = go route (λ y. entered-below r facts-of (bit v) (headsFor r p t) y) (sym leads ∙ z)
       where
-        go : (o : Option ℕ) → ((y : ℕ) → o ≡ some y → y < r .sections) → sectionByte o ≡ noByte → some (lost derailment) ≡ some (enters r p t o)
+        go : (o : Option ℕ) → ((y : ℕ) → o ≡ some y → y < r .sections) → sectionByte o ≡ noSection → some (lost derailment) ≡ some (enters r p t o)
         go none b e = refl
         go (some y) b e = absurd (omega (arith, b y refl, facts-of .few-sections))
 
-    pub arrives : (x ≡ noByte → ⊥) → route ≡ some x
+    arrives : (x ≡ noSection → ⊥) → route ≡ some x
     arrives z = go route leads
       where
         go : (o : Option ℕ) → x ≡ sectionByte o → o ≡ some x
         go none e = absurd (z e)
         go (some y) e = rw e
 
-    module _ (z : x ≡ noByte → ⊥) (b : Bool) (is : b ≡ occupied r p t x) where
-      pub collides : b ≡ true → some (lost collision) ≡ some (moveOf r p (allAt plus) t)
-      unfolding moveOf
+    module _ (z : x ≡ noSection → ⊥) (b : Bool) (is : b ≡ occupied r p t x) where
+      pub collides : b ≡ true → some (lost collision) ≡ some (moveOf r p (settingAt r p v) t)
+      unfolding moveOf settingAt
       collides y = rw (arrives z, sym is ∙ y)
 
-      pub stands-at : (w : ℕ) → b ≡ false → w ≡ codeWith r p t x → some (at w) ≡ some (moveOf r p (allAt plus) t)
-      unfolding moveOf
+      pub stands-at : (w : ℕ) → b ≡ false → w ≡ codeWith r p t x → some (at w) ≡ some (moveOf r p (settingAt r p v) t)
+      unfolding moveOf settingAt
       stands-at w y e = rw (arrives z, sym is ∙ y, e)
 
   module _ (v t : ℕ) (m : Bool) (is : m ≡ may (gameOf r) p (settingAt r p v) t) where
@@ -231,6 +237,6 @@ module _ (r : Railway) (p : ℕ) (table : List ℕ) (q : Placement) (on : On r p
     pub there-if : m ≡ true → t < r .trains
     there-if e = ltb-true t (r .trains) (and-true (ltb t (r .trains)) (mayMove r p (settingAt r p v) t) (sym is ∙ e) .0)
 
-    pub allowed : (n : ℕ) (b : Bool) (o : Move) → m ≡ true → n ≡ pointByte (passes r (λ i. false) (headsFor r p t) .met) → b ≡ bit v n → ended o ≡ some (moveOf r p (allAt b) t) → ended o ≡ moveUnder r p v t
-    unfolding moveUnder moveOf entered settingAt
-    allowed n b o e hn hb h = rw (sym is ∙ e) (h ∙ sym (ap (λ (w : Passage). some (enters r p t (inUse r (w .reached)))) (by-point r (bit v) (headsFor r p t) n b hn hb)))
+    pub allowed : (o : Move) → m ≡ true → ended o ≡ some (moveOf r p (settingAt r p v) t) → ended o ≡ moveUnder r p v t
+    unfolding moveUnder
+    allowed o e h = rw (sym is ∙ e) h

@@ -37,11 +37,20 @@ put-section xs t x l u = elim (eq? u t) [
 
 -- A placement by value with one train put elsewhere, if it has a place for the train.
 module _ (q : Placement) (t x : ℕ) where
-  pub put-in : t < mostTrains → t < length (q .sections) → (u : ℕ) → getD (set (q .sections) t x) u 0 ≡ putIn q t x u
-  put-in few l u = rw (lt-ltb t mostTrains few) (put-section (q .sections) t x l u)
+  put-within : (u : ℕ) → u < mostTrains → movedTo q t x u ≡ putIn q t x u
+  put-within u l = elim (lt? t mostTrains) [ inl h ↦ rw (lt-ltb t mostTrains h) | inr h ↦ rw (le-ltb t mostTrains h, ne-eqb u t (λ z. omega arith)) ]
 
-  pub put-nowhere : mostTrains ≤ t → (u : ℕ) → sectionIn q u ≡ putIn q t x u
-  put-nowhere l u = rw (le-ltb t mostTrains l)
+  put-past : (u : ℕ) → mostTrains ≤ u → sectionIn q u ≡ putIn q t x u
+  put-past u l = elim (lt? t mostTrains) [ inl h ↦ rw (lt-ltb t mostTrains h, ne-eqb u t (λ z. omega arith)) | inr h ↦ rw (le-ltb t mostTrains h) ]
+
+  pub put-each : (a b c d : ℕ) → a ≡ movedTo q t x 0 → b ≡ movedTo q t x 1 → c ≡ movedTo q t x 2 → d ≡ movedTo q t x 3 → length (q .sections) ≡ mostTrains
+      → (u : ℕ) → getD (a ∷ b ∷ c ∷ d ∷ []) u 0 ≡ putIn q t x u
+  put-each a b c d ea eb ec ed sized u = elim (lt? u mostTrains) [
+    | inl l ↦
+        of-four (λ v y. y ≡ putIn q t x v) 0 a b c d (ea ∙ put-within 0 (omega arith)) (eb ∙ put-within 1 (omega arith)) (ec ∙ put-within 2 (omega arith))
+        (ed ∙ put-within 3 (omega arith)) u l
+    | inr l ↦ List·getD-eq-default (a ∷ b ∷ c ∷ d ∷ []) 0 l ∙ section-past q u (rw sized l) ∙ put-past u l
+  ]
 
 -- The sections of a code, train by train.
 pub sections-listed : (r : Railway) (f : ℕ → ℕ) (p : ℕ) → ((t : ℕ) → t < r .trains → f t ≡ standsOn r p t) → listBelow f (r .trains) ≡ sectionsOf r p

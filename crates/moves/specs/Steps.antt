@@ -1,14 +1,14 @@
--- What contracts of single steps say: a placement by value, and settings with all points alike. Nothing of document 01 rests on this file.
+-- What contracts of single steps say of a placement by value. Nothing of document 01 rests on this file.
 -- Assumes nothing.
 use mathlib.Core.Path.{_≡_}
-use mathlib.Core.Bool.{Bool, false, cond, not, _&&_}
+use mathlib.Core.Bool.{Bool, cond, not, _&&_}
 use mathlib.Core.List.{List}
 use Prim.Native.Nat.{ℕ, _+_, _-_, _*_, _^_}
 use lib.Dec.{ltb, eqb}
 use Rattle.railway.specs.declared.Railway.{Railway}
 use Rattle.railway.specs.Bounds.{mostTrains}
 use Rattle.game.specs.Placement.{standsOn}
-use Rattle.game.specs.Setting.{Setting, held, free}
+use Rattle.game.specs.Setting.{held, free}
 use Rattle.compiled.specs.Table.{Compiled}
 use Rattle.placement.specs.declared.Placement.{Placement}
 use Rattle.placement.specs.ByValue.{sectionIn}
@@ -54,7 +54,3 @@ freeIn r p t = ltb t mostTrains && free r p t
 -- Train u, another than t, stands on section x.
 abbrev pub otherIn : Placement → ℕ → ℕ → ℕ → Bool
 otherIn q t x u = not (eqb u t) && eqb (sectionIn q u) x
-
--- All points alike.
-abbrev pub allAt : Bool → Setting
-allAt b = record { plus = λ n. b; isOpen = λ i. false }

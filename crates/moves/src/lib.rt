@@ -1,22 +1,27 @@
 // Moves on a compiled railway: codes and placements, who may move, and what a move ends in. All functions are total. What they
-// promise, they promise of every accepted railway whose table is handed in (crate `compiled`). A placement goes by its code, or by
-// value with the section of each train.
+// promise, they promise of every accepted railway whose table is handed in (crate `compiled`), and beside it that of its ways where points matter
+// (crate `routes`). A placement goes by its code, or by value with the section of each train.
 ghost use mathlib.Core.Path.{_≡_};
-ghost use mathlib.Core.Bool.{false, cond};
+ghost use mathlib.Core.Bool.{cond};
 ghost use mathlib.Core.Option.{some};
 ghost use Prim.Native.Nat.{ℕ, _+_, _*_, _/_, _%_, _≤_, _<_};
 ghost use lib.Dec.{ltb};
 ghost use Rattle.laws.specs.Below.{anyBelow};
+ghost use Rattle.laws.specs.Bits.{bit};
 ghost use Rattle.railway.specs.declared.Railway.{Railway};
+ghost use Rattle.railway.specs.Ends.{endIndex};
+ghost use Rattle.railway.specs.Record.{isClosed};
+ghost use Rattle.railway.specs.Passing.{entered};
 ghost use Rattle.game.specs.Game.{may};
 ghost use Rattle.game.specs.Placement.{placements, startCode, atHome, shared, codeOn};
-ghost use Rattle.game.specs.Setting.{headsFor};
-ghost use Rattle.game.specs.Moves.{passes, entered, moveOf, gameOf};
+ghost use Rattle.game.specs.Setting.{headsFor, opensFor};
+ghost use Rattle.game.specs.Moves.{moveOf, gameOf};
 ghost use Rattle.tables.specs.Entries.{opensIn, opensEnd, settingAt};
-ghost use Rattle.compiled.specs.Table.{pointByte, sectionByte, Compiled};
+ghost use Rattle.routes.specs.Routes.{sectionByte, Laid};
+ghost use Rattle.compiled.specs.Table.{Compiled};
 ghost use Rattle.placement.specs.ByValue.{sectionIn};
 ghost use Rattle.moves.specs.Answers.{homeCode, ended, moveUnder};
-ghost use Rattle.moves.specs.Steps.{strideOf, codePut, On, movedTo, putIn, heldIn, freeIn, otherIn, allAt};
+ghost use Rattle.moves.specs.Steps.{strideOf, codePut, On, movedTo, putIn, heldIn, freeIn, otherIn};
 use compiled::Table;
 use placement::Placement;
 use placement::TRAIN_BITS;
@@ -25,6 +30,10 @@ use placement::section_at;
 use railway::End;
 use railway::Railway;
 use railway::SectionNo;
+use routes::Ways;
+
+// The bit of the first train in an entry of the setting table, as a number: points have the bits below.
+const FIRST_TRAIN: u32 = 1u32 << Railway::POINTS;
 
 // What stands for no code: no railway has so many placements.
 pub const NO_CODE: u32 = 4294967295;
@@ -144,15 +153,17 @@ fn code_of_sections(s: u8, a: u8, b: u8, c: u8, d: u8) -> u32
     (a as u32) + m * ((b as u32) + m * ((c as u32) + m * (d as u32)))
 }
 
-// The placement with train t put on section x; as it was, if there is no place for the train.
+// The placement with train t put on section x; as it was, if there is no place for the train. Section after section, and none is written in place: reading
+// what was just written byte by byte would wait for it.
 pub fn put_on(q: Placement, t: u8, x: u8) -> Placement
     ensures { λ p. ⌜ ((u : ℕ) → sectionIn p u ≡ putIn q t x u) ⌝ }
 {
-    let at = t as usize;
-    let mut sections = q.sections;
-    if t < Railway::TRAINS {
-        sections[at] = x;
-    }
+    let sections = [
+        moved_to(q, Railway::TRAINS, t, x, 0),
+        moved_to(q, Railway::TRAINS, t, x, 1),
+        moved_to(q, Railway::TRAINS, t, x, 2),
+        moved_to(q, Railway::TRAINS, t, x, 3),
+    ];
     Placement { sections: sections }
 }
 
@@ -285,6 +296,13 @@ fn end_in(table: &Table, q: Placement, t: u8) -> End
     End::Section(SectionNo(x), h)
 }
 
+// The index of that end.
+pub fn front_in(table: &Table, q: Placement, t: u8) -> u8
+    ensures { λ i. ⌜ ((r : Railway) (p : ℕ) → On r p (now (table .entry)) q → i ≡ endIndex (headsFor r p t)) ⌝ }
+{
+    railway::index_of(end_in(table, q, t))
+}
+
 // Whether a train is there and may move under an entry of the setting table.
 pub fn may_move(table: &Table, p: u32, v: u32, t: u8) -> bool
     ensures { λ b. ⌜ ((r : Railway) → Compiled r (now (table .entry)) → b ≡ may (gameOf r) p (settingAt r p v) t) ⌝ }
@@ -303,7 +321,7 @@ pub fn may_in(table: &Table, q: Placement, v: u32, t: u8) -> bool
         return true;
     }
     if held_in(table, q, t) {
-        open_in(table, q, v, railway::index_of(end_in(table, q, t)))
+        open_for(table, q, v, t)
     } else {
         false
     }
@@ -321,6 +339,20 @@ pub fn held_in(table: &Table, q: Placement, t: u8) -> bool
     ensures { λ b. ⌜ ((r : Railway) (p : ℕ) → On r p (now (table .entry)) q → b ≡ heldIn r p t) ⌝ }
 {
     compiled::held_on(table, t, section_at(q, t))
+}
+
+// The signal at the end that a train heads for is open by entry v. Its own bit says so at once, and where no train is open it is not; only where others
+// are it matters which ends they head for.
+fn open_for(table: &Table, q: Placement, v: u32, t: u8) -> bool
+    ensures { λ b. ⌜ ((r : Railway) (p : ℕ) → On r p (now (table .entry)) q → t < r .trains → b ≡ opensFor r p (settingAt r p v) t) ⌝ }
+{
+    if bit_at(v, TRAIN_BITS + (t as u32)) {
+        return true;
+    }
+    if v < FIRST_TRAIN {
+        return false;
+    }
+    open_in(table, q, v, front_in(table, q, t))
 }
 
 // The signal at the section end of this index is open by entry v.
@@ -343,51 +375,43 @@ fn opens_end(table: &Table, q: Placement, v: u32, i: u8, u: u8) -> bool
     ensures { λ b. ⌜ ((r : Railway) (p : ℕ) → On r p (now (table .entry)) q → b ≡ opensEnd r p (opensIn v) i u) ⌝ }
 {
     if bit_at(v, TRAIN_BITS + (u as u32)) {
-        i == railway::index_of(end_in(table, q, u))
+        i == front_in(table, q, u)
     } else {
         false
     }
 }
 
 // What moving a train ends in under an entry of the setting table.
-pub fn move_of(table: &Table, p: u32, v: u32, t: u8) -> Move
-    ensures { λ m. ⌜ ((r : Railway) → Compiled r (now (table .entry)) → ended m ≡ moveUnder r p v t) ⌝ }
+pub fn move_of(table: &Table, ways: &Ways, p: u32, v: u32, t: u8) -> Move
+    ensures { λ m. ⌜ ((r : Railway) → Compiled r (now (table .entry)) → Laid r (isClosed r) (now (ways .entry)) → ended m ≡ moveUnder r p v t) ⌝ }
 {
-    move_in(table, placement_of(table, p), v, t)
+    move_in(table, ways, placement_of(table, p), v, t)
 }
 
 // What moving a train of a placement by value ends in.
-pub fn move_in(table: &Table, q: Placement, v: u32, t: u8) -> Move
-    ensures { λ m. ⌜ ((r : Railway) (p : ℕ) → On r p (now (table .entry)) q → ended m ≡ moveUnder r p v t) ⌝ }
+pub fn move_in(table: &Table, ways: &Ways, q: Placement, v: u32, t: u8) -> Move
+    ensures { λ m. ⌜ ((r : Railway) (p : ℕ) → On r p (now (table .entry)) q → Laid r (isClosed r) (now (ways .entry)) → ended m ≡ moveUnder r p v t) ⌝ }
 {
     if may_in(table, q, v, t) {
-        let n = point_in(table, q, t);
-        outcome_of(table, q, t, bit_at(v, n as u32))
+        outcome_of(table, ways, q, v, t)
     } else {
         Move::NotAllowed
     }
 }
 
-// The point that a train meets; `NO_BYTE`: none.
-pub fn point_in(table: &Table, q: Placement, t: u8) -> u8
-    ensures { λ n. ⌜ ((r : Railway) (p : ℕ) → On r p (now (table .entry)) q → t < r .trains → n ≡ pointByte (passes r (λ i. false) (headsFor r p t) .met)) ⌝ }
+// The section that a train enters, the points lying by the bits of v; `NO_SECTION`: it derails, or comes to a closed one.
+pub fn leads_to(table: &Table, ways: &Ways, q: Placement, v: u32, t: u8) -> u8
+    ensures { λ x. ⌜ ((r : Railway) (p : ℕ) → On r p (now (table .entry)) q → Laid r (isClosed r) (now (ways .entry)) → x ≡ sectionByte (entered r (bit v) (headsFor r p t))) ⌝ }
 {
-    compiled::point_past(table, t, section_at(q, t))
+    routes::section_by(ways, front_in(table, q, t), v)
 }
 
-// The section that a train enters, the point that it meets lying at plus or not; `NO_BYTE`: it derails.
-pub fn leads_to(table: &Table, q: Placement, t: u8, plus: bool) -> u8
-    ensures { λ x. ⌜ ((r : Railway) (p : ℕ) → On r p (now (table .entry)) q → t < r .trains → x ≡ sectionByte (entered r (λ i. plus) (headsFor r p t))) ⌝ }
+// What a move ends in, the points lying by entry v.
+fn outcome_of(table: &Table, ways: &Ways, q: Placement, v: u32, t: u8) -> Move
+    ensures { λ m. ⌜ ((r : Railway) (p : ℕ) → On r p (now (table .entry)) q → Laid r (isClosed r) (now (ways .entry)) → t < r .trains → ended m ≡ some (moveOf r p (settingAt r p v) t)) ⌝ }
 {
-    compiled::section_past(table, t, section_at(q, t), plus)
-}
-
-// What a move ends in, the point that it meets lying at plus or not.
-fn outcome_of(table: &Table, q: Placement, t: u8, plus: bool) -> Move
-    ensures { λ m. ⌜ ((r : Railway) (p : ℕ) → On r p (now (table .entry)) q → t < r .trains → ended m ≡ some (moveOf r p (allAt plus) t)) ⌝ }
-{
-    let x = leads_to(table, q, t, plus);
-    if x == compiled::NO_BYTE {
+    let x = leads_to(table, ways, q, v, t);
+    if x == routes::NO_SECTION {
         return Move::Derails;
     }
     if other_in(q, t, x, compiled::trains_in(table)) {

@@ -20,11 +20,12 @@ use Rattle.railway.specs.declared.Refusal.the-variants.{Space}
 use Rattle.railway.specs.Ends.{endAt}
 use Rattle.railway.specs.Refusals.{first}
 use Rattle.railway.specs.Record.{isClosed, withClosed, joinedBy, joined, hasSignal, legsOf, trainOf, withJoin, withSignal, withLegs, withTrain}
-use Rattle.railway.specs.Rows.{unknownRow, joinRow, looseRow, placeRow}
+use Rattle.railway.specs.Passing.{follow, passes, entered}
+use Rattle.railway.specs.Rows.{unknownRow, joinRow, looseRow, longer, chainRow, placeRow}
 use Rattle.game.specs.Local.{keepsTest}
 use Rattle.game.specs.Placement.{codeOf, sectionsIn, standsOn, startCode, atHome, shared}
 use Rattle.game.specs.Setting.{headsFor, held, mayMove, free, signalOpen}
-use Rattle.game.specs.Moves.{entered, passes, occupied, moveOf}
+use Rattle.game.specs.Moves.{occupied, moveOf}
 use Rattle.railway.specs.Yards.{yardH, lineX, lineJ, lineG, lineT, sec, yardA, yardOne, yardTwo}
 use Rattle.tables.specs.Entries.{entryFrom}
 use Rattle.tables.specs.Tables.{tablesShort, caseRefusal}
@@ -164,7 +165,7 @@ scripts =
     ∷ []
 
 as-said : all holds scripts ≡ true
-unfolding all numbers bytes callLines takeLine testPlan caseRefusal tablesShort first unknownRow joinRow looseRow placeRow endAt joinedBy joined hasSignal legsOf trainOf withJoin withSignal withLegs withTrain allBelow anyBelow sumBelow whichBelow listBelow lowest fromBits any readLine guess fields valueOf sameText spell line digits fits entryFrom codeOf testHolds placementPasses listedSetting keepsTest sectionsIn standsOn startCode atHome shared headsFor mayMove free held signalOpen passes occupied moveOf entered isClosed withClosed
+unfolding all numbers bytes callLines takeLine testPlan caseRefusal tablesShort first unknownRow joinRow looseRow chainRow longer placeRow endAt joinedBy joined hasSignal legsOf trainOf withJoin withSignal withLegs withTrain allBelow anyBelow sumBelow whichBelow listBelow lowest fromBits any readLine guess fields valueOf sameText spell line digits fits entryFrom codeOf testHolds placementPasses listedSetting keepsTest sectionsIn standsOn startCode atHome shared headsFor mayMove free held signalOpen passes follow occupied moveOf entered isClosed withClosed
 as-said = refl
 
 -- THE EMITTER in Yard A, with its tables: the first line, the last line with bytes past it, a buffer that is too short, the end, a place past
@@ -181,7 +182,7 @@ emitted :
     × (emitLine yardA (replicate 9 4294967295) setsA Top [] ≡ leaves NoPlan [])
     × (emitLine yardA (replicate 8 4294967295) setsA Top [] ≡ leaves (Refused Space) [])
     × (numberGiven (emitLine wrongJoin [] [] Top [] .answer) ≡ some 5)
-unfolding bytes emitLine caseRefusal tablesShort first unknownRow joinRow looseRow placeRow endAt joinedBy joined hasSignal legsOf trainOf withJoin withSignal withLegs withTrain anyBelow sumBelow whichBelow listBelow lowest lineFor spell line digits codeOf sectionsIn startCode isClosed
+unfolding bytes emitLine caseRefusal tablesShort first unknownRow joinRow looseRow chainRow longer placeRow endAt joinedBy joined hasSignal legsOf trainOf withJoin withSignal withLegs withTrain anyBelow sumBelow whichBelow listBelow lowest lineFor spell line digits codeOf sectionsIn startCode isClosed
 emitted = (refl, refl, refl, refl, refl, refl, refl, refl)
 
 -- THE ORDER OF SEVERAL POINTS, point 1 first and in bit 0, and of two open
@@ -198,5 +199,5 @@ several-points :
     × (lineEntry ladder startLadder ≡ 196609)
     × (lineFor ladder figsLadder (set (replicate 49 0) 42 196609) 42 ≡ startLadder)
     × (emitLine ladder figsLadder (set (replicate 49 0) 42 65540) (From 0) (replicate 12 7) ≡ record { answer = Line 12 (From 43); buffer = bytes "1\t7\t3\t1\t--+\n" })
-unfolding bytes emitLine caseRefusal tablesShort first unknownRow joinRow looseRow placeRow endAt joinedBy joined hasSignal legsOf trainOf withJoin withSignal withLegs withTrain anyBelow sumBelow whichBelow listBelow lowest fromBits any all readLine guess fields valueOf sameText fits lineFor spell line digits codeOf sectionsIn startCode entryFrom isClosed
+unfolding bytes emitLine caseRefusal tablesShort first unknownRow joinRow looseRow chainRow longer placeRow endAt joinedBy joined hasSignal legsOf trainOf withJoin withSignal withLegs withTrain anyBelow sumBelow whichBelow listBelow lowest fromBits any all readLine guess fields valueOf sameText fits lineFor spell line digits codeOf sectionsIn startCode entryFrom isClosed
 several-points = (refl, refl, refl, refl, refl)

@@ -1,9 +1,9 @@
 -- Tables that a call has made fresh, and tables filled with none and zero throughout, list nothing: each has at every code what it is to have.
 -- Assumes nothing.
 use mathlib.Core.Path.{_≡_, refl, sym, _∙_, ap, subst}
-use mathlib.Core.List.{List, _++_}
+use mathlib.Core.List.{List}
 use mathlib.Core.Option.{none}
-use Prim.Native.Nat.{ℕ, _+_, _-_, _≤_, _<_}
+use Prim.Native.Nat.{ℕ, _-_, _≤_, _<_}
 use native.Mathlib.Omega.{arith}
 use lib.ListN.{length, getD, replicate, drop, length-append, length-drop, length-replicate, getD-replicate, List·getD-append}
 use Rattle.railway.specs.declared.Railway.{Railway}

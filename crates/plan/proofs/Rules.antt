@@ -55,7 +55,7 @@ emittedKind (EmitRefused f) = 3
 pub differ : {A B : Type 0} (f : A → ℕ) {a b : A} → a ≡ b → ¬ (f a ≡ f b) → B
 differ f e n = absurd (n (ap f e))
 
--- THE EMITTER. Refused by rows 3 to 9.
+-- THE EMITTER. Refused by the rows of the case.
 module _ (r : Railway) (figs sets : List ℕ) (place : PlanPlace) (buffer : List ℕ) where
   -- every answer but a line leaves the buffer
   leaves-rule : (a : Emitted) → isLine a ≡ false
@@ -207,7 +207,7 @@ module _ (r : Railway) (c : Checking) (text : List ℕ) where
         go true = form-rule
         go false = enter-rule m d e
 
--- THE TEST behind rows 3 to 9
+-- THE TEST behind the rows of the case
 abbrev pub testNumbered : TestAnswer → ℕ
 testNumbered Pass = 0
 testNumbered (TestRefused f) = suc (number f)

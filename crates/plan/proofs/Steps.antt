@@ -1,4 +1,4 @@
--- The calls one test after the other (specs/Steps) are the calls that the rows define. Rows 3 to 9 of the case come first in both; where none of them
+-- The calls one test after the other (specs/Steps) are the calls that the rows define. The rows of the case come first in both; where none of them
 -- applies, each step refuses where its row does. The other proofs go by these laws. Assumes nothing.
 use mathlib.Core.Path.{_≡_, refl, sym, _∙_, ap}
 use mathlib.Core.Logic.{inl, inr}
@@ -46,7 +46,7 @@ module _ (r : Railway) (figs sets : List ℕ) (place : PlanPlace) (buffer : List
   start-steps none = refl
   start-steps (some n) = due-steps buffer (due r figs sets place) n
 
-  -- rows 3 to 8, then row 9 for the tables, then for the buffer
+  -- the rows of the record, then row 9 for the tables, then for the buffer
   case-steps : (o : Option Refusal) (short long : Bool) (start : Option ℕ)
       → rowsLeave (refuseIf long Space none) start ≡ emitted r figs sets place buffer none start
       → rowsLeave (orElse o (refuseIf (short || long) Space none)) start ≡ emitted r figs sets place buffer (orElse o (refuseIf short Space none)) start

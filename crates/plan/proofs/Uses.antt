@@ -17,7 +17,7 @@ use Rattle.railway.specs.declared.CaseAnswer.{CaseAnswer}
 use Rattle.railway.specs.Ends.{endAt}
 use Rattle.railway.specs.Refusals.{first}
 use Rattle.railway.specs.Record.{isClosed, joinedBy, joined, hasSignal, legsOf, trainOf, withJoin, withSignal, withLegs, withTrain}
-use Rattle.railway.specs.Rows.{unknownRow, joinRow, looseRow, placeRow}
+use Rattle.railway.specs.Rows.{unknownRow, joinRow, looseRow, longer, chainRow, placeRow}
 use Rattle.railway.specs.Yards.{yardA, headOn}
 use Rattle.game.specs.Game.{Game, Way, Choice, lostByMove, standing, following, positional, may, home, over, step, play, homeAt, HomeWithin, ComesHome, Position}
 use Rattle.game.specs.Placement.{codeOf, sectionsIn, standsOn, startCode, atHome, shared}
@@ -90,7 +90,7 @@ none-other (l ∷ ls) [] = refl
 none-other (l ∷ ls) (x ∷ answers) = none-other ls answers
 
 empty-out : isTaken (takeLine yardA madeFresh [] .answer) ≡ false
-unfolding bytes takeLine tablesShort first unknownRow joinRow looseRow placeRow endAt joinedBy joined hasSignal legsOf trainOf withJoin withSignal withLegs withTrain anyBelow listBelow any all readLine guess fields valueOf sameText spell line digits fits whichBelow isClosed
+unfolding bytes takeLine tablesShort first unknownRow joinRow looseRow chainRow longer placeRow endAt joinedBy joined hasSignal legsOf trainOf withJoin withSignal withLegs withTrain anyBelow listBelow any all readLine guess fields valueOf sameText spell line digits fits whichBelow isClosed
 empty-out = refl
 
 -- YARD A

@@ -88,7 +88,7 @@ outOfForm r Fresh (some (placementLine d)) = true
 outOfForm r (Begun m from) (some (startLine n)) = true
 outOfForm r (Begun m from) (some (placementLine d)) = ltb (lineCode r d) from
 
--- The rows of a call for a line: 3 to 9 for the case, then 10 for the line.
+-- The rows of a call for a line: those of the case, then 10 for the line.
 abbrev pub lineRows : Railway → Checking → List ℕ → List Row
 lineRows r c text = caseRows r (c .figs) (c .sets) ++ (row PlanForm (outOfForm r (c .state) (readLine r text)) ∷ [])
 
@@ -118,7 +118,7 @@ abbrev pub planFails : Railway → Checking → CheckerState → Bool
 planFails r c Fresh = false
 planFails r c (Begun m from) = not (testHolds r m (byTables (c .figs) (c .sets)))
 
--- The rows of the test: 3 to 9 for the case, then 10 and 11 for the plan.
+-- The rows of the test: those of the case, then 10 and 11 for the plan.
 abbrev pub testRows : Railway → Checking → List Row
 testRows r c = caseRows r (c .figs) (c .sets) ++ (row PlanForm (nothingTaken (c .state)) ∷ row PlanFault (planFails r c (c .state)) ∷ [])
 

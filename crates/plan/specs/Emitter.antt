@@ -1,5 +1,5 @@
--- The emitter: a line of the plan a call, from two tables into a lent text buffer (document 01, "The two tables and the plan": plan text; rows 3
--- to 9 and what stands under the table of numbers). Each call is total: any record, tables, place and buffer. Assumes nothing.
+-- The emitter: a line of the plan a call, from two tables into a lent text buffer (document 01, "The two tables and the plan": plan text; the numbers
+-- that judge a record, then 9, and what stands under their table). Each call is total: any record, tables, place and buffer. Assumes nothing.
 use mathlib.Core.Bool.{Bool, false, _&&_, _||_}
 use mathlib.Core.List.{List, [], _∷_, _++_}
 use mathlib.Core.Option.{Option, none, some}
@@ -80,7 +80,7 @@ dueTooLong buffer (some d) = ltb (length buffer) (length (d .text))
 abbrev pub bufferShort : Railway → List ℕ → List ℕ → PlanPlace → List ℕ → Bool
 bufferShort r figs sets place buffer = hasFigure figs (startCode r) && dueTooLong buffer (due r figs sets place)
 
--- 3 to 8 for the record, then 9 for the tables and the buffer.
+-- The rows of the record, then 9 for the tables and the buffer.
 abbrev pub emitterRows : Railway → List ℕ → List ℕ → PlanPlace → List ℕ → List Row
 emitterRows r figs sets place buffer = recordRows r ++ (row Space (tablesShort r figs sets || bufferShort r figs sets place buffer) ∷ [])
 

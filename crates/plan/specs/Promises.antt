@@ -33,7 +33,7 @@ pub record TestPost (r : Railway) (old : Checking) (a : TestAnswer) (new : Check
   pub numbered : testNumber a ≡ numberOf (first (testRows r old))
   pub checking : new ≡ testPlan r old .checking
 
--- The call that makes two lent tables fresh, whatever stands in them, and hands out the state that has taken no line: it refuses by rows 3 to 9,
+-- The call that makes two lent tables fresh, whatever stands in them, and hands out the state that has taken no line: it refuses by the rows of the case,
 -- and else writes none in the one table and zero in the other at every code.
 pub record FreshPost (r : Railway) (figs sets : List ℕ) (a : CaseAnswer) (new : Checking) : Type 0 where
   pub numbered : caseNumber a ≡ numberOf (caseRefusal r figs sets)

@@ -1,5 +1,5 @@
 -- The rule on refusals (document 01, under the table of numbers), for every call of the emitter and of the checker for a line, and for the test,
--- whatever it is handed: rows 3 to 9 come before all else, and what is refused leaves state, tables and buffer as they were. Of fresh tables Promises says
+-- whatever it is handed: the rows of the case come before all else, and what is refused leaves state, tables and buffer as they were. Of fresh tables Promises says
 -- it by an equation (`FreshPost`), and the calls for several lines are so many of these (Several). Assumes nothing.
 use mathlib.Core.Path.{_≡_}
 use mathlib.Core.Logic.{_⊎_, _↔_}
@@ -54,7 +54,7 @@ pub record LineChanges (r : Railway) (c : Checking) (text : List ℕ) (x : Left 
   pub own-code : (d : PlacementLine) → Spells r text (placementLine d) → x .answer ≡ Taken
       → (getD (x .checking .figs) (lineCode r d) 0 ≡ d .figure) × (getD (x .checking .sets) (lineCode r d) 0 ≡ lineEntry r d)
 
--- Behind rows 3 to 9 a line is refused as plan form only, and the test as plan form exactly before the first line, else as plan fault only; the
+-- Behind the rows of the case a line is refused as plan form only, and the test as plan form exactly before the first line, else as plan fault only; the
 -- test leaves all as it was, whatever it answers.
 pub record CheckRule (r : Railway) (c : Checking) : Type 0 where
   pub line-first : (text : List ℕ) (f : Refusal) → caseRefusal r (c .figs) (c .sets) ≡ some f → takeLine r c text .answer ≡ LineRefused f

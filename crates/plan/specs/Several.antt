@@ -119,7 +119,7 @@ abbrev pub frontLeaves : Checking → Front → Option Refusal → Left FrontAns
 frontLeaves c front (some f) = left (FrontRefused f) c
 frontLeaves c front none = left (Took (front .bytes)) (front .checking)
 
--- A CALL for the lines in front of a text: those before the first that is refused. Rows 3 to 9 refuse the call; no line does.
+-- A CALL for the lines in front of a text: those before the first that is refused. The rows of the case refuse the call; no line does.
 unfoldable pub takeFront : Railway → Checking → List ℕ → Left FrontAnswer
 takeFront r c text = frontLeaves c (frontOf r (linesOf text) c) (caseRefusal r (c .figs) (c .sets))
 

@@ -40,7 +40,7 @@ abbrev pub dueWritten : List ℕ → Option Due → Wrote
 dueWritten buffer none = leaves End buffer
 dueWritten buffer (some d) = lineWritten (d .text) (d .next) buffer
 
--- Rows 3 to 9 for record and tables, then the start's figure, then the line.
+-- The rows of the case, then the start's figure, then the line.
 abbrev pub emitted : Railway → List ℕ → List ℕ → PlanPlace → List ℕ → Option Refusal → Option ℕ → Wrote
 emitted r figs sets place buffer (some f) start = leaves (Refused f) buffer
 emitted r figs sets place buffer none none = leaves NoPlan buffer
@@ -91,12 +91,12 @@ takes r c Fresh (some (placementLine d)) = refuse c PlanForm
 takes r c (Begun m from) (some (startLine n)) = refuse c PlanForm
 takes r c (Begun m from) (some (placementLine d)) = cond (ltb (lineCode r d) from) (refuse c PlanForm) (left Taken (enter r c m d))
 
--- Rows 3 to 9, then the line.
+-- The rows of the case, then the line.
 abbrev pub takesIf : Railway → Checking → List ℕ → Option Refusal → Left LineAnswer
 takesIf r c text (some f) = refuse c f
 takesIf r c text none = takes r c (c .state) (readLine r text)
 
--- Rows 3 to 9, then the state, then the test.
+-- The rows of the case, then the state, then the test.
 abbrev pub tests : Railway → Checking → Option Refusal → CheckerState → TestAnswer
 tests r c (some f) state = TestRefused f
 tests r c none Fresh = TestRefused PlanForm

@@ -1,10 +1,12 @@
 // The test of a plan on two tables, of a railway that is compiled: the start's figure first, then placement after placement. All functions are
-// total: a code past a table has no figure, and its setting is zero. What they promise, they promise of every railway whose table is handed in.
+// total: a code past a table has no figure, and its setting is zero. What they promise, they promise of every railway whose table and
+// ways are handed in.
 ghost use mathlib.Core.Path.{_≡_};
 ghost use mathlib.Core.Option.{some};
 ghost use Prim.Native.Nat.{ℕ, _<_};
 ghost use Rattle.laws.specs.Below.{allBelow, anyBelow};
 ghost use Rattle.railway.specs.declared.Railway.{Railway};
+ghost use Rattle.railway.specs.Record.{isClosed};
 ghost use Rattle.game.specs.Game.{Outcome, may};
 ghost use Rattle.game.specs.Claim.{figureOf};
 ghost use Rattle.game.specs.Local.{isBelow, goesBelow, keepsTest};
@@ -14,6 +16,7 @@ ghost use Rattle.tables.specs.Entries.{settingAt};
 ghost use Rattle.tables.specs.Tables.{figureIn};
 ghost use Rattle.plan.specs.Test.{byTables};
 ghost use Rattle.plan.specs.Computed.{listedPasses, placementPasses, testHolds};
+ghost use Rattle.routes.specs.Routes.{Laid};
 ghost use Rattle.compiled.specs.Table.{Compiled};
 ghost use Rattle.moves.specs.Answers.{ended};
 ghost use Rattle.moves.specs.Steps.{On};
@@ -22,31 +25,32 @@ use compiled::Table;
 use moves::Move;
 use placement::Placement;
 use placement::TRAIN_BITS;
+use routes::Ways;
 use tables::NO_FIGURE;
 
 // THE TEST, m being the first line's figure: the start is listed with it, and every listed placement is as it must be.
-pub fn test_holds(table: &Table, figures: &[u32], settings: &[u32], m: u32) -> bool
-    ensures { λ b. ⌜ ((r : Railway) → Compiled r (now (table .entry)) → b ≡ testHolds r m (byTables (now (figures .entry)) (now (settings .entry)))) ⌝ }
+pub fn test_holds(table: &Table, ways: &Ways, figures: &[u32], settings: &[u32], m: u32) -> bool
+    ensures { λ b. ⌜ ((r : Railway) → Compiled r (now (table .entry)) → Laid r (isClosed r) (now (ways .entry)) → b ≡ testHolds r m (byTables (now (figures .entry)) (now (settings .entry)))) ⌝ }
 {
     let n = tables::entry_at(figures, moves::start_code(table), NO_FIGURE);
     if n == NO_FIGURE {
         return false;
     }
     if n == m {
-        all_pass(table, figures, settings)
+        all_pass(table, ways, figures, settings)
     } else {
         false
     }
 }
 
 // Every placement.
-fn all_pass(table: &Table, figures: &[u32], settings: &[u32]) -> bool
-    ensures { λ b. ⌜ ((r : Railway) → Compiled r (now (table .entry)) → b ≡ allBelow (placementPasses r (byTables (now (figures .entry)) (now (settings .entry)))) (placements r)) ⌝ }
+fn all_pass(table: &Table, ways: &Ways, figures: &[u32], settings: &[u32]) -> bool
+    ensures { λ b. ⌜ ((r : Railway) → Compiled r (now (table .entry)) → Laid r (isClosed r) (now (ways .entry)) → b ≡ allBelow (placementPasses r (byTables (now (figures .entry)) (now (settings .entry)))) (placements r)) ⌝ }
 {
     let m = moves::placements(table);
     let mut p: u32 = 0;
     while p < m {
-        if placement_passes(table, figures, settings, p) {
+        if placement_passes(table, ways, figures, settings, p) {
             p += 1;
         } else {
             return false;
@@ -56,19 +60,26 @@ fn all_pass(table: &Table, figures: &[u32], settings: &[u32]) -> bool
 }
 
 // One placement: it is not listed, or it is as listed placements must be.
-fn placement_passes(table: &Table, figures: &[u32], settings: &[u32], p: u32) -> bool
-    ensures { λ b. ⌜ ((r : Railway) → Compiled r (now (table .entry)) → b ≡ placementPasses r (byTables (now (figures .entry)) (now (settings .entry))) p) ⌝ }
+fn placement_passes(table: &Table, ways: &Ways, figures: &[u32], settings: &[u32], p: u32) -> bool
+    ensures { λ b. ⌜ ((r : Railway) → Compiled r (now (table .entry)) → Laid r (isClosed r) (now (ways .entry)) → b ≡ placementPasses r (byTables (now (figures .entry)) (now (settings .entry))) p) ⌝ }
 {
     let n = tables::entry_at(figures, p, NO_FIGURE);
     if n == NO_FIGURE {
         return true;
     }
-    listed_passes(table, figures, settings, p, n)
+    listed_passes(table, ways, figures, settings, p, n)
 }
 
 // A placement that is listed with figure n: not lost; its open trains have signals; and it is home, or its setting keeps the figure.
-fn listed_passes(table: &Table, figures: &[u32], settings: &[u32], p: u32, n: u32) -> bool
-    ensures { λ b. ⌜ ((r : Railway) → Compiled r (now (table .entry)) → b ≡ listedPasses r (byTables (now (figures .entry)) (now (settings .entry))) p n) ⌝ }
+fn listed_passes(
+    table: &Table,
+    ways: &Ways,
+    figures: &[u32],
+    settings: &[u32],
+    p: u32,
+    n: u32,
+) -> bool
+    ensures { λ b. ⌜ ((r : Railway) → Compiled r (now (table .entry)) → Laid r (isClosed r) (now (ways .entry)) → b ≡ listedPasses r (byTables (now (figures .entry)) (now (settings .entry))) p n) ⌝ }
 {
     let q = moves::placement_of(table, p);
     if moves::lost_in(table, q) {
@@ -79,7 +90,7 @@ fn listed_passes(table: &Table, figures: &[u32], settings: &[u32], p: u32, n: u3
         if moves::home_in(table, q) {
             return true;
         }
-        keeps(table, figures, q, v, n)
+        keeps(table, ways, figures, q, v, n)
     } else {
         false
     }
@@ -112,11 +123,11 @@ fn train_signalled(table: &Table, q: Placement, v: u32, t: u8) -> bool
 }
 
 // Entry v keeps figure n: somebody may move under it, and whoever may comes to a listed placement with a figure below n.
-fn keeps(table: &Table, figures: &[u32], q: Placement, v: u32, n: u32) -> bool
-    ensures { λ b. ⌜ ((r : Railway) (p : ℕ) → On r p (now (table .entry)) q → b ≡ keepsTest (gameOf r) (figureIn (now (figures .entry))) p (settingAt r p v) n) ⌝ }
+fn keeps(table: &Table, ways: &Ways, figures: &[u32], q: Placement, v: u32, n: u32) -> bool
+    ensures { λ b. ⌜ ((r : Railway) (p : ℕ) → On r p (now (table .entry)) q → Laid r (isClosed r) (now (ways .entry)) → b ≡ keepsTest (gameOf r) (figureIn (now (figures .entry))) p (settingAt r p v) n) ⌝ }
 {
     if some_may(table, q, v) {
-        all_below(table, figures, q, v, n)
+        all_below(table, ways, figures, q, v, n)
     } else {
         false
     }
@@ -136,13 +147,13 @@ fn some_may(table: &Table, q: Placement, v: u32) -> bool
     false
 }
 
-fn all_below(table: &Table, figures: &[u32], q: Placement, v: u32, n: u32) -> bool
-    ensures { λ b. ⌜ ((r : Railway) (p : ℕ) → On r p (now (table .entry)) q → b ≡ allBelow (goesBelow (gameOf r) (figureIn (now (figures .entry))) p (settingAt r p v) n) (r .trains)) ⌝ }
+fn all_below(table: &Table, ways: &Ways, figures: &[u32], q: Placement, v: u32, n: u32) -> bool
+    ensures { λ b. ⌜ ((r : Railway) (p : ℕ) → On r p (now (table .entry)) q → Laid r (isClosed r) (now (ways .entry)) → b ≡ allBelow (goesBelow (gameOf r) (figureIn (now (figures .entry))) p (settingAt r p v) n) (r .trains)) ⌝ }
 {
     let k = compiled::trains_in(table);
     let mut t: u8 = 0;
     while t < k {
-        if goes_below(table, figures, q, v, n, t) {
+        if goes_below(table, ways, figures, q, v, n, t) {
             t += 1;
         } else {
             return false;
@@ -152,10 +163,18 @@ fn all_below(table: &Table, figures: &[u32], q: Placement, v: u32, n: u32) -> bo
 }
 
 // The train may not move, or its move ends below n.
-fn goes_below(table: &Table, figures: &[u32], q: Placement, v: u32, n: u32, t: u8) -> bool
-    ensures { λ b. ⌜ ((r : Railway) (p : ℕ) → On r p (now (table .entry)) q → b ≡ goesBelow (gameOf r) (figureIn (now (figures .entry))) p (settingAt r p v) n t) ⌝ }
+fn goes_below(
+    table: &Table,
+    ways: &Ways,
+    figures: &[u32],
+    q: Placement,
+    v: u32,
+    n: u32,
+    t: u8,
+) -> bool
+    ensures { λ b. ⌜ ((r : Railway) (p : ℕ) → On r p (now (table .entry)) q → Laid r (isClosed r) (now (ways .entry)) → b ≡ goesBelow (gameOf r) (figureIn (now (figures .entry))) p (settingAt r p v) n t) ⌝ }
 {
-    let m = moves::move_in(table, q, v, t);
+    let m = moves::move_in(table, ways, q, v, t);
     let Move::NotAllowed = m else {
         return is_below(figures, m, n);
     };

@@ -1,2 +1,1 @@
-pub mod Reversing
 pub mod Before

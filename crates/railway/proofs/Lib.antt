@@ -6,7 +6,11 @@ pub mod Lookups
 pub mod Updates
 pub mod Refusals
 pub mod Accepted
+pub mod Runs
+pub mod Chains
 pub mod Same
 pub mod Examples
+pub mod Passes
 pub mod Claims
 pub mod Uses
+pub mod ChainUses

@@ -3,21 +3,24 @@
 use mathlib.Core.Path.{_≡_, refl, sym, _∙_}
 use mathlib.Core.Bool.{Bool, true, false, cond}
 use mathlib.Core.List.{[]}
-use Prim.Native.Nat.{ℕ, _<_}
+use Prim.Native.Nat.{ℕ, zero, suc, _<_}
 use lib.Dec.{ltb}
 use borrow.Author.Tests.{ltb-true, ltb-false}
 use Rattle.laws.specs.Below.{anyBelow}
 use Rattle.laws.proofs.Below.{any-same}
+use Rattle.railway.specs.declared.Leg.{Leg}
+use Rattle.railway.specs.declared.Leg.the-variants.{Stem, Plus, Minus}
+use Rattle.railway.specs.declared.PointNo.{PointNo}
 use Rattle.railway.specs.declared.End.{End}
 use Rattle.railway.specs.declared.End.the-variants.{Section, Port}
 use Rattle.railway.specs.declared.Joined.{Joined}
 use Rattle.railway.specs.declared.Joined.the-variants.{Nothing, With}
-use Rattle.railway.specs.declared.Refusal.the-variants.{Count, Unknown, Join, Loose, Double, Place}
+use Rattle.railway.specs.declared.Refusal.the-variants.{Count, Unknown, Join, Loose, Chain, Double, Place}
 use Rattle.railway.specs.declared.Railway.{Railway}
 use Rattle.railway.specs.Bounds.{mostSections, sectionEnds, allEnds}
 use Rattle.railway.specs.Ends.{endIndex, endAt}
 use Rattle.railway.specs.Record.{linkAt, flagAt, closedAt, joined, hasSignal, isClosed, legsOf, trainOf, sideOf}
-use Rattle.railway.specs.Rows.{known, unknownLink, unknownLinkAt, unknownSignalAt, unknownClosedAt, unknownTrainAt, wrongLink, wrongLinkAt, unreturned, unreturnedAt, looseAt, sharesWith, sharesAt, shutOutAt, countRow, unknownRow, joinRow, looseRow, placeRow, recordRefusal}
+use Rattle.railway.specs.Rows.{known, unknownLink, unknownLinkAt, unknownSignalAt, unknownClosedAt, unknownTrainAt, wrongLink, wrongLinkAt, unreturned, unreturnedAt, looseAt, longerPast, longerOver, longer, mostBehind, chainedAt, sharesWith, sharesAt, shutOutAt, countRow, unknownRow, joinRow, looseRow, chainRow, placeRow, recordRefusal}
 use Rattle.railway.specs.Same.{SameRailway}
 use Rattle.railway.proofs.Lookups.{legs-none, roster-none}
 use Rattle.railway.proofs.Refusals.{first-same}
@@ -147,6 +150,31 @@ module _ (r q : Railway) (h : SameRailway r q) where
       = any-same (looseAt r) (looseAt q) (r .points) (λ n b. simp joined-same) in
       rw (a, h .points)
 
+  over-same : (f g : Joined → Bool) → ((j : Joined) → f j ≡ g j) → (n : PointNo) (l : Leg) → longerOver r f n l ≡ longerOver q g n l
+  over-same f g s n Stem = rw (joined-same (Port n Plus), joined-same (Port n Minus), s (joined q (Port n Plus)), s (joined q (Port n Minus)))
+  over-same f g s n Plus = rw (joined-same (Port n Stem), s (joined q (Port n Stem)))
+  over-same f g s n Minus = rw (joined-same (Port n Stem), s (joined q (Port n Stem)))
+
+  past-same : (f g : PointNo → Leg → Bool) → ((n : PointNo) (l : Leg) → f n l ≡ g n l) → (j : Joined) → longerPast f j ≡ longerPast g j
+  past-same f g s Nothing = refl
+  past-same f g s (With (Section n d)) = refl
+  past-same f g s (With (Port n l)) = s n l
+
+  longer-same : (k : ℕ) (j : Joined) → longer r k j ≡ longer q k j
+  unfolding longer
+  longer-same zero j = refl
+  longer-same (suc k) j = past-same _ _ (over-same _ _ (longer-same k)) j
+
+  at-same : (n : PointNo) (l : Leg) → longer r mostBehind (joined r (Port n l)) ≡ longer q mostBehind (joined q (Port n l))
+  at-same n l = rw (joined-same (Port n l)) (longer-same mostBehind (joined q (Port n l)))
+
+  chain-same : chainRow r ≡ chainRow q
+  unfolding chainRow
+  chain-same =
+      let a : anyBelow (chainedAt r) (r .points) ≡ anyBelow (chainedAt q) (r .points)
+      = any-same (chainedAt r) (chainedAt q) (r .points) (λ n b. rw (at-same (record { 0 = n }) Stem, at-same (record { 0 = n }) Plus, at-same (record { 0 = n }) Minus)) in
+      rw (a, h .points)
+
   place-same : placeRow r ≡ placeRow q
   unfolding placeRow
   place-same =
@@ -167,5 +195,6 @@ module _ (r q : Railway) (h : SameRailway r q) where
       (first-same Unknown (unknownRow r) (unknownRow q) _ _ unknown-same
       (first-same Join (joinRow r) (joinRow q) _ _ join-same
       (first-same Loose (looseRow r) (looseRow q) _ _ loose-same
+      (first-same Chain (chainRow r) (chainRow q) _ _ chain-same
       (first-same Double false false _ _ refl
-      (first-same Place (placeRow r) (placeRow q) [] [] place-same refl)))))
+      (first-same Place (placeRow r) (placeRow q) [] [] place-same refl))))))

@@ -1,5 +1,5 @@
--- What is claimed of the numbers that a record gets (document 01, "Numbers that a desk can get": "given exactly if", and the lowest that applies), and
--- of the bytes in which it keeps its joins (document 02, Q-4). proofs/Claims has the proofs. Assumes nothing.
+-- What is claimed of the numbers that a record gets (document 01, "Numbers that a desk can get": "given exactly if", and the first that applies in the order
+-- of the rows), and of the bytes in which it keeps its joins (document 02, Q-4). proofs/Claims has the proofs. Assumes nothing.
 use mathlib.Core.Path.{_≡_}
 use mathlib.Core.Logic.{_↔_}
 use mathlib.Core.Bool.{true}

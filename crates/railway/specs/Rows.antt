@@ -1,23 +1,26 @@
--- Rows 3 to 8 of the table of numbers, for a record handed in: one definition a row, and the first that applies.
+-- Rows 3 to 8 and 13 of the table of numbers, for a record handed in: one definition a row, in the order in which they are given, and the first that applies.
 -- A record can have faults that no text can express; each row says what it makes of them (docs/DECISIONS.md gives the reasons). Assumes nothing.
 use mathlib.Core.Bool.{Bool, true, false, not, _&&_, _||_}
 use mathlib.Core.List.{List, [], _∷_}
-use mathlib.Core.Option.{Option, none, some}
-use Prim.Native.Nat.{ℕ}
+use mathlib.Core.Option.{Option}
+use Prim.Native.Nat.{ℕ, zero, suc, _-_}
 use lib.Dec.{ltb, eqb}
 use Rattle.laws.specs.Below.{anyBelow}
 use Rattle.railway.specs.declared.Side.{Side}
+use Rattle.railway.specs.declared.Leg.{Leg}
 use Rattle.railway.specs.declared.Leg.the-variants.{Stem, Plus, Minus}
+use Rattle.railway.specs.declared.PointNo.{PointNo}
 use Rattle.railway.specs.declared.End.{End}
 use Rattle.railway.specs.declared.End.the-variants.{Section, Port}
 use Rattle.railway.specs.declared.Joined.{Joined}
 use Rattle.railway.specs.declared.Joined.the-variants.{Nothing, With}
 use Rattle.railway.specs.declared.Railway.{Railway}
 use Rattle.railway.specs.declared.Refusal.{Refusal}
-use Rattle.railway.specs.declared.Refusal.the-variants.{Count, Unknown, Join, Loose, Double, Place}
+use Rattle.railway.specs.declared.Refusal.the-variants.{Count, Unknown, Join, Loose, Chain, Double, Place}
 use Rattle.railway.specs.Bounds.{fewestSections, fewestTrains, mostSections, mostPoints, mostTrains, sectionEnds, allEnds}
 use Rattle.railway.specs.Ends.{sameSide, endIndex, endAt}
 use Rattle.railway.specs.Refusals.{Row, row, first}
+use Rattle.railway.specs.Passing.{mostMet}
 use Rattle.railway.specs.Record.{linkAt, flagAt, joined, isClosed, trainOf, sideOf}
 
 -- Too few or too many sections, points or trains.
@@ -65,35 +68,35 @@ unknownRow r =
     || anyBelow (unknownClosedAt r) mostSections
     || anyBelow (unknownTrainAt r) (r .trains)
 
--- What is asked of each end of a pair: the section it belongs to (none for a port) and its side. Records and case texts share this.
+-- What an end belongs to, by its number. Records and case texts share this and what follows.
+pub data Owner : Type 0 where
+  ofSection : ℕ → Owner
+  ofPoint : ℕ → Owner
+
+-- What is asked of each end of a pair: what it belongs to, and its side.
 pub record Tied : Type 0 where
-  pub section : Option ℕ
+  pub owner : Owner
   pub side : Side
 
--- Both ends are ports.
-abbrev pub bothPorts : Option ℕ → Option ℕ → Bool
-bothPorts none none = true
-bothPorts none (some n) = false
-bothPorts (some m) b = false
-
--- Both ends belong to one section.
-abbrev pub oneSection : Option ℕ → Option ℕ → Bool
-oneSection (some m) (some n) = eqb m n
-oneSection (some m) none = false
-oneSection none b = false
+-- Both ends belong to one section, or both to one point.
+abbrev pub oneOwner : Owner → Owner → Bool
+oneOwner (ofSection m) (ofSection n) = eqb m n
+oneOwner (ofSection m) (ofPoint n) = false
+oneOwner (ofPoint m) (ofSection n) = false
+oneOwner (ofPoint m) (ofPoint n) = eqb m n
 
 -- Two ends that no join may tie.
 abbrev pub wrongPair : Tied → Tied → Bool
-wrongPair a b = bothPorts (a .section) (b .section) || oneSection (a .section) (b .section) || sameSide (a .side) (b .side)
+wrongPair a b = oneOwner (a .owner) (b .owner) || sameSide (a .side) (b .side)
 
--- The section of an end of the record.
-abbrev pub sectionOf : End → Option ℕ
-sectionOf (Section n s) = some (n .0)
-sectionOf (Port n l) = none
+-- What an end of the record belongs to.
+abbrev pub ownerOf : End → Owner
+ownerOf (Section n s) = ofSection (n .0)
+ownerOf (Port n l) = ofPoint (n .0)
 
 -- What row 5 asks of an end of the record.
 abbrev pub tied : Railway → End → Tied
-tied r e = record { section = sectionOf e; side = sideOf r e }
+tied r e = record { owner = ownerOf e; side = sideOf r e }
 
 -- A link between two such ends.
 abbrev pub wrongLink : Railway → End → Joined → Bool
@@ -138,6 +141,38 @@ looseAt r n =
 unfoldable pub looseRow : Railway → Bool
 looseRow r = anyBelow (looseAt r) (r .points)
 
+-- A test of the port that a join leads to; it fails where there is no join, and at a section.
+abbrev pub longerPast : (PointNo → Leg → Bool) → Joined → Bool
+longerPast over Nothing = false
+longerPast over (With (Section n s)) = false
+longerPast over (With (Port n l)) = over n l
+
+-- A point entered by a port leads on so, given the test of a join: by the stem either leg goes on, by a leg the stem.
+abbrev pub longerOver : Railway → (Joined → Bool) → PointNo → Leg → Bool
+longerOver r on n Stem = on (joined r (Port n Plus)) || on (joined r (Port n Minus))
+longerOver r on n Plus = on (joined r (Port n Stem))
+longerOver r on n Minus = on (joined r (Port n Stem))
+
+-- More than k points can be met in a row past a join, under some choice of legs.
+unfoldable pub longer : Railway → ℕ → Joined → Bool
+longer r zero j = longerPast (λ n l. true) j
+longer r (suc k) j = longerPast (λ n l. longerOver r (λ i. longer r k i) n l) j
+
+-- The most points that may be met in a row behind one that a train has met.
+abbrev pub mostBehind : ℕ
+mostBehind = mostMet - 1
+
+-- A train that leaves this point by one of its ports can meet more than that many.
+abbrev pub chainedAt : Railway → ℕ → Bool
+chainedAt r n =
+    longer r mostBehind (joined r (Port (record { 0 = n }) Stem))
+    || longer r mostBehind (joined r (Port (record { 0 = n }) Plus))
+    || longer r mostBehind (joined r (Port (record { 0 = n }) Minus))
+
+-- 13, chain: so with some point, and so more than four are met in a row. (`ChainExactly` in Chains says what this means for ways and rounds.)
+unfoldable pub chainRow : Railway → Bool
+chainRow r = anyBelow (chainedAt r) (r .points)
+
 -- 7, double: never so in a record, which has one flag for each section end and one for each section.
 abbrev pub doubleRow : Railway → Bool
 doubleRow r = false
@@ -158,20 +193,21 @@ shutOutAt r t = isClosed r (trainOf r t .start .0) || isClosed r (trainOf r t .d
 unfoldable pub placeRow : Railway → Bool
 placeRow r = anyBelow (sharesAt r) (r .trains) || anyBelow (shutOutAt r) (r .trains)
 
--- Rows 3 to 8 in the table's order, by whether each applies.
-abbrev pub rowsBy : Bool → Bool → Bool → Bool → Bool → Bool → List Row
-rowsBy count unknown join loose double place =
+-- These rows in the order in which they are given, by whether each applies.
+abbrev pub rowsBy : Bool → Bool → Bool → Bool → Bool → Bool → Bool → List Row
+rowsBy count unknown join loose chain double place =
     row Count count
     ∷ row Unknown unknown
     ∷ row Join join
     ∷ row Loose loose
+    ∷ row Chain chain
     ∷ row Double double
     ∷ row Place place
     ∷ []
 
 -- Those of a record.
 abbrev pub recordRows : Railway → List Row
-recordRows r = rowsBy (countRow r) (unknownRow r) (joinRow r) (looseRow r) (doubleRow r) (placeRow r)
+recordRows r = rowsBy (countRow r) (unknownRow r) (joinRow r) (looseRow r) (chainRow r) (doubleRow r) (placeRow r)
 
 -- What the test of a record gives: the first row that applies; none: the record is accepted.
 unfoldable pub recordRefusal : Railway → Option Refusal

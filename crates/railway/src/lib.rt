@@ -1,7 +1,7 @@
 // The railway record: sections, points, trains, joins, signals and closed sections in tables of fixed size. It goes by value, and is
 // small: what an end is joined to stands there as one byte. Every lookup and every update is total: what no railway can have is joined
 // to nothing, has no signal, is not closed, and changes nothing.
-// The test of a record, rows 3 to 8 of the table of numbers, is the crate `acceptance`.
+// The test of a record, rows 3 to 8 and 13 of the table of numbers, is the crate `acceptance`.
 ghost use mathlib.Core.Path.{_≡_};
 ghost use lib.ListN.{getD};
 ghost use Rattle.railway.specs.declared.Railway.{Railway};
@@ -50,7 +50,7 @@ pub struct Train {
     pub destination: SectionNo,
 }
 
-// Why a case, a record, a table or a plan is refused; `number` gives the document's number.
+// Why a case, a record, a table or a plan is refused, in the order in which they are given; `number` gives the documents' number.
 pub enum Refusal {
     Length,
     Form,
@@ -58,6 +58,7 @@ pub enum Refusal {
     Unknown,
     Join,
     Loose,
+    Chain,
     Double,
     Place,
     Space,
@@ -313,6 +314,7 @@ impl Refusal {
             Refusal::Space => 9,
             Refusal::PlanForm => 10,
             Refusal::PlanFault => 11,
+            Refusal::Chain => 13,
         }
     }
 }

@@ -12,7 +12,7 @@ use Rattle.laws.proofs.Lists.{every-none, every-more}
 use Rattle.text.specs.Text.{bytes}
 use Rattle.railway.specs.declared.Side.the-variants.{Down}
 use Rattle.railway.specs.declared.Railway.{Railway}
-use Rattle.railway.specs.declared.Refusal.the-variants.{Length, Form, Place}
+use Rattle.railway.specs.declared.Refusal.the-variants.{Length, Form, Chain, Place}
 use Rattle.railway.specs.Refusals.{numberGiven, first, numberOf}
 use Rattle.railway.specs.Record.{emptyRailway, trainOf, withJoin, withSignal, withTrain}
 use Rattle.railway.specs.Rows.{recordRefusal}
@@ -20,7 +20,7 @@ use Rattle.railway.specs.Yards.{headOn}
 use Rattle.casefile.specs.declared.CaseRead.{CaseRead}
 use Rattle.casefile.specs.Given.{accepted, refused, Applies, ReaderPost}
 use Rattle.casefile.specs.YardTexts.{YardText, yardTexts, AllAccepted}
-use Rattle.casefile.proofs.Uses.{nothing-said, textShutOut, shut-out}
+use Rattle.casefile.proofs.Uses.{nothing-said, textShutOut, shut-out, textRound, round-chain}
 use Rattle.casefile.proofs.YardTexts.{yards-accepted}
 use Rattle.reader.proofs.Consequences.{reader-accepts, reader-refuses, reader-settles, reader-gives}
 
@@ -60,6 +60,10 @@ empty-refused a p =
 -- A text whose train starts on a closed section gets 8.
 shut-out-refused : (a : CaseRead) → ReaderPost (bytes textShutOut) a → numberGiven (a .answer) ≡ some 8
 shut-out-refused a p = ap (λ (x : CaseRead). numberGiven (x .answer)) (reader-refuses (bytes textShutOut) a p Place .1 shut-out)
+
+-- A text with a round of two points gets 13, though its signal is named twice.
+round-refused : (a : CaseRead) → ReaderPost (bytes textRound) a → numberGiven (a .answer) ≡ some 13
+round-refused a p = ap (λ (x : CaseRead). numberGiven (x .answer)) (reader-refuses (bytes textRound) a p Chain .1 round-chain)
 
 -- A text that is refused with 1 has more than 4,096 bytes.
 long-refused : (text : List ℕ) (a : CaseRead) → ReaderPost text a → a ≡ refused Length → 4096 < length text

@@ -1,4 +1,4 @@
-// The reader of a case text: accepted with its railway, or refused with the first of rows 1 to 8 that applies. One walk over the text, line by
+// The reader of a case text: accepted with its railway, or refused with the first of rows 1 to 8 and 13 that applies. One walk over the text, line by
 // line (`walk`). The record is built on the way, beside three flags for what it cannot show: a name that is not there, a join that may not be, a
 // signal or a closed section named twice. Any bytes may come in, of any length.
 ghost use mathlib.Core.Path.{_≡_};
@@ -40,7 +40,7 @@ fn refuse(f: Refusal) -> CaseRead
     }
 }
 
-// Rows 3 to 8, in the table's order.
+// Rows 3 to 8 and 13, in the order in which they are given.
 fn answer(d: Draft) -> CaseRead
     ensures { λ r. ⌜ r ≡ draftAnswer d ⌝ }
 {

@@ -1,4 +1,4 @@
-// Records and what their test answers: each row 3 to 8, its edges, and rows that apply together. A line each: what the record is,
+// Records and what their test answers: each row 3 to 8 and 13, its edges, and rows that apply together. A line each: what the record is,
 // a tab, and `accepted` or `refused` with the number. A record is given by its counts and by pieces of five bytes: `P1d..` legs,
 // `J1u2d` a join, `G1u..` a signal, `X2...` a closed section, `T123.` train 1 up from section 2 to 3, with the case file's numbers, letters and signs.
 // Row 7 has no line of its own: a record has one flag a signal and one a section, and what is set twice is set.
@@ -111,6 +111,14 @@ fn accepted() {
     show(b"sections closed, one twice", 4, 0, 1, b"X2...X4...X2...");
     show(b"4 trains", 4, 0, 4, b"T222.T333.T444.");
     show_record(b"bytes 144 and 254 for no join", other_nones());
+    show(b"a crossover", 4, 2, 1, b"P2d..J1-2-J1s1uJ1+2dJ2+3uJ2s4d");
+    show(
+        b"4 points in a row",
+        6,
+        4,
+        1,
+        b"J1u1sJ1+2sJ1-2dJ2+3sJ2-3dJ3+4sJ3-4dJ4+6dJ4-5d",
+    );
 }
 
 // Two ends in no join, with other bytes for that than the one that is written.
@@ -147,7 +155,11 @@ fn last_port() -> Railway {
 }
 
 fn row5() {
-    show(b"two ports", 2, 1, 1, b"J1+1s");
+    show(b"ports of one point", 2, 1, 1, b"J1+1s");
+    show(b"legs of one point", 2, 1, 1, b"J1+1-");
+    show(b"a port with itself", 2, 1, 1, b"J1s1s");
+    show(b"legs of two points on one side", 2, 2, 1, b"J1+2-");
+    show(b"stems of two points on one side", 2, 2, 1, b"J1s2s");
     show(b"one section", 2, 0, 1, b"J1u1d");
     show(b"an end with itself", 2, 0, 1, b"J1u1u");
     show(b"one side", 2, 0, 1, b"J1u2u");
@@ -167,6 +179,38 @@ fn half_join() -> Railway {
 fn row6() {
     show(b"16 points, no join", 2, 16, 1, b"");
     show(b"a stem in no join", 2, 1, 1, b"P1u..J1d1+J2d1-");
+}
+
+fn row13() {
+    show(
+        b"5 points in a row",
+        7,
+        5,
+        1,
+        b"J1u1sJ1+2sJ1-2dJ2+3sJ2-3dJ3+4sJ3-4dJ4+5sJ4-5dJ5+7dJ5-6d",
+    );
+    show(
+        b"5 points in a row, from leg to stem",
+        7,
+        5,
+        1,
+        b"P1d..P2d..P3d..P4d..P5d..J1d1sJ1-2sJ1+2uJ2-3sJ2+3uJ3-4sJ3+4uJ4-5sJ4+5uJ5-7uJ5+6u",
+    );
+    show(
+        b"a round of 2 points that no section leads to",
+        1,
+        2,
+        1,
+        b"P2d..J1s2sJ1+2+J1-2-",
+    );
+    show(b"a round of 2 points", 2, 2, 1, b"J1+2sJ2-1sJ1-1dJ2+2d");
+    show(
+        b"a round of 3 points",
+        3,
+        3,
+        1,
+        b"J1+2sJ2+3sJ3+1sJ1-1dJ2-2dJ3-3d",
+    );
 }
 
 fn row8() {
@@ -205,6 +249,12 @@ fn together() {
     show(b"4 and 8", 2, 0, 2, b"T131.T221.");
     show(b"4 and 8, closed", 2, 0, 1, b"X1...X3...");
     show(b"5 and 8, closed", 2, 0, 1, b"X1...J1u2u");
+    show(b"3 and 13", 49, 2, 1, b"P2d..J1s2sJ1+2+J1-2-");
+    show(b"4 and 13", 1, 2, 1, b"P2d..J1s2sJ1+2+J1-2-G2u..");
+    show(b"5 and 13", 2, 2, 1, b"P2d..J1s2sJ1+2+J1-2-J1u2u");
+    show(b"6 and 13", 1, 3, 1, b"P2d..J1s2sJ1+2+J1-2-");
+    show(b"13 and 8", 1, 2, 2, b"P2d..J1s2sJ1+2+J1-2-");
+    show(b"13 and 8, closed", 1, 2, 1, b"P2d..J1s2sJ1+2+J1-2-X1...");
 }
 
 fn main() {
@@ -213,6 +263,7 @@ fn main() {
     row4();
     row5();
     row6();
+    row13();
     row8();
     closed();
     together();

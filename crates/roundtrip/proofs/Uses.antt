@@ -14,12 +14,13 @@ use contract.Lifetimes.{Lfts}
 use borrow.Fn.Kinds.{Dens}
 use Rattle.text.specs.Text.{bytes}
 use Rattle.railway.specs.declared.Side.the-variants.{Up, Down}
-use Rattle.railway.specs.declared.Leg.the-variants.{Plus}
+use Rattle.railway.specs.declared.Leg.the-variants.{Plus, Minus}
 use Rattle.railway.specs.declared.End.{End}
 use Rattle.railway.specs.declared.End.the-variants.{Section, Port}
 use Rattle.railway.specs.declared.Joined.the-variants.{Nothing, With}
 use Rattle.railway.specs.declared.Railway.{Railway}
-use Rattle.railway.specs.Record.{flagAt, closedAt, joined, hasSignal, isClosed, legsOf, trainOf, withJoin, withSignal, withClosed, withLegs, withTrain}
+use Rattle.railway.specs.Ends.{endAt}
+use Rattle.railway.specs.Record.{joinedBy, linkAt, flagAt, closedAt, joined, hasSignal, isClosed, legsOf, trainOf, withJoin, withSignal, withClosed, withLegs, withTrain}
 use Rattle.railway.specs.Yards.{yardA}
 use Rattle.casefile.specs.declared.CaseRead.{CaseRead}
 use Rattle.casefile.specs.declared.Written.{Written}
@@ -32,9 +33,9 @@ use Rattle.casefile.specs.Reading.{caseAnswer}
 use Rattle.casefile.proofs.Exactly.{accepted-exactly, reader-answers}
 use Rattle.casefile.proofs.Call.{promised}
 use Rattle.casefile.proofs.YardTexts.{yards-accepted}
-use Rattle.casefile.proofs.Uses.{descriptionA, says-a, says-a-only, shut, textShut, sayingShut, says-shut-only}
+use Rattle.casefile.proofs.Uses.{descriptionA, says-a, says-a-only, shut, textShut, sayingShut, says-shut-only, crossing, textCrossing, descriptionCrossing, says-crossing-only}
 use Rattle.reader.proofs.Consequences.{reader-accepts}
-use Rattle.writer.proofs.Uses.{bytes-written, shut-written}
+use Rattle.writer.proofs.Uses.{bytes-written, shut-written, crossing-written}
 use Rattle.reader.proofs.read_case.Kinds as read
 use Rattle.reader.proofs.read_case.Reads.{Asked as ReadAsked}
 use Rattle.reader.proofs.read_case.Statement.{statement as ReadMet}
@@ -174,6 +175,17 @@ closed-said answer c q given =
     let said : AsDescribed (sayingShut (3 ∷ 4 ∷ [])) q = rw (says-shut-only (t .0) (t .1)) at (t .2) in
     (said .closed 2 .1 (List·Memᴰ·head refl), λ e. no-closed (said .closed 0 .0 e))
 
+-- Whatever railway is given for the text of the crossover has 1- joined to 2-, either way, by its last J line.
+inner-said : (answer : CaseRead) → ReadCall (bytes textCrossing) answer → (q : Railway) → answer ≡ accepted q
+    → (joined q (Port (record { 0 = 0 }) Minus) ≡ With (Port (record { 0 = 1 }) Minus)) × (joined q (Port (record { 0 = 1 }) Minus) ≡ With (Port (record { 0 = 0 }) Minus))
+inner-said answer c q given =
+    let t = roundtrip-runs .described (bytes textCrossing) answer c q given in
+    let said : AsDescribed descriptionCrossing q = rw (says-crossing-only (t .0) (t .1)) at (t .2) in
+    let last = List·Memᴰ·tail (List·Memᴰ·tail (List·Memᴰ·tail (List·Memᴰ·tail (List·Memᴰ·head refl)))) in (
+      said .joins (Port (record { 0 = 0 }) Minus) (Port (record { 0 = 1 }) Minus) .1 (record { join = _; member = last; ties = inl ((refl, refl), (refl, refl)) }),
+      said .joins (Port (record { 0 = 1 }) Minus) (Port (record { 0 = 0 }) Minus) .1 (record { join = _; member = last; ties = inr ((refl, refl), (refl, refl)) }),
+    )
+
 -- WRITTEN AND READ BACK. Yard A's record, written into a buffer of 4,096 bytes: it takes 68, and these are read as a railway with its signal at 1d.
 write-promise : (r : Railway) (w : Written) (after : List ℕ) → WriteCall r (replicate 4096 7) w after → WriterPost r (replicate 4096 7) w after
 write-promise r w after c =
@@ -195,3 +207,11 @@ unfolding withJoin withClosed withTrain
 closed-back w after c answer d =
     let t = roundtrip-runs .read-back shut (replicate 4096 7) after w c 34 (shut-written w after (write-promise shut w after c)) answer d in
     ap (λ (x : CaseRead). closedAt (x .railway) 2) (t .1) ∙ sym (t .2 .closed 2 (omega arith))
+
+-- The crossover's takes 70, and these are read as a railway that has 1- joined to 2-.
+inner-back : (w : Written) (after : List ℕ) → WriteCall crossing (replicate 4096 7) w after → (answer : CaseRead) → ReadCall (take 70 after) answer
+    → linkAt (answer .railway) 98 ≡ With (Port (record { 0 = 1 }) Minus)
+unfolding joinedBy endAt withJoin withLegs withTrain
+inner-back w after c answer d =
+    let t = roundtrip-runs .read-back crossing (replicate 4096 7) after w c 70 (crossing-written w after (write-promise crossing w after c)) answer d in
+    ap (λ (x : CaseRead). linkAt (x .railway) 98) (t .1) ∙ sym (t .2 .joins 98 (omega arith))

@@ -1,6 +1,6 @@
 -- First settings by computation, one table with one statement: no signal open where some train is free, else the lowest train's; a point at
--- minus unless it is needed at plus; trains that meet one point agree on it; nothing where no setting works, and at a lost placement.
--- Assumes nothing.
+-- minus unless it is needed at plus; trains that meet one point agree on it, also where each by itself would have it otherwise; nothing where no setting
+-- works, and at a lost placement. Assumes nothing.
 use mathlib.Core.Path.{_≡_, refl}
 use mathlib.Core.List.{List, [], _∷_, map}
 use mathlib.Core.Option.{Option, none, some}
@@ -13,13 +13,15 @@ use Rattle.laws.specs.Below.{allBelow, anyBelow, sumBelow, lowest}
 use Rattle.laws.specs.Bits.{fromBits}
 use Rattle.railway.specs.Ends.{endAt}
 use Rattle.railway.specs.Record.{isClosed, joinedBy, joined, hasSignal, trainOf, withJoin, withSignal, withLegs, withTrain}
+use Rattle.railway.specs.Passing.{entered, passes, follow}
 use Rattle.game.specs.Local.{keepsTest}
 use Rattle.game.specs.Placement.{codeOf, sectionsIn, standsOn, shared}
 use Rattle.game.specs.Setting.{headsFor, held, mayMove, free, signalOpen}
-use Rattle.game.specs.Moves.{entered, passes, occupied, moveOf}
+use Rattle.game.specs.Moves.{occupied, moveOf}
 use Rattle.tables.specs.Entries.{settingAt, entryFrom}
 use Rattle.tables.specs.Find.{tryOpen, firstFound, find}
 use Rattle.tables.specs.Tables.{noFigure, figureIn}
+use Rattle.tables.proofs.Examples.{loopYard, figsLoop}
 use Rattle.settings.specs.Answers.{firstKeeping}
 
 -- Yard A's point for k trains.
@@ -67,7 +69,8 @@ abbrev notOne : List ℕ
 notOne = 0 ∷ noFigure ∷ 0 ∷ []
 
 -- Codes count from 0: (2,3) is 7, (2,1) is 1, (1,3) is 6, (1,2) is 3 and (1,1) is 0 with three sections. Bit 0 is point 1 at plus, bits 16
--- and 17 are the trains' signals.
+-- and 17 are the trains' signals. The last six are of a yard whose points are joined to each other (`tables/proofs/Examples`). At its start, (1,4), train 1 by
+-- itself would have points 1 and 2 at plus and train 2 none; with those of train 1 train 2 derails, and together they have all three at plus.
 abbrev pub firsts : List First
 firsts =
     first yardA ofA 7 2 (some 1)
@@ -85,11 +88,17 @@ firsts =
     ∷ first toStem zeros 2 1 (some 0)
     ∷ first toStem notOne 2 1 (some 1)
     ∷ first upTwoOne zeros 1 1 none
+    ∷ first loopYard figsLoop 12 3 (some 7)
+    ∷ first loopYard figsLoop 12 2 none
+    ∷ first loopYard figsLoop 13 3 (some 6)
+    ∷ first loopYard figsLoop 8 2 (some 1)
+    ∷ first loopYard figsLoop 6 1 (some 65540)
+    ∷ first loopYard figsLoop 11 1 (some 131074)
     ∷ []
 
 abbrev given : First → Option ℕ
 given x = firstKeeping (x .yard) (figureIn (x .figures)) (x .code) (x .figure)
 
 pub firsts-hold : map given firsts ≡ map (λ x. x .entry) firsts
-unfolding firstKeeping find tryOpen firstFound keepsTest settingAt entryFrom fromBits lowest moveOf passes occupied mayMove free held signalOpen headsFor standsOn sectionsIn codeOf sumBelow trainOf endAt joinedBy joined hasSignal allBelow anyBelow shared withJoin withSignal withLegs withTrain entered isClosed
+unfolding firstKeeping find tryOpen firstFound keepsTest settingAt entryFrom fromBits lowest moveOf passes follow occupied mayMove free held signalOpen headsFor standsOn sectionsIn codeOf sumBelow trainOf endAt joinedBy joined hasSignal allBelow anyBelow shared withJoin withSignal withLegs withTrain entered isClosed
 firsts-hold = refl

@@ -1,7 +1,8 @@
-pub mod Points
-pub mod Routes
+pub mod Searching
+pub mod Alone
+pub mod Stepping
 pub mod Trying
+pub mod Asking
 pub mod Exactly
-pub mod Inhabited
 pub mod Examples
 pub mod Uses

@@ -1,28 +1,37 @@
-// The first setting that keeps a placement below a figure, or nothing: what one step of a solver asks. It looks at no train's route more than
-// twice, so that its time goes with the trains and not with the settings.
+// The first setting that keeps a placement below a figure, or nothing: what one step of a solver asks. It looks at the ways of the trains that may move, so
+// that its time goes with those and not with the settings. Each train is looked at by itself first, and mostly that decides; only where several free trains
+// ask for different points are their ways combined.
 ghost use mathlib.Core.Path.{_≡_};
-ghost use mathlib.Core.Bool.{true, false};
-ghost use Prim.Native.Nat.{ℕ, _^_, _≤_, _<_};
-ghost use lib.Dec.{eqb};
+ghost use mathlib.Core.Bool.{true, false, cond, _&&_};
+ghost use mathlib.Core.Option.{some};
+ghost use Prim.Native.Nat.{ℕ, _≤_, _<_};
+ghost use lib.Dec.{eqb, ltb};
 ghost use Rattle.laws.specs.Below.{anyBelow, allBelow};
 ghost use Rattle.railway.specs.declared.Railway.{Railway};
-ghost use Rattle.railway.specs.Bounds.{mostPoints, mostTrains};
-ghost use Rattle.game.specs.Setting.{held, free};
-ghost use Rattle.tables.specs.Tables.{figureIn};
-ghost use Rattle.tables.specs.Find.{tryMet, findMet};
-ghost use Rattle.compiled.specs.Table.{Compiled};
+ghost use Rattle.railway.specs.Bounds.{mostTrains};
+ghost use Rattle.railway.specs.Ends.{endIndex};
+ghost use Rattle.railway.specs.Record.{isClosed};
 ghost use Rattle.game.specs.Placement.{codeOn};
+ghost use Rattle.game.specs.Setting.{headsFor, free};
+ghost use Rattle.tables.specs.Tables.{figureIn};
+ghost use Rattle.tables.specs.Find.{tryOpen, find, endsGood};
+ghost use Rattle.routes.specs.Routes.{Way, nth, Laid};
+ghost use Rattle.compiled.specs.Table.{Compiled};
 ghost use Rattle.placement.specs.ByValue.{sectionIn};
 ghost use Rattle.moves.specs.Steps.{On};
 ghost use Rattle.settings.specs.Answers.{entryFound, firstKeeping};
-ghost use Rattle.settings.specs.Routes.{Asked, endsBelow, failsAtMinus, neededPoints, goodAtPlus, withBit};
-use compiled::NO_BYTE;
+ghost use Rattle.settings.specs.Search.{Looks, Asked, noBits, freeGood, Smallest, Goes, waysOf, OnWay, Seen, Placed, From, ByWay};
 use compiled::Table;
 use placement::Placement;
 use railway::Railway;
+use routes::NO_SECTION;
+use routes::Ways;
 
-// The bit of the first train in an entry of the setting table, as a number: points have the bits below.
+// The bit of the first train in an entry of the setting table, as a number.
 const FIRST_TRAIN: u32 = 1u32 << Railway::POINTS;
+
+// What stands for no point bits: points have the bits below.
+const NO_BITS: u32 = FIRST_TRAIN;
 
 // What a search for a setting finds: nothing, or an entry of the setting table.
 pub enum Found {
@@ -31,68 +40,33 @@ pub enum Found {
 }
 
 // THE FIRST SETTING that keeps a placement below figure n, in the plan's order: no signal open, else that of the lowest train
-// that works; each point at minus unless a train that may move needs it at plus.
-pub fn find_setting(table: &Table, figures: &[u32], p: u32, n: u32) -> Found
-    ensures { λ f. ⌜ ((r : Railway) → Compiled r (now (table .entry)) → entryFound f ≡ firstKeeping r (figureIn (now (figures .entry))) p n) ⌝ }
+// that works; and of the points that work then the smallest bits.
+pub fn find_setting(table: &Table, ways: &Ways, figures: &[u32], p: u32, n: u32) -> Found
+    ensures { λ f. ⌜ ((r : Railway) → Compiled r (now (table .entry)) → Laid r (isClosed r) (now (ways .entry)) → entryFound f ≡ firstKeeping r (figureIn (now (figures .entry))) p n) ⌝ }
 {
     let q = moves::placement_of(table, p);
-    find_in(table, figures, q, moves::code_of(table, q), n)
+    find_in(table, ways, figures, q, moves::code_of(table, q), n)
 }
 
-// The first setting for a placement by value and its code. Where a train is free, opening a signal only adds moves, so none is opened; else
-// one must be.
-pub fn find_in(table: &Table, figures: &[u32], q: Placement, c: u32, n: u32) -> Found
-    ensures { λ f. ⌜ ((r : Railway) (p : ℕ) → On r p (now (table .entry)) q → c ≡ codeOn r (sectionIn q) → entryFound f ≡ firstKeeping r (figureIn (now (figures .entry))) p n) ⌝ }
+// The first setting for a placement by value and its code.
+pub fn find_in(table: &Table, ways: &Ways, figures: &[u32], q: Placement, c: u32, n: u32) -> Found
+    ensures { λ f. ⌜ ((r : Railway) (p : ℕ) → On r p (now (table .entry)) q → Laid r (isClosed r) (now (ways .entry)) → c ≡ codeOn r (sectionIn q) → entryFound f ≡ firstKeeping r (figureIn (now (figures .entry))) p n) ⌝ }
 {
     let k = compiled::trains_in(table);
-    let m = compiled::points_in(table);
     if Railway::TRAINS < k {
-        return Found::Nothing;
-    }
-    if Railway::POINTS < m {
         return Found::Nothing;
     }
     if moves::lost_in(table, q) {
         return Found::Nothing;
     }
-    if some_free(table, q, k) {
-        guide_free(table, figures, q, c, n, k, m)
-    } else {
-        open_one(table, figures, q, c, n, k, m)
-    }
+    look(table, ways, figures, q, c, n, k)
 }
 
-// Some train is free.
-fn some_free(table: &Table, q: Placement, k: u8) -> bool
-    ensures { λ b. ⌜ ((r : Railway) (p : ℕ) → On r p (now (table .entry)) q → k ≡ r .trains → b ≡ anyBelow (free r p) (r .trains)) ⌝ }
+// EACH TRAIN BY ITSELF. Entering section y ends the move of train t below figure n. The figure is looked at first: seldom is there a train to collide with
+// where it is small enough.
+fn ends_good(table: &Table, figures: &[u32], q: Placement, c: u32, n: u32, t: u8, y: u8) -> bool
+    ensures { λ b. ⌜ ((r : Railway) (p : ℕ) → On r p (now (table .entry)) q → c ≡ codeOn r (sectionIn q) → t < r .trains → y < r .sections → b ≡ endsGood r (figureIn (now (figures .entry))) p n t y) ⌝ }
 {
-    let mut t: u8 = 0;
-    while t < k {
-        if moves::free_in(table, q, t) {
-            return true;
-        }
-        t += 1;
-    }
-    false
-}
-
-// The move of train t ends below figure n, all points lying at plus or all at minus. The figure is looked at first: seldom is there a
-// train to collide with where it is small enough.
-fn ends_below(
-    table: &Table,
-    figures: &[u32],
-    q: Placement,
-    c: u32,
-    n: u32,
-    t: u8,
-    plus: bool,
-) -> bool
-    ensures { λ b. ⌜ ((r : Railway) (p : ℕ) → On r p (now (table .entry)) q → c ≡ codeOn r (sectionIn q) → t < r .trains → b ≡ endsBelow r (figureIn (now (figures .entry))) p n plus t) ⌝ }
-{
-    let y = moves::leads_to(table, q, t, plus);
-    if y == NO_BYTE {
-        return false;
-    }
     let stride = moves::power(compiled::sections_in(table), t);
     let after = moves::code_put(c, stride, placement::section_at(q, t), y);
     if n <= tables::entry_at(figures, after, tables::NO_FIGURE) {
@@ -101,70 +75,149 @@ fn ends_below(
     !moves::other_in(q, t, y, compiled::trains_in(table))
 }
 
-// SOME TRAIN FREE: no signal open, and the points as the free trains need them, if that keeps the figure.
-fn guide_free(table: &Table, figures: &[u32], q: Placement, c: u32, n: u32, k: u8, m: u8) -> Found
-    requires { ⌜ m ≤ mostPoints ⌝ }
-    ensures { λ f. ⌜ ((r : Railway) (p : ℕ) → Asked r p (now (table .entry)) q c k m → anyBelow (free r p) (r .trains) ≡ true → entryFound f ≡ findMet r (figureIn (now (figures .entry))) p n) ⌝ }
+// The smallest point bits under which train t has a good way; `NO_BITS`: it has none. They are what that way wants, so ways that want more than has been
+// found are passed over.
+fn least_way(
+    table: &Table,
+    ways: &Ways,
+    figures: &[u32],
+    q: Placement,
+    c: u32,
+    n: u32,
+    t: u8,
+) -> u32
+    ensures { λ b. ⌜ ((r : Railway) (p : ℕ) → Looks r p (now (table .entry)) (now (ways .entry)) q c → t < r .trains → Smallest (Goes r (figureIn (now (figures .entry))) p n t) (r .points) noBits b) ⌝ }
 {
-    let needed = plus_bits(table, figures, q, c, n, k, m);
-    let Found::Entry(bits) = needed else {
-        return Found::Nothing;
-    };
-    if plus_holds(table, figures, q, c, n, k, bits) {
-        Found::Entry(bits)
+    let e = moves::front_in(table, q, t);
+    let mut best: u32 = NO_BITS;
+    let mut j: u8 = 0;
+    while j < routes::MOST_WAYS {
+        let to = routes::way_to(ways, e, j);
+        if to == NO_SECTION {
+            return best;
+        }
+        let want = routes::way_want(ways, e, j);
+        best = by_way(table, figures, q, c, n, t, to, want, best);
+        if best == 0 {
+            return best;
+        }
+        j += 1;
+    }
+    best
+}
+
+// The smallest bits below `best` that suit a way of train t to section `to`, which wants these bits, if it is a good one; else `best`.
+fn by_way(
+    table: &Table,
+    figures: &[u32],
+    q: Placement,
+    c: u32,
+    n: u32,
+    t: u8,
+    to: u8,
+    want: u32,
+    best: u32,
+) -> u32
+    ensures { λ b. ⌜ ((r : Railway) (p j : ℕ) (w : Way) → On r p (now (table .entry)) q → c ≡ codeOn r (sectionIn q) → t < r .trains → nth (waysOf r p t) j ≡ some w → to ≡ w .to → want ≡ w .want → Smallest (OnWay r (figureIn (now (figures .entry))) p n t w) (r .points) best b) ⌝ }
+{
+    if best <= want {
+        return best;
+    }
+    if ends_good(table, figures, q, c, n, t, to) {
+        want
     } else {
-        Found::Nothing
+        best
     }
 }
 
-// The points that free trains need at plus; nothing, if one needs a point and meets none.
-fn plus_bits(table: &Table, figures: &[u32], q: Placement, c: u32, n: u32, k: u8, m: u8) -> Found
-    requires { ⌜ m ≤ mostPoints ⌝ }
-    ensures { λ f. ⌜ ((r : Railway) (p : ℕ) → Asked r p (now (table .entry)) q c k m → entryFound f ≡ neededPoints r (figureIn (now (figures .entry))) p n) ⌝ }
+// The larger of two numbers.
+fn larger(a: u32, b: u32) -> u32
+    ensures { λ c. ⌜ c ≡ cond (ltb a b) b a ⌝ }
 {
-    let mut bits: u32 = 0;
+    if a < b { b } else { a }
+}
+
+// Looks at each free train. If one has no good way, nothing is found, whatever is opened: opening a signal only adds moves.
+fn look(table: &Table, ways: &Ways, figures: &[u32], q: Placement, c: u32, n: u32, k: u8) -> Found
+    requires { ⌜ k ≤ mostTrains ⌝ }
+    ensures { λ f. ⌜ ((r : Railway) (p : ℕ) → Asked r p (now (table .entry)) (now (ways .entry)) q c k → entryFound f ≡ find r (figureIn (now (figures .entry))) p n) ⌝ }
+{
+    let mut count: u8 = 0;
+    let mut all: u32 = 0;
+    let mut most: u32 = 0;
     let mut t: u8 = 0;
     while t < k {
-        if needs_plus(table, figures, q, c, n, t) {
-            let x = moves::point_in(table, q, t);
-            if m <= x {
+        if moves::free_in(table, q, t) {
+            let w = least_way(table, ways, figures, q, c, n, t);
+            if NO_BITS <= w {
                 return Found::Nothing;
             }
-            bits = with_bit(bits, x, m);
+            count += 1;
+            all = all | w;
+            most = larger(most, w);
         }
         t += 1;
     }
-    Found::Entry(bits)
+    settle(table, ways, figures, q, c, n, k, count, all, most)
 }
 
-// Train t is free, and its move does not end below the figure with its point at minus.
-fn needs_plus(table: &Table, figures: &[u32], q: Placement, c: u32, n: u32, t: u8) -> bool
-    ensures { λ b. ⌜ ((r : Railway) (p : ℕ) → On r p (now (table .entry)) q → c ≡ codeOn r (sectionIn q) → t < r .trains → b ≡ failsAtMinus r (figureIn (now (figures .entry))) p n t) ⌝ }
+// What follows from that. No train free: one is opened. One free, or all content with every point at minus: the union of what they want. If that is no more than
+// one of them wants, and good for all, it is the smallest too. Else their ways are combined.
+fn settle(
+    table: &Table,
+    ways: &Ways,
+    figures: &[u32],
+    q: Placement,
+    c: u32,
+    n: u32,
+    k: u8,
+    count: u8,
+    all: u32,
+    most: u32,
+) -> Found
+    requires { ⌜ k ≤ mostTrains ⌝ }
+    ensures { λ f. ⌜ ((r : Railway) (p : ℕ) → Asked r p (now (table .entry)) (now (ways .entry)) q c k → Seen r (figureIn (now (figures .entry))) p n (r .trains) count all most → entryFound f ≡ find r (figureIn (now (figures .entry))) p n) ⌝ }
 {
-    if moves::free_in(table, q, t) {
-        !ends_below(table, figures, q, c, n, t, false)
+    if count == 0 {
+        return open_one(table, ways, figures, q, c, n, k);
+    }
+    if count == 1 {
+        return Found::Entry(all);
+    }
+    if all == 0 {
+        return Found::Entry(0);
+    }
+    if union_serves(table, ways, figures, q, c, n, k, all, most) {
+        return Found::Entry(all);
+    }
+    combine(table, ways, figures, q, c, n, k)
+}
+
+// The union is no more than one train wants, and good for each that is free.
+fn union_serves(
+    table: &Table,
+    ways: &Ways,
+    figures: &[u32],
+    q: Placement,
+    c: u32,
+    n: u32,
+    k: u8,
+    all: u32,
+    most: u32,
+) -> bool
+    ensures { λ b. ⌜ ((r : Railway) (p : ℕ) → Asked r p (now (table .entry)) (now (ways .entry)) q c k → b ≡ (eqb all most && allBelow (freeGood r (figureIn (now (figures .entry))) p n all) (r .trains))) ⌝ }
+{
+    if all == most {
+        all_good(table, ways, figures, q, c, n, k, all)
     } else {
         false
     }
 }
 
-// A number of k bits with bit x set.
-fn with_bit(b: u32, x: u8, k: u8) -> u32
-    requires { ⌜ (b < 2 ^ mostPoints) × (k ≤ mostPoints) ⌝ }
-    ensures { λ c. ⌜ c ≡ withBit b x k ⌝ }
-{
-    if x < k {
-        if placement::bit_at(b, x as u32) {
-            return b;
-        }
-        return b + (1u32 << x);
-    }
-    b
-}
-
-// Every free train whose point lies at plus ends below the figure. Mostly no point does.
-fn plus_holds(
+// Each free train has a good way with the points by these bits.
+fn all_good(
     table: &Table,
+    ways: &Ways,
     figures: &[u32],
     q: Placement,
     c: u32,
@@ -172,14 +225,11 @@ fn plus_holds(
     k: u8,
     bits: u32,
 ) -> bool
-    ensures { λ b. ⌜ ((r : Railway) (p : ℕ) → On r p (now (table .entry)) q → c ≡ codeOn r (sectionIn q) → k ≡ r .trains → b ≡ allBelow (goodAtPlus r (figureIn (now (figures .entry))) p n bits) (r .trains)) ⌝ }
+    ensures { λ b. ⌜ ((r : Railway) (p : ℕ) → Asked r p (now (table .entry)) (now (ways .entry)) q c k → b ≡ allBelow (freeGood r (figureIn (now (figures .entry))) p n bits) (r .trains)) ⌝ }
 {
-    if bits == 0 {
-        return true;
-    }
     let mut t: u8 = 0;
     while t < k {
-        if good_at_plus(table, figures, q, c, n, t, bits) {
+        if free_good(table, ways, figures, q, c, n, bits, t) {
             t += 1;
         } else {
             return false;
@@ -188,38 +238,190 @@ fn plus_holds(
     true
 }
 
-// Train t is not free, or its point is not among these, or its move ends below the figure with the point at plus.
-fn good_at_plus(
+// Train t is not free, or it has one.
+fn free_good(
     table: &Table,
+    ways: &Ways,
     figures: &[u32],
     q: Placement,
     c: u32,
     n: u32,
-    t: u8,
     bits: u32,
+    t: u8,
 ) -> bool
-    ensures { λ b. ⌜ ((r : Railway) (p : ℕ) → On r p (now (table .entry)) q → c ≡ codeOn r (sectionIn q) → t < r .trains → b ≡ goodAtPlus r (figureIn (now (figures .entry))) p n bits t) ⌝ }
+    ensures { λ b. ⌜ ((r : Railway) (p : ℕ) → Looks r p (now (table .entry)) (now (ways .entry)) q c → t < r .trains → b ≡ freeGood r (figureIn (now (figures .entry))) p n bits t) ⌝ }
 {
     if moves::free_in(table, q, t) {
-        let x = moves::point_in(table, q, t);
-        if placement::bit_at(bits, x as u32) {
-            ends_below(table, figures, q, c, n, t, true)
-        } else {
-            true
+        let y = moves::leads_to(table, ways, q, bits, t);
+        if y == NO_SECTION {
+            return false;
         }
+        ends_good(table, figures, q, c, n, t, y)
     } else {
         true
     }
 }
 
+// ALL FREE TRAINS TOGETHER: the smallest bits under which each has a good way.
+fn combine(
+    table: &Table,
+    ways: &Ways,
+    figures: &[u32],
+    q: Placement,
+    c: u32,
+    n: u32,
+    k: u8,
+) -> Found
+    ensures { λ f. ⌜ ((r : Railway) (p : ℕ) → Asked r p (now (table .entry)) (now (ways .entry)) q c k → anyBelow (free r p) (r .trains) ≡ true → entryFound f ≡ find r (figureIn (now (figures .entry))) p n) ⌝ }
+{
+    let bits = over_train(table, ways, figures, q, c, n, k, 0, 0, 0, NO_BITS);
+    if bits < NO_BITS {
+        Found::Entry(bits)
+    } else {
+        Found::Nothing
+    }
+}
+
+// The smallest bits below `best` that have the points of `care` as wanted, and under which each free train from t on has a good way; else `best`. They are
+// the union of what such ways want, so no more is looked at once that is not below `best`.
+fn over_train(
+    table: &Table,
+    ways: &Ways,
+    figures: &[u32],
+    q: Placement,
+    c: u32,
+    n: u32,
+    k: u8,
+    t: u8,
+    care: u32,
+    want: u32,
+    best: u32,
+) -> u32
+    ensures { λ b. ⌜ ((r : Railway) (p : ℕ) → Asked r p (now (table .entry)) (now (ways .entry)) q c k → Placed r care want → Smallest (From r (figureIn (now (figures .entry))) p n t care want) (r .points) best b) ⌝ }
+{
+    if best <= want {
+        return best;
+    }
+    if k <= t {
+        return want;
+    }
+    if moves::free_in(table, q, t) {
+        over_ways(table, ways, figures, q, c, n, k, t, care, want, best)
+    } else {
+        over_train(table, ways, figures, q, c, n, k, t + 1, care, want, best)
+    }
+}
+
+// The same with train t, which is free: way after way.
+fn over_ways(
+    table: &Table,
+    ways: &Ways,
+    figures: &[u32],
+    q: Placement,
+    c: u32,
+    n: u32,
+    k: u8,
+    t: u8,
+    care: u32,
+    want: u32,
+    best: u32,
+) -> u32
+    requires { ⌜ t < k ⌝ }
+    ensures { λ b. ⌜ ((r : Railway) (p : ℕ) → Asked r p (now (table .entry)) (now (ways .entry)) q c k → Placed r care want → free r p t ≡ true → Smallest (From r (figureIn (now (figures .entry))) p n t care want) (r .points) best b) ⌝ }
+{
+    let e = moves::front_in(table, q, t);
+    let mut least = best;
+    let mut j: u8 = 0;
+    while j < routes::MOST_WAYS {
+        let to = routes::way_to(ways, e, j);
+        if to == NO_SECTION {
+            return least;
+        }
+        least = over_way(
+            table,
+            ways,
+            figures,
+            q,
+            c,
+            n,
+            k,
+            t,
+            e,
+            j,
+            to,
+            care,
+            want,
+            least,
+        );
+        j += 1;
+    }
+    least
+}
+
+// The same with train t on the way with number j from its end e, to section `to`.
+fn over_way(
+    table: &Table,
+    ways: &Ways,
+    figures: &[u32],
+    q: Placement,
+    c: u32,
+    n: u32,
+    k: u8,
+    t: u8,
+    e: u8,
+    j: u8,
+    to: u8,
+    care: u32,
+    want: u32,
+    best: u32,
+) -> u32
+    requires { ⌜ t < k ⌝ }
+    ensures { λ b. ⌜ ((r : Railway) (p : ℕ) (w : Way) → Asked r p (now (table .entry)) (now (ways .entry)) q c k → Placed r care want → e ≡ endIndex (headsFor r p t) → nth (waysOf r p t) j ≡ some w → to ≡ w .to → Smallest (ByWay r (figureIn (now (figures .entry))) p n t care want w) (r .points) best b) ⌝ }
+{
+    let cares = routes::way_care(ways, e, j);
+    let wants = routes::way_want(ways, e, j);
+    let both = want | wants;
+    if both & care != want {
+        return best;
+    }
+    if both & cares != wants {
+        return best;
+    }
+    if ends_good(table, figures, q, c, n, t, to) {
+        over_train(
+            table,
+            ways,
+            figures,
+            q,
+            c,
+            n,
+            k,
+            t + 1,
+            care | cares,
+            both,
+            best,
+        )
+    } else {
+        best
+    }
+}
+
 // NO TRAIN FREE: the lowest train whose signal alone keeps the figure.
-fn open_one(table: &Table, figures: &[u32], q: Placement, c: u32, n: u32, k: u8, m: u8) -> Found
-    requires { ⌜ (k ≤ mostTrains) × (m ≤ mostPoints) ⌝ }
-    ensures { λ f. ⌜ ((r : Railway) (p : ℕ) → Asked r p (now (table .entry)) q c k m → anyBelow (free r p) (r .trains) ≡ false → entryFound f ≡ findMet r (figureIn (now (figures .entry))) p n) ⌝ }
+fn open_one(
+    table: &Table,
+    ways: &Ways,
+    figures: &[u32],
+    q: Placement,
+    c: u32,
+    n: u32,
+    k: u8,
+) -> Found
+    requires { ⌜ k ≤ mostTrains ⌝ }
+    ensures { λ f. ⌜ ((r : Railway) (p : ℕ) → Asked r p (now (table .entry)) (now (ways .entry)) q c k → anyBelow (free r p) (r .trains) ≡ false → entryFound f ≡ find r (figureIn (now (figures .entry))) p n) ⌝ }
 {
     let mut u: u8 = 0;
     while u < k {
-        let one = open_train(table, figures, q, c, n, m, u);
+        let one = open_train(table, ways, figures, q, c, n, u);
         let Found::Nothing = one else {
             return one;
         };
@@ -228,33 +430,27 @@ fn open_one(table: &Table, figures: &[u32], q: Placement, c: u32, n: u32, k: u8,
     Found::Nothing
 }
 
-// Train u open, if it is held; a parked train has nothing to open.
-fn open_train(table: &Table, figures: &[u32], q: Placement, c: u32, n: u32, m: u8, u: u8) -> Found
-    requires { ⌜ (u < mostTrains) × (m ≤ mostPoints) ⌝ }
-    ensures { λ f. ⌜ ((r : Railway) (p : ℕ) → Asked r p (now (table .entry)) q c (r .trains) m → anyBelow (free r p) (r .trains) ≡ false → u < r .trains → entryFound f ≡ tryMet r (figureIn (now (figures .entry))) p n (eqb u)) ⌝ }
+// Train u open, if it is held, and the smallest bits under which it has a good way; a parked train has nothing to open.
+fn open_train(
+    table: &Table,
+    ways: &Ways,
+    figures: &[u32],
+    q: Placement,
+    c: u32,
+    n: u32,
+    u: u8,
+) -> Found
+    requires { ⌜ u < mostTrains ⌝ }
+    ensures { λ f. ⌜ ((r : Railway) (p : ℕ) → Asked r p (now (table .entry)) (now (ways .entry)) q c (r .trains) → anyBelow (free r p) (r .trains) ≡ false → u < r .trains → entryFound f ≡ tryOpen r (figureIn (now (figures .entry))) p n (eqb u)) ⌝ }
 {
     if moves::held_in(table, q, u) {
-        open_held(table, figures, q, c, n, m, u)
+        let bits = least_way(table, ways, figures, q, c, n, u);
+        if bits < NO_BITS {
+            Found::Entry(bits + FIRST_TRAIN * (1u32 << u))
+        } else {
+            Found::Nothing
+        }
     } else {
         Found::Nothing
     }
-}
-
-// A held train u open, and its point as it needs it, if that keeps the figure.
-fn open_held(table: &Table, figures: &[u32], q: Placement, c: u32, n: u32, m: u8, u: u8) -> Found
-    requires { ⌜ (u < mostTrains) × (m ≤ mostPoints) ⌝ }
-    ensures { λ f. ⌜ ((r : Railway) (p : ℕ) → Asked r p (now (table .entry)) q c (r .trains) m → anyBelow (free r p) (r .trains) ≡ false → u < r .trains → held r p u ≡ true → entryFound f ≡ tryMet r (figureIn (now (figures .entry))) p n (eqb u)) ⌝ }
-{
-    let open = FIRST_TRAIN * (1u32 << u);
-    if ends_below(table, figures, q, c, n, u, false) {
-        return Found::Entry(open);
-    }
-    let x = moves::point_in(table, q, u);
-    if m <= x {
-        return Found::Nothing;
-    }
-    if ends_below(table, figures, q, c, n, u, true) {
-        return Found::Entry((1u32 << x) + open);
-    }
-    Found::Nothing
 }

@@ -1,7 +1,6 @@
 -- Who gains figure n in round n has a move to the frontier, to a placement of figure n - 1: with all moves below n - 1 the figure would have
--- come earlier. So in round n only placements one move before the frontier can gain. A train looks at one point at most, so that the move is
--- one with all points alike. Assumes nothing.
-use mathlib.Core.Path.{_≡_, refl, sym, _∙_, ap, subst}
+-- come earlier. So in round n only placements one move before the frontier can gain. Assumes nothing.
+use mathlib.Core.Path.{_≡_, refl, _∙_, ap, subst}
 use mathlib.Core.Logic.{inl, inr}
 use mathlib.Core.Bool.{Bool, true, false, not, _&&_}
 use mathlib.Core.List.{List}
@@ -19,8 +18,7 @@ use Rattle.game.specs.Game.{Outcome, lost, at, Game, may, over}
 use Rattle.game.specs.Claim.{Below, figureOf, Keeps}
 use Rattle.game.specs.Local.{isBelow, keepsTest}
 use Rattle.game.specs.Placement.{placements}
-use Rattle.game.specs.Setting.{Setting, headsFor}
-use Rattle.game.specs.Moves.{Passage, passes, inUse, entered, enters, moveOf, gameOf}
+use Rattle.game.specs.Moves.{gameOf}
 use Rattle.game.proofs.Turns.{is-below, keeps-test, may-train}
 use Rattle.game.proofs.Accepted.{facts}
 use Rattle.game.proofs.Moves.{move-inside}
@@ -30,9 +28,7 @@ use Rattle.tables.specs.Rounds.{RoundTables}
 use Rattle.tables.specs.Find.{find}
 use Rattle.tables.proofs.Find.{find-sound}
 use Rattle.tables.proofs.Steps.{gains-late}
-use Rattle.compiled.specs.Table.{pointByte}
-use Rattle.moves.proofs.Moving.{by-point}
-use Rattle.solver.specs.Visits.{By, Before}
+use Rattle.solver.specs.Visits.{Before}
 
 -- a move of some train to a placement of figure k
 record Newest {S : Type 0} (g : Game S) (F : ℕ → Option ℕ) (p : ℕ) (s : S) (k : ℕ) : Type 0 where
@@ -81,13 +77,6 @@ module _ {S : Type 0} (g : Game S) (F : ℕ → Option ℕ) (p : ℕ) (s : S) (k
         late
   ]
 
--- all points as the one that the train meets
-alike : (r : Railway) (p : ℕ) (s : Setting) (t c : ℕ) → moveOf r p s t ≡ at c → By r c t p
-unfolding moveOf entered
-alike r p s t c e =
-    let n = pointByte (passes r (λ i. false) (headsFor r p t) .met) in
-    record { plus = s .plus n; moves = sym (ap (λ (w : Passage). enters r p t (inUse r (w .reached))) (by-point r (s .plus) (headsFor r p t) n (s .plus n) refl refl)) ∙ e }
-
 module _ (r : Railway) (accepted : recordRefusal r ≡ none) (k : ℕ) (figs sets : List ℕ) (t : RoundTables r k figs sets) where
   pub gains-before : (p v : ℕ) → p < placements r → figureIn figs p ≡ none → over (gameOf r) p ≡ false → find r (figureIn figs) p (suc k) ≡ some v → Before r (suc k) figs 0 (placements r) p
   gains-before p v l e o f =
@@ -100,5 +89,5 @@ module _ (r : Railway) (accepted : recordRefusal r ≡ none) (k : ℕ) (figs set
         figure = k;
         last = refl;
         stands = x .stands;
-        comes = record { train = x .train; below = may-train (gameOf r) p s (x .train) (x .allowed); by = alike r p s (x .train) (x .code) (x .moves) };
+        comes = record { train = x .train; below = may-train (gameOf r) p s (x .train) (x .allowed); by = record { entry = v; moves = x .moves } };
       }

@@ -12,6 +12,7 @@ use Rattle.laws.proofs.Bools.{lt?, eq?, option?}
 use Rattle.laws.proofs.Below.{count-more}
 use Rattle.laws.proofs.Lists.{getD-inside}
 use Rattle.railway.specs.declared.Railway.{Railway}
+use Rattle.railway.specs.Record.{isClosed}
 use Rattle.railway.specs.Rows.{recordRefusal}
 use Rattle.game.specs.Game.{over}
 use Rattle.game.specs.Placement.{placements}
@@ -20,6 +21,7 @@ use Rattle.tables.specs.Tables.{noFigure, figureEntry, figureIn}
 use Rattle.tables.specs.Find.{find}
 use Rattle.tables.specs.Rounds.{Step, stays, gains, RoundTables}
 use Rattle.tables.proofs.Steps.{next-round, last-round}
+use Rattle.routes.specs.Routes.{Laid}
 use Rattle.compiled.specs.Table.{Compiled}
 use Rattle.predecessors.specs.Behind.{Behind}
 use Rattle.solver.specs.Rounds.{unfigured, RoundPost}
@@ -28,22 +30,22 @@ use Rattle.solver.proofs.Entries.{entry-is}
 use Rattle.solver.proofs.Visits.{round-homed, visited-onward, visited-keeps, visited-less, round-on, visited-none, visited-then}
 use Rattle.solver.proofs.Gaining.{gains-before}
 
--- A LOOP that has come to i, of every railway that has m placements and these tables
-pub record VisitedTo (table behind : List ℕ) (m n : ℕ) (Kind : Railway → ℕ → ℕ → Type 0) (figs₀ sets₀ marks₀ figs sets marks : List ℕ) (added : Bool) (i : ℕ) : Type 0 where
+-- A LOOP that has come to i, of every railway that has m placements and these tables, and of which more is given
+pub record VisitedTo (Given : Railway → Type 0) (table ways : List ℕ) (m n : ℕ) (Kind : Railway → ℕ → ℕ → Type 0) (figs₀ sets₀ marks₀ figs sets marks : List ℕ) (added : Bool) (i : ℕ) : Type 0 where
   pub long-figs : length figs ≡ length figs₀
   pub long-sets : length sets ≡ length sets₀
   pub long-marks : length marks ≡ length marks₀
-  pub visited : (r : Railway) → Behind r behind → Round r table m n figs₀ marks₀ → Visited r n (Kind r i) figs₀ sets₀ figs sets marks added
+  pub visited : (r : Railway) → Given r → Round r table ways m n figs₀ marks₀ → Visited r n (Kind r i) figs₀ sets₀ figs sets marks added
 
-module _ (table behind : List ℕ) (m n : ℕ) (Kind : Railway → ℕ → ℕ → Type 0) (figs₀ sets₀ marks₀ : List ℕ) where
-  pub visited-to-start : (i : ℕ) → ((r : Railway) (q : ℕ) → Kind r i q → ⊥) → VisitedTo table behind m n Kind figs₀ sets₀ marks₀ figs₀ sets₀ marks₀ false i
+module _ (Given : Railway → Type 0) (table ways : List ℕ) (m n : ℕ) (Kind : Railway → ℕ → ℕ → Type 0) (figs₀ sets₀ marks₀ : List ℕ) where
+  pub visited-to-start : (i : ℕ) → ((r : Railway) (q : ℕ) → Kind r i q → ⊥) → VisitedTo Given table ways m n Kind figs₀ sets₀ marks₀ figs₀ sets₀ marks₀ false i
   visited-to-start i h = record { long-figs = refl; long-sets = refl; long-marks = refl; visited = λ r b o. visited-none r n (Kind r i) figs₀ sets₀ marks₀ (o .marked) (λ q l k. h r q k) }
 
-  module _ (figs sets marks : List ℕ) (added : Bool) (i : ℕ) (s : VisitedTo table behind m n Kind figs₀ sets₀ marks₀ figs sets marks added i) where
+  module _ (figs sets marks : List ℕ) (added : Bool) (i : ℕ) (s : VisitedTo Given table ways m n Kind figs₀ sets₀ marks₀ figs sets marks added i) where
     pub visited-to-next : (New : Railway → ℕ → Type 0) (j : ℕ) (figs′ sets′ marks′ : List ℕ) (b : Bool) → length figs′ ≡ length figs → length sets′ ≡ length sets → length marks′ ≡ length marks
-        → ((r : Railway) → Behind r behind → Round r table m n figs marks → Visited r n (New r) figs sets figs′ sets′ marks′ b)
-        → ((r : Railway) → Visited r n (Kind r i) figs₀ sets₀ figs sets marks added → Round r table m n figs₀ marks₀ → (q : ℕ) → q < placements r → Kind r j q → Kind r i q ⊎ New r q)
-        → VisitedTo table behind m n Kind figs₀ sets₀ marks₀ figs′ sets′ marks′ (added || b) j
+        → ((r : Railway) → Given r → Round r table ways m n figs marks → Visited r n (New r) figs sets figs′ sets′ marks′ b)
+        → ((r : Railway) → Given r → Visited r n (Kind r i) figs₀ sets₀ figs sets marks added → Round r table ways m n figs₀ marks₀ → (q : ℕ) → q < placements r → Kind r j q → Kind r i q ⊎ New r q)
+        → VisitedTo Given table ways m n Kind figs₀ sets₀ marks₀ figs′ sets′ marks′ (added || b) j
     visited-to-next New j figs′ sets′ marks′ b ef es em body covers =
         record {
           long-figs = ef ∙ s .long-figs;
@@ -52,12 +54,12 @@ module _ (table behind : List ℕ) (m n : ℕ) (Kind : Railway → ℕ → ℕ �
           visited = λ r h o.
               let x : Visited r n (Kind r i) figs₀ sets₀ figs sets marks added = s .visited r h o in
               visited-then r (o .compiled .accepted) n (o .small) (Kind r i) (New r) (Kind r j) figs₀ sets₀ figs sets marks figs′ sets′ marks′ added b x
-              (body r h (round-on r n (Kind r i) figs₀ sets₀ figs sets marks added x table m marks₀ o)) (covers r x o);
+              (body r h (round-on r n (Kind r i) figs₀ sets₀ figs sets marks added x table ways m marks₀ o)) (covers r h x o);
         }
 
     -- on to j, with nothing to visit between
-    pub visited-to-on : (j : ℕ) → ((r : Railway) → Visited r n (Kind r i) figs₀ sets₀ figs sets marks added → Round r table m n figs₀ marks₀ → (q : ℕ) → Kind r j q → Kind r i q)
-        → VisitedTo table behind m n Kind figs₀ sets₀ marks₀ figs sets marks added j
+    pub visited-to-on : (j : ℕ) → ((r : Railway) → Visited r n (Kind r i) figs₀ sets₀ figs sets marks added → Round r table ways m n figs₀ marks₀ → (q : ℕ) → Kind r j q → Kind r i q)
+        → VisitedTo Given table ways m n Kind figs₀ sets₀ marks₀ figs sets marks added j
     visited-to-on j covers =
         record {
           long-figs = s .long-figs;
@@ -68,9 +70,9 @@ module _ (table behind : List ℕ) (m n : ℕ) (Kind : Railway → ℕ → ℕ �
               visited-less r n (Kind r i) figs₀ sets₀ figs sets marks added x (Kind r j) (λ q l k. covers r x o q k);
         }
 
-    pub visited-to-end : (End : Railway → ℕ → Type 0) → ((r : Railway) → Round r table m n figs₀ marks₀ → (q : ℕ) → End r q → Kind r i q)
-        → (r : Railway) → Behind r behind → Round r table m n figs₀ marks₀ → Visited r n (End r) figs₀ sets₀ figs sets marks added
-    visited-to-end End h r b o = visited-less r n (Kind r i) figs₀ sets₀ figs sets marks added (s .visited r b o) (End r) (λ q l k. h r o q k)
+    pub visited-to-end : (End : Railway → ℕ → Type 0) → ((r : Railway) → Given r → Round r table ways m n figs₀ marks₀ → (q : ℕ) → q < placements r → End r q → Kind r i q)
+        → (r : Railway) → Given r → Round r table ways m n figs₀ marks₀ → Visited r n (End r) figs₀ sets₀ figs sets marks added
+    visited-to-end End h r b o = visited-less r n (Kind r i) figs₀ sets₀ figs sets marks added (s .visited r b o) (End r) (λ q l k. h r b o q l k)
 
 -- A SCAN for a figure
 module _ (figs : List ℕ) (figure c upto : ℕ) where
@@ -160,9 +162,9 @@ module _ (r : Railway) (n : ℕ) (figs : List ℕ) where
   none-before e from upto q k = omega (arith, k .last)
 
   -- a stretch whose mark is too small
-  pub not-marked : (table : List ℕ) (m : ℕ) (marks : List ℕ) (from upto f : ℕ) → Round r table m n figs marks → ((q : ℕ) → from ≤ q → q < upto → stretchOf q ≡ stretchOf from) → upto ≤ m
+  pub not-marked : (table ways : List ℕ) (m : ℕ) (marks : List ℕ) (from upto f : ℕ) → Round r table ways m n figs marks → ((q : ℕ) → from ≤ q → q < upto → stretchOf q ≡ stretchOf from) → upto ≤ m
       → f ≡ getD marks (stretchOf from) 0 → f < n - 1 → (q : ℕ) → Before r n figs from upto q → ⊥
-  not-marked table m marks from upto f o one l e small q k =
+  not-marked table ways m marks from upto f o one l e small q k =
       let s : stretchOf (k .code) ≡ stretchOf from = one (k .code) (k .after) (k .within) in
       let b : k .figure ≤ getD marks (stretchOf (k .code)) 0 = o .marked .most (k .code) (k .figure) (omega (arith, k .within, o .counted)) (k .stands) in
       let d : k .figure ≤ f = rw (e, ← s) b in
@@ -209,13 +211,13 @@ module _ (r : Railway) (accepted : recordRefusal r ≡ none) (k : ℕ) (small : 
             count-more (unfigured figs) (unfigured figs₀) keeps (placements r) (g .0) (g .1) (g .2) (g .3);
       }
 
-module _ (table behind : List ℕ) (m n : ℕ) (figs₀ sets₀ marks₀ figs sets marks : List ℕ) (added : Bool) (c : ℕ)
-    (s : VisitedTo table behind m n (λ r i. Before r n figs₀ 0 i) figs₀ sets₀ marks₀ figs sets marks added c) where
-  pub round-end : m ≤ c → (r : Railway) (k : ℕ) → Compiled r table → Behind r behind → m ≡ placements r → n ≡ suc k → n < noFigure → RoundTables r k figs₀ sets₀ → Marked r figs₀ marks₀
-      → RoundPost r n figs₀ sets₀ figs sets added × Marked r figs marks
-  round-end l r k h b em en small t marked =
-      let o : Round r table m n figs₀ marks₀ = record { compiled = h; counted = em; small = small; homed = round-homed r k figs₀ sets₀ t; marked = marked } in
+module _ (table ways behind : List ℕ) (m n : ℕ) (figs₀ sets₀ marks₀ figs sets marks : List ℕ) (added : Bool) (c : ℕ)
+    (s : VisitedTo (λ r. Behind r behind) table ways m n (λ r i. Before r n figs₀ 0 i) figs₀ sets₀ marks₀ figs sets marks added c) where
+  pub round-end : m ≤ c → (r : Railway) (k : ℕ) → Compiled r table → Laid r (isClosed r) ways → Behind r behind → m ≡ placements r → n ≡ suc k → n < noFigure → RoundTables r k figs₀ sets₀
+      → Marked r figs₀ marks₀ → RoundPost r n figs₀ sets₀ figs sets added × Marked r figs marks
+  round-end l r k h laid b em en small t marked =
+      let o : Round r table ways m n figs₀ marks₀ = record { compiled = h; laid = laid; counted = em; small = small; homed = round-homed r k figs₀ sets₀ t; marked = marked } in
       let x : Visited r n (Before r n figs₀ 0 (placements r)) figs₀ sets₀ figs sets marks added =
-      visited-to-end table behind m n (λ r i. Before r n figs₀ 0 i) figs₀ sets₀ marks₀ figs sets marks added c s (λ r. Before r n figs₀ 0 (placements r))
-      (λ r o q k. codes-less r n figs₀ 0 (placements r) c q (omega (arith, o .counted)) k) r b o in
+      visited-to-end (λ r. Behind r behind) table ways m n (λ r i. Before r n figs₀ 0 i) figs₀ sets₀ marks₀ figs sets marks added c s (λ r. Before r n figs₀ 0 (placements r))
+      (λ r b o q inside k. codes-less r n figs₀ 0 (placements r) c q (omega (arith, o .counted)) k) r b o in
       (rw en (round-over r (h .accepted) k (omega arith) figs₀ sets₀ figs sets marks added (s .long-figs) (s .long-sets) t (rw en at x)), x .marked)

@@ -1,133 +1,144 @@
--- One move back. The placements from which a train comes to placement c have it on the section behind, with the point that it meets at minus
--- or at plus, and the others as they are: so their codes differ from c by the train's stride, and there are two of them at most.
--- Assumes nothing.
-use mathlib.Core.Path.{_≡_, refl, sym, _∙_}
+-- One move back. The placements from which a train comes to placement c have it on the section at the end of a way back, and the others as they are: so their
+-- codes differ from c by the train's stride. They are visited way after way, and behind the last way there are no more. Assumes nothing.
+use mathlib.Core.Path.{_≡_, refl, sym, _∙_, ap}
 use mathlib.Core.Logic.{_⊎_, inl, inr}
-use mathlib.Core.Bool.{Bool, true, false, _||_}
+use mathlib.Core.Bool.{Bool, true, false}
 use mathlib.Core.List.{List}
 use mathlib.Core.Option.{none}
-use Prim.Native.Nat.{ℕ, _≤_, _<_}
+use Prim.Native.Nat.{ℕ, suc, _+_, _*_, _%_, _^_, _≤_, _<_}
 use native.Mathlib.Omega.{arith}
+use native.Mathlib.Numerals.{add-one}
+use native.Mathlib.Nat.{mul-comm, pow-zero, pow-succ', pow-le-pow-left, pow-le-pow-right}
 use lib.ListN.{length, getD}
 use lib.Dec.{eqb}
-use borrow.Author.Tests.{eqb-true, eq-eqb}
+use borrow.Author.Tests.{eqb-true, eq-eqb, le-ltb}
 use Rattle.laws.proofs.Bools.{bool?, eq?, clash}
+use Rattle.railway.specs.declared.End.{End}
 use Rattle.railway.specs.declared.Railway.{Railway}
-use Rattle.railway.specs.Bounds.{mostSections, mostTrains}
-use Rattle.game.specs.Game.{at}
+use Rattle.railway.specs.Bounds.{mostSections, mostTrains, sectionEnds}
+use Rattle.railway.specs.Ends.{endIndex, endAt}
 use Rattle.game.specs.Placement.{placements}
-use Rattle.game.specs.Moves.{moveOf}
+use Rattle.game.specs.Moves.{codeWith}
 use Rattle.game.proofs.Accepted.{facts}
-use Rattle.game.proofs.Moves.{code-with-below}
+use Rattle.game.proofs.Moves.{section-below, code-with-below}
 use Rattle.tables.specs.Tables.{noFigure, figureIn}
-use Rattle.compiled.specs.Table.{noByte}
+use Rattle.tables.specs.Entries.{settingAt}
+use Rattle.routes.specs.Routes.{routesFrom, nth, mostWays, noSection, toByte, Laid}
+use Rattle.compiled.specs.Table.{Compiled}
 use Rattle.placement.specs.declared.Placement.{Placement}
 use Rattle.placement.specs.ByValue.{sectionIn}
-use Rattle.moves.specs.Steps.{strideOf, codePut, On, putIn, allAt}
-use Rattle.moves.proofs.Moving.{train-small, section-small, code-put-is, put-on-is}
+use Rattle.moves.specs.Steps.{strideOf, codePut, On, putIn}
+use Rattle.moves.proofs.Coding.{stride-is}
+use Rattle.moves.proofs.Moving.{code-put-is, put-on-is}
 use Rattle.moves.proofs.Round.{code-back}
-use Rattle.predecessors.specs.Behind.{sectionBehind}
-use Rattle.predecessors.proofs.Before.{some-behind, before-is, behind-below}
-use Rattle.solver.specs.Visits.{Marked, Round, Visited, PutBy, Waits, empty, nowhere, outside, figured, One, Put, Other, By}
+use Rattle.predecessors.specs.Behind.{endBehind, sectionBehind, BackBy, Behind}
+use Rattle.predecessors.proofs.Before.{came-by, behind-below, behind-last, end-inside, end-at-behind}
+use Rattle.solver.specs.Visits.{Round, Visited, Waits, empty, outside, figured, One, By}
 use Rattle.solver.proofs.Entries.{read-figure, read-none}
-use Rattle.solver.proofs.Visits.{visited-less, visited-rests, visited-none, visited-then, round-on}
+use Rattle.solver.proofs.Visits.{visited-rests}
 
 -- WHO WAITS for a visit
-module _ (figs : List ℕ) (m y p : ℕ) where
-  pub waits-read : (y ≡ noByte → ⊥) → p < m → m ≤ length figs → Waits figs m y p (eqb (getD figs p 0) noFigure)
-  waits-read there l long = elim (bool? (eqb (getD figs p 0) noFigure)) [
-    | inl e ↦ rw e (empty there l (read-none figs p (omega arith) (eqb-true _ _ e)))
+module _ (figs : List ℕ) (m p : ℕ) where
+  pub waits-read : p < m → m ≤ length figs → Waits figs m p (eqb (getD figs p 0) noFigure)
+  waits-read l long = elim (bool? (eqb (getD figs p 0) noFigure)) [
+    | inl e ↦ rw e (empty l (read-none figs p (omega arith) (eqb-true _ _ e)))
     | inr e ↦ rw e (figured (read-figure figs p (omega arith) (λ z. clash (eq-eqb _ _ z) e)))
   ]
 
-  pub waits-inside : (b : Bool) → Waits figs m y p b → b ≡ true → p < m
-  waits-inside b (empty there l none-yet) e = l
-  waits-inside b (nowhere z) e = clash e refl
+  pub waits-inside : (b : Bool) → Waits figs m p b → b ≡ true → p < m
+  waits-inside b (empty l none-yet) e = l
   waits-inside b (outside l) e = clash e refl
   waits-inside b (figured h) e = clash e refl
 
 -- ONE SECTION BEHIND: a visit of the placement with the train there, of code p, if it waits for one
-module _ (r : Railway) (table : List ℕ) (m n c t y p : ℕ) (figs sets marks : List ℕ) (o : Round r table m n figs marks) (put : PutBy r c t y p) where
-  below : (y ≡ noByte → ⊥) → p < placements r
-  below there = rw (put there .1) (code-with-below r (facts r (o .compiled .accepted)) c t y (put there .0))
+module _ (r : Railway) (table ways : List ℕ) (m n c t y p : ℕ) (figs sets marks : List ℕ) (o : Round r table ways m n figs marks) (there : y < r .sections) (put : p ≡ codeWith r c t y) where
+  below : p < placements r
+  below = rw put (code-with-below r (facts r (o .compiled .accepted)) c t y there)
 
-  not-waiting : (b : Bool) → Waits figs m y p b → b ≡ false → (q : ℕ) → Put r c t y q → figureIn figs q ≡ none → ⊥
-  not-waiting b (empty there inside none-yet) e q k f = clash refl e
-  not-waiting b (nowhere z) e q k f = k .there z
-  not-waiting b (outside l) e q k f = omega (arith, below (k .there), o .counted)
-  not-waiting b (figured h) e q k f = let z : q ≡ p = k .code ∙ sym (put (k .there) .1) in h (rw z at f)
+  not-waiting : (b : Bool) → Waits figs m p b → b ≡ false → figureIn figs p ≡ none → ⊥
+  not-waiting b (empty inside none-yet) e f = clash refl e
+  not-waiting b (outside l) e f = omega (arith, below, o .counted)
+  not-waiting b (figured h) e f = h f
 
-  pub no-visit : (b : Bool) → Waits figs m y p b → b ≡ false → Visited r n (Put r c t y) figs sets figs sets marks false
-  no-visit b w e = visited-rests r n (Put r c t y) figs sets marks (o .marked) (λ q l k f g. absurd (not-waiting b w e q k f))
+  pub no-visit : (b : Bool) → Waits figs m p b → b ≡ false → Visited r n (One p) figs sets figs sets marks false
+  no-visit b w e = visited-rests r n (One p) figs sets marks (o .marked) (λ q l k f g. absurd (not-waiting b w e (rw k at f)))
 
-  module _ (q v : Placement) (on : On r c table q) (lt : t < r .trains) (b : Bool) (w : Waits figs m y p b) (e : b ≡ true)
+  module _ (q v : Placement) (on : On r c table q) (lt : t < r .trains) (b : Bool) (w : Waits figs m p b) (e : b ≡ true)
       (moved : (u : ℕ) → sectionIn v u ≡ putIn q t y u) where
     pub one-visit : (figs′ sets′ marks′ : List ℕ) (a : Bool)
-        → ((r : Railway) (m : ℕ) → Round r table m n figs marks → On r p table v → p < placements r → figureIn figs p ≡ none → Visited r n (One p) figs sets figs′ sets′ marks′ a)
-        → Visited r n (Put r c t y) figs sets figs′ sets′ marks′ a
+        → ((r : Railway) (m : ℕ) → Round r table ways m n figs marks → On r p table v → p < placements r → figureIn figs p ≡ none → Visited r n (One p) figs sets figs′ sets′ marks′ a)
+        → Visited r n (One p) figs sets figs′ sets′ marks′ a
     one-visit figs′ sets′ marks′ a visit = go b w e
       where
-        go : (b : Bool) → Waits figs m y p b → b ≡ true → Visited r n (Put r c t y) figs sets figs′ sets′ marks′ a
-        go b (nowhere z) e = clash e refl
+        go : (b : Bool) → Waits figs m p b → b ≡ true → Visited r n (One p) figs sets figs′ sets′ marks′ a
         go b (outside l) e = clash e refl
         go b (figured h) e = clash e refl
-        go b (empty there inside none-yet) e =
-            let there-on : On r p table v = rw (put there .1) (put-on-is r c table q on t y lt (put there .0) v moved) in
-            visited-less r n (One p) figs sets figs′ sets′ marks′ a (visit r m o there-on (below there) none-yet) (Put r c t y) (λ u l k. k .code ∙ sym (put there .1))
+        go b (empty inside none-yet) e = visit r m o (rw put (put-on-is r c table q on t y lt there v moved)) below none-yet
 
--- BOTH SECTIONS BEHIND train t, that stands on section x of placement c: y with the point at minus and z with it at plus; p and o are the
--- codes with the train there
-pub record BothBehind (r : Railway) (q : Placement) (c t x y z p o : ℕ) : Type 0 where
-  pub here : x ≡ sectionIn q t
-  pub minus : y ≡ sectionBehind r t x false
-  pub plus : z ≡ sectionBehind r t x true
-  pub put-minus : PutBy r c t y p
-  pub put-plus : PutBy r c t z o
-
-module _ (r : Railway) (table : List ℕ) (q : Placement) (c : ℕ) (on : On r c table q) (lc : c < placements r) (t x : ℕ) (lt : t < r .trains) (here : x ≡ sectionIn q t) where
-  put-code : (s w y p : ℕ) (b : Bool) → s ≡ r .sections → w ≡ strideOf s t → y ≡ sectionBehind r t x b → p ≡ codePut c w x y → PutBy r c t y p
-  put-code s w y p b es ew is put there =
-      let below : y < r .sections = behind-below r (on .compiled .accepted) t x b y is there in
-      (below, code-put-is r c table q on t y lt below c x w s p (sym (code-back r table (on .compiled) c q on lc)) here es ew put)
-
-  -- as they are computed
-  pub both-behind : (s w y z p o : ℕ) → s ≡ r .sections → w ≡ strideOf s t → (t < mostTrains → x < mostSections → y ≡ sectionBehind r t x false)
-      → (t < mostTrains → x < mostSections → z ≡ sectionBehind r t x true) → p ≡ codePut c w x y → o ≡ codePut c w x z
-      → BothBehind r q c t x y z p o
-  both-behind s w y z p o es ew at-minus at-plus put-p put-o =
-      let few = train-small r c table q on t x lt here in
-      let small = section-small r c table q on t x lt here in
-      let minus = at-minus few small in
-      let plus = at-plus few small in
-      record { here = here; minus = minus; plus = plus; put-minus = put-code s w y p false es ew minus put-p; put-plus = put-code s w z o true es ew plus put-o }
-
-module _ (r : Railway) (table : List ℕ) (q : Placement) (c : ℕ) (on : On r c table q) (t : ℕ) (lt : t < r .trains) (x y z p o : ℕ) (both : BothBehind r q c t x y z p o) where
-  put-behind : (u : ℕ) → u < placements r → (b : Bool) → moveOf r u (allAt b) t ≡ at c → (v : ℕ) → v ≡ sectionBehind r t x b → Put r c t v u
-  put-behind u l b e v is =
-      let stands = both .here ∙ on .stands t in
-      record { there = some-behind r (on .compiled .accepted) c u t b l lt e x stands v is; code = before-is r (on .compiled .accepted) c u t b l lt e x stands v is }
-
-  by-either : (u : ℕ) → u < placements r → By r c t u → Put r c t y u ⊎ Other r c t y z u
-  by-either u l k = go (k .plus) (k .moves) (eq? y z)
+-- STRIDES, each from the one before
+module _ (s t w : ℕ) (e : w ≡ strideOf s t) where
+  pub stride-next : s < 256 → t < mostTrains → w * s % 4294967296 ≡ strideOf s (t + 1)
+  stride-next byte l =
+      let a : w * s ≡ s ^ suc t = ap (λ (x : ℕ). x * s) (e ∙ stride-is s t (omega arith)) ∙ mul-comm (s ^ t) s ∙ sym (pow-succ' s t) in
+      let few : s ≤ 255 = omega arith in
+      let small : s ^ suc t ≤ 255 ^ 4 = omega (arith, pow-le-pow-left few (suc t), pow-le-pow-right {n = 255} (omega arith) {i = suc t} {j = 4} (omega arith)) in
+      ap (λ (x : ℕ). x % 4294967296) a ∙ whole (s ^ suc t) (omega (arith, small)) ∙ rw (add-one t) (sym (stride-is s (suc t) (omega arith)))
     where
-      go : (b : Bool) → moveOf r u (allAt b) t ≡ at c → (y ≡ z) ⊎ (y ≡ z → ⊥) → Put r c t y u ⊎ Other r c t y z u
-      go false e d = inl (put-behind u l false e y (both .minus))
-      go true e (inl s) = inl (rw s (put-behind u l true e z (both .plus)))
-      go true e (inr d) = inr (record { other = d; put = put-behind u l true e z (both .plus) })
+      whole : (x : ℕ) → x < 4294967296 → x % 4294967296 ≡ x
+      whole x h = omega arith
 
-  -- visited one after the other
-  pub train-visited : (m n : ℕ) (figs sets marks figs₁ sets₁ marks₁ figs₂ sets₂ marks₂ : List ℕ) (a b : Bool) → Round r table m n figs marks
-      → (PutBy r c t y p → Visited r n (Put r c t y) figs sets figs₁ sets₁ marks₁ a)
-      → ((r : Railway) (c : ℕ) → Round r table m n figs₁ marks₁ → On r c table q → t < r .trains → PutBy r c t z o → Visited r n (Other r c t y z) figs₁ sets₁ figs₂ sets₂ marks₂ b)
-      → Visited r n (By r c t) figs sets figs₂ sets₂ marks₂ (a || b)
-  train-visited m n figs sets marks figs₁ sets₁ marks₁ figs₂ sets₂ marks₂ a b round at-minus at-plus =
-      let first = at-minus (both .put-minus) in
-      visited-then r (round .compiled .accepted) n (round .small) (Put r c t y) (Other r c t y z) (By r c t) figs sets figs₁ sets₁ marks₁ figs₂ sets₂ marks₂ a b first
-      (at-plus r c (round-on r n (Put r c t y) figs sets figs₁ sets₁ marks₁ a first table m marks round) on lt (both .put-plus)) by-either
+  pub stride-past : mostTrains ≤ t → w ≡ strideOf s (t + 1)
+  stride-past l = e ∙ rw (le-ltb t mostTrains l, le-ltb (t + 1) mostTrains (omega arith))
 
--- THE OTHER SECTION behind
-pub same-section : (r : Railway) (n c t y z : ℕ) (figs sets marks : List ℕ) → Marked r figs marks → y ≡ z → Visited r n (Other r c t y z) figs sets figs sets marks false
-same-section r n c t y z figs sets marks k e = visited-none r n (Other r c t y z) figs sets marks k (λ q l u. u .other e)
+pub stride-first : (s : ℕ) → 1 ≡ strideOf s 0
+stride-first s = sym (pow-zero s)
 
-pub other-section : (r : Railway) (n c t y z : ℕ) (figs sets figs′ sets′ marks′ : List ℕ) (b : Bool) → Visited r n (Put r c t z) figs sets figs′ sets′ marks′ b → Visited r n (Other r c t y z) figs sets figs′ sets′ marks′ b
-other-section r n c t y z figs sets figs′ sets′ marks′ b s = visited-less r n (Put r c t z) figs sets figs′ sets′ marks′ b s (Other r c t y z) (λ q l k. k .put)
+-- WHAT IS GIVEN of the railways that train t's ways back are gone over for: q is the placement of code c, and w the train's stride
+pub record Standing (r : Railway) (table behind : List ℕ) (q : Placement) (c t w : ℕ) : Type 0 where
+  pub laid : Behind r behind
+  pub on : On r c table q
+  pub code : c < placements r
+  pub train : t < r .trains
+  pub stride : w ≡ strideOf (r .sections) t
+
+-- GOING OVER THE WAYS BACK from section x, where the train stands
+module _ (table behind : List ℕ) (q : Placement) (c t w x e : ℕ) (here : x ≡ sectionIn q t) (rear : (r : Railway) → Compiled r table → e ≡ endIndex (endBehind r t x)) where
+  pub no-way : (r : Railway) (u : ℕ) → BackBy r c t x 0 u → ⊥
+  no-way r u k = omega (arith, k .below)
+
+  module _ (j y : ℕ) (told : (r : Railway) (shut : ℕ → Bool) → Laid r shut behind → e < sectionEnds → y ≡ toByte (nth (routesFrom r shut (endAt e)) j)) (r : Railway)
+      (g : Standing r table behind q c t w) where
+    -- the section that is read there
+    way-is : y ≡ sectionBehind r t x j
+    way-is =
+        let ok = facts r (g .on .compiled .accepted) in
+        let small : x < mostSections = omega (arith, here, g .on .stands t, section-below r ok c t (g .train), ok .few-sections) in
+        let i = rear r (g .on .compiled) in
+        told r (λ z. false) (g .laid) (end-inside r t x e small i)
+        ∙ ap (λ (d : End). toByte (nth (routesFrom r (λ z. false) d) j)) (end-at-behind r t x e small i)
+
+    pub way-next : (u : ℕ) → BackBy r c t x (j + 1) u → (p : ℕ) → p ≡ codeWith r c t y → BackBy r c t x j u ⊎ One p u
+    way-next u k p put = elim (eq? (k .number) j) [
+      | inl z ↦ let w : sectionBehind r t x (k .number) ≡ y = ap (sectionBehind r t x) z ∙ sym way-is in inr (k .code ∙ ap (codeWith r c t) w ∙ sym put)
+      | inr z ↦ inl (record { number = k .number; below = omega (arith, k .below, z); there = k .there; code = k .code })
+    ]
+
+    -- a section of the railway, and the code with the train there
+    pub way-put : (y ≡ noSection → ⊥) → (p : ℕ) → p ≡ codePut c w x y → (y < r .sections) × (p ≡ codeWith r c t y)
+    way-put some-section p put =
+        let below : y < r .sections = rw way-is (behind-below r t x j (g .on .compiled .accepted) (λ z. some-section (way-is ∙ z))) in (
+          below,
+          code-put-is r c table q (g .on) t y (g .train) below c x w (r .sections) p (sym (code-back r table (g .on .compiled) c q (g .on) (g .code))) here refl (g .stride) put,
+        )
+
+    -- no way is left
+    pub way-last : y ≡ noSection → (u : ℕ) → BackBy r c t x mostWays u → BackBy r c t x j u
+    way-last z u k = record { number = k .number; below = behind-last r t x j (sym way-is ∙ z) (k .number) (k .there); there = k .there; code = k .code }
+
+  pub all-ways : (j : ℕ) → mostWays ≤ j → (r : Railway) (u : ℕ) → BackBy r c t x mostWays u → BackBy r c t x j u
+  all-ways j l r u k = record { number = k .number; below = omega (arith, k .below); there = k .there; code = k .code }
+
+  -- who moves to placement c has come by one of them
+  pub by-ways : (r : Railway) → Standing r table behind q c t w → (u : ℕ) → u < placements r → By r c t u → BackBy r c t x mostWays u
+  unfolding settingAt
+  by-ways r g u l k = came-by r (g .on .compiled .accepted) c u t (k .entry) (settingAt r u (k .entry)) refl l (g .train) (k .moves) x (here ∙ g .on .stands t)

@@ -95,10 +95,11 @@ module _ (r : Railway) (n : ℕ) (S : ℕ → Type 0) (figs sets figs′ sets′
       }
 
   -- the round goes on
-  pub round-on : (table : List ℕ) (m : ℕ) (marks : List ℕ) → Round r table m n figs marks → Round r table m n figs′ marks′
-  round-on table m marks o =
+  pub round-on : (table ways : List ℕ) (m : ℕ) (marks : List ℕ) → Round r table ways m n figs marks → Round r table ways m n figs′ marks′
+  round-on table ways m marks o =
       record {
         compiled = o .compiled;
+        laid = o .laid;
         counted = o .counted;
         small = o .small;
         homed = λ p l h. visited-onward p 0 l (o .homed p l h);
@@ -160,7 +161,7 @@ module _ (r : Railway) (accepted : recordRefusal r ≡ none) (n : ℕ) (small : 
       }
 
 -- ONE VISIT, of a placement without a figure
-module _ (r : Railway) (table : List ℕ) (m n p : ℕ) (figs sets marks : List ℕ) (o : Round r table m n figs marks) (l : p < placements r) (empty : figureIn figs p ≡ none)
+module _ (r : Railway) (table ways : List ℕ) (m n p : ℕ) (figs sets marks : List ℕ) (o : Round r table ways m n figs marks) (l : p < placements r) (empty : figureIn figs p ≡ none)
     (found : Option ℕ) (searched : found ≡ firstKeeping r (figureIn figs) p n) where
   pub visit-rests : found ≡ none → Visited r n (One p) figs sets figs sets marks false
   visit-rests e = visited-rests r n (One p) figs sets marks (o .marked) (λ q lq u y g. rw u (finds-nothing r n p figs found searched e (rw u at g)))

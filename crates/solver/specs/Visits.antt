@@ -9,13 +9,15 @@ use Prim.Native.Nat.{ℕ, suc, _*_, _/_, _≤_, _<_}
 use lib.ListN.{length, getD}
 use Rattle.railway.specs.declared.Railway.{Railway}
 use Rattle.railway.specs.Bounds.{mostSections}
+use Rattle.railway.specs.Record.{isClosed}
 use Rattle.game.specs.Game.{home, over, at}
 use Rattle.game.specs.Placement.{placements}
-use Rattle.game.specs.Moves.{codeWith, moveOf, gameOf}
+use Rattle.game.specs.Moves.{moveOf, gameOf}
+use Rattle.tables.specs.Entries.{settingAt}
 use Rattle.tables.specs.Tables.{noFigure, figureEntry, figureIn}
 use Rattle.tables.specs.Find.{find}
-use Rattle.compiled.specs.Table.{noByte, Compiled}
-use Rattle.moves.specs.Steps.{allAt}
+use Rattle.routes.specs.Routes.{Laid}
+use Rattle.compiled.specs.Table.{Compiled}
 use Rattle.solver.specs.Rounds.{unfigured}
 
 -- Home has its figure from the start.
@@ -36,8 +38,9 @@ pub record Marked (r : Railway) (figs marks : List ℕ) : Type 0 where
   pub most : (q j : ℕ) → q < placements r → figureIn figs q ≡ some j → j ≤ getD marks (stretchOf q) 0
 
 -- Round n is going on, on the tables of this railway.
-pub record Round (r : Railway) (table : List ℕ) (m n : ℕ) (figs marks : List ℕ) : Type 0 where
+pub record Round (r : Railway) (table ways : List ℕ) (m n : ℕ) (figs marks : List ℕ) : Type 0 where
   pub compiled : Compiled r table
+  pub laid : Laid r (isClosed r) ways
   pub counted : m ≡ placements r
   pub small : n < noFigure
   pub homed : Homed r figs
@@ -63,35 +66,20 @@ pub record Passed (figs : List ℕ) (figure c upto e : ℕ) : Type 0 where
   pub onward : c ≤ e
   pub others : (q : ℕ) → c ≤ q → q < e → (q < upto) × (getD figs q noFigure ≡ figure → ⊥)
 
--- If y is a section and not the byte for none, it is one of the railway, and p the code of placement c with train t put there.
-abbrev pub PutBy : Railway → ℕ → ℕ → ℕ → ℕ → Type 0
-PutBy r c t y p = (y ≡ noByte → ⊥) → (y < r .sections) × (p ≡ codeWith r c t y)
-
--- Whether y is a section and p a code without a figure.
-pub data Waits (figs : List ℕ) (m y p : ℕ) : Bool → Type 0 where
-  empty : (y ≡ noByte → ⊥) → p < m → figureIn figs p ≡ none → Waits figs m y p true
-  nowhere : y ≡ noByte → Waits figs m y p false
-  outside : m ≤ p → Waits figs m y p false
-  figured : (figureIn figs p ≡ none → ⊥) → Waits figs m y p false
+-- Whether p is a code without a figure.
+pub data Waits (figs : List ℕ) (m p : ℕ) : Bool → Type 0 where
+  empty : p < m → figureIn figs p ≡ none → Waits figs m p true
+  outside : m ≤ p → Waits figs m p false
+  figured : (figureIn figs p ≡ none → ⊥) → Waits figs m p false
 
 -- KINDS of placements, for what has been visited. The one of code p alone.
 abbrev pub One : ℕ → ℕ → Type 0
 One p q = q ≡ p
 
--- The one with train t put on section y in placement c; there is none if y is no section.
-pub record Put (r : Railway) (c t y p : ℕ) : Type 0 where
-  pub there : y ≡ noByte → ⊥
-  pub code : p ≡ codeWith r c t y
-
--- The one with train t put on section z in placement c, where z is another section than y.
-pub record Other (r : Railway) (c t y z p : ℕ) : Type 0 where
-  pub other : y ≡ z → ⊥
-  pub put : Put r c t z p
-
--- Those from which a move of train t comes to placement c, all points lying at plus or all at minus.
+-- Those from which a move of train t comes to placement c, under the setting of some entry.
 pub record By (r : Railway) (c t p : ℕ) : Type 0 where
-  pub plus : Bool
-  pub moves : moveOf r p (allAt plus) t ≡ at c
+  pub entry : ℕ
+  pub moves : moveOf r p (settingAt r p entry) t ≡ at c
 
 -- Those from which a move of one of the first k trains comes to placement c.
 pub record Comes (r : Railway) (c k p : ℕ) : Type 0 where

@@ -3,30 +3,35 @@
 // disturb it. A placement that gains figure n has a move to one of figure n - 1, so a round visits only what is one move before those: they
 // are its frontier. Marks, one for a stretch of codes, say how large the figures in it are at most, so that a round passes by the stretches
 // where the frontier has none.
-// The functions under `solve` promise what they do for every accepted railway whose compiled table they are handed.
+// The functions under `solve` promise what they do for every accepted railway whose compiled table and ways they are handed: those into sections that are not
+// closed, for moves, and those to all sections, for going back.
 ghost use mathlib.Core.Path.{_≡_};
 ghost use mathlib.Core.Bool.{false};
 ghost use mathlib.Core.Option.{none};
-ghost use Prim.Native.Nat.{ℕ, suc, _+_, _≤_, _<_};
+ghost use Prim.Native.Nat.{ℕ, suc, _+_, _%_, _≤_, _<_};
 ghost use lib.ListN.{length, getD};
 ghost use Rattle.railway.specs.declared.Railway.{Railway};
+ghost use Rattle.railway.specs.Record.{isClosed};
 ghost use Rattle.railway.specs.Rows.{recordRefusal};
 ghost use Rattle.game.specs.Placement.{placements, startCode};
+ghost use Rattle.game.specs.Moves.{codeWith};
 ghost use Rattle.tables.specs.Tables.{noFigure, figureIn};
 ghost use Rattle.tables.specs.Solver.{numberGiven, figureGiven, SolverTables, SolverPost};
 ghost use Rattle.tables.specs.Rounds.{firstFigure, RoundTables};
+ghost use Rattle.routes.specs.Routes.{Laid};
 ghost use Rattle.compiled.specs.Table.{Compiled};
 ghost use Rattle.moves.specs.Answers.{homeCode};
-ghost use Rattle.moves.specs.Steps.{On};
+ghost use Rattle.moves.specs.Steps.{strideOf, On};
 ghost use Rattle.predecessors.specs.Behind.{Behind};
 ghost use Rattle.solver.specs.Rounds.{After, RoundPost};
-ghost use Rattle.solver.specs.Visits.{stretchOf, Marked, Round, Visited, Passed, PutBy, Waits, One, Other, By, Comes, Before};
-use compiled::NO_BYTE;
+ghost use Rattle.solver.specs.Visits.{stretchLength, stretchOf, Marked, Round, Visited, Passed, Waits, One, By, Comes, Before};
 use compiled::Table;
 use placement::Placement;
-use predecessors::SectionsBehind;
 use railway::CaseAnswer;
 use railway::Railway;
+use routes::MOST_WAYS;
+use routes::NO_SECTION;
+use routes::Ways;
 use settings::Found;
 use tables::NO_FIGURE;
 use tables::SolverAnswer;
@@ -58,25 +63,33 @@ pub fn solve(r: Railway, figures: &mut [u32], settings: &mut [u32]) -> SolverAns
         CaseAnswer::Refused(f) => SolverAnswer::Refused(f),
         CaseAnswer::Accepted => {
             let m = moves::placements(&table);
-            let behind = predecessors::sections_behind(r);
-            fill(&table, &behind, figures, settings, m);
+            let ways = cases::case_ways(r);
+            let behind = predecessors::ways_behind(r);
+            fill(&table, &ways, &behind, figures, settings, m);
             start_answer(&table, figures)
         }
     }
 }
 
 // Rounds until one adds nothing. Each round but the last gives a figure to some placement, so there are at most m and one more.
-fn fill(table: &Table, behind: &SectionsBehind, figures: &mut [u32], settings: &mut [u32], m: u32)
+fn fill(
+    table: &Table,
+    ways: &Ways,
+    behind: &Ways,
+    figures: &mut [u32],
+    settings: &mut [u32],
+    m: u32,
+)
     requires { ⌜ m + 1 < noFigure ⌝ }
     requires { ⌜ (m ≤ length (now figures)) × (m ≤ length (now settings)) ⌝ }
-    ensures { λ u. ⌜ ((r : Railway) → Compiled r (now (table .entry)) → Behind r (now (behind .entry)) → m ≡ placements r → SolverTables r (now (figures .entry)) (now (settings .entry)) (now (figures .exit)) (now (settings .exit))) ⌝ }
+    ensures { λ u. ⌜ ((r : Railway) → Compiled r (now (table .entry)) → Laid r (isClosed r) (now (ways .entry)) → Behind r (now (behind .entry)) → m ≡ placements r → SolverTables r (now (figures .entry)) (now (settings .entry)) (now (figures .exit)) (now (settings .exit))) ⌝ }
 {
     clear(table, figures, settings, m);
     let mut marks = [0u32; MARKS];
     let mut n: u32 = 0;
     while n <= m {
         n += 1;
-        let added = one_round(table, behind, figures, settings, &mut marks, m, n);
+        let added = one_round(table, ways, behind, figures, settings, &mut marks, m, n);
         if !added {
             return;
         }
@@ -108,7 +121,8 @@ fn first_figure(home: u32, p: u32) -> u32
 // Round n, in place, stretch after stretch. Whether it gave a figure to any placement.
 fn one_round(
     table: &Table,
-    behind: &SectionsBehind,
+    ways: &Ways,
+    behind: &Ways,
     figures: &mut [u32],
     settings: &mut [u32],
     marks: &mut [u32],
@@ -116,34 +130,35 @@ fn one_round(
     n: u32,
 ) -> bool
     requires { ⌜ (m ≤ length (now figures)) × (m ≤ length (now settings)) ⌝ }
-    ensures { λ b. ⌜ ((r : Railway) (k : ℕ) → Compiled r (now (table .entry)) → Behind r (now (behind .entry)) → m ≡ placements r → n ≡ suc k → n < noFigure → RoundTables r k (now (figures .entry)) (now (settings .entry)) → Marked r (now (figures .entry)) (now (marks .entry)) → RoundPost r n (now (figures .entry)) (now (settings .entry)) (now (figures .exit)) (now (settings .exit)) b × Marked r (now (figures .exit)) (now (marks .exit))) ⌝ }
+    ensures { λ b. ⌜ ((r : Railway) (k : ℕ) → Compiled r (now (table .entry)) → Laid r (isClosed r) (now (ways .entry)) → Behind r (now (behind .entry)) → m ≡ placements r → n ≡ suc k → n < noFigure → RoundTables r k (now (figures .entry)) (now (settings .entry)) → Marked r (now (figures .entry)) (now (marks .entry)) → RoundPost r n (now (figures .entry)) (now (settings .entry)) (now (figures .exit)) (now (settings .exit)) b × Marked r (now (figures .exit)) (now (marks .exit))) ⌝ }
 {
     let mut added = false;
     let mut c: u32 = 0;
     while c < m {
         let upto = stretch_end(c, m);
-        added = added | visit_stretch(table, behind, figures, settings, marks, m, n, c, upto);
+        added = added | visit_stretch(table, ways, behind, figures, settings, marks, m, n, c, upto);
         c = upto;
     }
     added
 }
 
-// Where the stretch of code c ends, the last one at m.
+// Where the stretch that begins with code c ends, the last one at m.
 fn stretch_end(c: u32, m: u32) -> u32
     requires { ⌜ c < m ⌝ }
-    ensures { λ e. ⌜ (c < e) × (e ≤ m) × ((q : ℕ) → c ≤ q → q < e → stretchOf q ≡ stretchOf c) ⌝ }
+    requires { ⌜ c % stretchLength ≡ 0 ⌝ }
+    ensures { λ e. ⌜ (c < e) × (e ≤ m) × ((q : ℕ) → c ≤ q → q < e → stretchOf q ≡ stretchOf c) × (e < m → e % stretchLength ≡ 0) ⌝ }
 {
-    let left = STRETCH - c % STRETCH;
-    if m - c <= left {
+    if m - c <= STRETCH {
         return m;
     }
-    c + left
+    c + STRETCH
 }
 
 // Round n for what is one move before the frontier's placements in a stretch, unless its mark says that there are none.
 fn visit_stretch(
     table: &Table,
-    behind: &SectionsBehind,
+    ways: &Ways,
+    behind: &Ways,
     figures: &mut [u32],
     settings: &mut [u32],
     marks: &mut [u32],
@@ -153,7 +168,7 @@ fn visit_stretch(
     upto: u32,
 ) -> bool
     requires { ⌜ (m ≤ length (now figures)) × (m ≤ length (now settings)) × (upto ≤ m) ⌝ }
-    ensures { λ b. ⌜ ((r : Railway) → Behind r (now (behind .entry)) → Round r (now (table .entry)) m n (now (figures .entry)) (now (marks .entry)) → ((q : ℕ) → from ≤ q → q < upto → stretchOf q ≡ stretchOf from) → Visited r n (Before r n (now (figures .entry)) from upto) (now (figures .entry)) (now (settings .entry)) (now (figures .exit)) (now (settings .exit)) (now (marks .exit)) b) ⌝ }
+    ensures { λ b. ⌜ ((r : Railway) → Behind r (now (behind .entry)) → Round r (now (table .entry)) (now (ways .entry)) m n (now (figures .entry)) (now (marks .entry)) → ((q : ℕ) → from ≤ q → q < upto → stretchOf q ≡ stretchOf from) → Visited r n (Before r n (now (figures .entry)) from upto) (now (figures .entry)) (now (settings .entry)) (now (figures .exit)) (now (settings .exit)) (now (marks .exit)) b) ⌝ }
 {
     if n == 0 {
         return false;
@@ -161,7 +176,18 @@ fn visit_stretch(
     if mark_at(marks, from) < n - 1 {
         return false;
     }
-    visit_codes(table, behind, figures, settings, marks, m, n, from, upto)
+    visit_codes(
+        table,
+        ways,
+        behind,
+        figures,
+        settings,
+        marks,
+        m,
+        n,
+        from,
+        upto,
+    )
 }
 
 // The mark of the stretch of code c.
@@ -187,7 +213,8 @@ fn mark(marks: &mut [u32], c: u32, n: u32)
 // Round n for what is one move before the frontier's placements with codes in a range.
 fn visit_codes(
     table: &Table,
-    behind: &SectionsBehind,
+    ways: &Ways,
+    behind: &Ways,
     figures: &mut [u32],
     settings: &mut [u32],
     marks: &mut [u32],
@@ -197,13 +224,13 @@ fn visit_codes(
     upto: u32,
 ) -> bool
     requires { ⌜ (m ≤ length (now figures)) × (m ≤ length (now settings)) × (upto ≤ m) × (0 < n) ⌝ }
-    ensures { λ b. ⌜ ((r : Railway) → Behind r (now (behind .entry)) → Round r (now (table .entry)) m n (now (figures .entry)) (now (marks .entry)) → Visited r n (Before r n (now (figures .entry)) from upto) (now (figures .entry)) (now (settings .entry)) (now (figures .exit)) (now (settings .exit)) (now (marks .exit)) b) ⌝ }
+    ensures { λ b. ⌜ ((r : Railway) → Behind r (now (behind .entry)) → Round r (now (table .entry)) (now (ways .entry)) m n (now (figures .entry)) (now (marks .entry)) → Visited r n (Before r n (now (figures .entry)) from upto) (now (figures .entry)) (now (settings .entry)) (now (figures .exit)) (now (settings .exit)) (now (marks .exit)) b) ⌝ }
 {
     let last = n - 1;
     let mut added = false;
     let mut c = next_with(figures, last, from, upto);
     while c < upto {
-        added = added | visit_before(table, behind, figures, settings, marks, m, n, c);
+        added = added | visit_before(table, ways, behind, figures, settings, marks, m, n, c);
         c = next_with(figures, last, c + 1, upto);
     }
     added
@@ -263,7 +290,8 @@ fn has_figure(figures: &[u32], figure: u32, from: u32, upto: u32) -> bool
 // Round n for what is one move before the placement of code c, train by train.
 fn visit_before(
     table: &Table,
-    behind: &SectionsBehind,
+    ways: &Ways,
+    behind: &Ways,
     figures: &mut [u32],
     settings: &mut [u32],
     marks: &mut [u32],
@@ -272,24 +300,52 @@ fn visit_before(
     c: u32,
 ) -> bool
     requires { ⌜ (m ≤ length (now figures)) × (m ≤ length (now settings)) × (c < m) ⌝ }
-    ensures { λ b. ⌜ ((r : Railway) → Behind r (now (behind .entry)) → Round r (now (table .entry)) m n (now (figures .entry)) (now (marks .entry)) → Visited r n (Comes r c (r .trains)) (now (figures .entry)) (now (settings .entry)) (now (figures .exit)) (now (settings .exit)) (now (marks .exit)) b) ⌝ }
+    ensures { λ b. ⌜ ((r : Railway) → Behind r (now (behind .entry)) → Round r (now (table .entry)) (now (ways .entry)) m n (now (figures .entry)) (now (marks .entry)) → Visited r n (Comes r c (r .trains)) (now (figures .entry)) (now (settings .entry)) (now (figures .exit)) (now (settings .exit)) (now (marks .exit)) b) ⌝ }
 {
     let q = moves::placement_of(table, c);
+    let s = compiled::sections_in(table);
     let k = compiled::trains_in(table);
     let mut added = false;
+    let mut stride: u32 = 1;
     let mut t: u8 = 0;
     while t < k {
-        added = added | visit_train(table, behind, figures, settings, marks, m, n, q, c, t);
+        added = added
+            | visit_train(
+                table,
+                ways,
+                behind,
+                figures,
+                settings,
+                marks,
+                m,
+                n,
+                q,
+                c,
+                t,
+                stride,
+            );
+        stride = next_stride(stride, s, t);
         t += 1;
     }
     added
 }
 
-// Round n for what is one move of train t before the placement of code c: the train stands on the section behind, the point between lying at
-// minus or at plus.
+// The stride of the train behind train t, from that of train t, among s sections.
+fn next_stride(stride: u32, s: u8, t: u8) -> u32
+    ensures { λ w. ⌜ (stride ≡ strideOf s t → w ≡ strideOf s (t + 1)) ⌝ }
+{
+    if t < Railway::TRAINS {
+        return ((stride as u64) * (s as u64) % 4294967296) as u32;
+    }
+    stride
+}
+
+// Round n for what is one move of train t before the placement of code c: the train stands on a section behind, one for each way back. Its stride is handed
+// in.
 fn visit_train(
     table: &Table,
-    behind: &SectionsBehind,
+    ways: &Ways,
+    behind: &Ways,
     figures: &mut [u32],
     settings: &mut [u32],
     marks: &mut [u32],
@@ -298,34 +354,31 @@ fn visit_train(
     q: Placement,
     c: u32,
     t: u8,
+    stride: u32,
 ) -> bool
     requires { ⌜ (m ≤ length (now figures)) × (m ≤ length (now settings)) ⌝ }
-    ensures { λ b. ⌜ ((r : Railway) → Behind r (now (behind .entry)) → Round r (now (table .entry)) m n (now (figures .entry)) (now (marks .entry)) → On r c (now (table .entry)) q → c < placements r → t < r .trains → Visited r n (By r c t) (now (figures .entry)) (now (settings .entry)) (now (figures .exit)) (now (settings .exit)) (now (marks .exit)) b) ⌝ }
+    ensures { λ b. ⌜ ((r : Railway) → Behind r (now (behind .entry)) → Round r (now (table .entry)) (now (ways .entry)) m n (now (figures .entry)) (now (marks .entry)) → On r c (now (table .entry)) q → c < placements r → t < r .trains → stride ≡ strideOf (r .sections) t → Visited r n (By r c t) (now (figures .entry)) (now (settings .entry)) (now (figures .exit)) (now (settings .exit)) (now (marks .exit)) b) ⌝ }
 {
     let x = placement::section_at(q, t);
-    let stride = moves::power(compiled::sections_in(table), t);
-    let y = predecessors::section_behind(behind, t, x, false);
-    let z = predecessors::section_behind(behind, t, x, true);
-    let p = moves::code_put(c, stride, x, y);
-    let o = moves::code_put(c, stride, x, z);
-    if waits(figures, m, y, p) {
-        let one = visit(
-            table,
-            figures,
-            settings,
-            marks,
-            moves::put_on(q, t, y),
-            p,
-            n,
-        );
-        return one | visit_other(table, figures, settings, marks, m, n, q, t, y, z, o);
+    let e = predecessors::end_behind(table, t, x);
+    let mut added = false;
+    let mut j: u8 = 0;
+    while j < MOST_WAYS {
+        let y = routes::way_to(behind, e, j);
+        if y == NO_SECTION {
+            return added;
+        }
+        let p = moves::code_put(c, stride, x, y);
+        added = added | visit_put(table, ways, figures, settings, marks, m, n, q, t, y, p);
+        j += 1;
     }
-    visit_other(table, figures, settings, marks, m, n, q, t, y, z, o)
+    added
 }
 
-// Round n for train t on section z, if that is another than y, and the others as in q; p is that placement's code.
-fn visit_other(
+// Round n for train t on section y and the others as in q, if that placement has no figure yet; p is its code.
+fn visit_put(
     table: &Table,
+    ways: &Ways,
     figures: &mut [u32],
     settings: &mut [u32],
     marks: &mut [u32],
@@ -334,22 +387,19 @@ fn visit_other(
     q: Placement,
     t: u8,
     y: u8,
-    z: u8,
     p: u32,
 ) -> bool
     requires { ⌜ (m ≤ length (now figures)) × (m ≤ length (now settings)) ⌝ }
-    ensures { λ b. ⌜ ((r : Railway) (c : ℕ) → Round r (now (table .entry)) m n (now (figures .entry)) (now (marks .entry)) → On r c (now (table .entry)) q → t < r .trains → PutBy r c t z p → Visited r n (Other r c t y z) (now (figures .entry)) (now (settings .entry)) (now (figures .exit)) (now (settings .exit)) (now (marks .exit)) b) ⌝ }
+    ensures { λ b. ⌜ ((r : Railway) (c : ℕ) → Round r (now (table .entry)) (now (ways .entry)) m n (now (figures .entry)) (now (marks .entry)) → On r c (now (table .entry)) q → t < r .trains → y < r .sections → p ≡ codeWith r c t y → Visited r n (One p) (now (figures .entry)) (now (settings .entry)) (now (figures .exit)) (now (settings .exit)) (now (marks .exit)) b) ⌝ }
 {
-    if y == z {
-        return false;
-    }
-    if waits(figures, m, z, p) {
+    if waits(figures, m, p) {
         return visit(
             table,
+            ways,
             figures,
             settings,
             marks,
-            moves::put_on(q, t, z),
+            moves::put_on(q, t, y),
             p,
             n,
         );
@@ -357,14 +407,11 @@ fn visit_other(
     false
 }
 
-// There is a section y, and p is a code that has no figure yet.
-fn waits(figures: &[u32], m: u32, y: u8, p: u32) -> bool
+// Whether p is a code that has no figure yet.
+fn waits(figures: &[u32], m: u32, p: u32) -> bool
     requires { ⌜ m ≤ length (now figures) ⌝ }
-    ensures { λ b. ⌜ Waits (now (figures .entry)) m y p b ⌝ }
+    ensures { λ b. ⌜ Waits (now (figures .entry)) m p b ⌝ }
 {
-    if y == NO_BYTE {
-        return false;
-    }
     if m <= p {
         return false;
     }
@@ -375,6 +422,7 @@ fn waits(figures: &[u32], m: u32, y: u8, p: u32) -> bool
 // Round n at one placement without a figure. Whether it got one; its stretch is then marked.
 fn visit(
     table: &Table,
+    ways: &Ways,
     figures: &mut [u32],
     settings: &mut [u32],
     marks: &mut [u32],
@@ -383,9 +431,9 @@ fn visit(
     n: u32,
 ) -> bool
     requires { ⌜ (p < length (now figures)) × (p < length (now settings)) ⌝ }
-    ensures { λ b. ⌜ ((r : Railway) (m : ℕ) → Round r (now (table .entry)) m n (now (figures .entry)) (now (marks .entry)) → On r p (now (table .entry)) q → p < placements r → figureIn (now (figures .entry)) p ≡ none → Visited r n (One p) (now (figures .entry)) (now (settings .entry)) (now (figures .exit)) (now (settings .exit)) (now (marks .exit)) b) ⌝ }
+    ensures { λ b. ⌜ ((r : Railway) (m : ℕ) → Round r (now (table .entry)) (now (ways .entry)) m n (now (figures .entry)) (now (marks .entry)) → On r p (now (table .entry)) q → p < placements r → figureIn (now (figures .entry)) p ≡ none → Visited r n (One p) (now (figures .entry)) (now (settings .entry)) (now (figures .exit)) (now (settings .exit)) (now (marks .exit)) b) ⌝ }
 {
-    let found = settings::find_in(table, figures, q, p, n);
+    let found = settings::find_in(table, ways, figures, q, p, n);
     let Found::Entry(v) = found else {
         return false;
     };

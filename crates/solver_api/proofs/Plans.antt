@@ -10,7 +10,7 @@ use Rattle.railway.specs.declared.Railway.{Railway}
 use Rattle.railway.specs.declared.CaseAnswer.{CaseAnswer}
 use Rattle.railway.specs.declared.CaseAnswer.the-variants.{Accepted, Refused as CaseRefused}
 use Rattle.railway.specs.declared.Refusal.{Refusal}
-use Rattle.railway.specs.declared.Refusal.the-variants.{Length, Form, Count, Unknown, Join, Loose, Double, Place, Space, PlanForm, PlanFault}
+use Rattle.railway.specs.declared.Refusal.the-variants.{Length, Form, Count, Unknown, Join, Loose, Chain, Double, Place, Space, PlanForm, PlanFault}
 use Rattle.railway.specs.Refusals.{number, numberOf}
 use Rattle.tables.specs.Tables.{caseRefusal}
 use Rattle.plan.specs.declared.PlanPlace.{PlanPlace}
@@ -34,6 +34,7 @@ between Count = (omega arith, omega arith)
 between Unknown = (omega arith, omega arith)
 between Join = (omega arith, omega arith)
 between Loose = (omega arith, omega arith)
+between Chain = (omega arith, omega arith)
 between Double = (omega arith, omega arith)
 between Place = (omega arith, omega arith)
 between Space = (omega arith, omega arith)

@@ -1,4 +1,4 @@
--- What `solve_case` promises, by what reader and solver promise: rows 1 to 8 judge the text, rows 3 to 9 its railway and the tables,
+-- What `solve_case` promises, by what reader and solver promise: the reader's rows judge the text, those of the case its railway and the tables,
 -- and the first that applies is given by its number. Assumes nothing.
 use mathlib.Core.Path.{_≡_}
 use mathlib.Core.List.{List}

@@ -1,4 +1,4 @@
--- What the exported calls for a plan promise, by what reader, emitter and checker promise: rows 1 to 8 judge the case text, and the calls' own rows what
+-- What the exported calls for a plan promise, by what reader, emitter and checker promise: the reader's rows judge the case text, and the calls' own rows what
 -- is lent. A place in the plan and the checker's state are handed over as numbers, of which any may come. Assumes nothing.
 use mathlib.Core.Path.{_≡_}
 use mathlib.Core.Bool.{true, cond}

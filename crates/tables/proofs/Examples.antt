@@ -1,5 +1,5 @@
 -- Small values of the definitions, by computation: which refusal comes first, the bits of an entry, also of several points, figures past
--- the end of a table, the plan's order key by key.
+-- the end of a table, the plan's order key by key, what the search finds where trains can get into each other's way.
 -- Assumes nothing.
 use mathlib.Core.Path.{_≡_, refl}
 use mathlib.Core.Bool.{Bool, true, false}
@@ -8,8 +8,8 @@ use mathlib.Core.Option.{Option, none, some}
 use Prim.Native.Nat.{ℕ}
 use lib.Dec.{eqb}
 use lib.ListN.{replicate}
-use Rattle.laws.specs.Below.{anyBelow, sumBelow, countBelow, listBelow, lowest}
-use Rattle.laws.specs.Bits.{fromBits}
+use Rattle.laws.specs.Below.{allBelow, anyBelow, sumBelow, countBelow, listBelow, lowest}
+use Rattle.laws.specs.Bits.{bit, fromBits}
 use Rattle.railway.specs.declared.Side.the-variants.{Up, Down}
 use Rattle.railway.specs.declared.Leg.the-variants.{Stem, Plus, Minus}
 use Rattle.railway.specs.declared.Railway.{Railway}
@@ -17,15 +17,18 @@ use Rattle.railway.specs.declared.Refusal.the-variants.{Space}
 use Rattle.railway.specs.Ends.{endAt}
 use Rattle.railway.specs.Refusals.{first, numberOf}
 use Rattle.railway.specs.Record.{isClosed, joinedBy, joined, hasSignal, legsOf, trainOf, withJoin, withSignal, withLegs, withTrain}
-use Rattle.railway.specs.Rows.{unknownRow, joinRow, looseRow, placeRow}
+use Rattle.railway.specs.Passing.{follow, passes, entered}
+use Rattle.railway.specs.Rows.{unknownRow, joinRow, looseRow, longer, chainRow, placeRow}
 use Rattle.game.specs.Game.{Outcome, lost, derailment, at as reaches}
+use Rattle.game.specs.Local.{keepsTest}
 use Rattle.game.specs.Placement.{codeOf, sectionsIn, standsOn}
-use Rattle.game.specs.Setting.{Setting, headsFor, held, signalOpen}
-use Rattle.game.specs.Moves.{entered, passes, occupied, moveOf}
+use Rattle.game.specs.Setting.{Setting, headsFor, held, free, signalOpen, mayMove}
+use Rattle.game.specs.Moves.{occupied, moveOf}
 use Rattle.railway.specs.Yards.{yardH, lineP, lineJ, lineG, lineT, sec, port, yardA, headOn}
 use Rattle.tables.specs.declared.SolverAnswer.the-variants.{Refused, Unsolvable, Figure}
 use Rattle.tables.specs.Entries.{settingAt, entryFrom, entryOf}
-use Rattle.tables.specs.Tables.{figureIn, tablesShort, caseRefusal, openSignals, lowestOpen, pointBits, noLater}
+use Rattle.tables.specs.Tables.{noFigure, figureIn, tablesShort, caseRefusal, openSignals, lowestOpen, pointBits, noLater}
+use Rattle.tables.specs.Find.{entryKeeps, endsGood, isGood, tryOpen, firstFound, find}
 use Rattle.tables.specs.Solver.{numberGiven, figureGiven}
 use Rattle.tables.specs.Rounds.{upTo}
 
@@ -48,7 +51,7 @@ refusals :
     × (numberGiven Unsolvable ≡ none)
     × (figureGiven (Figure 2) ≡ some 2)
     × (figureGiven Unsolvable ≡ none)
-unfolding caseRefusal tablesShort first unknownRow joinRow looseRow placeRow endAt joinedBy joined hasSignal legsOf trainOf withJoin withSignal withLegs withTrain anyBelow isClosed
+unfolding caseRefusal tablesShort first unknownRow joinRow looseRow chainRow longer placeRow endAt joinedBy joined hasSignal legsOf trainOf withJoin withSignal withLegs withTrain anyBelow isClosed
 refusals = (refl, refl, refl, refl, refl, refl, refl, refl, refl, refl)
 
 -- ENTRIES AND FIGURES. In Yard A's placement of code 1 train 1 is held and train 2 parked, in that of code 7 train 2 is free; head on, in
@@ -152,5 +155,48 @@ several-points :
     × (moved 6 0 ≡ reaches 44)
     × (moved 3 1 ≡ reaches 14)
     × (moved 4 1 ≡ lost derailment)
-unfolding settingAt entryFrom signalOpen held headsFor standsOn sectionsIn codeOf moveOf passes occupied entered isClosed caseRefusal tablesShort first unknownRow joinRow looseRow placeRow endAt joinedBy joined hasSignal legsOf trainOf withJoin withSignal withLegs withTrain anyBelow sumBelow listBelow fromBits
+unfolding settingAt entryFrom signalOpen held headsFor standsOn sectionsIn codeOf moveOf passes follow occupied entered isClosed caseRefusal tablesShort first unknownRow joinRow looseRow chainRow longer placeRow endAt joinedBy joined hasSignal legsOf trainOf withJoin withSignal withLegs withTrain anyBelow sumBelow listBelow fromBits
 several-points = (refl, refl, refl, refl, refl, refl, refl, refl, refl, refl, refl, refl, refl, refl, refl)
+
+-- POINTS JOINED TO POINTS. A single line with a loop: sections 1 and 2 lead to point 1, which is joined to point 2; from there the line goes to
+-- point 3 and on to section 4, and the loop by section 3. Train 1 is to go up from 1 to 4 and train 2 down from 4 to 2; signals at both ends of 3 hold
+-- whoever is there. The start has code 12. LoopYard has the proof that these are its tables.
+abbrev pub loopYard : Railway
+loopYard =
+    lineT 2 Down 4 2
+    (lineT 1 Up 1 4
+    (lineG (sec 3 Up)
+    (lineG (sec 3 Down)
+    (lineJ (port 2 Minus) (port 3 Minus)
+    (lineJ (port 1 Stem) (port 2 Stem)
+    (lineJ (sec 4 Down) (port 3 Stem)
+    (lineJ (sec 3 Up) (port 3 Plus)
+    (lineJ (sec 3 Down) (port 2 Plus)
+    (lineJ (sec 2 Up) (port 1 Minus)
+    (lineJ (sec 1 Up) (port 1 Plus)
+    (lineP 3 Down (lineP 2 Up (lineP 1 Down (yardH 4 3 2))))))))))))))
+
+abbrev N : ℕ
+N = noFigure
+
+abbrev pub figsLoop : List ℕ
+figsLoop = N ∷ N ∷ N ∷ N ∷ 1 ∷ N ∷ 1 ∷ 0 ∷ 2 ∷ 2 ∷ N ∷ 1 ∷ 3 ∷ 3 ∷ 2 ∷ N ∷ []
+
+abbrev pub setsLoop : List ℕ
+setsLoop = 0 ∷ 0 ∷ 0 ∷ 0 ∷ 1 ∷ 0 ∷ 65540 ∷ 0 ∷ 1 ∷ 0 ∷ 0 ∷ 131074 ∷ 7 ∷ 6 ∷ 0 ∷ 0 ∷ []
+
+-- the smallest point bits that are good for train t at the start, whatever the other train does
+abbrev alone : ℕ → Option ℕ
+alone t = lowest (λ b. isGood (endsGood loopYard (figureIn figsLoop) 12 3 t) (entered loopYard (bit b) (headsFor loopYard 12 t))) 8
+
+together :
+    (given loopYard 16 16 ≡ none)
+    -- alone, train 1 wants points 1 and 2 at plus, for the loop, and train 2 none, for section 2; but with points 1 and 2 at plus train 2 derails
+    × (alone 0 ≡ some 3)
+    × (alone 1 ≡ some 0)
+    × (entryKeeps loopYard (figureIn figsLoop) 12 3 3 ≡ false)
+    -- together, they want point 3 at plus too: then train 2 goes into the loop
+    × (find loopYard (figureIn figsLoop) 12 3 ≡ some 7)
+    × (find loopYard (figureIn figsLoop) 12 2 ≡ none)
+unfolding find firstFound tryOpen keepsTest settingAt entryFrom mayMove free held signalOpen headsFor standsOn sectionsIn codeOf moveOf passes follow occupied entered isClosed caseRefusal tablesShort first unknownRow joinRow looseRow chainRow longer placeRow endAt joinedBy joined hasSignal legsOf trainOf withJoin withSignal withLegs withTrain allBelow anyBelow sumBelow lowest fromBits
+together = (refl, refl, refl, refl, refl, refl)

@@ -7,10 +7,11 @@ pub mod Best
 pub mod Plays
 pub mod Carry
 pub mod Unique
-pub mod Points
+pub mod Moving
 pub mod Exact
 pub mod Certify
 pub mod KnownYards
+pub mod LoopYard
 pub mod Refusals
 pub mod Examples
 pub mod Exists

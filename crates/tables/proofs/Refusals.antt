@@ -28,7 +28,7 @@ module _ (r : Railway) (figs sets : List ℕ) where
   unfolding caseRefusal recordRefusal first
   case-rows = first-append (recordRows r) (row Space (tablesShort r figs sets) ∷ [])
 
-  -- rows 3 to 9, else further ones
+  -- the rows of the case, else further ones
   pub case-then : (rest : List Row) → first (caseRows r figs sets ++ rest) ≡ orElse (caseRefusal r figs sets) (first rest)
   unfolding caseRefusal
   case-then rest = first-append (caseRows r figs sets) rest

@@ -1,5 +1,5 @@
 -- What a solver promises: the meaning of its answer, and what it leaves in the two lent tables, for every record and all tables (document
--- 01, rows 3 to 9 and what stands under the table of numbers; "The two tables and the plan"). Assumes nothing.
+-- 01, the numbers that judge a record, then 9, and what stands under their table; "The two tables and the plan"). Assumes nothing.
 use mathlib.Core.Path.{_≡_}
 use mathlib.Core.List.{List}
 use mathlib.Core.Option.{Option, none, some}
@@ -41,7 +41,7 @@ abbrev pub SolverLeaves : Railway → SolverAnswer → List ℕ → List ℕ →
 SolverLeaves r a figs sets figs′ sets′ (some f) = (figs′ ≡ figs) × (sets′ ≡ sets)
 SolverLeaves r a figs sets figs′ sets′ none = SolverTables r figs sets figs′ sets′ × (figureGiven a ≡ figureIn figs′ (startCode r))
 
--- The solver's promise: it refuses with the first of rows 3 to 9 that applies, by its number, and only then.
+-- The solver's promise: it refuses with the first of the case's rows that applies, by its number, and only then.
 pub record SolverPost (r : Railway) (a : SolverAnswer) (figs sets figs′ sets′ : List ℕ) : Type 0 where
   pub numbered : numberGiven a ≡ numberOf (caseRefusal r figs sets)
   pub leaves : SolverLeaves r a figs sets figs′ sets′ (caseRefusal r figs sets)

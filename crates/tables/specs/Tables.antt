@@ -44,7 +44,7 @@ settingIn r sets p = settingAt r p (getD sets p 0)
 unfoldable pub tablesShort : Railway → List ℕ → List ℕ → Bool
 tablesShort r figs sets = ltb (length figs) (placements r) || ltb (length sets) (placements r)
 
--- Rows 3 to 9, for a record and two lent tables.
+-- The rows of a case, which is a record and two lent tables: those of the record, then 9.
 abbrev pub caseRows : Railway → List ℕ → List ℕ → List Row
 caseRows r figs sets = recordRows r ++ (row Space (tablesShort r figs sets) ∷ [])
 

@@ -31,7 +31,7 @@ abbrev pub VerdictHolds : Type 0
 VerdictHolds =
     (r : Railway) → recordRefusal r ≡ none → placements r ≤ entries → (plan : List ℕ) (a : TestAnswer) → PlanPost r plan a → ByPlan r (linesOf plan) a
 
--- Any other refusal is given exactly if it is the first of rows 3 to 9 that applies to the railway, whatever the text.
+-- Any other refusal is given exactly if it is the first of the case's rows that applies to the railway, whatever the text.
 abbrev pub CaseHolds : Type 0
 CaseHolds =
     (r : Railway) (plan : List ℕ) (a : TestAnswer) → PlanPost r plan a

@@ -52,7 +52,7 @@ abbrev pub isLeft : List ℕ → Bool
 isLeft [] = false
 isLeft (b ∷ bs) = true
 
--- Its rows: 3 to 9 for the case, 10 if bytes are left that were not taken or no line was, and 11 for the plan.
+-- Its rows: those of the case, 10 if bytes are left that were not taken or no line was, and 11 for the plan.
 abbrev pub endRows : Railway → Checking → List ℕ → List Row
 endRows r c rest = caseRows r (c .figs) (c .sets) ++ (row PlanForm (isLeft rest || nothingTaken (c .state)) ∷ row PlanFault (planFails r c (c .state)) ∷ [])
 

@@ -35,7 +35,7 @@ checkLines r (l ∷ ls) c = afterLine (takeLine r c l .answer) (takeLine r c l .
 abbrev pub planOutOfForm : LineCalls → Bool
 planOutOfForm u = not (all isTaken (u .answers)) || nothingTaken (u .end .state)
 
--- The rows of a check, handed c, by what the calls for all lines answer and leave: 3 to 9 for the case, then 10 and 11 for the plan.
+-- The rows of a check, handed c, by what the calls for all lines answer and leave: those of the case, then 10 and 11 for the plan.
 abbrev pub rowsBy : Railway → Checking → LineCalls → List Row
 rowsBy r c u = caseRows r (c .figs) (c .sets) ++ (row PlanForm (planOutOfForm u) ∷ row PlanFault (planFails r (u .end) (u .end .state)) ∷ [])
 
@@ -43,7 +43,7 @@ rowsBy r c u = caseRows r (c .figs) (c .sets) ++ (row PlanForm (planOutOfForm u)
 abbrev pub fresh : Checking
 fresh = freshChecking entries entries
 
--- The first of rows 3 to 9 that applies to a railway with these tables.
+-- The first row of a case that applies to a railway with these tables.
 abbrev pub checkRefusal : Railway → Option Refusal
 checkRefusal r = caseRefusal r (fresh .figs) (fresh .sets)
 

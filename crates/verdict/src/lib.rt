@@ -105,7 +105,7 @@ pub fn finish(
     tested.answer
 }
 
-// Rows 3 to 9, and then the plan's form.
+// The rows of the case, and then the plan's form.
 fn not_taken(r: Railway, figures: &[u32], settings: &[u32]) -> TestAnswer
     ensures { λ a. ⌜ a ≡ formRefused (caseRefusal r (now (figures .entry)) (now (settings .entry))) ⌝ }
 {

@@ -80,6 +80,28 @@ fn long_line() -> Railway {
         .with_train(0, train(Side::Up, 9, 11))
 }
 
+// Two tracks and a crossover, its joins added last to first.
+fn crossover() -> Railway {
+    let crossed = counts(4, 2, 1)
+        .with_legs(PointNo(1), Side::Down)
+        .with_join(port(1, Leg::Minus), port(0, Leg::Minus))
+        .with_join(port(1, Leg::Stem), down(3))
+        .with_join(port(1, Leg::Plus), up(2));
+    crossed
+        .with_join(port(0, Leg::Plus), down(1))
+        .with_join(port(0, Leg::Stem), up(0))
+        .with_train(0, train(Side::Up, 0, 3))
+}
+
+// Two points that lead to each other.
+fn round() -> Railway {
+    counts(2, 2, 1)
+        .with_join(port(0, Leg::Plus), port(1, Leg::Stem))
+        .with_join(port(1, Leg::Plus), port(0, Leg::Stem))
+        .with_join(port(0, Leg::Minus), down(0))
+        .with_join(port(1, Leg::Minus), down(1))
+}
+
 fn room_to_spare() {
     let mut buffer: [u8; 72] = [b'#'; 72];
     let answer = writer::write_case(yard(), &mut buffer);
@@ -98,6 +120,12 @@ fn a_byte_short() {
     show(b"yard A, a byte short", answer, &buffer);
 }
 
+fn crossed() {
+    let mut buffer: [u8; 72] = [b'#'; 72];
+    let answer = writer::write_case(crossover(), &mut buffer);
+    show(b"a crossover", answer, &buffer);
+}
+
 fn in_sixty(label: &[u8], r: Railway) {
     let mut buffer: [u8; 60] = [b'#'; 60];
     let answer = writer::write_case(r, &mut buffer);
@@ -108,8 +136,10 @@ fn main() {
     room_to_spare();
     just_room();
     a_byte_short();
+    crossed();
     in_sixty(b"one section", counts(1, 0, 1));
     in_sixty(b"twelve sections", long_line());
     in_sixty(b"nothing", Railway::empty());
+    in_sixty(b"a round", round());
     in_sixty(b"a loose port, and little room", counts(3, 16, 1));
 }

@@ -1,5 +1,5 @@
 -- The lines of a case file as code writes them: each line is its fields, with the byte behind each, one behind the other; and a piece of a part is
--- the line that stands for a point, a section end a section or a train, or nothing.
+-- the line that stands for a point, an end, a section or a train, or nothing.
 -- Assumes nothing.
 use Prim.Native.Nat.{ℕ, suc, _+_, _<_, _≤_}
 use mathlib.Core.Path.{_≡_}
@@ -67,7 +67,7 @@ module _ {o o₁ o₂ : List ℕ} {a a₁ a₂ : ℕ} where
       (line-more (b ∷ []) from (to ∷ []) y
       (line-more from to [] z (line-last to w)))))
 
--- A SECTION END among the J lines
+-- AN END among the J lines
 pub join-none : (i : ℕ) (j : Joined) {o : List ℕ} {a : ℕ} → j ≡ Nothing → Appended o a (joinPiece i j) o a
 join-none i j {o} {a} e = rw e (append-none o a)
 

@@ -1,5 +1,5 @@
 -- The pieces of each part, one behind the other, make the writer's text. Rising lines and lines for each element are pieces by induction on the
--- count; a section end's join and signal, asked by the end, are those at its index, and so with a closed section.
+-- count; an end's join and signal, asked by the end, are those at its index, and so with a closed section.
 -- Assumes nothing.
 use Prim.Native.Nat.{ℕ, zero, suc, _+_, _<_}
 use mathlib.Core.Path.{_≡_, refl, sym, _∙_}
@@ -13,7 +13,7 @@ use Rattle.laws.proofs.Below.{list-length, gather-same}
 use Rattle.railway.specs.declared.Joined.{Joined}
 use Rattle.railway.specs.declared.Joined.the-variants.{Nothing, With}
 use Rattle.railway.specs.declared.Railway.{Railway}
-use Rattle.railway.specs.Bounds.{mostSections, sectionEnds}
+use Rattle.railway.specs.Bounds.{mostSections, sectionEnds, allEnds}
 use Rattle.railway.specs.Ends.{endIndex, endAt}
 use Rattle.railway.specs.Record.{linkAt, flagAt, closedAt, legsOf, trainOf}
 use Rattle.railway.proofs.Ends.{end-section, index-end}
@@ -55,16 +55,16 @@ module _ {A : Type 0} (f : A → List ℕ) where
   each-one true x = append-nil (f x)
   each-one false x = refl
 
--- A SECTION END'S pieces
+-- AN END'S pieces
 join-from : (i : ℕ) (j : Joined) → flatMap joinLine (joinFrom i j) ≡ joinPiece i j
 unfolding flatMap
 join-from i Nothing = refl
 join-from i (With f) = each-one joinLine (ltb i (endIndex f)) _
 
 module _ (r : Railway) where
-  join-piece : (i : ℕ) → i < sectionEnds → flatMap joinLine (joinAt r i) ≡ pieceOf r Joins i
+  join-piece : (i : ℕ) → i < allEnds → flatMap joinLine (joinAt r i) ≡ pieceOf r Joins i
   join-piece i h =
-      rw (← joined-there r (endAt i) i (sym (index-end i (omega arith))) (omega arith)) (join-from i (linkAt r i))
+      rw (← joined-there r (endAt i) i (sym (index-end i h)) h) (join-from i (linkAt r i))
 
   signal-piece : (i : ℕ) → i < sectionEnds → flatMap signalLine (signalAt r i) ≡ pieceOf r Signals i
   signal-piece i h =
@@ -77,14 +77,14 @@ module _ (r : Railway) where
   pub text-pieces : writtenText r
       ≡ headerText (r .sections) (r .points) (r .trains)
       ++ (gatherBelow (pieceOf r Points) (r .points)
-      ++ (gatherBelow (pieceOf r Joins) sectionEnds
+      ++ (gatherBelow (pieceOf r Joins) allEnds
       ++ (gatherBelow (pieceOf r Signals) sectionEnds
       ++ (gatherBelow (pieceOf r Closed) mostSections
       ++ gatherBelow (pieceOf r Trains) (r .trains)))))
   unfolding writtenText spell descriptionOf
   text-pieces =
       let p = rising-pieces pointLine (legsOf r) (r .points) in
-      let j = each-pieces joinLine (joinAt r) sectionEnds ∙ gather-same _ (pieceOf r Joins) sectionEnds join-piece in
+      let j = each-pieces joinLine (joinAt r) allEnds ∙ gather-same _ (pieceOf r Joins) allEnds join-piece in
       let g = each-pieces signalLine (signalAt r) sectionEnds ∙ gather-same _ (pieceOf r Signals) sectionEnds signal-piece in
       let x = each-pieces closedLine (closedLineOf r) mostSections ∙ gather-same _ (pieceOf r Closed) mostSections closed-piece in
       let t = rising-pieces trainLine (λ t. lineOfTrain (trainOf r t)) (r .trains) in

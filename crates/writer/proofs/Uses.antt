@@ -9,15 +9,18 @@ use Prim.Native.Nat.{ℕ, _≤_}
 use native.Mathlib.Omega.{arith}
 use lib.ListN.{length, take, drop, replicate, length-replicate}
 use Rattle.text.specs.Text.{bytes}
+use Rattle.railway.specs.declared.Leg.the-variants.{Minus}
+use Rattle.railway.specs.declared.Joined.the-variants.{With}
 use Rattle.railway.specs.declared.Railway.{Railway}
-use Rattle.railway.specs.Record.{flagAt, closedAt, withJoin, withSignal, withClosed, withLegs, withTrain}
-use Rattle.railway.specs.Yards.{yardA}
+use Rattle.railway.specs.Ends.{endAt}
+use Rattle.railway.specs.Record.{joinedBy, linkAt, flagAt, closedAt, withJoin, withSignal, withClosed, withLegs, withTrain}
+use Rattle.railway.specs.Yards.{port, yardA}
 use Rattle.casefile.specs.declared.Written.{Written}
 use Rattle.casefile.specs.Form.{Description}
 use Rattle.casefile.specs.Writing.{writtenText, writtenNumber, writtenCount, WriterPost}
 use Rattle.casefile.specs.YardTexts.{textA}
 use Rattle.casefile.proofs.RoundTrip.{same-text}
-use Rattle.casefile.proofs.Uses.{says-a-only, written-a, shut, written-shut}
+use Rattle.casefile.proofs.Uses.{says-a-only, written-a, shut, written-shut, crossing, written-crossing}
 use Rattle.writer.specs.Claims.{ReadBack}
 use Rattle.writer.proofs.Claims.{room-enough, bytes-read-back, refused-keeps}
 
@@ -64,6 +67,20 @@ unfolding withJoin withClosed withTrain
 closed-read w after p =
     let b = bytes-read-back shut (replicate 4096 7) w after p 34 (shut-written w after p) in
     (sym (b .same .closed 2 (omega arith)), sym (b .same .closed 1 (omega arith)))
+
+-- POINTS JOINED TO POINTS. Of the crossover 70 bytes are written; what is read back of them has 1- joined to 2-.
+pub crossing-written : (w : Written) (after : List ℕ) → WriterPost crossing (replicate 4096 7) w after → writtenCount w ≡ some 70
+unfolding bytes
+crossing-written w after p =
+    let l = length-replicate {A = ℕ} 4096 7 in
+    room-enough crossing (replicate 4096 7) w after p (written-crossing .1) (omega (arith, l)) ∙ ap (λ (s : List ℕ). some (length s)) (written-crossing .0)
+
+inner-read : (w : Written) (after : List ℕ) (p : WriterPost crossing (replicate 4096 7) w after)
+    → let b = bytes-read-back crossing (replicate 4096 7) w after p 70 (crossing-written w after p) in linkAt (b .railway) 98 ≡ With (port 2 Minus)
+unfolding joinedBy endAt withJoin withLegs withTrain
+inner-read w after p =
+    let b = bytes-read-back crossing (replicate 4096 7) w after p 70 (crossing-written w after p) in
+    sym (b .same .joins 98 (omega arith))
 
 -- Never are more bytes answered than a case text may have, or than the buffer has.
 no-more : (r : Railway) (buffer : List ℕ) (w : Written) (after : List ℕ) → WriterPost r buffer w after → (n : ℕ) → writtenCount w ≡ some n

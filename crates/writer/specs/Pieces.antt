@@ -1,4 +1,4 @@
--- The text of a case file piece by piece, as code writes it: a piece for each point, section end, section or train. Contracts cite this file; nothing of
+-- The text of a case file piece by piece, as code writes it: a piece for each point, end, section or train. Contracts cite this file; nothing of
 -- document 01 rests on it, and proofs/Pieces ties it to the writer's text. Assumes nothing.
 use mathlib.Core.Bool.{Bool, cond}
 use mathlib.Core.List.{List, [], _∷_}
@@ -20,7 +20,7 @@ use Rattle.writer.specs.declared.Part.the-variants.{Points, Joins, Signa
 abbrev pub headerText : ℕ → ℕ → ℕ → List ℕ
 headerText s p k = line ((byte "H" ∷ []) ∷ decimal s ∷ decimal p ∷ decimal k ∷ [])
 
--- What stands for a section end among the J lines, given what it is joined to.
+-- What stands for an end among the J lines, given what it is joined to.
 abbrev pub joinPiece : ℕ → Joined → List ℕ
 joinPiece i Nothing = []
 joinPiece i (With f) = cond (ltb i (endIndex f)) (joinLine (record { one = fieldOf (endAt i); other = fieldOf f })) []

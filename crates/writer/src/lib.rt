@@ -32,7 +32,7 @@ enum Part {
     Trains,
 }
 
-// Any record, any buffer: the text's length, with the text in front of the buffer; or the first of rows 3 to 9 that applies.
+// Any record, any buffer: the text's length, with the text in front of the buffer; or the first of the record's rows and row 9 that applies.
 pub fn write_case(r: Railway, buffer: &mut [u8]) -> Written
     ensures { λ w. ⌜ WriterPost r (now (buffer .entry)) w (now (buffer .exit)) ⌝ }
 {
@@ -56,13 +56,13 @@ fn put_text(out: &mut [u8], r: Railway) -> usize
 {
     let a = put_header(out, 0, r.sections, r.points, r.trains);
     let b = put_part(out, a, r, Part::Points, r.points);
-    let c = put_part(out, b, r, Part::Joins, Railway::SECTION_ENDS);
+    let c = put_part(out, b, r, Part::Joins, Railway::ENDS);
     let d = put_part(out, c, r, Part::Signals, Railway::SECTION_ENDS);
     let e = put_part(out, d, r, Part::Closed, Railway::SECTIONS);
     put_part(out, e, r, Part::Trains, r.trains)
 }
 
-// A part: what stands for each of the first n points, section ends, sections or trains.
+// A part: what stands for each of the first n points, ends, sections or trains.
 fn put_part(out: &mut [u8], at: usize, r: Railway, part: Part, n: u8) -> usize
     ensures { λ x. ⌜ Appended (now (out .entry)) at (gatherBelow (pieceOf r part) n) (now (out .exit)) x ⌝ }
 {
@@ -106,7 +106,7 @@ fn put_point(out: &mut [u8], at: usize, i: u8, legs: Side) -> usize
     append::two(out, b, side_byte(legs), LINE_END)
 }
 
-// The J line that begins with a section end, if the other end comes later.
+// The J line that begins with an end, if the other end comes later.
 fn put_join(out: &mut [u8], at: usize, i: u8, j: Joined) -> usize
     ensures { λ x. ⌜ Appended (now (out .entry)) at (joinPiece i j) (now (out .exit)) x ⌝ }
 {

@@ -1,4 +1,5 @@
--- `acceptance::look` meets its contract. The loop's invariant: it has noted what rows 4 and 5 find before i.
+-- `acceptance::look` meets its contract. The loop's invariant: it has noted what rows 4 and 5 find before i. A join that has been met from its other end
+-- tells nothing new.
 -- Assumes nothing.
 use borrow.Author.Needs.{needs}
 use native.Mathlib.Omega.{arith}
@@ -6,18 +7,33 @@ use Prim.Native.Nat.{_-_, _≤_}
 use Rattle.railway.specs.declared.Railway.{Railway}
 use Rattle.railway.specs.Bounds.{allEnds}
 use Rattle.acceptance.specs.Answers.{Lent, Looked}
-use Rattle.acceptance.proofs.Bytes.{looked-none, looked-next, looked-all}
+use Rattle.acceptance.proofs.Bytes.{looked-none, looked-again, looked-next, looked-all}
 use Rattle.acceptance.proofs.look.Statement.{statement}
 use Rattle.acceptance.proofs.look.Tie as tie
 
 abbrev Inv-loop : tie.InvT-loop
-Inv-loop links sides s p unknown₀ wrong₀ unreturned₀ i₀ unknown wrong unreturned i = (i ≤ allEnds) × ((r : Railway) → Lent r links sides s p → Looked r i unknown wrong unreturned)
+Inv-loop links sides ends ports unknown₀ wrong₀ unreturned₀ i₀ unknown wrong unreturned i = (i ≤ allEnds) × ((r : Railway) → Lent r links sides ends ports → Looked r i unknown wrong unreturned)
 
 abbrev μ-loop : tie.MeasureT-loop
-μ-loop links sides s p unknown₀ wrong₀ unreturned₀ i₀ unknown wrong unreturned i = allEnds - i
+μ-loop links sides ends ports unknown₀ wrong₀ unreturned₀ i₀ unknown wrong unreturned i = allEnds - i
 
 loop-holds : tie.Need-loop-holds Inv-loop μ-loop
 loop-holds c = (omega arith, λ r h. looked-none r)
+
+is-seen-requires : tie.Need-is-seen-requires Inv-loop μ-loop
+is-seen-requires c κs = search needs
+
+add-i : tie.Need-add-i Inv-loop μ-loop
+add-i c = omega arith
+
+loop-less : tie.Need-loop-less Inv-loop μ-loop
+loop-less c = omega arith
+
+loop-again : tie.Need-loop-again Inv-loop μ-loop
+loop-again c =
+    let d = c .before in
+    let t = d .before in
+    (omega arith, λ r h. looked-again r _ _ _ _ _ (t .before .loop .inv .1 r h) (t .loop-test .taken) (d .is-seen .ensures r (h .linked)) (c .if1 .taken))
 
 unknown-link-requires : tie.Need-unknown-link-requires Inv-loop μ-loop
 unknown-link-requires c κs = search needs
@@ -28,17 +44,17 @@ wrong-link-requires c κs = search needs
 is-unreturned-requires : tie.Need-is-unreturned-requires Inv-loop μ-loop
 is-unreturned-requires c κs = search needs
 
-add-i : tie.Need-add-i Inv-loop μ-loop
-add-i c = omega arith
+add-i-2 : tie.Need-add-i-2 Inv-loop μ-loop
+add-i-2 c = omega arith
 
-loop-less : tie.Need-loop-less Inv-loop μ-loop
-loop-less c = omega arith
+loop-less-2 : tie.Need-loop-less-2 Inv-loop μ-loop
+loop-less-2 c = omega arith
 
-loop-again : tie.Need-loop-again Inv-loop μ-loop
-loop-again c =
+loop-again-2 : tie.Need-loop-again-2 Inv-loop μ-loop
+loop-again-2 c =
     let w = c .before in
     let u = w .before in
-    let l = u .before .before in (
+    let l = u .before .before .before .before in (
       omega arith,
       λ r h.
           looked-next r _ _ _ _ _ _ _ (l .loop .inv .1 r h) (u .unknown-link .ensures r (h .linked) (h .counts)) (w .wrong-link .ensures r (h .linked) (h .sided)) (c .is-unreturned .ensures r (h .linked)),
@@ -48,4 +64,20 @@ returns : tie.Need-returns Inv-loop μ-loop
 returns c = λ r h. let l = c .before in looked-all r _ _ _ _ (l .loop .inv .1 r h) (l .loop .inv .0) (c .loop-test .left)
 
 pub look-spec : {M : Type 1} → statement M
-look-spec = tie.close (tie.spec Inv-loop μ-loop loop-holds unknown-link-requires wrong-link-requires is-unreturned-requires add-i loop-less loop-again returns)
+look-spec =
+    tie.close
+    (tie.spec
+    Inv-loop
+    μ-loop
+    loop-holds
+    is-seen-requires
+    add-i
+    loop-less
+    loop-again
+    unknown-link-requires
+    wrong-link-requires
+    is-unreturned-requires
+    add-i-2
+    loop-less-2
+    loop-again-2
+    returns)

@@ -1,27 +1,68 @@
--- `acceptance::shut_out` meets its contract: the start first, then the destination.
+-- `acceptance::shut_out` meets its contract. The loop's invariant: it has noted whether some train before t starts or ends on a closed section.
 -- Assumes nothing.
 use borrow.Author.Needs.{needs}
-use mathlib.Core.Path.{sym, _∙_}
-use Rattle.acceptance.proofs.Testing.{shut-start, shut-end}
+use native.Mathlib.Omega.{arith}
+use mathlib.Core.Path.{_≡_, refl}
+use Prim.Native.Nat.{_-_, _≤_}
+use Rattle.laws.specs.Below.{anyBelow}
+use Rattle.railway.specs.declared.Railway.{Railway}
+use Rattle.railway.specs.Lent.{ClosedOf}
+use Rattle.railway.specs.Rows.{shutOutAt}
+use Rattle.acceptance.specs.Answers.{RosterOf}
+use Rattle.acceptance.proofs.Bytes.{noted-next, noted-all}
+use Rattle.acceptance.proofs.Testing.{shut-at}
 use Rattle.acceptance.proofs.shut_out.Statement.{statement}
 use Rattle.acceptance.proofs.shut_out.Tie as tie
 
-train-of-requires : tie.Need-train-of-requires
-train-of-requires c κs = search needs
+abbrev Inv-loop : tie.InvT-loop
+Inv-loop closed k roster found₀ t₀ found t = (t ≤ k) × ((r : Railway) → RosterOf r roster k → ClosedOf r closed → found ≡ anyBelow (shutOutAt r) t)
 
-closed-at-requires : tie.Need-closed-at-requires
-closed-at-requires c κs = search needs
+abbrev μ-loop : tie.MeasureT-loop
+μ-loop closed k roster found₀ t₀ found t = k - t
 
-closed-at-requires-2 : tie.Need-closed-at-requires-2
-closed-at-requires-2 c κs = search needs
+loop-holds : tie.Need-loop-holds Inv-loop μ-loop
+unfolding anyBelow
+loop-holds c = (omega arith, λ r h e. refl)
 
-returns : tie.Need-returns
-returns c = shut-start _ _ _ (c .before .before .train-of .ensures) (sym (c .before .closed-at .ensures) ∙ c .if1 .taken)
+cast-at : tie.Need-cast-at Inv-loop μ-loop
+cast-at c = search needs
 
-returns-2 : tie.Need-returns-2
-returns-2 c = shut-end _ _ _ (c .before .before .before .train-of .ensures) (sym (c .before .before .closed-at .ensures) ∙ c .before .if1 .left) _ (c .closed-at2 .ensures)
+mul-is-shut : tie.Need-mul-is-shut Inv-loop μ-loop
+mul-is-shut c = omega arith
+
+array-copy-out-is-shut : tie.Need-array-copy-out-is-shut Inv-loop μ-loop
+array-copy-out-is-shut c = omega arith
+
+is-shut-requires : tie.Need-is-shut-requires Inv-loop μ-loop
+is-shut-requires c κs = search needs
+
+add-t : tie.Need-add-t Inv-loop μ-loop
+add-t c = omega arith
+
+loop-less : tie.Need-loop-less Inv-loop μ-loop
+loop-less c = omega arith
+
+loop-again : tie.Need-loop-again Inv-loop μ-loop
+loop-again c =
+    let i = c .before .before in
+    let l = i .before in
+    (omega arith, λ r h e. noted-next (shutOutAt r) _ _ (l .loop .inv .1 r h e) _ (shut-at r _ _ h _ _ (i .loop-test .taken) (c .is-shut .ensures r e)))
+
+returns : tie.Need-returns Inv-loop μ-loop
+returns c = λ r h e. let l = c .before in noted-all (shutOutAt r) _ _ (l .loop .inv .1 r h e) _ (l .loop .inv .0) (c .loop-test .left)
 
 pub shut-out-spec : {M : Type 1} → statement M
 shut-out-spec =
     tie.close
-    (tie.spec train-of-requires closed-at-requires closed-at-requires-2 returns returns-2)
+    (tie.spec
+    Inv-loop
+    μ-loop
+    loop-holds
+    cast-at
+    mul-is-shut
+    array-copy-out-is-shut
+    is-shut-requires
+    add-t
+    loop-less
+    loop-again
+    returns)

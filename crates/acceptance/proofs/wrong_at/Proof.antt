@@ -1,15 +1,15 @@
--- `acceptance::wrong_at` meets its contract: two ports and two ends of one section first, then sides.
+-- `acceptance::wrong_at` meets its contract: ends of one section or of one point first, then sides.
 -- Assumes nothing.
 use borrow.Author.Needs.{needs}
 use Rattle.acceptance.proofs.Bytes.{pair-wrong, pair-sides}
 use Rattle.acceptance.proofs.wrong_at.Statement.{statement}
 use Rattle.acceptance.proofs.wrong_at.Tie as tie
 
-ports-or-one-requires : tie.Need-ports-or-one-requires
-ports-or-one-requires c κs = search needs
+one-owner-at-requires : tie.Need-one-owner-at-requires
+one-owner-at-requires c κs = search needs
 
 returns : tie.Need-returns
-returns c = λ r h. pair-wrong r _ _ _ (c .before .ports-or-one .ensures) (c .if1 .taken)
+returns c = λ r h. pair-wrong r _ _ _ (c .before .one-owner-at .ensures) (c .if1 .taken)
 
 side-in-requires : tie.Need-side-in-requires
 side-in-requires c κs = search needs
@@ -18,7 +18,7 @@ side-in-requires-2 : tie.Need-side-in-requires-2
 side-in-requires-2 c κs = search needs
 
 returns-2 : tie.Need-returns-2
-returns-2 c = λ r h. let e = c .before .before in pair-sides r _ _ _ (e .before .ports-or-one .ensures) (e .if1 .left) _ _ (c .before .side-in .ensures r h) (c .side-in2 .ensures r h)
+returns-2 c = λ r h. let e = c .before .before in pair-sides r _ _ _ (e .before .one-owner-at .ensures) (e .if1 .left) _ _ (c .before .side-in .ensures r h) (c .side-in2 .ensures r h)
 
 pub wrong-at-spec : {M : Type 1} → statement M
-wrong-at-spec = tie.close (tie.spec ports-or-one-requires returns side-in-requires side-in-requires-2 returns-2)
+wrong-at-spec = tie.close (tie.spec one-owner-at-requires returns side-in-requires side-in-requires-2 returns-2)

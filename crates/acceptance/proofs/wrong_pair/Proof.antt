@@ -1,4 +1,4 @@
--- `acceptance::wrong_pair` meets its contract: kinds and sections first, then the sides.
+-- `acceptance::wrong_pair` meets its contract: what the ends belong to first, then the sides.
 -- Assumes nothing.
 use borrow.Author.Needs.{needs}
 use mathlib.Core.Path.{sym, _∙_}
@@ -6,11 +6,11 @@ use Rattle.acceptance.proofs.Testing.{first-holds, then-second}
 use Rattle.acceptance.proofs.wrong_pair.Statement.{statement}
 use Rattle.acceptance.proofs.wrong_pair.Tie as tie
 
-both-or-one-requires : tie.Need-both-or-one-requires
-both-or-one-requires c κs = search needs
+one-owner-requires : tie.Need-one-owner-requires
+one-owner-requires c κs = search needs
 
 returns : tie.Need-returns
-returns c = first-holds _ _ (sym (c .before .both-or-one .ensures) ∙ c .if1 .taken)
+returns c = first-holds _ _ (sym (c .before .one-owner .ensures) ∙ c .if1 .taken)
 
 side-of-requires : tie.Need-side-of-requires
 side-of-requires c κs = search needs
@@ -22,13 +22,13 @@ same-side-requires : tie.Need-same-side-requires
 same-side-requires c κs = search needs
 
 returns-2 : tie.Need-returns-2
-returns-2 c = then-second _ _ _ (sym (c .before .before .before .before .both-or-one .ensures) ∙ c .before .before .before .if1 .left) (rw (← c .before .before .side-of .ensures, ← c .before .side-of2 .ensures) (c .same-side .ensures))
+returns-2 c = then-second _ _ _ (sym (c .before .before .before .before .one-owner .ensures) ∙ c .before .before .before .if1 .left) (rw (← c .before .before .side-of .ensures, ← c .before .side-of2 .ensures) (c .same-side .ensures))
 
 pub wrong-pair-spec : {M : Type 1} → statement M
 wrong-pair-spec =
     tie.close
     (tie.spec
-    both-or-one-requires
+    one-owner-requires
     returns
     side-of-requires
     side-of-requires-2

@@ -17,23 +17,23 @@ test-holds-requires c κs = search needs
 
 returns : tie.Need-returns
 returns c =
-    λ r k h.
+    λ r k h w.
     let t = c .before in
     let a = t .before .before .before .before .before .before .args in
-    verdict-pass r (checking k (a .figures .now) (a .settings .now)) (a .state) _ _ (t .before .before .state .given .1) _ (t .test-holds .ensures r h) (c .if1 .taken)
+    verdict-pass r (checking k (a .figures .now) (a .settings .now)) (a .state) _ _ (t .before .before .state .given .1) _ (t .test-holds .ensures r h w) (c .if1 .taken)
 
 returns-2 : tie.Need-returns-2
 returns-2 c =
-    λ r k h.
+    λ r k h w.
     let a = c .before .before .before .before .args in
     verdict-early r (checking k (a .figures .now) (a .settings .now)) (a .state) (c .enum-told .given .1)
 
 returns-3 : tie.Need-returns-3
 returns-3 c =
-    λ r k h.
+    λ r k h w.
     let t = c .before in
     let a = t .before .before .before .before .before .before .args in
-    verdict-fault r (checking k (a .figures .now) (a .settings .now)) (a .state) _ _ (t .before .before .state .given .1) _ (t .test-holds .ensures r h) (c .if1 .left)
+    verdict-fault r (checking k (a .figures .now) (a .settings .now)) (a .state) _ _ (t .before .before .state .given .1) _ (t .test-holds .ensures r h w) (c .if1 .left)
 
 pub verdict-spec : {M : Type 1} → statement M
 verdict-spec = tie.close (tie.spec enum-told enum-known-state test-holds-requires returns returns-2 returns-3)

@@ -1,5 +1,5 @@
--- `compiled::compile` meets its contract: the record is judged by its test, and the table filled from the first byte to the last, first the routes, train
--- by train, then what stands behind them. The loops' invariants: the routes of all trains before t stand there; the bytes before i are the railway's.
+-- `compiled::compile` meets its contract: the record is judged by its test, and the table filled from the first byte to the last, first how the trains
+-- stand, train by train, then what comes behind. The loops' invariants: the bytes of all trains before t are filled in; the bytes before i are the railway's.
 -- Assumes nothing.
 use native.Mathlib.Omega.{arith}
 use borrow.Author.Needs.{needs}
@@ -7,27 +7,27 @@ use mathlib.Core.Path.{refl}
 use Prim.Native.Nat.{_-_, _≤_}
 use Rattle.laws.proofs.Filling.{FilledTo, fill-next}
 use Rattle.railway.specs.Bounds.{mostTrains}
-use Rattle.railway.proofs.Arrays.{own-links, own-signals, own-closed}
-use Rattle.compiled.specs.Table.{routeBytes, tableBytes, compiledByte, FilledBefore}
-use Rattle.compiled.proofs.Table.{filled-none, filled-routes, post-refused, post-accepted}
+use Rattle.railway.proofs.Arrays.{own-signals}
+use Rattle.compiled.specs.Table.{standBytes, tableBytes, compiledByte, FilledBefore}
+use Rattle.compiled.proofs.Table.{filled-none, filled-stands, post-refused, post-accepted}
 use Rattle.compiled.proofs.compile.Statement.{statement}
 use Rattle.compiled.proofs.compile.Tie as tie
 
 abbrev Inv-loop : tie.InvT-loop
-Inv-loop r table₀ tested links signals closed trains t₀ table t = (t ≤ mostTrains) × FilledBefore r t table
+Inv-loop r table₀ tested signals trains t₀ table t = (t ≤ mostTrains) × FilledBefore r t table
 
 abbrev μ-loop : tie.MeasureT-loop
-μ-loop r table₀ tested links signals closed trains t₀ table t = mostTrains - t
+μ-loop r table₀ tested signals trains t₀ table t = mostTrains - t
 
 abbrev Inv-loop2 : tie.InvT-loop2
-Inv-loop2 r table₀ tested trains t i₀ table i = (routeBytes ≤ i) × FilledTo (compiledByte r) tableBytes table i
+Inv-loop2 r table₀ tested trains t i₀ table i = (standBytes ≤ i) × FilledTo (compiledByte r) tableBytes table i
 
 abbrev μ-loop2 : tie.MeasureT-loop2
 μ-loop2 r table₀ tested trains t i₀ table i = tableBytes - i
 
 -- where the record was tested, and the start
 abbrev tested : tie.After-trains-of Inv-loop μ-loop Inv-loop2 μ-loop2 → tie.After-test-record Inv-loop μ-loop Inv-loop2 μ-loop2
-tested e = e .before .before .before .before .before .before
+tested e = e .before .before .before .before
 
 test-record-requires : tie.Need-test-record-requires Inv-loop μ-loop Inv-loop2 μ-loop2
 test-record-requires c κs = search needs
@@ -50,14 +50,14 @@ loop-holds c = (omega arith, filled-none (tested c .before .args .r) 0 _ refl)
 cast-at : tie.Need-cast-at Inv-loop μ-loop Inv-loop2 μ-loop2
 cast-at c = search needs
 
-mul-fill-routes : tie.Need-mul-fill-routes Inv-loop μ-loop Inv-loop2 μ-loop2
-mul-fill-routes c = omega arith
+mul-fill-stands : tie.Need-mul-fill-stands Inv-loop μ-loop Inv-loop2 μ-loop2
+mul-fill-stands c = omega arith
 
-array-copy-out-fill-routes : tie.Need-array-copy-out-fill-routes Inv-loop μ-loop Inv-loop2 μ-loop2
-array-copy-out-fill-routes c = omega arith
+array-copy-out-fill-stands : tie.Need-array-copy-out-fill-stands Inv-loop μ-loop Inv-loop2 μ-loop2
+array-copy-out-fill-stands c = omega arith
 
-fill-routes-requires : tie.Need-fill-routes-requires Inv-loop μ-loop Inv-loop2 μ-loop2
-fill-routes-requires c κs = omega arith
+fill-stands-requires : tie.Need-fill-stands-requires Inv-loop μ-loop Inv-loop2 μ-loop2
+fill-stands-requires c κs = omega arith
 
 add-t : tie.Need-add-t Inv-loop μ-loop Inv-loop2 μ-loop2
 add-t c = omega arith
@@ -67,14 +67,14 @@ loop-less c = omega arith
 
 loop-again : tie.Need-loop-again Inv-loop μ-loop Inv-loop2 μ-loop2
 loop-again c =
-    let i = c .before .before .before .before .before .before in
+    let i = c .before .before .before .before in
     let l = i .before in
     let s = tested (l .before) .before in
     let r = s .args .r in
-    (omega arith, c .fill-routes .ensures r (own-links r _ (s .good .0)) (own-signals r _ (s .good .0)) (own-closed r _ (s .good .0)) (l .before .trains-of .ensures .each (l .loop .t) (i .loop-test .taken)) (l .loop .inv .1))
+    (omega arith, c .fill-stands .ensures r (own-signals r _ (s .good .0)) (l .before .trains-of .ensures .each (l .loop .t) (i .loop-test .taken)) (l .loop .inv .1))
 
 loop2-holds : tie.Need-loop2-holds Inv-loop μ-loop Inv-loop2 μ-loop2
-loop2-holds c = let l = c .before in (omega arith, filled-routes (tested (l .before) .before .args .r) _ _ (l .loop .inv .0) (c .loop-test .left) (l .loop .inv .1))
+loop2-holds c = let l = c .before in (omega arith, filled-stands (tested (l .before) .before .args .r) _ _ (l .loop .inv .0) (c .loop-test .left) (l .loop .inv .1))
 
 tail-byte-requires : tie.Need-tail-byte-requires Inv-loop μ-loop Inv-loop2 μ-loop2
 tail-byte-requires c κs = (c .before .loop2 .inv .0, omega arith)
@@ -104,7 +104,7 @@ returns-2 c =
     let m = c .before in
     let e = m .before .before .before in
     let t = tested e in
-    post-accepted (t .before .args .r) _ (t .test-record .ensures) _ _ (e .before .before .before .before .enum-told .given .1) (m .loop2 .inv .1) (c .loop2-test .left)
+    post-accepted (t .before .args .r) _ (t .test-record .ensures) _ _ (e .before .before .enum-told .given .1) (m .loop2 .inv .1) (c .loop2-test .left)
 
 pub compile-spec : {M : Type 1} → statement M
 compile-spec =
@@ -121,9 +121,9 @@ compile-spec =
     trains-of-requires
     loop-holds
     cast-at
-    mul-fill-routes
-    array-copy-out-fill-routes
-    fill-routes-requires
+    mul-fill-stands
+    array-copy-out-fill-stands
+    fill-stands-requires
     add-t
     loop-less
     loop-again

@@ -5,20 +5,20 @@ use Rattle.compiled.proofs.Table.{roster-there, no-heading, no-section}
 use Rattle.compiled.proofs.roster_in.Statement.{statement}
 use Rattle.compiled.proofs.roster_in.Tie as tie
 
-mul-byte-at : tie.Need-mul-byte-at
-mul-byte-at c = search needs
+mul-at : tie.Need-mul-at
+mul-at c = search needs
 
-add-byte-at : tie.Need-add-byte-at
-add-byte-at c = search needs
+add-at : tie.Need-add-at
+add-at c = search needs
 
-add-byte-at-2 : tie.Need-add-byte-at-2
-add-byte-at-2 c = search needs
+add-at-2 : tie.Need-add-at-2
+add-at-2 c = search needs
 
-byte-at-requires : tie.Need-byte-at-requires
-byte-at-requires c κs = search needs
+element-copy-out-result : tie.Need-element-copy-out-result
+element-copy-out-result c = search needs
 
 returns : tie.Need-returns
-returns c = λ r h. roster-there r _ _ _ _ h (c .before .before .pre) (c .before .if1 .taken) (c .byte-at .ensures)
+returns c = let s = c .before .before in λ r h. roster-there r _ h (s .args .i) (s .args .t) (s .pre) (c .before .if1 .taken)
 
 returns-2 : tie.Need-returns-2
 returns-2 c = λ r h. no-heading r _ _ _ h (c .before .if1 .left) (c .if2 .taken)
@@ -28,5 +28,4 @@ returns-3 c = λ r h. no-section r _ _ _ h (c .before .if1 .left) (c .if2 .left)
 
 pub roster-in-spec : {M : Type 1} → statement M
 roster-in-spec =
-    tie.close
-    (tie.spec mul-byte-at add-byte-at add-byte-at-2 byte-at-requires returns returns-2 returns-3)
+    tie.close (tie.spec mul-at add-at add-at-2 element-copy-out-result returns returns-2 returns-3)

@@ -7,10 +7,10 @@ use Rattle.move_vectors.proofs.line.Statement.{statement}
 use Rattle.move_vectors.proofs.line.Tie as tie
 
 abbrev Inv-loop : tie.InvT-loop
-Inv-loop table k p v t₀ t = t ≤ k
+Inv-loop table ways k p v t₀ t = t ≤ k
 
 abbrev μ-loop : tie.MeasureT-loop
-μ-loop table k p v t₀ t = k - t
+μ-loop table ways k p v t₀ t = k - t
 
 print-decimal-requires : tie.Need-print-decimal-requires Inv-loop μ-loop
 print-decimal-requires c κs = search needs

@@ -7,13 +7,16 @@ use Rattle.move_vectors.proofs.placements.Statement.{statement}
 use Rattle.move_vectors.proofs.placements.Tie as tie
 
 abbrev Inv-loop : tie.InvT-loop
-Inv-loop r table n p₀ p = p ≤ n
+Inv-loop r table ways n p₀ p = p ≤ n
 
 abbrev μ-loop : tie.MeasureT-loop
-μ-loop r table n p₀ p = n - p
+μ-loop r table ways n p₀ p = n - p
 
 compile-requires : tie.Need-compile-requires Inv-loop μ-loop
 compile-requires c κs = search needs
+
+ways-of-requires : tie.Need-ways-of-requires Inv-loop μ-loop
+ways-of-requires c κs = search needs
 
 placements-requires : tie.Need-placements-requires Inv-loop μ-loop
 placements-requires c κs = search needs
@@ -55,6 +58,7 @@ placements-spec =
     Inv-loop
     μ-loop
     compile-requires
+    ways-of-requires
     placements-requires
     loop-holds
     is-lost-requires

@@ -7,10 +7,10 @@ use Rattle.move_vectors.proofs.points.Statement.{statement}
 use Rattle.move_vectors.proofs.points.Tie as tie
 
 abbrev Inv-loop : tie.InvT-loop
-Inv-loop table k q p «open» n bits₀ bits = bits ≤ n
+Inv-loop table ways k q p «open» n bits₀ bits = bits ≤ n
 
 abbrev μ-loop : tie.MeasureT-loop
-μ-loop table k q p «open» n bits₀ bits = n - bits
+μ-loop table ways k q p «open» n bits₀ bits = n - bits
 
 power-requires : tie.Need-power-requires Inv-loop μ-loop
 power-requires c κs = search needs

@@ -7,10 +7,10 @@ use Rattle.move_vectors.proofs.settings.Statement.{statement}
 use Rattle.move_vectors.proofs.settings.Tie as tie
 
 abbrev Inv-loop : tie.InvT-loop
-Inv-loop table k q p n mask₀ mask = mask ≤ n
+Inv-loop table ways k q p n mask₀ mask = mask ≤ n
 
 abbrev μ-loop : tie.MeasureT-loop
-μ-loop table k q p n mask₀ mask = n - mask
+μ-loop table ways k q p n mask₀ mask = n - mask
 
 power-requires : tie.Need-power-requires Inv-loop μ-loop
 power-requires c κs = search needs

@@ -1,20 +1,18 @@
--- `moves::leads_to` meets its contract: the table says so of that section.
+-- `moves::leads_to` meets its contract: the ways of the end that the train heads for say so.
 -- Assumes nothing.
 use borrow.Author.Needs.{needs}
-use Rattle.moves.proofs.Moving.{train-small, section-small, section-is}
+use Rattle.moves.proofs.Moving.{leads-is}
 use Rattle.moves.proofs.leads_to.Statement.{statement}
 use Rattle.moves.proofs.leads_to.Tie as tie
 
-section-at-requires : tie.Need-section-at-requires
-section-at-requires c κs = search needs
+front-in-requires : tie.Need-front-in-requires
+front-in-requires c κs = search needs
 
-section-past-requires : tie.Need-section-past-requires
-section-past-requires c κs = search needs
+section-by-requires : tie.Need-section-by-requires
+section-by-requires c κs = search needs
 
 returns : tie.Need-returns
-returns c =
-    let x = c .before .section-at .ensures in
-    λ r p h l. section-is r p _ _ h _ _ l x _ _ (c .section-past .ensures r (h .compiled) (train-small r p _ _ h _ _ l x) (section-small r p _ _ h _ _ l x))
+returns c = λ r p h ways. leads-is r p _ _ h _ _ _ _ (c .before .front-in .ensures r p h) (c .section-by .ensures .0 r ways)
 
 pub leads-to-spec : {M : Type 1} → statement M
-leads-to-spec = tie.close (tie.spec section-at-requires section-past-requires returns)
+leads-to-spec = tie.close (tie.spec front-in-requires section-by-requires returns)

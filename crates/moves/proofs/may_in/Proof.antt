@@ -20,22 +20,16 @@ returns-2 c = λ r p h. free-may r p _ _ h _ _ _ (c .before .before .before .tra
 held-in-requires : tie.Need-held-in-requires
 held-in-requires c κs = search needs
 
-end-in-requires : tie.Need-end-in-requires
-end-in-requires c κs = search needs
-
-index-of-requires : tie.Need-index-of-requires
-index-of-requires c κs = search needs
-
-open-in-requires : tie.Need-open-in-requires
-open-in-requires c κs = search needs
+open-for-requires : tie.Need-open-for-requires
+open-for-requires c κs = search needs
 
 returns-3 : tie.Need-returns-3
 returns-3 c =
-    let i = c .before .before .before in
+    let i = c .before in
     let f = i .before .before in
     λ r p h.
     held-may r p _ _ h _ _ _ (f .before .before .before .trains-in .ensures r (h .compiled)) (f .before .before .if1 .left) _ (λ l. as-there r p _ _ h _ l _ _ (f .before .free-in .ensures r p h)) (f .if2 .left) _ (λ l. as-there r p _ _ h _ l _ _ (i .before .held-in .ensures r p h))
-    _ _ _ (i .if3 .taken) (c .before .before .end-in .ensures r p h) (c .before .index-of .ensures) (c .open-in .ensures r p h)
+    _ (i .if3 .taken) (c .open-for .ensures r p h)
 
 returns-4 : tie.Need-returns-4
 returns-4 c =
@@ -52,8 +46,6 @@ may-in-spec =
     free-in-requires
     returns-2
     held-in-requires
-    end-in-requires
-    index-of-requires
-    open-in-requires
+    open-for-requires
     returns-3
     returns-4)

@@ -11,14 +11,11 @@ add-bit-at c = search needs
 bit-at-requires : tie.Need-bit-at-requires
 bit-at-requires c κs = search needs
 
-end-in-requires : tie.Need-end-in-requires
-end-in-requires c κs = search needs
-
-index-of-requires : tie.Need-index-of-requires
-index-of-requires c κs = search needs
+front-in-requires : tie.Need-front-in-requires
+front-in-requires c κs = search needs
 
 returns : tie.Need-returns
-returns c = λ r p h. opens-if r p _ _ h (c .before .before .before .before .args .v) _ _ _ _ _ (c .before .before .before .bit-at .ensures) (c .before .before .if1 .taken) (c .before .end-in .ensures r p h) (c .index-of .ensures)
+returns c = λ r p h. opens-if r p _ _ h (c .before .before .before .args .v) _ _ _ _ (c .before .before .bit-at .ensures) (c .before .if1 .taken) (c .front-in .ensures r p h)
 
 returns-2 : tie.Need-returns-2
 returns-2 c = λ r p h. opens-not r p _ _ h (c .before .before .args .v) _ _ _ (c .before .bit-at .ensures) (c .if1 .left)
@@ -26,4 +23,4 @@ returns-2 c = λ r p h. opens-not r p _ _ h (c .before .before .args .v) _ _ _ (
 pub opens-end-spec : {M : Type 1} → statement M
 opens-end-spec =
     tie.close
-    (tie.spec add-bit-at bit-at-requires end-in-requires index-of-requires returns returns-2)
+    (tie.spec add-bit-at bit-at-requires front-in-requires returns returns-2)

@@ -1,20 +1,31 @@
--- `moves::put_on` meets its contract: one section is written.
+-- `moves::put_on` meets its contract, train by train.
 -- Assumes nothing.
-use native.Mathlib.Omega.{arith}
 use borrow.Author.Needs.{needs}
 use Rattle.placement.proofs.Places.{placement-length}
-use Rattle.moves.proofs.Placing.{put-in, put-nowhere}
+use Rattle.moves.proofs.Placing.{put-each}
 use Rattle.moves.proofs.put_on.Statement.{statement}
 use Rattle.moves.proofs.put_on.Tie as tie
 
-array-write-sections : tie.Need-array-write-sections
-array-write-sections c = search needs
+moved-to-requires : tie.Need-moved-to-requires
+moved-to-requires c κs = search needs
+
+moved-to-requires-2 : tie.Need-moved-to-requires-2
+moved-to-requires-2 c κs = search needs
+
+moved-to-requires-3 : tie.Need-moved-to-requires-3
+moved-to-requires-3 c κs = search needs
+
+moved-to-requires-4 : tie.Need-moved-to-requires-4
+moved-to-requires-4 c κs = search needs
 
 returns : tie.Need-returns
-returns c = let a = c .before .before .args in put-in (a .q) (a .t) (a .x) (c .if1 .taken) (omega (arith, placement-length (a .q) _ (c .before .before .good .0)))
-
-returns-2 : tie.Need-returns-2
-returns-2 c = let a = c .before .before .args in put-nowhere (a .q) (a .t) (a .x) (c .if1 .left)
+returns c =
+    let y = c .before in
+    let x = y .before in
+    let w = x .before in
+    let s = w .before in
+    let a = s .args in
+    put-each (a .q) (a .t) (a .x) _ _ _ _ (w .moved-to .ensures) (x .moved-to2 .ensures) (y .moved-to3 .ensures) (c .moved-to4 .ensures) (placement-length (a .q) _ (s .good .0))
 
 pub put-on-spec : {M : Type 1} → statement M
-put-on-spec = tie.close (tie.spec array-write-sections returns returns-2)
+put-on-spec = tie.close (tie.spec moved-to-requires moved-to-requires-2 moved-to-requires-3 moved-to-requires-4 returns)

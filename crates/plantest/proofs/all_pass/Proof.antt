@@ -8,25 +8,27 @@ use Prim.Native.Nat.{_-_, _≤_}
 use Rattle.laws.specs.Below.{allBelow}
 use Rattle.laws.proofs.Below.{all-next}
 use Rattle.railway.specs.declared.Railway.{Railway}
+use Rattle.railway.specs.Record.{isClosed}
 use Rattle.plan.specs.Test.{byTables}
 use Rattle.plan.specs.Computed.{placementPasses}
+use Rattle.routes.specs.Routes.{Laid}
 use Rattle.compiled.specs.Table.{Compiled}
 use Rattle.plantest.proofs.Testing.{but-one, every-one}
 use Rattle.plantest.proofs.all_pass.Statement.{statement}
 use Rattle.plantest.proofs.all_pass.Tie as tie
 
 abbrev Inv-loop : tie.InvT-loop
-Inv-loop table figures settings m p₀ p = (p ≤ m) × ((r : Railway) → Compiled r table → allBelow (placementPasses r (byTables figures settings)) p ≡ true)
+Inv-loop table ways figures settings m p₀ p = (p ≤ m) × ((r : Railway) → Compiled r table → Laid r (isClosed r) ways → allBelow (placementPasses r (byTables figures settings)) p ≡ true)
 
 abbrev μ-loop : tie.MeasureT-loop
-μ-loop table figures settings m p₀ p = m - p
+μ-loop table ways figures settings m p₀ p = m - p
 
 placements-requires : tie.Need-placements-requires Inv-loop μ-loop
 placements-requires c κs = search needs
 
 loop-holds : tie.Need-loop-holds Inv-loop μ-loop
 unfolding allBelow
-loop-holds c = (omega arith, λ r h. refl)
+loop-holds c = (omega arith, λ r h w. refl)
 
 placement-passes-requires : tie.Need-placement-passes-requires Inv-loop μ-loop
 placement-passes-requires c κs = search needs
@@ -38,19 +40,19 @@ loop-less : tie.Need-loop-less Inv-loop μ-loop
 loop-less c = omega arith
 
 loop-again : tie.Need-loop-again Inv-loop μ-loop
-loop-again c = let l = c .before .before .before in (omega arith, λ r h. all-next _ _ (l .loop .inv .1 r h) (sym (c .before .placement-passes .ensures r h) ∙ c .if1 .taken))
+loop-again c = let l = c .before .before .before in (omega arith, λ r h w. all-next _ _ (l .loop .inv .1 r h w) (sym (c .before .placement-passes .ensures r h w) ∙ c .if1 .taken))
 
 returns : tie.Need-returns Inv-loop μ-loop
 returns c =
-    λ r h.
+    λ r h w.
     let l = c .before .before .before in
-    but-one (l .before .placements .ensures r h) _ (l .loop .p) (c .before .before .loop-test .taken) (sym (c .before .placement-passes .ensures r h) ∙ c .if1 .left)
+    but-one (l .before .placements .ensures r h) _ (l .loop .p) (c .before .before .loop-test .taken) (sym (c .before .placement-passes .ensures r h w) ∙ c .if1 .left)
 
 returns-2 : tie.Need-returns-2 Inv-loop μ-loop
 returns-2 c =
-    λ r h.
+    λ r h w.
     let l = c .before in
-    every-one (l .before .placements .ensures r h) _ (l .loop .p) (l .loop .inv .0) (c .loop-test .left) (l .loop .inv .1 r h)
+    every-one (l .before .placements .ensures r h) _ (l .loop .p) (l .loop .inv .0) (c .loop-test .left) (l .loop .inv .1 r h w)
 
 pub all-pass-spec : {M : Type 1} → statement M
 all-pass-spec =

@@ -37,18 +37,18 @@ is-below-requires c κs = search needs
 
 returns : tie.Need-returns
 returns c =
-    λ r p on.
+    λ r p on w.
     let k = c .before in
     let m = k .before in
     let a = m .before .before .args in
-    moves-below r (a .figures .now) p (a .v) (a .n) (a .t) (m .move-in .result) (m .move-in .ensures r p on) _ (moved (m .move-in .result) (k .match .keys2)) (c .is-below .ensures)
+    moves-below r (a .figures .now) p (a .v) (a .n) (a .t) (m .move-in .result) (m .move-in .ensures r p on w) _ (moved (m .move-in .result) (k .match .keys2)) (c .is-below .ensures)
 
 returns-2 : tie.Need-returns-2
 returns-2 c =
-    λ r p on.
+    λ r p on w.
     let m = c .before .before in
     let a = m .before .before .args in
-    stays-below r (a .figures .now) p (a .v) (a .n) (a .t) (m .move-in .result) (m .move-in .ensures r p on) (c .enum-told .given .1)
+    stays-below r (a .figures .now) p (a .v) (a .n) (a .t) (m .move-in .result) (m .move-in .ensures r p on w) (c .enum-told .given .1)
 
 pub goes-below-spec : {M : Type 1} → statement M
 goes-below-spec =

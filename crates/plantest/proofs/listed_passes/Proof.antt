@@ -13,7 +13,7 @@ lost-in-requires c κs = search needs
 
 returns : tie.Need-returns
 returns c =
-    λ r h.
+    λ r h ways.
     let w = c .before in
     let a = w .before .before .before .before .args in
     lost-fails r (a .figures .now) (a .settings .now) (a .p) (a .n) _ (w .lost-in .ensures r _ (w .before .placement-of .ensures r h)) (c .if1 .taken)
@@ -29,7 +29,7 @@ home-in-requires c κs = search needs
 
 returns-2 : tie.Need-returns-2
 returns-2 c =
-    λ r h.
+    λ r h ways.
     let o = c .before .before .before in
     let e = o .before in
     let w = e .before .before in
@@ -43,7 +43,7 @@ keeps-requires c κs = search needs
 
 returns-3 : tie.Need-returns-3
 returns-3 c =
-    λ r h.
+    λ r h ways.
     let i = c .before .before in
     let o = i .before .before in
     let e = o .before in
@@ -51,11 +51,11 @@ returns-3 c =
     let a = w .before .before .before .before .args in
     let on = w .before .placement-of .ensures r h in
     kept-passes r (a .figures .now) (a .settings .now) (a .p) (a .n) _ (w .lost-in .ensures r _ on) (e .before .if1 .left) _ (e .entry-at .ensures) _ (o .opens-signalled .ensures r _ on) (i .before .if2 .taken) _
-    (i .home-in .ensures r _ on) _ (c .before .if3 .left) (c .keeps .ensures r _ on)
+    (i .home-in .ensures r _ on) _ (c .before .if3 .left) (c .keeps .ensures r _ on ways)
 
 returns-4 : tie.Need-returns-4
 returns-4 c =
-    λ r h.
+    λ r h ways.
     let o = c .before in
     let e = o .before in
     let w = e .before .before in

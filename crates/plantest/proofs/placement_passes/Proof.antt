@@ -10,7 +10,7 @@ entry-at-requires c κs = search needs
 
 returns : tie.Need-returns
 returns c =
-    λ r h.
+    λ r h w.
     let a = c .before .before .before .before .args in
     unlisted-passes r (a .figures .now) (a .settings .now) (a .p) _ (c .before .entry-at .ensures) (c .if1 .taken)
 
@@ -19,9 +19,9 @@ listed-passes-requires c κs = search needs
 
 returns-2 : tie.Need-returns-2
 returns-2 c =
-    λ r h.
+    λ r h w.
     let a = c .before .before .before .before .before .args in
-    listed-decides r (a .figures .now) (a .settings .now) (a .p) _ (c .before .before .entry-at .ensures) _ (c .before .if1 .left) (c .listed-passes .ensures r h)
+    listed-decides r (a .figures .now) (a .settings .now) (a .p) _ (c .before .before .entry-at .ensures) _ (c .before .if1 .left) (c .listed-passes .ensures r h w)
 
 pub placement-passes-spec : {M : Type 1} → statement M
 placement-passes-spec = tie.close (tie.spec entry-at-requires returns listed-passes-requires returns-2)

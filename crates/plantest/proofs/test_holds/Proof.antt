@@ -13,7 +13,7 @@ entry-at-requires c κs = search needs
 
 returns : tie.Need-returns
 returns c =
-    λ r h.
+    λ r h w.
     let f = c .before in
     let a = f .before .before .before .before .args in
     start-unlisted r (a .figures .now) (a .settings .now) (a .m) _ _ (f .before .start-code .ensures r h) (f .entry-at .ensures) (c .if1 .taken)
@@ -23,15 +23,15 @@ all-pass-requires c κs = search needs
 
 returns-2 : tie.Need-returns-2
 returns-2 c =
-    λ r h.
+    λ r h w.
     let e = c .before .before in
     let f = e .before in
     let a = f .before .before .before .before .args in
-    start-same r (a .figures .now) (a .settings .now) (a .m) _ _ (f .before .start-code .ensures r h) (f .entry-at .ensures) (e .if1 .left) _ (c .before .if2 .taken) (c .all-pass .ensures r h)
+    start-same r (a .figures .now) (a .settings .now) (a .m) _ _ (f .before .start-code .ensures r h) (f .entry-at .ensures) (e .if1 .left) _ (c .before .if2 .taken) (c .all-pass .ensures r h w)
 
 returns-3 : tie.Need-returns-3
 returns-3 c =
-    λ r h.
+    λ r h w.
     let e = c .before in
     let f = e .before in
     let a = f .before .before .before .before .args in

@@ -14,7 +14,7 @@ find-in-requires : tie.Need-find-in-requires
 find-in-requires c κs = search needs
 
 returns : tie.Need-returns
-returns c = λ r h. c .find-in .ensures r _ (c .before .before .placement-of .ensures r h) (c .before .code-of .ensures r h)
+returns c = λ r h ways. c .find-in .ensures r _ (c .before .before .placement-of .ensures r h) ways (c .before .code-of .ensures r h)
 
 pub find-setting-spec : {M : Type 1} → statement M
 find-setting-spec = tie.close (tie.spec placement-of-requires code-of-requires find-in-requires returns)

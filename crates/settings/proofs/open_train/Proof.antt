@@ -1,24 +1,63 @@
--- `settings::open_train` meets its contract: a train that is neither free nor held is parked.
+-- `settings::open_train` meets its contract: a held train open moves alone, so its own ways decide; a parked one has nothing to open.
 -- Assumes nothing.
-use mathlib.Core.Path.{sym, _∙_}
+use native.Mathlib.Omega.{arith}
+use mathlib.Core.Path.{refl, sym, _∙_}
+use borrow.Author.Needs.{needs}
 use Rattle.game.proofs.Accepted.{facts}
 use Rattle.moves.proofs.Moving.{as-there}
-use Rattle.settings.proofs.Trying.{open-parked}
-use borrow.Author.Needs.{needs}
+use Rattle.settings.proofs.Trying.{shifted-small, open-parked, opened-found, opened-none}
 use Rattle.settings.proofs.open_train.Statement.{statement}
 use Rattle.settings.proofs.open_train.Tie as tie
 
 held-in-requires : tie.Need-held-in-requires
 held-in-requires c κs = search needs
 
-open-held-requires : tie.Need-open-held-requires
-open-held-requires c κs = search needs
+least-way-requires : tie.Need-least-way-requires
+least-way-requires c κs = search needs
+
+shl-t14 : tie.Need-shl-t14
+shl-t14 c = search needs
+
+mul-t15 : tie.Need-mul-t15
+mul-t15 c = let s = c .before .before .before .before .before in omega (arith, shifted-small (s .args .u) (s .pre))
+
+add-t16 : tie.Need-add-t16
+add-t16 c = let s = c .before .before .before .before .before in omega (arith, shifted-small (s .args .u) (s .pre), c .if2 .taken)
 
 returns : tie.Need-returns
-returns c = λ r p h f l. c .open-held .ensures r p h f l (sym (as-there r p _ _ (h .on) _ l _ _ (c .before .before .held-in .ensures r p (h .on))) ∙ c .before .if1 .taken)
+returns c =
+    let b = c .before in
+    let i = b .before in
+    let s = i .before .before .before in
+    λ r p h f l.
+    let on = h .looks .on in
+    opened-found r (facts r (on .compiled .accepted)) p (h .apart) _ _ f (s .args .u) l (sym (as-there r p _ _ on _ l _ _ (i .before .held-in .ensures r p on)) ∙ i .if1 .taken) _ (b .least-way .ensures r p (h .looks) l) _ refl (s .pre)
+    (c .if2 .taken)
 
 returns-2 : tie.Need-returns-2
-returns-2 c = λ r p h f l. open-parked r (facts r (h .on .compiled .accepted)) p (h .apart) _ _ f _ (sym (as-there r p _ _ (h .on) _ l _ _ (c .before .held-in .ensures r p (h .on))) ∙ c .if1 .left)
+returns-2 c =
+    let b = c .before in
+    let i = b .before in
+    let s = i .before .before .before in
+    λ r p h f l.
+    let on = h .looks .on in
+    opened-none r (facts r (on .compiled .accepted)) p (h .apart) _ _ f (s .args .u) l (sym (as-there r p _ _ on _ l _ _ (i .before .held-in .ensures r p on)) ∙ i .if1 .taken) _ (b .least-way .ensures r p (h .looks) l) (c .if2 .left)
+
+returns-3 : tie.Need-returns-3
+returns-3 c =
+    λ r p h f l.
+    let on = h .looks .on in
+    open-parked r (facts r (on .compiled .accepted)) p (h .apart) _ _ f _ (sym (as-there r p _ _ on _ l _ _ (c .before .held-in .ensures r p on)) ∙ c .if1 .left)
 
 pub open-train-spec : {M : Type 1} → statement M
-open-train-spec = tie.close (tie.spec held-in-requires open-held-requires returns returns-2)
+open-train-spec =
+    tie.close
+    (tie.spec
+    held-in-requires
+    least-way-requires
+    shl-t14
+    mul-t15
+    add-t16
+    returns
+    returns-2
+    returns-3)

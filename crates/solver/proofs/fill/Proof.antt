@@ -10,10 +10,10 @@ use Rattle.solver.proofs.fill.Statement.{statement}
 use Rattle.solver.proofs.fill.Tie as tie
 
 abbrev Inv-loop : tie.InvT-loop
-Inv-loop table behind figures₀ settings₀ m marks₀ n₀ figures settings marks n = Filling table behind m figures₀ settings₀ figures settings marks n
+Inv-loop table ways behind figures₀ settings₀ m marks₀ n₀ figures settings marks n = Filling table ways behind m figures₀ settings₀ figures settings marks n
 
 abbrev μ-loop : tie.MeasureT-loop
-μ-loop table behind figures₀ settings₀ m marks₀ n₀ figures settings marks n = m + 1 - n
+μ-loop table ways behind figures₀ settings₀ m marks₀ n₀ figures settings marks n = m + 1 - n
 
 clear-requires : tie.Need-clear-requires Inv-loop μ-loop
 clear-requires c κs = search needs
@@ -22,7 +22,7 @@ loop-holds : tie.Need-loop-holds Inv-loop μ-loop
 loop-holds c =
     let k = c .before .before .before .before in
     let a = k .before .before .before .before .before in
-    filling-start (a .args .table .now) (a .args .behind .now) (a .args .m) (a .args .figures .now) (a .args .settings .now) _ _ (k .clear .ensures)
+    filling-start (a .args .table .now) (a .args .ways .now) (a .args .behind .now) (a .args .m) (a .args .figures .now) (a .args .settings .now) _ _ (k .clear .ensures)
 
 add-n : tie.Need-add-n Inv-loop μ-loop
 add-n c = omega arith
@@ -43,7 +43,7 @@ same-length c =
     let i = o .before .before .before .before in
     let l = i .before in
     let k = l .before .before .before .before .before in
-    o .one-round .kept .1 .1 .0 ∙ l .loop .inv .long-figs ∙ k .clear .kept .1 .0
+    o .one-round .kept .1 .1 .1 .0 ∙ l .loop .inv .long-figs ∙ k .clear .kept .1 .0
 
 same-length-2 : tie.Need-same-length-2 Inv-loop μ-loop
 same-length-2 c =
@@ -51,7 +51,7 @@ same-length-2 c =
     let i = o .before .before .before .before in
     let l = i .before in
     let k = l .before .before .before .before .before in
-    o .one-round .kept .1 .1 .1 .0 ∙ l .loop .inv .long-sets ∙ k .clear .kept .1 .1 .0
+    o .one-round .kept .1 .1 .1 .1 .0 ∙ l .loop .inv .long-sets ∙ k .clear .kept .1 .1 .0
 
 returns : tie.Need-returns Inv-loop μ-loop
 returns c =
@@ -60,7 +60,7 @@ returns c =
     let l = i .before in
     let k = l .before .before .before .before .before in
     let a = k .before .before .before .before .before in
-    filling-end (a .args .table .now) (a .args .behind .now) (a .args .m) (a .args .figures .now) (a .args .settings .now) _ _ (k .clear .ensures) (l .loop .figures) (l .loop .settings) (l .loop .marks) (l .loop .n) (l .loop .inv) (a .pre .0) (i .loop-test .taken) _ _ _ _ (o .one-round .ensures) (not-true _ (c .if1 .taken))
+    filling-end (a .args .table .now) (a .args .ways .now) (a .args .behind .now) (a .args .m) (a .args .figures .now) (a .args .settings .now) _ _ (k .clear .ensures) (l .loop .figures) (l .loop .settings) (l .loop .marks) (l .loop .n) (l .loop .inv) (a .pre .0) (i .loop-test .taken) _ _ _ _ (o .one-round .ensures) (not-true _ (c .if1 .taken))
 
 loop-less : tie.Need-loop-less Inv-loop μ-loop
 loop-less c = omega (arith, c .before .before .before .before .before .before .before .before .before .before .loop-test .taken)
@@ -72,7 +72,7 @@ loop-again c =
     let l = i .before in
     let k = l .before .before .before .before .before in
     let a = k .before .before .before .before .before in
-    filling-next (a .args .table .now) (a .args .behind .now) (a .args .m) (a .args .figures .now) (a .args .settings .now) _ _ (k .clear .ensures) (l .loop .figures) (l .loop .settings) (l .loop .marks) (l .loop .n) (l .loop .inv) (a .pre .0) (i .loop-test .taken) _ _ _ _ (o .one-round .ensures) (o .one-round .kept .1 .1 .0) (o .one-round .kept .1 .1 .1 .0) (o .one-round .kept .1 .1 .1 .1 .0) (not-false _ (c .if1 .left))
+    filling-next (a .args .table .now) (a .args .ways .now) (a .args .behind .now) (a .args .m) (a .args .figures .now) (a .args .settings .now) _ _ (k .clear .ensures) (l .loop .figures) (l .loop .settings) (l .loop .marks) (l .loop .n) (l .loop .inv) (a .pre .0) (i .loop-test .taken) _ _ _ _ (o .one-round .ensures) (o .one-round .kept .1 .1 .1 .0) (o .one-round .kept .1 .1 .1 .1 .0) (o .one-round .kept .1 .1 .1 .1 .1 .0) (not-false _ (c .if1 .left))
 
 same-length-3 : tie.Need-same-length-3 Inv-loop μ-loop
 same-length-3 c = let l = c .before in l .loop .inv .long-figs ∙ l .before .before .before .before .before .clear .kept .1 .0
@@ -85,7 +85,7 @@ returns-2 c =
     let l = c .before in
     let k = l .before .before .before .before .before in
     let a = k .before .before .before .before .before in
-    filling-over (a .args .table .now) (a .args .behind .now) (a .args .m) (a .args .figures .now) (a .args .settings .now) _ _ (k .clear .ensures) (l .loop .figures) (l .loop .settings) (l .loop .marks) (l .loop .n) (l .loop .inv) (c .loop-test .left)
+    filling-over (a .args .table .now) (a .args .ways .now) (a .args .behind .now) (a .args .m) (a .args .figures .now) (a .args .settings .now) _ _ (k .clear .ensures) (l .loop .figures) (l .loop .settings) (l .loop .marks) (l .loop .n) (l .loop .inv) (c .loop-test .left)
 
 pub fill-spec : {M : Type 1} → statement M
 fill-spec =

@@ -17,12 +17,15 @@ enum-told c = search needs
 placements-requires : tie.Need-placements-requires
 placements-requires c κs = search needs
 
-sections-behind-requires : tie.Need-sections-behind-requires
-sections-behind-requires c κs = search needs
+case-ways-requires : tie.Need-case-ways-requires
+case-ways-requires c κs = search needs
+
+ways-behind-requires : tie.Need-ways-behind-requires
+ways-behind-requires c κs = search needs
 
 fill-requires : tie.Need-fill-requires
 fill-requires c κs =
-    let n = c .before .before .before .before .before in
+    let n = c .before .before .before .before .before .before .before in
     let t = n .before .before in
     let o = t .before .before .before in
     let a = o .before .before .before .before .before in
@@ -49,13 +52,14 @@ same-length-4 c = search needs
 returns-2 : tie.Need-returns-2
 returns-2 c =
     let f = c .before .before .before .before .before .before .before in
-    let s = f .before .before .before .before .before in
-    let n = s .before in
+    let s = f .before .before .before .before .before .before in
+    let w = s .before in
+    let n = w .before in
     let t = n .before .before in
     let o = t .before .before .before in
     let a = o .before .before .before .before .before in
     answer-solved (a .args .r) (a .args .figures .now) (a .args .settings .now) _ (o .open-case .ensures) (t .enum-told .given .1) _ (n .placements .ensures) _ _ _
-    (λ h e. f .fill .ensures (a .args .r) h (s .sections-behind .ensures) e) (c .start-answer .ensures)
+    (λ h e. f .fill .ensures (a .args .r) h (w .case-ways .ensures) (s .ways-behind .ensures) e) (c .start-answer .ensures)
 
 pub solve-spec : {M : Type 1} → statement M
 solve-spec =
@@ -65,7 +69,8 @@ solve-spec =
     enum-known-tested
     enum-told
     placements-requires
-    sections-behind-requires
+    case-ways-requires
+    ways-behind-requires
     fill-requires
     start-answer-requires
     same-length

@@ -25,8 +25,8 @@ returns c =
     let f = c .before .before in
     let a = f .before .before .before .before .before in
     λ r m o on l empty.
-    visit-rests r (a .args .table .now) m (a .args .n) (a .args .p) (a .args .figures .now) (a .args .settings .now) (a .args .marks .now) o l empty _
-    (f .find-in .ensures r _ on (sym (code-back r _ (o .compiled) _ _ on l))) (ap entryFound (c .enum-told .given .1))
+    visit-rests r (a .args .table .now) (a .args .ways .now) m (a .args .n) (a .args .p) (a .args .figures .now) (a .args .settings .now) (a .args .marks .now) o l empty _
+    (f .find-in .ensures r _ on (o .laid) (sym (code-back r _ (o .compiled) _ _ on l))) (ap entryFound (c .enum-told .given .1))
 
 mul-figures : tie.Need-mul-figures
 mul-figures c = search needs
@@ -59,8 +59,8 @@ returns-2 c =
     let f = w .before .before in
     let a = f .before .before .before .before .before in
     λ r m o on l empty.
-    visit-gains r (a .args .table .now) m (a .args .n) (a .args .p) (a .args .figures .now) (a .args .settings .now) (a .args .marks .now) o l empty _
-    (f .find-in .ensures r _ on (sym (code-back r _ (o .compiled) _ _ on l))) (a .pre .0) (a .pre .1) _ (k .mark .kept .0) (k .mark .ensures .0) (k .mark .ensures .1) _
+    visit-gains r (a .args .table .now) (a .args .ways .now) m (a .args .n) (a .args .p) (a .args .figures .now) (a .args .settings .now) (a .args .marks .now) o l empty _
+    (f .find-in .ensures r _ on (o .laid) (sym (code-back r _ (o .compiled) _ _ on l))) (a .pre .0) (a .pre .1) _ (k .mark .kept .0) (k .mark .ensures .0) (k .mark .ensures .1) _
     (ap entryFound (w .found .given .1))
 
 pub visit-spec : {M : Type 1} → statement M

@@ -3,6 +3,7 @@
 use native.Mathlib.Omega.{arith}
 use mathlib.Core.Bool.{false}
 use Prim.Native.Nat.{_+_, _-_}
+use Rattle.predecessors.specs.Behind.{Behind}
 use Rattle.solver.specs.Visits.{Before}
 use Rattle.solver.proofs.Visits.{visited-less}
 use Rattle.solver.proofs.Loops.{VisitedTo, visited-to-start, visited-to-next, visited-to-on, visited-to-end, no-code, codes-next, codes-less, codes-passed, before-one}
@@ -10,11 +11,11 @@ use Rattle.solver.proofs.visit_codes.Statement.{statement}
 use Rattle.solver.proofs.visit_codes.Tie as tie
 
 abbrev Inv-loop : tie.InvT-loop
-Inv-loop table behind figures₀ settings₀ marks₀ m n from upto last added₀ c₀ figures settings marks added c =
-    VisitedTo table behind m n (λ r i. Before r n figures₀ from i) figures₀ settings₀ marks₀ figures settings marks added c
+Inv-loop table ways behind figures₀ settings₀ marks₀ m n from upto last added₀ c₀ figures settings marks added c =
+    VisitedTo (λ r. Behind r behind) table ways m n (λ r i. Before r n figures₀ from i) figures₀ settings₀ marks₀ figures settings marks added c
 
 abbrev μ-loop : tie.MeasureT-loop
-μ-loop table behind figures₀ settings₀ marks₀ m n from upto last added₀ c₀ figures settings marks added c =
+μ-loop table ways behind figures₀ settings₀ marks₀ m n from upto last added₀ c₀ figures settings marks added c =
     upto - c
 
 sub-last : tie.Need-sub-last Inv-loop μ-loop
@@ -26,8 +27,8 @@ next-with-requires c κs = let a = c .before .before .before .before in omega (a
 loop-holds : tie.Need-loop-holds Inv-loop μ-loop
 loop-holds c =
     let a = c .before .before .before .before .before in
-    visited-to-on (a .args .table .now) (a .args .behind .now) (a .args .m) (a .args .n) (λ r i. Before r (a .args .n) (a .args .figures .now) (a .args .from) i) (a .args .figures .now) (a .args .settings .now) (a .args .marks .now) _ _ _ false (a .args .from)
-    (visited-to-start (a .args .table .now) (a .args .behind .now) (a .args .m) (a .args .n) (λ r i. Before r (a .args .n) (a .args .figures .now) (a .args .from) i) (a .args .figures .now) (a .args .settings .now) (a .args .marks .now) (a .args .from) (λ r q k. no-code r (a .args .n) (a .args .figures .now) (a .args .from) q k))
+    visited-to-on (λ r. Behind r (a .args .behind .now)) (a .args .table .now) (a .args .ways .now) (a .args .m) (a .args .n) (λ r i. Before r (a .args .n) (a .args .figures .now) (a .args .from) i) (a .args .figures .now) (a .args .settings .now) (a .args .marks .now) _ _ _ false (a .args .from)
+    (visited-to-start (λ r. Behind r (a .args .behind .now)) (a .args .table .now) (a .args .ways .now) (a .args .m) (a .args .n) (λ r i. Before r (a .args .n) (a .args .figures .now) (a .args .from) i) (a .args .figures .now) (a .args .settings .now) (a .args .marks .now) (a .args .from) (λ r q k. no-code r (a .args .n) (a .args .figures .now) (a .args .from) q k))
     (c .next-with .result)
     (λ r s o q k. codes-passed r (a .args .n) (a .args .figures .now) _ _ _ _ _ _ s (a .args .from) (a .args .from) (a .args .upto) _ _ q (omega (arith, a .pre .2, o .counted)) (omega (arith, a .pre .3)) (c .next-with .ensures .0) k)
 
@@ -50,7 +51,7 @@ next-with-requires-2 c κs =
     let v = c .before .before .before .before .before .before .before in
     let l = v .before .before .before .before .before in
     let a = l .before .before .before .before .before .before in
-    omega (arith, a .pre .0, a .pre .2, l .loop .inv .long-figs, v .visit-before .kept .1 .1 .0)
+    omega (arith, a .pre .0, a .pre .2, l .loop .inv .long-figs, v .visit-before .kept .1 .1 .1 .0)
 
 loop-less : tie.Need-loop-less Inv-loop μ-loop
 loop-less c =
@@ -64,11 +65,11 @@ loop-again c =
     let i = v .before .before .before .before in
     let l = i .before in
     let a = l .before .before .before .before .before .before in
-    visited-to-on (a .args .table .now) (a .args .behind .now) (a .args .m) (a .args .n) (λ r i. Before r (a .args .n) (a .args .figures .now) (a .args .from) i) (a .args .figures .now) (a .args .settings .now) (a .args .marks .now) _ _ _ _ (l .loop .c + 1)
-    (visited-to-next (a .args .table .now) (a .args .behind .now) (a .args .m) (a .args .n) (λ r i. Before r (a .args .n) (a .args .figures .now) (a .args .from) i) (a .args .figures .now) (a .args .settings .now) (a .args .marks .now) (l .loop .figures) (l .loop .settings) (l .loop .marks) (l .loop .added) (l .loop .c) (l .loop .inv)
-    (λ r. Before r (a .args .n) (l .loop .figures) (l .loop .c) (l .loop .c + 1)) (l .loop .c + 1) _ _ _ (v .visit-before .result) (v .visit-before .kept .1 .1 .0) (v .visit-before .kept .1 .1 .1 .0) (v .visit-before .kept .1 .1 .1 .1 .0)
+    visited-to-on (λ r. Behind r (a .args .behind .now)) (a .args .table .now) (a .args .ways .now) (a .args .m) (a .args .n) (λ r i. Before r (a .args .n) (a .args .figures .now) (a .args .from) i) (a .args .figures .now) (a .args .settings .now) (a .args .marks .now) _ _ _ _ (l .loop .c + 1)
+    (visited-to-next (λ r. Behind r (a .args .behind .now)) (a .args .table .now) (a .args .ways .now) (a .args .m) (a .args .n) (λ r i. Before r (a .args .n) (a .args .figures .now) (a .args .from) i) (a .args .figures .now) (a .args .settings .now) (a .args .marks .now) (l .loop .figures) (l .loop .settings) (l .loop .marks) (l .loop .added) (l .loop .c) (l .loop .inv)
+    (λ r. Before r (a .args .n) (l .loop .figures) (l .loop .c) (l .loop .c + 1)) (l .loop .c + 1) _ _ _ (v .visit-before .result) (v .visit-before .kept .1 .1 .1 .0) (v .visit-before .kept .1 .1 .1 .1 .0) (v .visit-before .kept .1 .1 .1 .1 .1 .0)
     (λ r h o. visited-less r (a .args .n) _ _ _ _ _ _ _ (v .visit-before .ensures r h o) (Before r (a .args .n) (l .loop .figures) (l .loop .c) (l .loop .c + 1)) (λ q lq k. before-one r (a .args .n) (l .loop .figures) (l .loop .c) q k))
-    (λ r s o q lq x. codes-next r (a .args .n) (a .args .figures .now) _ _ _ _ _ _ s (a .args .from) (l .loop .c) (l .loop .c + 1) q (omega (arith, i .loop-test .taken, a .pre .2, o .counted)) x))
+    (λ r h s o q lq x. codes-next r (a .args .n) (a .args .figures .now) _ _ _ _ _ _ s (a .args .from) (l .loop .c) (l .loop .c + 1) q (omega (arith, i .loop-test .taken, a .pre .2, o .counted)) x))
     (c .next-with2 .result)
     (λ r s o q k. codes-passed r (a .args .n) (a .args .figures .now) _ _ _ _ _ _ s (a .args .from) (l .loop .c + 1) (a .args .upto) _ _ q (omega (arith, a .pre .2, o .counted)) (omega (arith, a .pre .3)) (c .next-with2 .ensures .0) k)
 
@@ -85,8 +86,8 @@ returns : tie.Need-returns Inv-loop μ-loop
 returns c =
     let l = c .before in
     let a = l .before .before .before .before .before .before in
-    visited-to-end (a .args .table .now) (a .args .behind .now) (a .args .m) (a .args .n) (λ r i. Before r (a .args .n) (a .args .figures .now) (a .args .from) i) (a .args .figures .now) (a .args .settings .now) (a .args .marks .now) _ _ _ _ _ (l .loop .inv) (λ r. Before r (a .args .n) (a .args .figures .now) (a .args .from) (a .args .upto))
-    (λ r o q x. codes-less r (a .args .n) (a .args .figures .now) (a .args .from) (a .args .upto) _ q (c .loop-test .left) x)
+    visited-to-end (λ r. Behind r (a .args .behind .now)) (a .args .table .now) (a .args .ways .now) (a .args .m) (a .args .n) (λ r i. Before r (a .args .n) (a .args .figures .now) (a .args .from) i) (a .args .figures .now) (a .args .settings .now) (a .args .marks .now) _ _ _ _ _ (l .loop .inv) (λ r. Before r (a .args .n) (a .args .figures .now) (a .args .from) (a .args .upto))
+    (λ r h o q l x. codes-less r (a .args .n) (a .args .figures .now) (a .args .from) (a .args .upto) _ q (c .loop-test .left) x)
 
 pub visit-codes-spec : {M : Type 1} → statement M
 visit-codes-spec =

@@ -29,7 +29,7 @@ returns-2 c =
     let a = g .before .before .before .before .before .before in
     λ r h o one.
     visited-none r (a .args .n) (Before r (a .args .n) (a .args .figures .now) (a .args .from) (a .args .upto)) (a .args .figures .now) (a .args .settings .now) (a .args .marks .now) (o .marked)
-    (λ q l k. not-marked r (a .args .n) (a .args .figures .now) (a .args .table .now) (a .args .m) (a .args .marks .now) (a .args .from) (a .args .upto) _ o one (a .pre .2) (g .mark-at .ensures) (c .if2 .taken) q k)
+    (λ q l k. not-marked r (a .args .n) (a .args .figures .now) (a .args .table .now) (a .args .ways .now) (a .args .m) (a .args .marks .now) (a .args .from) (a .args .upto) _ o one (a .pre .2) (g .mark-at .ensures) (c .if2 .taken) q k)
 
 visit-codes-requires : tie.Need-visit-codes-requires
 visit-codes-requires c κs = search needs

@@ -1,136 +1,148 @@
--- `solver::visit_train` meets its contract: the train has come from the section behind at minus or from the one at plus. The first is visited
--- if it waits for a visit, and then the other. Assumes nothing.
+-- `solver::visit_train` meets its contract. The loop's invariant: the placements with the train put back by the first j ways have been visited. Where there is
+-- no way with number j, or j has come to the most ways, those are all. Assumes nothing.
 use borrow.Author.Needs.{needs}
 use native.Mathlib.Omega.{arith}
-use mathlib.Core.Bool.{false}
-use Prim.Native.Nat.{_<_}
+use mathlib.Core.Path.{_≡_}
+use Prim.Native.Nat.{_+_, _-_, _<_}
 use Rattle.railway.specs.declared.Railway.{Railway}
 use Rattle.game.specs.Placement.{placements}
-use Rattle.moves.specs.Steps.{On}
-use Rattle.predecessors.specs.Behind.{Behind}
-use Rattle.solver.proofs.Retracing.{BothBehind, waits-inside, no-visit, one-visit, both-behind, train-visited}
+use Rattle.routes.specs.Routes.{mostWays}
+use Rattle.moves.specs.Steps.{strideOf, On}
+use Rattle.predecessors.specs.Behind.{BackBy, Behind}
+use Rattle.solver.specs.Visits.{One, By}
+use Rattle.solver.proofs.Retracing.{Standing, no-way, way-next, way-put, way-last, all-ways, by-ways}
+use Rattle.solver.proofs.Loops.{VisitedTo, visited-to-start, visited-to-next, visited-to-end}
 use Rattle.solver.proofs.visit_train.Statement.{statement}
 use Rattle.solver.proofs.visit_train.Tie as tie
 
-section-at-requires : tie.Need-section-at-requires
+abbrev Inv-loop : tie.InvT-loop
+Inv-loop table ways behind figures₀ settings₀ marks₀ m n q c t stride x e added₀ j₀ figures settings marks added j =
+    VisitedTo (λ r. Standing r table behind q c t stride) table ways m n (λ r i. BackBy r c t x i) figures₀ settings₀ marks₀ figures settings marks added j
+
+abbrev μ-loop : tie.MeasureT-loop
+μ-loop table ways behind figures₀ settings₀ marks₀ m n q c t stride x e added₀ j₀ figures settings marks added j =
+    mostWays - j
+
+section-at-requires : tie.Need-section-at-requires Inv-loop μ-loop
 section-at-requires c κs = search needs
 
-sections-in-requires : tie.Need-sections-in-requires
-sections-in-requires c κs = search needs
+end-behind-requires : tie.Need-end-behind-requires Inv-loop μ-loop
+end-behind-requires c κs = search needs
 
-power-requires : tie.Need-power-requires
-power-requires c κs = search needs
+-- before the loop
+abbrev start : tie.After-end-behind Inv-loop μ-loop → tie.Start Inv-loop μ-loop
+start b = b .before .before .before .before .before
 
-section-behind-requires : tie.Need-section-behind-requires
-section-behind-requires c κs = search needs
+-- what is given of a railway, as one
+given : (b : tie.After-end-behind Inv-loop μ-loop) (r : Railway) → Behind r (start b .args .behind .now) → On r (start b .args .c) (start b .args .table .now) (start b .args .q) → start b .args .c < placements r
+    → start b .args .t < r .trains → start b .args .stride ≡ strideOf (r .sections) (start b .args .t) → Standing r (start b .args .table .now) (start b .args .behind .now) (start b .args .q) (start b .args .c) (start b .args .t) (start b .args .stride)
+given b r h on lc lt w = record { laid = h; on = on; code = lc; train = lt; stride = w }
 
-section-behind-requires-2 : tie.Need-section-behind-requires-2
-section-behind-requires-2 c κs = search needs
+loop-holds : tie.Need-loop-holds Inv-loop μ-loop
+loop-holds c =
+    let a = start c .args in
+    visited-to-start (λ r. Standing r (a .table .now) (a .behind .now) (a .q) (a .c) (a .t) (a .stride)) (a .table .now) (a .ways .now) (a .m) (a .n) (λ r i. BackBy r (a .c) (a .t) _ i) (a .figures .now) (a .settings .now) (a .marks .now) 0
+    (λ r u k. no-way (a .table .now) (a .behind .now) (a .q) (a .c) (a .t) (a .stride) _ _ (c .before .section-at .ensures) (c .end-behind .ensures) r u k)
 
-code-put-requires : tie.Need-code-put-requires
+way-to-requires : tie.Need-way-to-requires Inv-loop μ-loop
+way-to-requires c κs = search needs
+
+same-length : tie.Need-same-length Inv-loop μ-loop
+same-length c = c .before .before .before .loop .inv .long-figs
+
+same-length-2 : tie.Need-same-length-2 Inv-loop μ-loop
+same-length-2 c = c .before .before .before .loop .inv .long-sets
+
+same-length-3 : tie.Need-same-length-3 Inv-loop μ-loop
+same-length-3 c = c .before .before .before .loop .inv .long-marks
+
+returns : tie.Need-returns Inv-loop μ-loop
+returns c =
+    let w = c .before in
+    let l = w .before .before in
+    let b = l .before in
+    let a = start b .args in
+    let here = b .before .section-at .ensures in
+    λ r h o on lc lt stride.
+    visited-to-end (λ r. Standing r (a .table .now) (a .behind .now) (a .q) (a .c) (a .t) (a .stride)) (a .table .now) (a .ways .now) (a .m) (a .n) (λ r i. BackBy r (a .c) (a .t) _ i) (a .figures .now) (a .settings .now) (a .marks .now) _ _ _ _ _ (l .loop .inv)
+    (λ r. By r (a .c) (a .t))
+    (λ r g o u lu k. way-last (a .table .now) (a .behind .now) (a .q) (a .c) (a .t) (a .stride) _ _ here (b .end-behind .ensures) _ _ (w .way-to .ensures .0) r g (c .if1 .taken) u (by-ways (a .table .now) (a .behind .now) (a .q) (a .c) (a .t) (a .stride) _ _ here (b .end-behind .ensures) r g u lu k))
+    r (given b r h on lc lt stride) o
+
+code-put-requires : tie.Need-code-put-requires Inv-loop μ-loop
 code-put-requires c κs = search needs
 
-code-put-requires-2 : tie.Need-code-put-requires-2
-code-put-requires-2 c κs = search needs
+visit-put-requires : tie.Need-visit-put-requires Inv-loop μ-loop
+visit-put-requires c κs =
+    let l = c .before .before .before .before .before .before .before in
+    let a = start (l .before) in
+    (omega (arith, a .pre .0, l .loop .inv .long-figs), omega (arith, a .pre .1, l .loop .inv .long-sets))
 
--- with both codes made, and before any test
-abbrev start : tie.After-code-put2 → tie.Start
-start e = e .before .before .before .before .before .before .before .before .before .before
+add-j : tie.Need-add-j Inv-loop μ-loop
+add-j c = search needs
 
-both : (e : tie.After-code-put2) (r : Railway) → Behind r (start e .args .behind .now) → On r (start e .args .c) (start e .args .table .now) (start e .args .q) → start e .args .c < placements r → start e .args .t < r .trains
-    → BothBehind r (start e .args .q) (start e .args .c) (start e .args .t) (e .before .before .before .before .before .before .section-at .result) (e .before .before .before .section-behind .result) (e .before .before .section-behind2 .result) (e .before .code-put .result) (e .code-put2 .result)
-both e r h on lc lt =
-    let d = e .before in
-    let g = d .before in
-    let b = g .before in
-    let w = b .before in
-    let k = w .before in
-    both-behind r _ _ _ on lc _ _ lt (k .before .section-at .ensures) _ _ _ _ _ _ (k .sections-in .ensures r (on .compiled)) (w .power .ensures) (b .section-behind .ensures r h) (g .section-behind2 .ensures r h) (d .code-put .ensures) (e .code-put2 .ensures)
+loop-less : tie.Need-loop-less Inv-loop μ-loop
+loop-less c = omega (arith, c .before .before .before .before .before .before .before .before .before .before .before .before .before .loop-test .taken)
 
-waits-requires : tie.Need-waits-requires
-waits-requires c κs = search needs
+loop-again : tie.Need-loop-again Inv-loop μ-loop
+loop-again c =
+    let v = c .before .before .before .before .before .before in
+    let p = v .before .before .before .before in
+    let i = p .before in
+    let w = i .before in
+    let l = w .before .before in
+    let b = l .before in
+    let a = start b .args in
+    let here = b .before .section-at .ensures in
+    visited-to-next (λ r. Standing r (a .table .now) (a .behind .now) (a .q) (a .c) (a .t) (a .stride)) (a .table .now) (a .ways .now) (a .m) (a .n) (λ r i. BackBy r (a .c) (a .t) _ i) (a .figures .now) (a .settings .now) (a .marks .now) (l .loop .figures) (l .loop .settings) (l .loop .marks) (l .loop .added) (l .loop .j) (l .loop .inv)
+    (λ r. One (p .code-put .result)) (l .loop .j + 1) _ _ _ (v .visit-put .result) (v .visit-put .kept .1 .1 .0) (v .visit-put .kept .1 .1 .1 .0) (v .visit-put .kept .1 .1 .1 .1 .0)
+    (λ r g o.
+    let put = way-put (a .table .now) (a .behind .now) (a .q) (a .c) (a .t) (a .stride) _ _ here (b .end-behind .ensures) _ _ (w .way-to .ensures .0) r g (i .if1 .left) _ (p .code-put .ensures) in
+    v .visit-put .ensures r (a .c) o (g .on) (g .train) (put .0) (put .1))
+    (λ r g s o u lu k.
+    let put = way-put (a .table .now) (a .behind .now) (a .q) (a .c) (a .t) (a .stride) _ _ here (b .end-behind .ensures) _ _ (w .way-to .ensures .0) r g (i .if1 .left) _ (p .code-put .ensures) in
+    way-next (a .table .now) (a .behind .now) (a .q) (a .c) (a .t) (a .stride) _ _ here (b .end-behind .ensures) _ _ (w .way-to .ensures .0) r g u k _ (put .1))
 
-put-on-requires : tie.Need-put-on-requires
-put-on-requires c κs = search needs
+same-length-4 : tie.Need-same-length-4 Inv-loop μ-loop
+same-length-4 c = c .before .loop .inv .long-figs
 
-visit-requires : tie.Need-visit-requires
-visit-requires c κs =
-    let i = c .before .before .before .before in
-    let f = i .before in
-    let a = start (f .before .before) in
-    let l = waits-inside (a .args .figures .now) (a .args .m) _ _ _ (f .waits .ensures) (i .if1 .taken) in
-    (omega (arith, l, a .pre .0), omega (arith, l, a .pre .1))
+same-length-5 : tie.Need-same-length-5 Inv-loop μ-loop
+same-length-5 c = c .before .loop .inv .long-sets
 
-visit-other-requires : tie.Need-visit-other-requires
-visit-other-requires c κs =
-    let v = c .before .before .before .before .before .before .before .before .before in
-    let a = start (v .before .before .before .before .before .before .before .before) in
-    (omega (arith, a .pre .0, v .visit .kept .1 .0), omega (arith, a .pre .1, v .visit .kept .1 .1 .0))
+same-length-6 : tie.Need-same-length-6 Inv-loop μ-loop
+same-length-6 c = c .before .loop .inv .long-marks
 
-same-length : tie.Need-same-length
-same-length c = search needs
-
-same-length-2 : tie.Need-same-length-2
-same-length-2 c = search needs
-
-same-length-3 : tie.Need-same-length-3
-same-length-3 c = search needs
-
-returns : tie.Need-returns
-returns c =
-    let u = c .before .before .before .before .before .before in
-    let v = u .before .before .before .before .before .before .before .before .before .before in
-    let i = v .before .before .before .before .before in
-    let f = i .before in
-    let a = start (f .before .before) in
-    λ r h o on lc lt.
-    train-visited r _ _ _ on _ lt _ _ _ _ _ (both (f .before .before) r h on lc lt) (a .args .m) (a .args .n) (a .args .figures .now) (a .args .settings .now) (a .args .marks .now) _ _ _ _ _ _ _ _ o
-    (λ put. one-visit r (a .args .table .now) (a .args .m) (a .args .n) (a .args .c) (a .args .t) _ _ (a .args .figures .now) (a .args .settings .now) (a .args .marks .now) o put (a .args .q) _ on lt _ (f .waits .ensures) (i .if1 .taken) (v .before .put-on .ensures) _ _ _ _ (v .visit .ensures))
-    (u .visit-other .ensures)
-
-visit-other-requires-2 : tie.Need-visit-other-requires-2
-visit-other-requires-2 c κs = search needs
-
-same-length-4 : tie.Need-same-length-4
-same-length-4 c = search needs
-
-same-length-5 : tie.Need-same-length-5
-same-length-5 c = search needs
-
-same-length-6 : tie.Need-same-length-6
-same-length-6 c = search needs
-
-returns-2 : tie.Need-returns-2
+returns-2 : tie.Need-returns-2 Inv-loop μ-loop
 returns-2 c =
-    let u = c .before .before .before .before .before .before in
-    let i = u .before .before .before .before in
-    let f = i .before in
-    let a = start (f .before .before) in
-    λ r h o on lc lt.
-    train-visited r _ _ _ on _ lt _ _ _ _ _ (both (f .before .before) r h on lc lt) (a .args .m) (a .args .n) (a .args .figures .now) (a .args .settings .now) (a .args .marks .now) _ _ _ _ _ _ false _ o
-    (λ put. no-visit r (a .args .table .now) (a .args .m) (a .args .n) (a .args .c) (a .args .t) _ _ (a .args .figures .now) (a .args .settings .now) (a .args .marks .now) o put _ (f .waits .ensures) (i .if1 .left))
-    (u .visit-other2 .ensures)
+    let l = c .before in
+    let b = l .before in
+    let a = start b .args in
+    let here = b .before .section-at .ensures in
+    λ r h o on lc lt stride.
+    visited-to-end (λ r. Standing r (a .table .now) (a .behind .now) (a .q) (a .c) (a .t) (a .stride)) (a .table .now) (a .ways .now) (a .m) (a .n) (λ r i. BackBy r (a .c) (a .t) _ i) (a .figures .now) (a .settings .now) (a .marks .now) _ _ _ _ _ (l .loop .inv)
+    (λ r. By r (a .c) (a .t))
+    (λ r g o u lu k. all-ways (a .table .now) (a .behind .now) (a .q) (a .c) (a .t) (a .stride) _ _ here (b .end-behind .ensures) _ (c .loop-test .left) r u (by-ways (a .table .now) (a .behind .now) (a .q) (a .c) (a .t) (a .stride) _ _ here (b .end-behind .ensures) r g u lu k))
+    r (given b r h on lc lt stride) o
 
 pub visit-train-spec : {M : Type 1} → statement M
 visit-train-spec =
     tie.close
     (tie.spec
+    Inv-loop
+    μ-loop
     section-at-requires
-    sections-in-requires
-    power-requires
-    section-behind-requires
-    section-behind-requires-2
-    code-put-requires
-    code-put-requires-2
-    waits-requires
-    put-on-requires
-    visit-requires
-    visit-other-requires
+    end-behind-requires
+    loop-holds
+    way-to-requires
     same-length
     same-length-2
     same-length-3
     returns
-    visit-other-requires-2
+    code-put-requires
+    visit-put-requires
+    add-j
+    loop-less
+    loop-again
     same-length-4
     same-length-5
     same-length-6

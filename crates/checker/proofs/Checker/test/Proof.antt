@@ -19,6 +19,9 @@ tested-requires c κs = search needs
 enum-told : tie.Need-enum-told
 enum-told c = search needs
 
+case-ways-requires : tie.Need-case-ways-requires
+case-ways-requires c κs = search needs
+
 verdict-requires : tie.Need-verdict-requires
 verdict-requires c κs = search needs
 
@@ -36,12 +39,13 @@ returns c =
 returns-2 : tie.Need-returns-2
 returns-2 c =
     let v = c .before in
-    let e = v .before .before .before in
+    let w = v .before .before .before in
+    let e = w .before .before in
     let o = e .before .before in
     let a = o .before .before .before .args in
     let k = checking (a .self) (a .figures .now) (a .settings .now) in
     test-handed (a .r) (a .self) (a .figures .now) (a .settings .now) _ _ _ (c .tested3 .ensures .0) (c .tested3 .ensures .1)
-    (test-judged (a .r) k _ (o .open-case .ensures) (e .enum-told .given .1) _ (v .verdict .ensures (a .r) (a .self) (opened-table (o .open-case .ensures) (e .enum-told .given .1))))
+    (test-judged (a .r) k _ (o .open-case .ensures) (e .enum-told .given .1) _ (v .verdict .ensures (a .r) (a .self) (opened-table (o .open-case .ensures) (e .enum-told .given .1)) (w .case-ways .ensures)))
 
 pub test-spec : {M : Type 1} → statement M
 test-spec =
@@ -51,6 +55,7 @@ test-spec =
     enum-known-tested
     tested-requires
     enum-told
+    case-ways-requires
     verdict-requires
     tested-requires-2
     returns

@@ -1,0 +1,100 @@
+-- `compiled::fill_stands` meets its contract. The loop's invariant: how the train stands on the sections before x is filled in too.
+-- Assumes nothing.
+use borrow.Author.Needs.{needs}
+use native.Mathlib.Omega.{arith}
+use mathlib.Core.Path.{_≡_, _∙_, ap}
+use Prim.Native.Nat.{_+_, _-_, _*_, _≤_}
+use Rattle.laws.proofs.Filling.{FilledTo}
+use Rattle.railway.specs.declared.Railway.{Railway}
+use Rattle.railway.specs.declared.Train.{Train}
+use Rattle.railway.specs.Bounds.{mostSections}
+use Rattle.railway.specs.Ends.{sideIndex}
+use Rattle.railway.specs.Record.{trainOf}
+use Rattle.railway.specs.Lent.{SignalsOf}
+use Rattle.railway.proofs.Ends.{side-small}
+use Rattle.compiled.specs.Table.{tableBytes, compiledByte, FilledBefore}
+use Rattle.compiled.proofs.Table.{stands-next, filled-first, filled-last}
+use Rattle.compiled.proofs.fill_stands.Statement.{statement}
+use Rattle.compiled.proofs.fill_stands.Tie as tie
+
+abbrev Inv-loop : tie.InvT-loop
+Inv-loop table₀ signals t side home first x₀ table x =
+    (x ≤ mostSections) × ((r : Railway) → SignalsOf r signals → side ≡ sideIndex (trainOf r t .heading) → home ≡ trainOf r t .destination .0 → FilledBefore r t table₀ → FilledTo (compiledByte r) tableBytes table (48 * t + x))
+
+abbrev μ-loop : tie.MeasureT-loop
+μ-loop table₀ signals t side home first x₀ table x = mostSections - x
+
+side-index-requires : tie.Need-side-index-requires Inv-loop μ-loop
+side-index-requires c κs = search needs
+
+mul-first : tie.Need-mul-first Inv-loop μ-loop
+mul-first c = search needs
+
+loop-holds : tie.Need-loop-holds Inv-loop μ-loop
+loop-holds c = (omega arith, λ r g s d f. filled-first r _ _ (c .before .pre) f)
+
+cast-at : tie.Need-cast-at Inv-loop μ-loop
+cast-at c = search needs
+
+add-at : tie.Need-add-at Inv-loop μ-loop
+add-at c = search needs
+
+mul-signal-in : tie.Need-mul-signal-in Inv-loop μ-loop
+mul-signal-in c = search needs
+
+add-signal-in : tie.Need-add-signal-in Inv-loop μ-loop
+add-signal-in c = let s = c .before .before in omega (arith, side-small (s .before .args .train .heading), s .side-index .ensures)
+
+signal-in-requires : tie.Need-signal-in-requires Inv-loop μ-loop
+signal-in-requires c κs = search needs
+
+stand-byte-requires : tie.Need-stand-byte-requires Inv-loop μ-loop
+stand-byte-requires c κs = search needs
+
+element-write-table : tie.Need-element-write-table Inv-loop μ-loop
+element-write-table c = omega arith
+
+add-x : tie.Need-add-x Inv-loop μ-loop
+add-x c = omega arith
+
+loop-less : tie.Need-loop-less Inv-loop μ-loop
+loop-less c = omega arith
+
+loop-again : tie.Need-loop-again Inv-loop μ-loop
+loop-again c =
+    let b = c .before in
+    let i = b .before in
+    let l = i .before in (
+      omega arith,
+      λ r g s d f.
+          stands-next r _ _ _ (l .before .before .pre) (i .loop-test .taken) s _ _ _ _ d (b .signal-in .ensures r g) (c .stand-byte .ensures) (l .loop .inv .1 r g s d f),
+    )
+
+returns : tie.Need-returns Inv-loop μ-loop
+returns c =
+    let l = c .before in
+    let s = l .before in
+    λ r g is f.
+    filled-last r _ _ _ (c .loop-test .left)
+    (l .loop .inv .1 r g (s .side-index .ensures ∙ ap (λ (y : Train). sideIndex (y .heading)) is) (ap (λ (y : Train). y .destination .0) is) f)
+
+pub fill-stands-spec : {M : Type 1} → statement M
+fill-stands-spec =
+    tie.close
+    (tie.spec
+    Inv-loop
+    μ-loop
+    side-index-requires
+    mul-first
+    loop-holds
+    cast-at
+    add-at
+    mul-signal-in
+    add-signal-in
+    signal-in-requires
+    stand-byte-requires
+    element-write-table
+    add-x
+    loop-less
+    loop-again
+    returns)

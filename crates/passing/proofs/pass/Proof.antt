@@ -1,0 +1,55 @@
+-- `passing::pass` meets its contract: the record is judged by its test, and where it is accepted the passage begins past what the end is joined to, with four
+-- points allowed. Assumes nothing.
+use borrow.Author.Needs.{needs}
+use Rattle.railway.proofs.Arrays.{own-links}
+use Rattle.passing.proofs.Following.{post-refused, post-accepted}
+use Rattle.passing.proofs.pass.Statement.{statement}
+use Rattle.passing.proofs.pass.Tie as tie
+
+test-record-requires : tie.Need-test-record-requires
+test-record-requires c κs = search needs
+
+enum-told : tie.Need-enum-told
+enum-told c = search needs
+
+enum-told-2 : tie.Need-enum-told-2
+enum-told-2 c = search needs
+
+nowhere-requires : tie.Need-nowhere-requires
+nowhere-requires c κs = search needs
+
+returns : tie.Need-returns
+returns c =
+    let told = c .before in
+    let test = told .before .before in
+    let a = test .before .args in
+    post-refused (a .r) (a .e) (a .points) _ (test .test-record .ensures) _ _ (told .enum-told2 .given .1) (c .nowhere .ensures)
+
+join-of-requires : tie.Need-join-of-requires
+join-of-requires c κs = search needs
+
+past-join-requires : tie.Need-past-join-requires
+past-join-requires c κs = search needs
+
+returns-2 : tie.Need-returns-2
+returns-2 c =
+    let join = c .before .before in
+    let told = join .before .before .before in
+    let test = told .before .before in
+    let start = test .before in
+    let a = start .args in
+    let own = own-links (a .r) _ (start .good .0) in
+    post-accepted (a .r) (a .e) (a .points) _ (test .test-record .ensures) _ _ (told .enum-told .given .1) (join .join-of .ensures (a .r) own) (c .past-join .ensures .1 (a .r) own)
+
+pub pass-spec : {M : Type 1} → statement M
+pass-spec =
+    tie.close
+    (tie.spec
+    test-record-requires
+    enum-told
+    enum-told-2
+    nowhere-requires
+    returns
+    join-of-requires
+    past-join-requires
+    returns-2)

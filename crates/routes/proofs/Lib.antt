@@ -1,0 +1,5 @@
+pub mod Examples
+pub mod Ways
+pub mod Routes
+pub mod Putting
+pub mod Walking

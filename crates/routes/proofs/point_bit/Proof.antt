@@ -1,0 +1,14 @@
+-- `routes::point_bit` meets its contract: the power fits. Assumes nothing.
+use borrow.Author.Needs.{needs}
+use Rattle.routes.proofs.Putting.{power-fits}
+use Rattle.routes.proofs.point_bit.Statement.{statement}
+use Rattle.routes.proofs.point_bit.Tie as tie
+
+shl-result : tie.Need-shl-result
+shl-result c = search needs
+
+returns : tie.Need-returns
+returns c = power-fits (c .args .n) (c .pre)
+
+pub point-bit-spec : {M : Type 1} → statement M
+point-bit-spec = tie.close (tie.spec shl-result returns)

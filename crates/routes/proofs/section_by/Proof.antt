@@ -1,0 +1,143 @@
+-- `routes::section_by` meets its contract. The loop's invariant: the place is that of a way's number, and no way before it is suited. The way that is suited
+-- leads to the section that is entered, and where none is, none is. Assumes nothing.
+use borrow.Author.Needs.{needs}
+use native.Mathlib.Omega.{arith}
+use mathlib.Core.Path.{_≡_, refl, sym, _∙_, ap}
+use lib.Bits.{bitAnd}
+use Prim.Native.Nat.{ℕ, _+_, _-_, _*_, _≤_}
+use Rattle.routes.proofs.Walking.{Walked, walked-start, walked-inside, walked-room, walked-none, walked-hit, walked-end, walked-next}
+use Rattle.routes.proofs.section_by.Statement.{statement}
+use Rattle.routes.proofs.section_by.Tie as tie
+
+abbrev Inv-loop : tie.InvT-loop
+Inv-loop ways e points first at₀ at = (first ≡ 48 * e) × (at ≤ 48 * e + 48) × Walked ways e points at
+
+abbrev μ-loop : tie.MeasureT-loop
+μ-loop ways e points first at₀ at = 48 * e + 48 - at
+
+-- the words, and the same made wide
+suit : (points : ℕ) {a b x y : ℕ} → x ≡ a → y ≡ b → bitAnd points x ≡ y → bitAnd points a ≡ b
+suit points e f s = ap (bitAnd points) (sym e) ∙ s ∙ f
+
+unsuit : (points : ℕ) {a b x y : ℕ} → x ≡ a → y ≡ b → bitAnd points a ≡ b → bitAnd points x ≡ y
+unsuit points e f s = ap (bitAnd points) e ∙ s ∙ sym f
+
+returns : tie.Need-returns Inv-loop μ-loop
+returns c = search needs
+
+mul-first : tie.Need-mul-first Inv-loop μ-loop
+mul-first c = search needs
+
+loop-holds : tie.Need-loop-holds Inv-loop μ-loop
+loop-holds c = (refl, omega arith, walked-start _ _ _)
+
+add-loop : tie.Need-add-loop Inv-loop μ-loop
+add-loop c = search needs
+
+mul-x : tie.Need-mul-x Inv-loop μ-loop
+mul-x c = search needs
+
+element-copy-out-x : tie.Need-element-copy-out-x Inv-loop μ-loop
+element-copy-out-x c = search needs
+
+returns-2 : tie.Need-returns-2 Inv-loop μ-loop
+returns-2 c =
+    let i = c .before .before in
+    let l = i .before in
+    let w = l .loop .inv .2 in
+    (λ r laid h. walked-none _ _ _ _ w r laid h (i .loop-test .taken) (c .if2 .taken), λ h. absurd (omega (arith, l .before .if1 .left)))
+
+add-wide : tie.Need-add-wide Inv-loop μ-loop
+add-wide c = search needs
+
+mul-wide : tie.Need-mul-wide Inv-loop μ-loop
+mul-wide c = search needs
+
+element-copy-out-wide : tie.Need-element-copy-out-wide Inv-loop μ-loop
+element-copy-out-wide c =
+    let i = c .before .before in
+    let l = i .before in
+    omega (arith, l .before .if1 .left, walked-room _ _ _ _ (l .loop .inv .2) (i .loop-test .taken))
+
+wide-requires : tie.Need-wide-requires Inv-loop μ-loop
+wide-requires c κs = search needs
+
+add-wide-2 : tie.Need-add-wide-2 Inv-loop μ-loop
+add-wide-2 c = search needs
+
+mul-wide-2 : tie.Need-mul-wide-2 Inv-loop μ-loop
+mul-wide-2 c = search needs
+
+element-copy-out-wide-2 : tie.Need-element-copy-out-wide-2 Inv-loop μ-loop
+element-copy-out-wide-2 c =
+    let i = c .before .before .before .before in
+    let l = i .before in
+    omega (arith, l .before .if1 .left, walked-room _ _ _ _ (l .loop .inv .2) (i .loop-test .taken))
+
+wide-requires-2 : tie.Need-wide-requires-2 Inv-loop μ-loop
+wide-requires-2 c κs = search needs
+
+cast-result : tie.Need-cast-result Inv-loop μ-loop
+cast-result c = search needs
+
+returns-3 : tie.Need-returns-3 Inv-loop μ-loop
+returns-3 c =
+    let b = c .before in
+    let a = b .before .before in
+    let o = a .before .before in
+    let i = o .before .before in
+    let l = i .before in
+    let w = l .loop .inv .2 in (
+      λ r laid h. walked-hit _ _ _ _ w r laid h (i .loop-test .taken) (o .if2 .left) (suit (l .before .before .args .points) (a .wide .ensures) (b .wide2 .ensures) (c .if3 .taken)),
+      λ h. absurd (omega (arith, l .before .if1 .left)),
+    )
+
+add-at : tie.Need-add-at Inv-loop μ-loop
+add-at c = search needs
+
+loop-less : tie.Need-loop-less Inv-loop μ-loop
+loop-less c = search needs
+
+loop-again : tie.Need-loop-again Inv-loop μ-loop
+loop-again c =
+    let b = c .before in
+    let a = b .before .before in
+    let o = a .before .before in
+    let i = o .before .before in
+    let l = i .before in
+    let w = l .loop .inv .2 in
+    let n = walked-next _ _ _ _ w (omega (arith, l .before .if1 .left)) (i .loop-test .taken) (o .if2 .left) (λ s. c .if3 .left (unsuit (l .before .before .args .points) (a .wide .ensures) (b .wide2 .ensures) s)) in
+    (l .loop .inv .0, walked-inside _ _ _ _ n, n)
+
+returns-4 : tie.Need-returns-4 Inv-loop μ-loop
+returns-4 c =
+    let l = c .before in
+    (λ r laid h. walked-end _ _ _ _ (l .loop .inv .2) r laid h (c .loop-test .left), λ h. absurd (omega (arith, l .before .if1 .left)))
+
+pub section-by-spec : {M : Type 1} → statement M
+section-by-spec =
+    tie.close
+    (tie.spec
+    Inv-loop
+    μ-loop
+    returns
+    mul-first
+    loop-holds
+    add-loop
+    mul-x
+    element-copy-out-x
+    returns-2
+    add-wide
+    mul-wide
+    element-copy-out-wide
+    wide-requires
+    add-wide-2
+    mul-wide-2
+    element-copy-out-wide-2
+    wide-requires-2
+    cast-result
+    returns-3
+    add-at
+    loop-less
+    loop-again
+    returns-4)

@@ -1,0 +1,19 @@
+-- `settings::combine` meets its contract: nothing is wanted at first, and the smallest bits for all trains from the first on decide.
+-- Assumes nothing.
+use borrow.Author.Needs.{needs}
+use Rattle.game.proofs.Accepted.{facts}
+use Rattle.settings.proofs.Trying.{nothing-placed, together-found, together-none}
+use Rattle.settings.proofs.combine.Statement.{statement}
+use Rattle.settings.proofs.combine.Tie as tie
+
+over-train-requires : tie.Need-over-train-requires
+over-train-requires c κs = search needs
+
+returns : tie.Need-returns
+returns c = λ r p h f. together-found r (facts r (h .looks .on .compiled .accepted)) p (h .apart) _ _ f _ (c .before .over-train .ensures r p h (nothing-placed r)) (c .if1 .taken)
+
+returns-2 : tie.Need-returns-2
+returns-2 c = λ r p h f. together-none r (facts r (h .looks .on .compiled .accepted)) p (h .apart) _ _ f _ (c .before .over-train .ensures r p h (nothing-placed r)) (c .if1 .left)
+
+pub combine-spec : {M : Type 1} → statement M
+combine-spec = tie.close (tie.spec over-train-requires returns returns-2)

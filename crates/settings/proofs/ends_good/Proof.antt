@@ -1,0 +1,68 @@
+-- `settings::ends_good` meets its contract: the figure at the code that the move would lead to, and then the other trains.
+-- Assumes nothing.
+use native.Mathlib.Omega.{arith}
+use borrow.Author.Needs.{needs}
+use Rattle.settings.proofs.Stepping.{ends-not, ends-unless}
+use Rattle.settings.proofs.ends_good.Statement.{statement}
+use Rattle.settings.proofs.ends_good.Tie as tie
+
+sections-in-requires : tie.Need-sections-in-requires
+sections-in-requires c κs = search needs
+
+power-requires : tie.Need-power-requires
+power-requires c κs = search needs
+
+section-at-requires : tie.Need-section-at-requires
+section-at-requires c κs = search needs
+
+code-put-requires : tie.Need-code-put-requires
+code-put-requires c κs = search needs
+
+entry-at-requires : tie.Need-entry-at-requires
+entry-at-requires c κs = search needs
+
+returns : tie.Need-returns
+returns c =
+    let e = c .before in
+    let u = e .before in
+    let x = u .before in
+    let w = x .before in
+    let s = w .before in
+    let a = s .before .before .args in
+    λ r p on code l inside.
+    ends-not r p _ _ on (a .figures .now) (a .n) (a .t) (a .y) l inside _ _ _ _ _ code (s .sections-in .ensures r (on .compiled)) (w .power .ensures) (x .section-at .ensures) (u .code-put .ensures) _ (e .entry-at .ensures) (c .if1 .taken)
+
+trains-in-requires : tie.Need-trains-in-requires
+trains-in-requires c κs = search needs
+
+other-in-requires : tie.Need-other-in-requires
+other-in-requires c κs = search needs
+
+returns-2 : tie.Need-returns-2
+returns-2 c =
+    let o = c .before in
+    let i = o .before in
+    let e = i .before in
+    let u = e .before in
+    let x = u .before in
+    let w = x .before in
+    let s = w .before in
+    let st = s .before .before in
+    let a = st .args in
+    λ r p on code l inside.
+    ends-unless r p _ _ on (a .figures .now) (a .n) (a .t) (a .y) l inside _ _ _ _ _ code (s .sections-in .ensures r (on .compiled)) (w .power .ensures) (x .section-at .ensures) (u .code-put .ensures) _ (e .entry-at .ensures)
+    (omega (arith, st .fits .n)) (i .if1 .left) _ _ (o .trains-in .ensures r (on .compiled)) (c .other-in .ensures)
+
+pub ends-good-spec : {M : Type 1} → statement M
+ends-good-spec =
+    tie.close
+    (tie.spec
+    sections-in-requires
+    power-requires
+    section-at-requires
+    code-put-requires
+    entry-at-requires
+    returns
+    trains-in-requires
+    other-in-requires
+    returns-2)

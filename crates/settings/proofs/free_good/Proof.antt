@@ -1,0 +1,49 @@
+-- `settings::free_good` meets its contract: where these bits lead the train.
+-- Assumes nothing.
+use borrow.Author.Needs.{needs}
+use Rattle.moves.proofs.Moving.{as-there}
+use Rattle.settings.proofs.Stepping.{not-free-good, nowhere-good, y-inside, enters-good}
+use Rattle.settings.proofs.free_good.Statement.{statement}
+use Rattle.settings.proofs.free_good.Tie as tie
+
+free-in-requires : tie.Need-free-in-requires
+free-in-requires c κs = search needs
+
+leads-to-requires : tie.Need-leads-to-requires
+leads-to-requires c κs = search needs
+
+returns : tie.Need-returns
+returns c =
+    let y = c .before in
+    let i = y .before in
+    let f = i .before in
+    let a = f .before .before .args in
+    λ r p h l.
+    nowhere-good r p _ _ (h .on) (a .bits) (a .t) _ (y .leads-to .ensures r p (h .on) (h .laid)) _ (a .n) _ (as-there r p _ _ (h .on) _ l _ _ (f .free-in .ensures r p (h .on))) (i .if1 .taken) (c .if2 .taken)
+
+ends-good-requires : tie.Need-ends-good-requires
+ends-good-requires c κs = search needs
+
+returns-2 : tie.Need-returns-2
+returns-2 c =
+    let j = c .before in
+    let y = j .before in
+    let i = y .before in
+    let f = i .before in
+    let a = f .before .before .args in
+    λ r p h l.
+    let leads = y .leads-to .ensures r p (h .on) (h .laid) in
+    let inside = y-inside r p _ _ (h .on) (a .bits) (a .t) _ leads (j .if2 .left) in
+    enters-good r p _ _ (h .on) (a .bits) (a .t) _ leads _ _ _ (as-there r p _ _ (h .on) _ l _ _ (f .free-in .ensures r p (h .on))) (i .if1 .taken) (j .if2 .left) _
+    (c .ends-good .ensures r p (h .on) (h .code) l inside)
+
+returns-3 : tie.Need-returns-3
+returns-3 c =
+    let f = c .before in
+    let a = f .before .before .args in
+    λ r p h l. not-free-good r _ p (a .n) (a .bits) _ _ (as-there r p _ _ (h .on) _ l _ _ (f .free-in .ensures r p (h .on))) (c .if1 .left)
+
+pub free-good-spec : {M : Type 1} → statement M
+free-good-spec =
+    tie.close
+    (tie.spec free-in-requires leads-to-requires returns ends-good-requires returns-2 returns-3)

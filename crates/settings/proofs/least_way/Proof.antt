@@ -1,0 +1,94 @@
+-- `settings::least_way` meets its contract. The loop's invariant: the smallest bits that suit one of the first j ways, if it is a good one.
+-- Assumes nothing.
+use native.Mathlib.Omega.{arith}
+use borrow.Author.Needs.{needs}
+use Prim.Native.Nat.{ℕ, _+_, _-_, _≤_, _<_}
+use Rattle.railway.specs.declared.Railway.{Railway}
+use Rattle.tables.specs.Tables.{figureIn}
+use Rattle.settings.specs.Search.{Looks, noBits, Smallest, waysOf, OnWay}
+use Rattle.settings.proofs.Searching.{Tried, tried-start, ways-all, ways-zero}
+use Rattle.settings.proofs.Stepping.{ways-past, way-gone, one-more, wants-is}
+use Rattle.settings.proofs.least_way.Statement.{statement}
+use Rattle.settings.proofs.least_way.Tie as tie
+
+abbrev Inv-loop : tie.InvT-loop
+Inv-loop table ways figures q c n t e best₀ j₀ best j =
+    (j ≤ 16) × ((r : Railway) (p : ℕ) → Looks r p table ways q c → t < r .trains → Smallest (Tried (OnWay r (figureIn figures) p n t) (waysOf r p t) j) (r .points) noBits best)
+
+abbrev μ-loop : tie.MeasureT-loop
+μ-loop table ways figures q c n t e best₀ j₀ best j = 16 - j
+
+front-in-requires : tie.Need-front-in-requires Inv-loop μ-loop
+front-in-requires c κs = search needs
+
+loop-holds : tie.Need-loop-holds Inv-loop μ-loop
+loop-holds c = (omega arith, λ r p h l. tried-start _ _ _ _)
+
+way-to-requires : tie.Need-way-to-requires Inv-loop μ-loop
+way-to-requires c κs = search needs
+
+returns : tie.Need-returns Inv-loop μ-loop
+returns c =
+    let w = c .before in
+    let l = w .before .before in
+    let f = l .before in
+    λ r p h lt.
+    ways-all r _ p _ _ _ _ _ (l .loop .j) (way-gone r p _ _ (h .on) _ _ (f .front-in .ensures r p (h .on)) _ _ (w .way-to .ensures .0 r _ (h .laid)) (c .if1 .taken)) (l .loop .inv .1 r p h lt)
+
+way-want-requires : tie.Need-way-want-requires Inv-loop μ-loop
+way-want-requires c κs = search needs
+
+by-way-requires : tie.Need-by-way-requires Inv-loop μ-loop
+by-way-requires c κs = search needs
+
+-- one way more
+abbrev at : tie.After-by-way Inv-loop μ-loop → tie.At-loop Inv-loop μ-loop
+at b = b .before .before .before .before .before
+
+abbrev start : tie.After-by-way Inv-loop μ-loop → tie.Start Inv-loop μ-loop
+start b = at b .before .before .before
+
+more : (b : tie.After-by-way Inv-loop μ-loop) (r : Railway) (p : ℕ) → Looks r p (start b .args .table .now) (start b .args .ways .now) (start b .args .q) (start b .args .c) → start b .args .t < r .trains
+    → Smallest (Tried (OnWay r (figureIn (start b .args .figures .now)) p (start b .args .n) (start b .args .t)) (waysOf r p (start b .args .t)) (at b .loop .j + 1)) (r .points) noBits (b .by-way .result)
+more b r p h l =
+    let w = b .before .before .before in
+    let a = start b .args in
+    let front = at b .before .front-in .ensures r p (h .on) in
+    one-more r p _ _ (h .on) (a .t) _ front (at b .loop .j) (OnWay r (figureIn (a .figures .now)) p (a .n) (a .t)) _ _ _ _ _ (w .way-to .ensures .0 r _ (h .laid)) (b .before .before .if1 .left)
+    (λ v is to. b .by-way .ensures r p (at b .loop .j) v (h .on) (h .code) l is to (wants-is r p _ _ (h .on) (a .t) _ front (at b .loop .j) _ (b .before .way-want .ensures .0 r _ (h .laid)) v is))
+    (at b .loop .inv .1 r p h l)
+
+returns-2 : tie.Need-returns-2 Inv-loop μ-loop
+returns-2 c = λ r p h l. ways-zero r _ p _ _ _ _ _ _ (c .if2 .taken) (omega arith) (more (c .before) r p h l)
+
+add-j : tie.Need-add-j Inv-loop μ-loop
+add-j c = omega arith
+
+loop-less : tie.Need-loop-less Inv-loop μ-loop
+loop-less c = omega arith
+
+loop-again : tie.Need-loop-again Inv-loop μ-loop
+loop-again c = (omega arith, more (c .before))
+
+returns-3 : tie.Need-returns-3 Inv-loop μ-loop
+returns-3 c =
+    let l = c .before in
+    λ r p h lt. ways-all r _ p _ _ _ _ _ (l .loop .j) (ways-past r p _ _ (h .on) _ _ (c .loop-test .left)) (l .loop .inv .1 r p h lt)
+
+pub least-way-spec : {M : Type 1} → statement M
+least-way-spec =
+    tie.close
+    (tie.spec
+    Inv-loop
+    μ-loop
+    front-in-requires
+    loop-holds
+    way-to-requires
+    returns
+    way-want-requires
+    by-way-requires
+    returns-2
+    add-j
+    loop-less
+    loop-again
+    returns-3)

@@ -1,0 +1,107 @@
+-- `settings::look` meets its contract. The loop's invariant: what is known of the free trains before t, each by itself.
+-- Assumes nothing.
+use native.Mathlib.Omega.{arith}
+use borrow.Author.Needs.{needs}
+use Prim.Native.Nat.{ℕ, _-_, _≤_}
+use mathlib.Core.Logic.{⊎-elim}
+use mathlib.Core.Path.{sym, _∙_}
+use Rattle.laws.proofs.Below.{any-of}
+use Rattle.railway.specs.declared.Railway.{Railway}
+use Rattle.game.specs.Setting.{free}
+use Rattle.game.proofs.Accepted.{facts}
+use Rattle.tables.specs.Tables.{figureIn}
+use Rattle.moves.proofs.Moving.{as-there}
+use Rattle.settings.specs.Search.{Asked, Seen}
+use Rattle.settings.proofs.Alone.{seen-start, seen-not, seen-one, seen-all}
+use Rattle.settings.proofs.Trying.{no-way}
+use Rattle.settings.proofs.look.Statement.{statement}
+use Rattle.settings.proofs.look.Tie as tie
+
+abbrev Inv-loop : tie.InvT-loop
+Inv-loop table ways figures q c n k count₀ all₀ most₀ t₀ count all most t =
+    (t ≤ k) × (count ≤ t) × ((r : Railway) (p : ℕ) → Asked r p table ways q c k → Seen r (figureIn figures) p n t count all most)
+
+abbrev μ-loop : tie.MeasureT-loop
+μ-loop table ways figures q c n k count₀ all₀ most₀ t₀ count all most t = k - t
+
+loop-holds : tie.Need-loop-holds Inv-loop μ-loop
+loop-holds c = (omega arith, omega arith, λ r p h. seen-start r _ p _)
+
+free-in-requires : tie.Need-free-in-requires Inv-loop μ-loop
+free-in-requires c κs = search needs
+
+least-way-requires : tie.Need-least-way-requires Inv-loop μ-loop
+least-way-requires c κs = search needs
+
+returns : tie.Need-returns Inv-loop μ-loop
+returns c =
+    let w = c .before in
+    let f = w .before .before in
+    λ r p h.
+    let on = h .looks .on in
+    let lt = rw (h .trains) at (f .before .loop-test .taken) in
+    let is = sym (as-there r p _ _ on _ lt _ _ (f .free-in .ensures r p on)) ∙ w .before .if1 .taken in
+    no-way r (facts r (on .compiled .accepted)) p (h .apart) _ _ (any-of (free r p) (r .trains) _ lt is) _ _ lt is (w .least-way .ensures r p (h .looks) lt) (c .if2 .taken)
+
+add-count : tie.Need-add-count Inv-loop μ-loop
+add-count c = omega arith
+
+larger-requires : tie.Need-larger-requires Inv-loop μ-loop
+larger-requires c κs = search needs
+
+add-t : tie.Need-add-t Inv-loop μ-loop
+add-t c = omega arith
+
+loop-less : tie.Need-loop-less Inv-loop μ-loop
+loop-less c = omega arith
+
+loop-again : tie.Need-loop-again Inv-loop μ-loop
+loop-again c =
+    let f = c .before in
+    let l = f .before .before in
+    ⊎-elim
+    (λ w.
+    rw (w .4, w .5, w .6) (
+      omega arith,
+      omega (arith, l .loop .inv .1),
+      λ r p h.
+          let on = h .looks .on in
+          let lt = rw (h .trains) at (f .before .loop-test .taken) in
+          seen-one r _ p _ _ _ _ _ (l .loop .inv .2 r p h) (sym (as-there r p _ _ on _ lt _ _ (f .free-in .ensures r p on)) ∙ w .0 .taken) _ (w .1 .ensures r p (h .looks) lt) (w .2 .left) _ (w .3 .ensures),
+    ))
+    (λ w.
+    rw (w .1, w .2, w .3) (
+      omega arith,
+      omega (arith, l .loop .inv .1),
+      λ r p h.
+          let on = h .looks .on in
+          let lt = rw (h .trains) at (f .before .loop-test .taken) in
+          seen-not r _ p _ _ _ _ _ (l .loop .inv .2 r p h) (sym (as-there r p _ _ on _ lt _ _ (f .free-in .ensures r p on)) ∙ w .0 .left),
+    ))
+    (c .if1 .came)
+
+settle-requires : tie.Need-settle-requires Inv-loop μ-loop
+settle-requires c κs = search needs
+
+returns-2 : tie.Need-returns-2 Inv-loop μ-loop
+returns-2 c =
+    let l = c .before .before in
+    λ r p h. c .settle .ensures r p h (seen-all r _ p _ _ _ _ _ _ (h .trains) (l .loop .inv .0) (c .before .loop-test .left) (l .loop .inv .2 r p h))
+
+pub look-spec : {M : Type 1} → statement M
+look-spec =
+    tie.close
+    (tie.spec
+    Inv-loop
+    μ-loop
+    loop-holds
+    free-in-requires
+    least-way-requires
+    returns
+    add-count
+    larger-requires
+    add-t
+    loop-less
+    loop-again
+    settle-requires
+    returns-2)
