@@ -1,10 +1,9 @@
 // The way of source document 000, with all its three reductions of the game: the graph is generated from the start, in a hash table that has for each
 // vertex how many of its successors are not yet won and the list of its predecessors; then a search goes backwards from home with a queue. A vertex of
 // the signalman is a placement; a vertex of the trains is a placement with a setting, in which what matters to no train is left at minus or closed and
-// at most one signal is open.
+// at most one signal is open. That document knows no weights: here the queue has a list for each figure, and they are taken by rising figures.
 #include "solvers.hpp"
 #include <algorithm>
-#include <deque>
 #include <unordered_map>
 
 namespace {
@@ -27,7 +26,8 @@ struct Hash {
 
 struct Node {
     u32 not_won = 0;                                // successors
-    u32 depth = NONE;                               // moves of either side to home, if won
+    u32 figure = NONE;                              // the weights that can be forced from here, if won
+    u32 most = 0;                                   // of the trains: the largest weight and figure behind it, of the successors that are won
     std::vector<Vertex> before;
 };
 
@@ -99,22 +99,35 @@ struct Graph {
         }
     }
 
+    // The weight of the train that moves from one placement to another; an idle turn counts 1.
+    u32 weight(Vertex from, Vertex to) const {
+        for (int t = 0; t < y.trains; t++) if (section(from, t) != section(to, t)) return y.weight[t];
+        return 1;
+    }
+
     void search() {
-        std::deque<Vertex> queue;
-        if (auto at = nodes.find(home); at != nodes.end()) {
-            at->second.depth = 0;
-            queue.push_back(home);
-        }
-        while (!queue.empty()) {
-            const Node& node = nodes[queue.front()];
-            queue.pop_front();
-            for (Vertex v : node.before) {
-                Node& earlier = nodes[v];
-                earlier.not_won--;
-                if (earlier.depth != NONE || (v & TRAINS_TURN && earlier.not_won > 0)) continue;
-                earlier.depth = node.depth + 1;
-                queue.push_back(v);
+        std::vector<Vertex> queue[WEIGHTS + 1];     // by figure, modulo their number
+        auto won = [&](Vertex v, Node& node, u32 figure) {
+            node.figure = figure;
+            queue[figure % (WEIGHTS + 1)].push_back(v);
+        };
+        if (auto at = nodes.find(home); at != nodes.end()) won(home, at->second, 0);
+        for (u32 n = 0, last = 0; n - last <= y.most_weight; n++) {
+            std::vector<Vertex>& list = queue[n % (WEIGHTS + 1)];
+            if (!list.empty()) last = n;
+            for (size_t i = 0; i < list.size(); i++) {
+                Vertex w = list[i];                 // the list may grow meanwhile
+                for (Vertex v : nodes[w].before) {
+                    Node& earlier = nodes[v];
+                    if (v & TRAINS_TURN) {
+                        earlier.most = std::max(earlier.most, n + weight(v, w));
+                        if (--earlier.not_won == 0) won(v, earlier, earlier.most);
+                    } else if (earlier.figure == NONE) {
+                        won(v, earlier, n);
+                    }
+                }
             }
+            list.clear();
         }
     }
 
@@ -127,18 +140,17 @@ struct Graph {
         return true;
     }
 
-    // A turn is two moves. Of the settings that keep a placement's figure the least as a number stays: with at most one signal open that is the plan's
-    // order.
+    // Of the settings that keep a placement's figure the least as a number stays: with at most one signal open that is the plan's order.
     void write(Tables& tables) {
         u32 code;
         for (auto& [v, node] : nodes) {
             if (v & TRAINS_TURN || !code_of(v, code)) continue;
-            tables.figures[code] = node.depth == NONE ? NONE : node.depth / 2;
-            tables.settings[code] = node.depth == NONE || node.depth == 0 ? 0 : NONE;
+            tables.figures[code] = node.figure;
+            tables.settings[code] = node.figure == NONE || node.figure == 0 ? 0 : NONE;
         }
         for (auto& [v, node] : nodes) {
-            if (!(v & TRAINS_TURN) || node.depth == NONE || !code_of(v, code)) continue;
-            if (node.depth + 1 != 2 * tables.figures[code]) continue;
+            if (!(v & TRAINS_TURN) || node.figure == NONE || !code_of(v, code)) continue;
+            if (node.figure != tables.figures[code]) continue;
             tables.settings[code] = std::min(tables.settings[code], setting(v));
         }
     }

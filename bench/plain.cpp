@@ -108,8 +108,8 @@ bool enter(const Yard& y, std::string_view plan, Tables& tables, u32& first) {
     return in.good;
 }
 
-// A listed placement that is not home: somebody may move, and whoever may comes to a listed one of a smaller figure. (One where two trains share a section
-// fails by itself, so a collision need not be looked for.)
+// A listed placement that is not home: somebody may move, and whoever may comes to a listed one whose figure is smaller by his weight at least. (One where
+// two trains share a section fails by itself, so a collision need not be looked for.)
 bool keeps(const Yard& y, const Sections& s, u32 code, const Tables& tables) {
     u32 setting = tables.settings[code];
     bool some = code == y.home;
@@ -119,7 +119,7 @@ bool keeps(const Yard& y, const Sections& s, u32 code, const Tables& tables) {
         if (opened && !step.signal) return false;
         if (!opened && !step.free) continue;
         int32_t change = y.change(step, setting);
-        if (change == 0 || tables.figures[code + change] >= tables.figures[code]) return false;
+        if (change == 0 || tables.figures[code + change] >= y.limit(t, tables.figures[code])) return false;
         some = true;
     }
     return some;

@@ -8,9 +8,11 @@ constexpr int PORTS = 2 * SECTIONS, ENDS = PORTS + 3 * 16;
 
 struct Lines {
     std::string_view rest;
+    bool more = false;                              // a tab stood behind the last field: its line goes on
 
     std::string_view field() {                      // the next field, with the tab or line end behind it taken
         size_t end = rest.find_first_of("\t\n");
+        more = rest[end] == '\t';
         std::string_view f = rest.substr(0, end);
         rest.remove_prefix(end + 1);
         return f;
@@ -90,6 +92,8 @@ Yard read_yard(std::string_view text) {
             y.start += (in.number() - 1) * y.stride[t];
             int destination = in.number() - 1;
             y.home += destination * y.stride[t];
+            y.weight[t] = in.more ? in.number() : 1;
+            y.most_weight = std::max(y.most_weight, y.weight[t]);
             y.placements *= y.sections;
             for (int x = 0; x < y.sections; x++) if (x != destination) y.step[t][x] = track.step(2 * x + heading, (int32_t)y.stride[t], y.ways);
         }

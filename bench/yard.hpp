@@ -9,7 +9,7 @@ using u8 = uint8_t;
 using u32 = uint32_t;
 using u64 = uint64_t;
 
-constexpr int SECTIONS = 48, TRAINS = 4;
+constexpr int SECTIONS = 48, TRAINS = 4, WEIGHTS = 255;
 constexpr u32 NONE = 0xFFFFFFFF;                    // no figure; no setting found
 
 // A train leaves a section by the end it heads for. A way over the points ahead leads to another section that is not closed. What is no way here derails, enters
@@ -31,9 +31,12 @@ struct Yard {
     int sections = 0, points = 0, trains = 0;
     u32 placements = 1, start = 0, home = 0;        // how many codes; the codes of start and destinations
     u32 stride[TRAINS] = {};                        // what a section counts in the code
+    u32 weight[TRAINS] = {}, most_weight = 0;       // what a move of the train counts in the figure; the largest
     Step step[TRAINS][SECTIONS];
     std::vector<Way> ways;
 
+    // A move of the train keeps figure n if it ends at a figure below this.
+    u32 limit(int train, u32 n) const { return n < weight[train] ? 0 : n - weight[train] + 1; }
     const Way* begin(const Step& s) const { return ways.data() + s.first; }
     const Way* end(const Step& s) const { return ways.data() + s.last; }
     // How the code changes under a setting; 0, if it suits no way.

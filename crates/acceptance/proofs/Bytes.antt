@@ -309,7 +309,7 @@ and-always : (b : Bool) → (b && true) ≡ b
 and-always true = refl
 and-always false = refl
 
-or-nothing : (b : Bool) → (b || false) ≡ b
+pub or-nothing : (b : Bool) → (b || false) ≡ b
 or-nothing true = refl
 or-nothing false = refl
 

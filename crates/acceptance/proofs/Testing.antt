@@ -7,36 +7,53 @@ use mathlib.Core.List.{List, [], _∷_}
 use mathlib.Core.Option.{Option, none, some}
 use native.Mathlib.Omega.{arith}
 use lib.Dec.{ltb, eqb}
-use lib.ListN.{drop, getD}
+use lib.ListN.{length, drop, getD}
+use borrow.Author.Tests.{le-ltb}
 use Rattle.laws.specs.Below.{anyBelow}
 use Rattle.railway.specs.declared.Train.{Train}
 use Rattle.railway.specs.declared.Railway.{Railway}
 use Rattle.railway.specs.declared.Refusal.{Refusal}
 use Rattle.railway.specs.declared.Refusal.the-variants.{Count}
-use Rattle.railway.specs.Bounds.{mostSections, mostPoints, mostTrains, sectionEnds, allEnds}
-use Rattle.railway.specs.Record.{isClosed, noTrain, trainOf}
+use Rattle.railway.specs.Bounds.{mostSections, mostPoints, mostTrains, leastWeight, mostWeight, sectionEnds, allEnds}
+use Rattle.railway.specs.Record.{isClosed, trainOf, weightOf}
 use Rattle.railway.specs.Refusals.{Row, numberOf, first}
-use Rattle.railway.specs.Rows.{outside, unknownSignalAt, unknownClosedAt, unknownTrainAt, sharesWith, sharesAt, shutOutAt, rowsBy, countRow, unknownRow, joinRow, looseRow, chainRow, placeRow, recordRefusal}
+use Rattle.railway.specs.Rows.{outside, wrongWeight, wrongWeightAt, weightRow, unknownSignalAt, unknownClosedAt, unknownTrainAt, sharesWith, sharesAt, shutOutAt, rowsBy, countRow, unknownRow, joinRow, looseRow, chainRow, placeRow, recordRefusal}
 use Rattle.railway.proofs.Accepted.{bounded}
 use Rattle.railway.proofs.Lookups.{roster-there}
 use Rattle.acceptance.specs.Answers.{Looked, RosterOf}
+use Rattle.acceptance.proofs.Bytes.{or-nothing}
 
--- THE TRAINS, one by one
+-- THE TRAINS. A record's own are few enough for their table
+pub own-roster : (r : Railway) → length (r .roster) ≡ mostTrains → r .trains ≤ mostTrains → RosterOf r (r .roster) (r .trains)
+own-roster r n h = record { are = refl; count = refl; room = omega arith }
+
+-- one by one
 module _ (r : Railway) (roster : List Train) (k : ℕ) (h : RosterOf r roster k) where
-  train-there : (t : ℕ) → t < k → getD roster t noTrain ≡ trainOf r t
-  train-there t l = ap (λ (xs : List Train). getD xs t noTrain) (sym (h .are)) ∙ roster-there r t (omega (arith, h .count))
+  room-here : k ≤ length (r .roster)
+  room-here = rw (h .are) (h .room)
 
-  pub unknown-at : (t s : ℕ) (b : Bool) → t < k → r .sections ≡ s → b ≡ not (ltb (getD roster t noTrain .start .0) s && ltb (getD roster t noTrain .destination .0) s) → b ≡ unknownTrainAt r t
-  unknown-at t s b l e q = rw (← train-there t l, e) q
+  train-there : (t : ℕ) (d : Train) → t < k → getD roster t d ≡ trainOf r t
+  train-there t d l = ap (λ (xs : List Train). getD xs t d) (sym (h .are)) ∙ roster-there r t d (omega (arith, h .count)) (omega (arith, room-here))
 
-  pub shut-at : (t : ℕ) (b : Bool) → t < k → b ≡ (isClosed r (getD roster t noTrain .start .0) || isClosed r (getD roster t noTrain .destination .0)) → b ≡ shutOutAt r t
-  shut-at t b l q = rw (← train-there t l) q
+  pub weight-at : (t : ℕ) (d : Train) (b : Bool) → t < k → b ≡ wrongWeight (getD roster t d .weight) → b ≡ wrongWeightAt r t
+  unfolding weightOf
+  weight-at t d b l q = q ∙ ap (λ (x : Train). wrongWeight (x .weight)) (train-there t d l)
 
-  pub shares-at : (t u : ℕ) (b : Bool) → t < k → u < t → b ≡ (eqb (getD roster u noTrain .start .0) (getD roster t noTrain .start .0) || eqb (getD roster u noTrain .destination .0) (getD roster t noTrain .destination .0)) → b ≡ sharesWith r t u
-  shares-at t u b l m q = rw (← train-there t l, ← train-there u (omega arith)) q
+  pub unknown-at : (t s : ℕ) (d : Train) (b : Bool) → t < k → r .sections ≡ s → b ≡ not (ltb (getD roster t d .start .0) s && ltb (getD roster t d .destination .0) s) → b ≡ unknownTrainAt r t
+  unknown-at t s d b l e q = rw (← train-there t d l, e) q
+
+  pub shut-at : (t : ℕ) (d : Train) (b : Bool) → t < k → b ≡ (isClosed r (getD roster t d .start .0) || isClosed r (getD roster t d .destination .0)) → b ≡ shutOutAt r t
+  shut-at t d b l q = rw (← train-there t d l) q
+
+  pub shares-at : (t u : ℕ) (d : Train) (b : Bool) → t < k → u < t → b ≡ (eqb (getD roster u d .start .0) (getD roster t d .start .0) || eqb (getD roster u d .destination .0) (getD roster t d .destination .0)) → b ≡ sharesWith r t u
+  shares-at t u d b l m q = rw (← train-there t d l, ← train-there u d (omega arith)) q
 
   pub all-trains : (f : ℕ → Bool) (b : Bool) → b ≡ anyBelow f k → b ≡ anyBelow f (r .trains)
   all-trains f b q = q ∙ ap (anyBelow f) (sym (h .count))
+
+  pub weights-by : (b : Bool) → b ≡ anyBelow (wrongWeightAt r) k → b ≡ weightRow r
+  unfolding weightRow
+  weights-by b hb = all-trains (wrongWeightAt r) b hb
 
   pub places-by : (a b : Bool) → a ≡ anyBelow (sharesAt r) k → b ≡ anyBelow (shutOutAt r) k → (a || b) ≡ placeRow r
   unfolding placeRow
@@ -44,6 +61,10 @@ module _ (r : Railway) (roster : List Train) (k : ℕ) (h : RosterOf r roster k)
       let x : a ≡ anyBelow (sharesAt r) (r .trains) = all-trains (sharesAt r) a ha in
       let y : b ≡ anyBelow (shutOutAt r) (r .trains) = all-trains (shutOutAt r) b hb in
       rw (x, y)
+
+-- a byte is no weight where it is less than the least
+pub light : (w : ℕ) → w ≤ mostWeight → ltb w leastWeight ≡ wrongWeight w
+light w h = rw (le-ltb mostWeight w h) (sym (or-nothing (ltb w leastWeight)))
 
 -- tests by their parts
 pub first-holds : (a b : Bool) → a ≡ true → true ≡ (a || b)
@@ -89,8 +110,8 @@ pub count-given : (r : Railway) (b : Bool) → b ≡ countRow r → b ≡ true �
 unfolding recordRefusal first
 count-given r b h e = let z : countRow r ≡ true = sym h ∙ e in rw z
 
--- else it is what is found in its links, its signals, its closed sections and its trains
-pub tested : (r : Railway) (n : Option ℕ) (u w b g x t : Bool) → n ≡ numberOf (first (rowsBy (countRow r) (((u || g) || x) || t) (w || b) (looseRow r) (chainRow r) false (placeRow r)))
-    → Looked r allEnds u w b → g ≡ anyBelow (unknownSignalAt r) sectionEnds → x ≡ anyBelow (unknownClosedAt r) mostSections → t ≡ anyBelow (unknownTrainAt r) (r .trains) → n ≡ numberOf (recordRefusal r)
+-- else it is what is found in its trains' weights, its links, its signals, its closed sections and its trains
+pub tested : (r : Railway) (n : Option ℕ) (v u w b g x t : Bool) → n ≡ numberOf (first (rowsBy (countRow r) v (((u || g) || x) || t) (w || b) (looseRow r) (chainRow r) false (placeRow r)))
+    → v ≡ weightRow r → Looked r allEnds u w b → g ≡ anyBelow (unknownSignalAt r) sectionEnds → x ≡ anyBelow (unknownClosedAt r) mostSections → t ≡ anyBelow (unknownTrainAt r) (r .trains) → n ≡ numberOf (recordRefusal r)
 unfolding recordRefusal unknownRow joinRow
-tested r n u w b g x t e h hg hx ht = e ∙ rw (h .unknown, h .wrong, h .unreturned, hg, hx, ht)
+tested r n v u w b g x t e hv h hg hx ht = e ∙ rw (hv, h .unknown, h .wrong, h .unreturned, hg, hx, ht)

@@ -3,9 +3,9 @@
 use mathlib.Core.Path.{_≡_}
 use mathlib.Core.Bool.{Bool, _&&_, _||_}
 use mathlib.Core.List.{List}
-use Prim.Native.Nat.{ℕ, _+_, _*_, _<_}
+use Prim.Native.Nat.{ℕ, _+_, _*_, _<_, _≤_}
 use lib.Dec.{ltb, leb, eqb}
-use lib.ListN.{getD}
+use lib.ListN.{length, getD}
 use Rattle.laws.specs.Below.{anyBelow}
 use Rattle.railway.specs.declared.Railway.{Railway}
 use Rattle.railway.specs.declared.CaseAnswer.{CaseAnswer}
@@ -17,7 +17,7 @@ use Rattle.railway.specs.Lent.{LinksOf}
 use Rattle.railway.specs.Refusals.{numberGiven, numberOf}
 use Rattle.railway.specs.Rows.{recordRefusal, unknownLinkAt, wrongLinkAt, unreturnedAt}
 
--- What the test of a record answers: the first of rows 3 to 8 and 13 that applies, by its number; accepted where none does.
+-- What the test of a record answers: the first of rows 3 to 8, 13 and 16 that applies, by its number; accepted where none does.
 abbrev pub Judged : Railway → CaseAnswer → Type 0
 Judged r t = numberGiven t ≡ numberOf (recordRefusal r)
 
@@ -26,10 +26,11 @@ pub record Counts (r : Railway) (ends ports : ℕ) : Type 0 where
   pub sections : 2 * r .sections ≡ ends
   pub points : sectionEnds + 3 * r .points ≡ ports
 
--- These are its trains, so many of them within its count.
+-- These are its trains, so many of them within its count, and there is room for them.
 pub record RosterOf (r : Railway) (roster : List Train) (k : ℕ) : Type 0 where
   pub are : r .roster ≡ roster
   pub count : r .trains ≡ k
+  pub room : k ≤ length roster
 
 -- The sides of the legs of all points, each by its index.
 pub record Sided (r : Railway) (sides : List ℕ) : Type 0 where

@@ -1,4 +1,4 @@
-// The test of a record: accepted, or refused with the first of rows 3 to 8 and 13 that applies. Any record may come in, also one that
+// The test of a record: accepted, or refused with the first of rows 3 to 8, 13 and 16 that applies. Any record may come in, also one that
 // no text describes; each row looks at every place that it concerns. Besides the test, some of its parts are public for the
 // reader of case texts: they judge one row, pair or place of a record by itself, and are no entry points.
 ghost use mathlib.Core.Path.{_≡_};
@@ -12,7 +12,7 @@ ghost use Rattle.railway.specs.Bounds.{mostSections, mostTrains, sectionEnds, a
 ghost use Rattle.railway.specs.Ends.{sameSide, sideIndex, endAt};
 ghost use Rattle.railway.specs.Record.{isClosed, joinedBy, linkAt, sideOf};
 ghost use Rattle.railway.specs.Refusals.{numberGiven, numberOf, first};
-ghost use Rattle.railway.specs.Rows.{rowsBy, countRow, looseRow, outside, known, unknownLinkAt, unknownSignalAt, unknownClosedAt, unknownTrainAt, ownerOf, oneOwner, tied, wrongPair, wrongLinkAt, unreturnedAt, unjoined, looseAt, longer, mostBehind, chainedAt, chainRow, sharesAt, shutOutAt, placeRow};
+ghost use Rattle.railway.specs.Rows.{rowsBy, countRow, wrongWeight, weightRow, looseRow, outside, known, unknownLinkAt, unknownSignalAt, unknownClosedAt, unknownTrainAt, ownerOf, oneOwner, tied, wrongPair, wrongLinkAt, unreturnedAt, unjoined, looseAt, longer, mostBehind, chainedAt, chainRow, sharesAt, shutOutAt, placeRow};
 ghost use Rattle.railway.specs.Lent.{LinksOf, SignalsOf, ClosedOf};
 ghost use Rattle.acceptance.specs.Answers.{Judged, Counts, Sided, Lent, seenAt, Looked, RosterOf};
 use railway::CaseAnswer;
@@ -40,7 +40,7 @@ struct Found {
     unreturned: bool,
 }
 
-// The test of a record, rows 3 to 8 with 13 behind 6, the order in which they are given. (Row 7 cannot apply: a record has one flag a signal and one a section.)
+// The test of a record, rows 3 to 8 with 16 behind 3 and 13 behind 6, the order in which they are given. (Row 7 cannot apply: a record has one flag a signal and one a section.)
 pub fn test_record(r: Railway) -> CaseAnswer
     ensures { λ t. ⌜ Judged r t ⌝ }
 {
@@ -55,6 +55,7 @@ pub fn test_record(r: Railway) -> CaseAnswer
     let closed = r.closed;
     let legs = r.legs;
     let roster = r.roster;
+    let weight = wrong_weights(roster, k);
     let sides = sides_of(legs, p);
     let ends = 2 * s;
     let ports = Railway::SECTION_ENDS + 3 * p;
@@ -63,15 +64,18 @@ pub fn test_record(r: Railway) -> CaseAnswer
         | unknown_signals(&signals, ends)
         | unknown_closed(&closed, s)
         | unknown_trains(roster, k, s);
-    first_row(r, unknown, found.wrong | found.unreturned, false)
+    first_row(r, weight, unknown, found.wrong | found.unreturned, false)
 }
 
-// The first of these rows that applies, given what rows 4, 5 and 7 say.
-pub fn first_row(r: Railway, unknown: bool, wrong: bool, double: bool) -> CaseAnswer
-    ensures { λ t. ⌜ numberGiven t ≡ numberOf (first (rowsBy (countRow r) unknown wrong (looseRow r) (chainRow r) double (placeRow r))) ⌝ }
+// The first of these rows that applies, given what rows 16, 4, 5 and 7 say.
+pub fn first_row(r: Railway, weight: bool, unknown: bool, wrong: bool, double: bool) -> CaseAnswer
+    ensures { λ t. ⌜ numberGiven t ≡ numberOf (first (rowsBy (countRow r) weight unknown wrong (looseRow r) (chainRow r) double (placeRow r))) ⌝ }
 {
     if counts_outside(r.sections, r.points, r.trains) {
         return CaseAnswer::Refused(Refusal::Count);
+    }
+    if weight {
+        return CaseAnswer::Refused(Refusal::Weight);
     }
     if unknown {
         return CaseAnswer::Refused(Refusal::Unknown);
@@ -391,7 +395,29 @@ fn is_longer(links: &Links, j: u8, k: u8) -> bool
     }
 }
 
-// THE TRAINS. Row 4 at them.
+// THE TRAINS. Row 16.
+fn wrong_weights(roster: Roster, k: u8) -> bool
+    requires { ⌜ k ≤ mostTrains ⌝ }
+    ensures { λ b. ⌜ ((r : Railway) → RosterOf r roster k → b ≡ weightRow r) ⌝ }
+{
+    let mut found = false;
+    let mut t: u8 = 0;
+    while t < k {
+        let at = t as usize;
+        found = found | is_wrong(roster[at]);
+        t += 1;
+    }
+    found
+}
+
+// A train has a weight that none may have. (A byte is never too large.)
+fn is_wrong(x: Train) -> bool
+    ensures { λ b. ⌜ b ≡ wrongWeight (x .weight) ⌝ }
+{
+    x.weight < Railway::LEAST_WEIGHT
+}
+
+// Row 4 at them.
 fn unknown_trains(roster: Roster, k: u8, s: u8) -> bool
     requires { ⌜ k ≤ mostTrains ⌝ }
     ensures { λ b. ⌜ ((r : Railway) → RosterOf r roster k → r .sections ≡ s → b ≡ anyBelow (unknownTrainAt r) k) ⌝ }

@@ -13,9 +13,10 @@ use Rattle.railway.specs.declared.End.{End}
 use Rattle.railway.specs.declared.End.the-variants.{Section, Port}
 use Rattle.railway.specs.declared.Joined.{Joined}
 use Rattle.railway.specs.declared.Joined.the-variants.{Nothing, With}
+use Rattle.railway.specs.declared.Train.{Train}
 use Rattle.railway.specs.declared.Railway.{Railway}
 use Rattle.railway.specs.Ends.{endIndex}
-use Rattle.railway.specs.Record.{joined, hasSignal, trainOf}
+use Rattle.railway.specs.Record.{joined, hasSignal, trainOf, weightOf}
 use Rattle.railway.specs.Passing.{Passage, through, mostMet, meeting, pastPoint, pastJoin, follow, passes, inUse, entered}
 use Rattle.railway.specs.Same.{SameRailway}
 use Rattle.railway.proofs.Same.{closed-same, joined-same, signal-same, roster-same}
@@ -117,11 +118,19 @@ module _ (r q : Railway) (h : SameRailway r q) where
   unfolding moveOf
   move-same p s t = rw (heads-same p t, entered-same (s .plus) (headsFor q p t)) (enters-same p t (entered q (s .plus) (headsFor q p t)))
 
+  -- what a move costs
+  weight-same : (t : ℕ) → weightOf r t ≡ weightOf q t
+  unfolding weightOf
+  weight-same t = ap (λ (x : Train). x .weight) (roster-same r q h t)
+
   pub game-same : gameOf r ≡ gameOf q
   game-same =
-      go (placements r) (placements q) (r .trains) (q .trains) (atHome r) (atHome q) (shared r) (shared q) (mayMove r) (mayMove q) (moveOf r) (moveOf q)
+      go (placements r) (placements q) (r .trains) (q .trains) (atHome r) (atHome q) (shared r) (shared q) (mayMove r) (mayMove q) (moveOf r) (moveOf q) (weightOf r) (weightOf q)
       placements-same (h .trains) (fun-ext home-same) (fun-ext lost-same) (fun-ext (λ p. fun-ext (λ s. fun-ext (may-same p s)))) (fun-ext (λ p. fun-ext (λ s. fun-ext (move-same p s))))
+      (fun-ext weight-same)
     where
-      go : (a a′ b b′ : ℕ) (c c′ d d′ : ℕ → Bool) (e e′ : ℕ → Setting → ℕ → Bool) (f f′ : ℕ → Setting → ℕ → Outcome) → a ≡ a′ → b ≡ b′ → c ≡ c′ → d ≡ d′ → e ≡ e′ → f ≡ f′
-          → _≡_ {A = Game Setting} (record { placements = a; trains = b; isHome = c; isLost = d; allowed = e; next = f }) (record { placements = a′; trains = b′; isHome = c′; isLost = d′; allowed = e′; next = f′ })
-      go a a′ b b′ c c′ d d′ e e′ f f′ p q u v w x = rw (p, q, u, v, w, x)
+      go : (a a′ b b′ : ℕ) (c c′ d d′ : ℕ → Bool) (e e′ : ℕ → Setting → ℕ → Bool) (f f′ : ℕ → Setting → ℕ → Outcome) (k k′ : ℕ → ℕ)
+          → a ≡ a′ → b ≡ b′ → c ≡ c′ → d ≡ d′ → e ≡ e′ → f ≡ f′ → k ≡ k′
+          → _≡_ {A = Game Setting} (record { placements = a; trains = b; isHome = c; isLost = d; allowed = e; next = f; weight = k })
+          (record { placements = a′; trains = b′; isHome = c′; isLost = d′; allowed = e′; next = f′; weight = k′ })
+      go a a′ b b′ c c′ d d′ e e′ f f′ k k′ p q u v w x y = rw (p, q, u, v, w, x, y)

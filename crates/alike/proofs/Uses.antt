@@ -10,7 +10,7 @@ use native.Mathlib.Omega.{arith}
 use lib.ListN.{getD, set}
 use Rattle.text.specs.Text.{bytes}
 use Rattle.railway.specs.declared.Railway.{Railway}
-use Rattle.railway.specs.Record.{noLink, withLinks, withJoin, withSignal, withLegs, withTrain}
+use Rattle.railway.specs.Record.{noLink, trainOf, weightOf, withLinks, withJoin, withSignal, withLegs, withTrain}
 use Rattle.railway.specs.Refusals.{numberOf}
 use Rattle.railway.specs.Rows.{recordRefusal}
 use Rattle.railway.specs.Same.{SameRailway, SameByte, SameButForNone}
@@ -45,8 +45,8 @@ blank-accepted = sym (bytes-alike yardA blank blank-same .judged) ∙ written-a 
 blank-written : writtenText blank ≡ bytes textA
 blank-written = sym (bytes-alike yardA blank blank-same .text) ∙ written-a .0
 
--- Whatever record is the same railway as Yard A: a writer answers for it as for Yard A, its game has as many placements, and a solver refuses it only where it
--- refuses Yard A.
+-- Whatever record is the same railway as Yard A: a writer answers for it as for Yard A, its game has as many placements and the same weights, and a solver
+-- refuses it only where it refuses Yard A.
 module _ (q : Railway) (h : SameRailway q yardA) where
   writer-answers : (buffer : List ℕ) (a : Written) (after : List ℕ) → WriterPost q buffer a after → a ≡ written yardA buffer
   writer-answers buffer a after x = same-alike q yardA h .written buffer a after x .answer
@@ -54,6 +54,10 @@ module _ (q : Railway) (h : SameRailway q yardA) where
   nine : gameOf q .placements ≡ 9
   unfolding withJoin withSignal withLegs withTrain
   nine = ap (λ (g : Game Setting). g .placements) (same-alike q yardA h .played)
+
+  weight-one : gameOf q .weight 1 ≡ 1
+  unfolding weightOf trainOf withJoin withSignal withLegs withTrain
+  weight-one = ap (λ (g : Game Setting). g .weight 1) (same-alike q yardA h .played)
 
   refused-alike : (a : SolverAnswer) (figs sets figs′ sets′ : List ℕ) → SolverPost q a figs sets figs′ sets′ → numberGiven a ≡ numberOf (caseRefusal yardA figs sets)
   refused-alike a figs sets figs′ sets′ x = same-alike q yardA h .solved a figs sets figs′ sets′ x .numbered

@@ -8,7 +8,7 @@ use Rattle.text.specs.Text.{digits, decimal, tab, lineEnd, line, bytes}
 use Rattle.text.specs.Appending.{Appended}
 use Rattle.text.proofs.Appending.{line-more, line-last, front-text}
 use Rattle.railway.specs.declared.Refusal.{Refusal}
-use Rattle.railway.specs.declared.Refusal.the-variants.{Length, Form, Count, Unknown, Join, Loose, Chain, Double, Place, Space, PlanForm, PlanFault}
+use Rattle.railway.specs.declared.Refusal.the-variants.{Length, Form, Count, Weight, Unknown, Join, Loose, Chain, Double, Place, Space, PlanForm, PlanFault}
 use Rattle.railway.specs.Refusals.{number}
 use Rattle.casefile.specs.declared.Written.{Written}
 use Rattle.plan.specs.declared.TestAnswer.{TestAnswer}
@@ -24,6 +24,7 @@ unfolding bytes line digits
 refusal-short Length = omega arith
 refusal-short Form = omega arith
 refusal-short Count = omega arith
+refusal-short Weight = omega arith
 refusal-short Unknown = omega arith
 refusal-short Join = omega arith
 refusal-short Loose = omega arith

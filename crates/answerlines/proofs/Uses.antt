@@ -5,7 +5,7 @@ use mathlib.Core.List.{List, [], _∷_, _++_}
 use mathlib.Core.Option.{none, some}
 use Prim.Native.Nat.{ℕ}
 use Rattle.text.specs.Text.{digits, line, bytes}
-use Rattle.railway.specs.declared.Refusal.the-variants.{Form, Space, PlanFault}
+use Rattle.railway.specs.declared.Refusal.the-variants.{Form, Weight, Space, PlanFault}
 use Rattle.railway.specs.Refusals.{first}
 use Rattle.casefile.specs.declared.Written.{Written}
 use Rattle.casefile.specs.declared.Written.the-variants.{Bytes, Refused}
@@ -14,10 +14,10 @@ use Rattle.plan.specs.declared.TestAnswer.the-variants as tested
 use Rattle.answerlines.specs.Lines.{refusalLine, noneLine, testLine, PutPost}
 
 -- the lines
-spelled : (refusalLine Form ≡ bytes "refused\t2\n") × (noneLine ≡ bytes "none\n")
+spelled : (refusalLine Form ≡ bytes "refused\t2\n") × (refusalLine Weight ≡ bytes "refused\t16\n") × (noneLine ≡ bytes "none\n")
     × (testLine tested.Pass ≡ bytes "pass\n") × (testLine (tested.Refused PlanFault) ≡ bytes "refused\t11\n")
 unfolding bytes line digits
-spelled = (refl, refl, refl, refl)
+spelled = (refl, refl, refl, refl, refl)
 
 module _ (w : Written) (new : List ℕ) where
   -- with room to the last byte, and for two more

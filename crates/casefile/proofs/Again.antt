@@ -23,16 +23,16 @@ use Rattle.railway.specs.declared.End.the-variants.{Port}
 use Rattle.railway.specs.declared.Joined.the-variants.{Nothing, With}
 use Rattle.railway.specs.declared.Train.{Train}
 use Rattle.railway.specs.declared.Railway.{Railway}
-use Rattle.railway.specs.Bounds.{mostSections, sectionEnds, allEnds}
+use Rattle.railway.specs.Bounds.{leastWeight, mostWeight, mostSections, sectionEnds, allEnds}
 use Rattle.railway.specs.Ends.{sameSide, portSide, endIndex, endAt}
-use Rattle.railway.specs.Record.{linkAt, flagAt, closedAt, joined, isClosed, trainOf}
+use Rattle.railway.specs.Record.{linkAt, flagAt, closedAt, joined, isClosed, trainOf, weightOf}
 use Rattle.railway.specs.Record as R
 use Rattle.railway.specs.Rows.{Owner, ofSection, ofPoint, oneOwner, longer, mostBehind, chainedAt, recordRefusal}
 use Rattle.railway.specs.Rows as RR
 use Rattle.railway.proofs.Ends.{end-section}
 use Rattle.railway.proofs.Lookups.{closed-there, closed-none}
-use Rattle.railway.proofs.Accepted.{Right, Laid as LaidRecord, Accepted, no-leg, facts-accepted}
-use Rattle.casefile.specs.Form.{EndField, section, port, SignalLine, TrainLine, Description, WellFormed, sameSignal}
+use Rattle.railway.proofs.Accepted.{Right, Laid as LaidRecord, Accepted, right-weight, no-leg, facts-accepted}
+use Rattle.casefile.specs.Form.{EndField, section, port, SignalLine, TrainLine, Description, WellFormed, saidWeight, sameSignal}
 use Rattle.casefile.specs.Rows.{known, ownerOf, sideOf, chainRow, closedIn}
 use Rattle.casefile.specs.Recording.{endOf, fieldOf, partner, signalOf, trainOfLine, noTrainLine, railwayOf}
 use Rattle.casefile.specs.Claims.{AcceptedAgain}
@@ -136,6 +136,13 @@ module _ (d : Description) (w : Faultless d) where
     unfolding RR.chainRow railwayOf
     free n l h = no-leg (λ l. longer (railwayOf d) mostBehind (joined (railwayOf d) (Port (record { 0 = n }) l))) (any-false (chainedAt (railwayOf d)) (d .points) c n h) l
 
+    weights : (t : ℕ) → t < d .trains → (leastWeight ≤ weightOf (railwayOf d) t) × (weightOf (railwayOf d) t ≤ mostWeight)
+    unfolding weightOf
+    weights t h =
+        let x = getD (d .roster) t noTrainLine in
+        rw (weightOf, roster-at d t h (w .laid .bounds .few-trains))
+        (right-weight (saidWeight (x .weight)) (w .weights x (getD-member (d .roster) t noTrainLine (rw (f .one-a-train) h))))
+
     train-known : (t : ℕ) → t < d .trains → (trainOf (railwayOf d) t .start .0 < d .sections) × (trainOf (railwayOf d) t .destination .0 < d .sections)
     train-known t h =
         let k = roster-known d w f t h in
@@ -167,6 +174,7 @@ module _ (d : Description) (w : Faultless d) where
         let q = laid-record d (w .laid) in
         record {
           bounds = q .bounds;
+          weights = weights;
           link-known = q .link-known;
           signal-known = signal-known;
           closed-known = λ x h l. closed-known x h (closed-there (railwayOf d) x h ∙ l);

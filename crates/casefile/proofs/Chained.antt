@@ -1,5 +1,5 @@
 -- Row 13 of a text, in words. Where rows 3 to 6 do not apply to the lines they do not to the record either, and so its row says that there is such a way or such a
--- round; and where no row before it applies, it is given exactly where it applies.
+-- round; and where no row before it applies, 16 neither, it is given exactly where it applies.
 -- Assumes nothing.
 use Prim.Native.Nat.{ℕ, _≤_}
 use mathlib.Core.Path.{_≡_, _∙_}
@@ -29,7 +29,7 @@ module _ (text : List ℕ) (d : Description) (short : length text ≤ mostBytes)
 
   applies-given : chainRow d ≡ true → caseAnswer text ≡ refused Chain
   unfolding first
-  applies-given c = answer-of text d w ∙ rw (le-ltb mostBytes (length text) short, h .count, h .unknown, h .join, h .loose, c)
+  applies-given c = answer-of text d w ∙ rw (le-ltb mostBytes (length text) short, h .count, h .weight, h .unknown, h .join, h .loose, c)
 
 pub chain-given : ChainGiven
 chain-given text d short w h =

@@ -211,7 +211,7 @@ module _ (d : Description) (w : Faultless d) where
     roster-described : (t : ℕ) → t < d .trains → TrainSaid (getD (d .roster) t noTrainLine) (trainOf (railwayOf d) t)
     roster-described t h =
         let k = roster-known t h in
-        rw (roster-at d t h (w .laid .bounds .few-trains)) (record { heading = refl; start = omega arith; destination = omega arith })
+        rw (roster-at d t h (w .laid .bounds .few-trains)) (record { heading = refl; start = omega arith; destination = omega arith; weight = refl })
 
     pub as-described : AsDescribed d (railwayOf d)
     unfolding railwayOf

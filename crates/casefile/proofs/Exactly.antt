@@ -26,7 +26,7 @@ use Rattle.casefile.specs.declared.CaseRead.{CaseRead}
 use Rattle.railway.specs.declared.CaseAnswer.{CaseAnswer}
 use Rattle.railway.specs.declared.CaseAnswer.the-variants.{Accepted, Refused}
 use Rattle.casefile.specs.Form.{Description, Describes}
-use Rattle.casefile.specs.Rows.{mostBytes, countRow, unknownRow, joinRow, looseRow, chainRow, doubleRow, placeRow, descriptionRows, descriptionTable}
+use Rattle.casefile.specs.Rows.{mostBytes, countRow, weightRow, unknownRow, joinRow, looseRow, chainRow, doubleRow, placeRow, descriptionRows, descriptionTable}
 use Rattle.casefile.specs.Recording.{railwayOf}
 use Rattle.casefile.specs.Given.{accepted, refused, railwayGiven, Says, Applies, caseTable, RefusedWith, AcceptedWith, ReaderPost}
 use Rattle.casefile.specs.Reading.{read, caseRows, judged, caseAnswer}
@@ -54,13 +54,14 @@ module _ (text : List ℕ) where
     description-agrees : Every (Agrees text) (descriptionRows d)
     description-agrees =
         every-more (Agrees text) _ _ (record { on = says countRow; off = unsaid countRow })
+        (every-more (Agrees text) _ _ (record { on = says weightRow; off = unsaid weightRow })
         (every-more (Agrees text) _ _ (record { on = says unknownRow; off = unsaid unknownRow })
         (every-more (Agrees text) _ _ (record { on = says joinRow; off = unsaid joinRow })
         (every-more (Agrees text) _ _ (record { on = says looseRow; off = unsaid looseRow })
         (every-more (Agrees text) _ _ (record { on = says chainRow; off = unsaid chainRow })
         (every-more (Agrees text) _ _ (record { on = says doubleRow; off = unsaid doubleRow })
         (every-more (Agrees text) _ _ (record { on = says placeRow; off = unsaid placeRow })
-        (every-none (Agrees text))))))))
+        (every-none (Agrees text)))))))))
 
   rows-agree : (o : Option Description) → read text ≡ o → Every (Agrees text) (caseRows text o)
   rows-agree none e =

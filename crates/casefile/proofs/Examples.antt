@@ -21,18 +21,18 @@ use Rattle.railway.specs.declared.Railway.{Railway}
 use Rattle.railway.specs.declared.Refusal.the-variants.{Count, Space}
 use Rattle.railway.specs.Ends.{endAt}
 use Rattle.railway.specs.Refusals.{number, first}
-use Rattle.railway.specs.Record.{isClosed, emptyRailway, joinedBy, joined, hasSignal, legsOf, trainOf}
+use Rattle.railway.specs.Record.{isClosed, emptyRailway, joinedBy, joined, hasSignal, legsOf, trainOf, weightOf}
 use Rattle.railway.specs.Rows as R
 use Rattle.railway.specs.Rows.{recordRefusal}
 use Rattle.railway.specs.declared.CaseAnswer.{CaseAnswer}
 use Rattle.railway.specs.declared.CaseAnswer.the-variants.{Accepted, Refused}
 use Rattle.casefile.specs.declared.Written.the-variants as W
 use Rattle.casefile.specs.Form.{rising, spell}
-use Rattle.casefile.specs.Rows.{joinEnds, unknownRow, joinRow, looseRow, doubleRow, placeRow}
+use Rattle.casefile.specs.Rows.{joinEnds, weightRow, unknownRow, joinRow, looseRow, doubleRow, placeRow}
 use Rattle.casefile.specs.Recording.{partner, railwayOf}
 use Rattle.casefile.specs.Writing.{descriptionOf, writtenText, writerRefusal, written, bufferAfter}
 use Rattle.casefile.specs.YardTexts.{textA}
-use Rattle.casefile.specs.Reading.{counted, while, sideFieldAt, legFieldAt, endFieldAt, headerAt, pointLineAt, joinLineAt, signalLineAt, closedLineAt, trainLineAt, walk, read, caseAnswer}
+use Rattle.casefile.specs.Reading.{counted, while, sideFieldAt, legFieldAt, endFieldAt, headerAt, pointLineAt, joinLineAt, signalLineAt, closedLineAt, weightFieldAt, trainLineAt, walk, read, caseAnswer}
 
 -- The number that a text is refused with; 0: it is accepted.
 given : CaseAnswer → ℕ
@@ -55,9 +55,9 @@ yard-a : (given (caseAnswer (bytes textA) .answer) ≡ 0) × (recordRefusal reco
     × (map (joined recordA) (down 0 ∷ up 0 ∷ down 1 ∷ up 1 ∷ down 2 ∷ up 2 ∷ Port (record { 0 = 0 }) Stem ∷ Port (record { 0 = 0 }) Plus ∷ Port (record { 0 = 0 }) Minus ∷ [])
     ≡ Nothing ∷ With (Port (record { 0 = 0 }) Plus) ∷ Nothing ∷ With (Port (record { 0 = 0 }) Minus) ∷ With (Port (record { 0 = 0 }) Stem) ∷ Nothing ∷ With (down 2) ∷ With (up 0) ∷ With (up 1) ∷ [])
     × (map (hasSignal recordA) (down 0 ∷ up 0 ∷ down 1 ∷ up 1 ∷ down 2 ∷ up 2 ∷ []) ≡ true ∷ false ∷ false ∷ true ∷ false ∷ false ∷ [])
-    × (trainOf recordA 0 ≡ record { heading = Up; start = record { 0 = 1 }; destination = record { 0 = 2 } })
-    × (trainOf recordA 1 ≡ record { heading = Down; start = record { 0 = 2 }; destination = record { 0 = 0 } })
-unfolding bytes recordA given first digits line isDigit byteAt digitsAt numberAt counted while sideFieldAt legFieldAt endFieldAt headerAt pointLineAt joinLineAt signalLineAt closedLineAt trainLineAt walk read caseAnswer anyBelow listBelow any repeats joinEnds unknownRow joinRow looseRow doubleRow placeRow partner railwayOf endAt joinedBy joined hasSignal legsOf trainOf R.unknownRow R.joinRow R.looseRow R.placeRow recordRefusal isClosed R.chainRow R.longer
+    × (trainOf recordA 0 ≡ record { heading = Up; start = record { 0 = 1 }; destination = record { 0 = 2 }; weight = 1 })
+    × (trainOf recordA 1 ≡ record { heading = Down; start = record { 0 = 2 }; destination = record { 0 = 0 }; weight = 1 })
+unfolding bytes recordA given first digits line isDigit byteAt digitsAt numberAt counted while sideFieldAt legFieldAt endFieldAt headerAt pointLineAt joinLineAt signalLineAt closedLineAt weightFieldAt trainLineAt walk read caseAnswer anyBelow listBelow any repeats joinEnds weightRow weightOf unknownRow joinRow looseRow doubleRow placeRow partner railwayOf endAt joinedBy joined hasSignal legsOf trainOf R.weightRow R.unknownRow R.joinRow R.looseRow R.placeRow recordRefusal isClosed R.chainRow R.longer
 yard-a = (refl, refl, (refl, refl, refl, refl), refl, refl, refl, refl)
 
 -- THE TABLE of texts, each with the number that it is refused with; 0: it is accepted.
@@ -265,6 +265,38 @@ cases =
     ∷
     record { number = 7; text = "H\t3\t0\t1\nX\t1\nX\t1\nT\t1\tu\t1\t1\n" }
     ∷
+    -- a weight: none, 1 and 255; 0, 256 and 999; a zero in front, four digits, no number, a second one, a tab behind it; of the second train
+    record { number = 0; text = "H\t1\t0\t1\nT\t1\tu\t1\t1\n" }
+    ∷
+    record { number = 0; text = "H\t1\t0\t1\nT\t1\tu\t1\t1\t1\n" }
+    ∷
+    record { number = 0; text = "H\t1\t0\t1\nT\t1\tu\t1\t1\t255\n" }
+    ∷
+    record { number = 16; text = "H\t1\t0\t1\nT\t1\tu\t1\t1\t0\n" }
+    ∷
+    record { number = 16; text = "H\t1\t0\t1\nT\t1\tu\t1\t1\t256\n" }
+    ∷
+    record { number = 16; text = "H\t1\t0\t1\nT\t1\tu\t1\t1\t999\n" }
+    ∷
+    record { number = 2; text = "H\t1\t0\t1\nT\t1\tu\t1\t1\t01\n" }
+    ∷
+    record { number = 2; text = "H\t1\t0\t1\nT\t1\tu\t1\t1\t1000\n" }
+    ∷
+    record { number = 2; text = "H\t1\t0\t1\nT\t1\tu\t1\t1\t\n" }
+    ∷
+    record { number = 2; text = "H\t1\t0\t1\nT\t1\tu\t1\t1\t1\t1\n" }
+    ∷
+    record { number = 2; text = "H\t1\t0\t1\nT\t1\tu\t1\t1\t7\t\n" }
+    ∷
+    record { number = 16; text = "H\t2\t0\t2\nT\t1\tu\t1\t1\t7\nT\t2\tu\t2\t2\t0\n" }
+    ∷
+    -- with a count out of bounds it is 3, with a section that is not there 16: in the same line, and where a line before it names that section
+    record { number = 3; text = "H\t49\t0\t1\nT\t1\tu\t1\t1\t0\n" }
+    ∷
+    record { number = 16; text = "H\t1\t0\t1\nT\t1\tu\t2\t1\t256\n" }
+    ∷
+    record { number = 16; text = "H\t2\t0\t2\nG\t3u\nT\t1\tu\t3\t1\nT\t2\tu\t2\t2\t0\n" }
+    ∷
     -- of two rows that apply the first is given: 3 and 4, 4 and 5, 5 and 6, 6 and 7, 7 and 8; 13 with a loose port elsewhere, and with a signal named twice
     record { number = 3; text = "H\t49\t0\t1\nG\t50u\nT\t1\tu\t1\t1\n" }
     ∷
@@ -283,7 +315,7 @@ cases =
     []
 
 numbers : map (λ c. given (caseAnswer (bytes (c .text)) .answer)) cases ≡ map (λ c. c .number) cases
-unfolding bytes given cases first digits line isDigit byteAt digitsAt numberAt counted while sideFieldAt legFieldAt endFieldAt headerAt pointLineAt joinLineAt signalLineAt closedLineAt trainLineAt walk read caseAnswer anyBelow listBelow any repeats joinEnds unknownRow joinRow looseRow doubleRow placeRow isClosed partner railwayOf endAt joinedBy joined R.chainRow R.longer
+unfolding bytes given cases first digits line isDigit byteAt digitsAt numberAt counted while sideFieldAt legFieldAt endFieldAt headerAt pointLineAt joinLineAt signalLineAt closedLineAt weightFieldAt trainLineAt walk read caseAnswer anyBelow listBelow any repeats joinEnds weightRow unknownRow joinRow looseRow doubleRow placeRow isClosed partner railwayOf endAt joinedBy joined R.chainRow R.longer
 numbers = refl
 
 -- byte 13 is what stands in the table above as such
@@ -297,17 +329,27 @@ writes : (written recordA (replicate 68 7) ≡ W.Bytes 68) × (bufferAfter recor
     × (written recordA (replicate 70 7) ≡ W.Bytes 68) × (bufferAfter recordA (replicate 70 7) ≡ bytes textA ++ (7 ∷ 7 ∷ []))
     × (written recordA (replicate 67 7) ≡ W.Refused Space) × (bufferAfter recordA (replicate 67 7) ≡ replicate 67 7)
     × (written emptyRailway [] ≡ W.Refused Count) × (bufferAfter emptyRailway (1 ∷ 2 ∷ []) ≡ 1 ∷ 2 ∷ [])
-unfolding bytes recordA first digits line isDigit byteAt digitsAt numberAt counted while sideFieldAt legFieldAt endFieldAt headerAt pointLineAt joinLineAt signalLineAt closedLineAt trainLineAt walk read caseAnswer anyBelow listBelow gatherBelow any repeats joinEnds unknownRow joinRow looseRow doubleRow placeRow partner railwayOf endAt joinedBy joined hasSignal legsOf trainOf R.unknownRow R.joinRow R.looseRow R.placeRow recordRefusal flatMap rising spell descriptionOf writtenText writerRefusal written bufferAfter isClosed R.chainRow R.longer
+unfolding bytes recordA first digits line isDigit byteAt digitsAt numberAt counted while sideFieldAt legFieldAt endFieldAt headerAt pointLineAt joinLineAt signalLineAt closedLineAt weightFieldAt trainLineAt walk read caseAnswer anyBelow listBelow gatherBelow any repeats joinEnds weightRow weightOf unknownRow joinRow looseRow doubleRow placeRow partner railwayOf endAt joinedBy joined hasSignal legsOf trainOf R.weightRow R.unknownRow R.joinRow R.looseRow R.placeRow recordRefusal flatMap rising spell descriptionOf writtenText writerRefusal written bufferAfter isClosed R.chainRow R.longer
 writes = (refl, refl, refl, refl, refl, refl, refl, refl)
+
+-- WEIGHTS. Without one the train has 1, as with 1 written; 7 and 255 are read as they stand.
+weighed : map (λ t. weightOf (caseAnswer (bytes t) .railway) 0) ("H\t1\t0\t1\nT\t1\tu\t1\t1\n" ∷ "H\t1\t0\t1\nT\t1\tu\t1\t1\t1\n" ∷ "H\t1\t0\t1\nT\t1\tu\t1\t1\t7\n" ∷ "H\t1\t0\t1\nT\t1\tu\t1\t1\t255\n" ∷ []) ≡ 1 ∷ 1 ∷ 7 ∷ 255 ∷ []
+unfolding bytes first digits line isDigit byteAt digitsAt numberAt counted while sideFieldAt legFieldAt endFieldAt headerAt pointLineAt joinLineAt signalLineAt closedLineAt weightFieldAt trainLineAt walk read caseAnswer anyBelow listBelow any repeats joinEnds weightRow unknownRow joinRow looseRow doubleRow placeRow isClosed partner railwayOf endAt joinedBy joined R.chainRow R.longer trainOf weightOf
+weighed = refl
+
+-- A weight of 1 is not written, any other is.
+weights-written : map (λ t. writtenText (caseAnswer (bytes t) .railway)) ("H\t1\t0\t1\nT\t1\tu\t1\t1\t1\n" ∷ "H\t1\t0\t1\nT\t1\tu\t1\t1\t7\n" ∷ "H\t1\t0\t1\nT\t1\tu\t1\t1\t255\n" ∷ []) ≡ map bytes ("H\t1\t0\t1\nT\t1\tu\t1\t1\n" ∷ "H\t1\t0\t1\nT\t1\tu\t1\t1\t7\n" ∷ "H\t1\t0\t1\nT\t1\tu\t1\t1\t255\n" ∷ [])
+unfolding bytes first digits line isDigit byteAt digitsAt numberAt counted while sideFieldAt legFieldAt endFieldAt headerAt pointLineAt joinLineAt signalLineAt closedLineAt weightFieldAt trainLineAt walk read caseAnswer anyBelow listBelow any repeats joinEnds weightRow unknownRow joinRow looseRow doubleRow placeRow isClosed partner railwayOf endAt joinedBy joined R.chainRow R.longer gatherBelow hasSignal legsOf trainOf flatMap rising spell descriptionOf writtenText
+weights-written = refl
 
 -- Lines that come in disorder and turned round are written in the one order that the writer knows.
 sorts : writtenText (caseAnswer (bytes "H\t5\t1\t1\nP\t1\tu\nJ\t1s\t3u\nJ\t1-\t1d\nJ\t2d\t1u\nJ\t3d\t1+\nG\t2u\nG\t1u\nG\t1d\nX\t5\nX\t1\nX\t4\nT\t1\td\t3\t2\n") .railway)
     ≡ bytes "H\t5\t1\t1\nP\t1\tu\nJ\t1d\t1-\nJ\t1u\t2d\nJ\t3d\t1+\nJ\t3u\t1s\nG\t1d\nG\t1u\nG\t2u\nX\t1\nX\t4\nX\t5\nT\t1\td\t3\t2\n"
-unfolding bytes first digits line isDigit byteAt digitsAt numberAt counted while sideFieldAt legFieldAt endFieldAt headerAt pointLineAt joinLineAt signalLineAt closedLineAt trainLineAt walk read caseAnswer anyBelow listBelow gatherBelow any repeats joinEnds unknownRow joinRow looseRow doubleRow placeRow partner railwayOf endAt joinedBy joined hasSignal legsOf trainOf flatMap rising spell descriptionOf writtenText isClosed R.chainRow R.longer
+unfolding bytes first digits line isDigit byteAt digitsAt numberAt counted while sideFieldAt legFieldAt endFieldAt headerAt pointLineAt joinLineAt signalLineAt closedLineAt weightFieldAt trainLineAt walk read caseAnswer anyBelow listBelow gatherBelow any repeats joinEnds weightRow weightOf unknownRow joinRow looseRow doubleRow placeRow partner railwayOf endAt joinedBy joined hasSignal legsOf trainOf flatMap rising spell descriptionOf writtenText isClosed R.chainRow R.longer
 sorts = refl
 
 -- Joins between points come last, in each the lower point first, and by first port in the order 1s, 1+, 1-, 2s.
 sorts-points : writtenText (caseAnswer (bytes "H\t7\t5\t1\nP\t1\tu\nP\t2\tu\nP\t3\tu\nP\t4\tu\nP\t5\tu\nJ\t5s\t2+\nJ\t2s\t1-\nJ\t3s\t1+\nJ\t4+\t1s\nJ\t5-\t7d\nJ\t6d\t5+\nJ\t5d\t2-\nJ\t4d\t3-\nJ\t3d\t3+\nJ\t2d\t4-\nJ\t1u\t4s\nT\t1\tu\t1\t2\n") .railway)
     ≡ bytes "H\t7\t5\t1\nP\t1\tu\nP\t2\tu\nP\t3\tu\nP\t4\tu\nP\t5\tu\nJ\t1u\t4s\nJ\t2d\t4-\nJ\t3d\t3+\nJ\t4d\t3-\nJ\t5d\t2-\nJ\t6d\t5+\nJ\t7d\t5-\nJ\t1s\t4+\nJ\t1+\t3s\nJ\t1-\t2s\nJ\t2+\t5s\nT\t1\tu\t1\t2\n"
-unfolding bytes first digits line isDigit byteAt digitsAt numberAt counted while sideFieldAt legFieldAt endFieldAt headerAt pointLineAt joinLineAt signalLineAt closedLineAt trainLineAt walk read caseAnswer anyBelow listBelow gatherBelow any repeats joinEnds unknownRow joinRow looseRow doubleRow placeRow partner railwayOf endAt joinedBy joined hasSignal legsOf trainOf flatMap rising spell descriptionOf writtenText isClosed R.chainRow R.longer
+unfolding bytes first digits line isDigit byteAt digitsAt numberAt counted while sideFieldAt legFieldAt endFieldAt headerAt pointLineAt joinLineAt signalLineAt closedLineAt weightFieldAt trainLineAt walk read caseAnswer anyBelow listBelow gatherBelow any repeats joinEnds weightRow weightOf unknownRow joinRow looseRow doubleRow placeRow partner railwayOf endAt joinedBy joined hasSignal legsOf trainOf flatMap rising spell descriptionOf writtenText isClosed R.chainRow R.longer
 sorts-points = refl

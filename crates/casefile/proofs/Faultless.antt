@@ -1,5 +1,5 @@
--- What it is for rows 3 to 8 not to apply to a description (13 stands beside them, in Chained), fact by fact, both ways. Each row is a search; that it finds nothing says of every
--- element that it passes. Row 13 judges the railway of the description and is no search through its lines: it stands beside these.
+-- What it is for rows 3 to 8 and 16 not to apply to a description, fact by fact, both ways. Each row is a search; that it finds nothing says of every
+-- element that it passes. Row 13 judges the railway of the description and is no search through its lines: it stands beside these, in Chained.
 -- Assumes nothing.
 use Prim.Native.Nat.{ℕ, suc, _<_, _≤_}
 use mathlib.Core.Path.{_≡_, refl}
@@ -13,13 +13,13 @@ use Rattle.laws.proofs.Below as Below
 use Rattle.laws.proofs.Lists.{any-false, any-none, every-none, every-more}
 use Rattle.railway.specs.declared.Leg.{Leg}
 use Rattle.railway.specs.declared.Leg.the-variants.{Stem, Plus, Minus}
-use Rattle.railway.specs.declared.Refusal.the-variants.{Count, Unknown, Join, Loose, Chain, Double, Place}
+use Rattle.railway.specs.declared.Refusal.the-variants.{Count, Weight, Unknown, Join, Loose, Chain, Double, Place}
 use Rattle.railway.specs.Ends.{sameSide}
 use Rattle.railway.specs.Refusals.{row, NotApplying}
 use Rattle.railway.specs.Rows.{oneOwner}
 use Rattle.railway.proofs.Accepted.{Bounded, bounded, within-bounds, no-leg}
 use Rattle.casefile.specs.Form.{port, JoinLine, Description, sameEnd, sameSignal}
-use Rattle.casefile.specs.Rows.{countRow, within, known, unknownJoin, unknownSignal, unknownClosed, unknownTrain, unknownRow, ownerOf, sideOf, wrongJoin, joinEnds, joinRow, looseEnd, looseAt, looseRow, chainRow, doubleRow, closedIn, shutOut, placeRow, descriptionRows}
+use Rattle.casefile.specs.Rows.{countRow, wrongWeightIn, weightRow, within, known, unknownJoin, unknownSignal, unknownClosed, unknownTrain, unknownRow, ownerOf, sideOf, wrongJoin, joinEnds, joinRow, looseEnd, looseAt, looseRow, chainRow, doubleRow, closedIn, shutOut, placeRow, descriptionRows}
 use Rattle.casefile.specs.Claims.{JoinableLines}
 -- (Examples is named so that it is checked before: a wrong definition then shows at a computed value.)
 use Rattle.casefile.proofs.Examples as Examples
@@ -39,6 +39,7 @@ pub record Laid (d : Description) : Type 0 where
 
 pub record Faultless (d : Description) : Type 0 where
   pub laid : Laid d
+  pub weights : Every (λ t. wrongWeightIn t ≡ false) (d .roster)
   pub signal-known : Every (λ g. within (g .number) (d .sections) ≡ true) (d .signals)
   pub closed-known : Every (λ n. within n (d .sections) ≡ true) (d .closed)
   pub train-known : Every (λ t. (within (t .start) (d .sections) ≡ true) × (within (t .destination) (d .sections) ≡ true)) (d .roster)
@@ -87,14 +88,15 @@ module _ (d : Description) where
       }
 
   pub faultless-facts : Every NotApplying (descriptionRows d) → Faultless d
-  unfolding doubleRow placeRow
+  unfolding weightRow doubleRow placeRow
   faultless-facts h =
       let r3 = h (row Count (countRow d)) (List·Memᴰ·head refl) in
-      let r4 = h (row Unknown (unknownRow d)) (List·Memᴰ·tail (List·Memᴰ·head refl)) in
-      let r5 = h (row Join (joinRow d)) (List·Memᴰ·tail (List·Memᴰ·tail (List·Memᴰ·head refl))) in
-      let r6 = h (row Loose (looseRow d)) (List·Memᴰ·tail (List·Memᴰ·tail (List·Memᴰ·tail (List·Memᴰ·head refl)))) in
-      let r7 = h (row Double (doubleRow d)) (List·Memᴰ·tail (List·Memᴰ·tail (List·Memᴰ·tail (List·Memᴰ·tail (List·Memᴰ·tail (List·Memᴰ·head refl)))))) in
-      let r8 = h (row Place (placeRow d)) (List·Memᴰ·tail (List·Memᴰ·tail (List·Memᴰ·tail (List·Memᴰ·tail (List·Memᴰ·tail (List·Memᴰ·tail (List·Memᴰ·head refl))))))) in
+      let r16 = h (row Weight (weightRow d)) (List·Memᴰ·tail (List·Memᴰ·head refl)) in
+      let r4 = h (row Unknown (unknownRow d)) (List·Memᴰ·tail (List·Memᴰ·tail (List·Memᴰ·head refl))) in
+      let r5 = h (row Join (joinRow d)) (List·Memᴰ·tail (List·Memᴰ·tail (List·Memᴰ·tail (List·Memᴰ·head refl)))) in
+      let r6 = h (row Loose (looseRow d)) (List·Memᴰ·tail (List·Memᴰ·tail (List·Memᴰ·tail (List·Memᴰ·tail (List·Memᴰ·head refl))))) in
+      let r7 = h (row Double (doubleRow d)) (List·Memᴰ·tail (List·Memᴰ·tail (List·Memᴰ·tail (List·Memᴰ·tail (List·Memᴰ·tail (List·Memᴰ·tail (List·Memᴰ·head refl))))))) in
+      let r8 = h (row Place (placeRow d)) (List·Memᴰ·tail (List·Memᴰ·tail (List·Memᴰ·tail (List·Memᴰ·tail (List·Memᴰ·tail (List·Memᴰ·tail (List·Memᴰ·tail (List·Memᴰ·head refl)))))))) in
       let k = known-parts r4 in
       let twice = or-false (repeats sameSignal (d .signals)) (repeats eqb (d .closed)) r7 in
       let starts = repeats eqb (map (λ t. t .start) (d .roster)) in
@@ -102,7 +104,8 @@ module _ (d : Description) where
       let kept = or-false (starts || destinations) (any (shutOut d) (d .roster)) r8 in
       let places = or-false starts destinations (kept .0) in
       record {
-        laid = laid-facts (record { count = r3; unknown = r4; join = r5; loose = r6 });
+        laid = laid-facts (record { count = r3; weight = r16; unknown = r4; join = r5; loose = r6 });
+        weights = λ t m. any-false wrongWeightIn (d .roster) t r16 m;
         signal-known = λ g m. not-is (within (g .number) (d .sections)) (any-false (unknownSignal d) (d .signals) g (k .1) m);
         closed-known = λ n m. not-is (within n (d .sections)) (any-false (unknownClosed d) (d .closed) n (k .2) m);
         train-known = λ t m. not-and (within (t .start) (d .sections)) (within (t .destination) (d .sections)) (any-false (unknownTrain d) (d .roster) t (k .3) m);
@@ -114,9 +117,13 @@ module _ (d : Description) where
       }
 
   pub chain-free : Every NotApplying (descriptionRows d) → chainRow d ≡ false
-  chain-free h = h (row Chain (chainRow d)) (List·Memᴰ·tail (List·Memᴰ·tail (List·Memᴰ·tail (List·Memᴰ·tail (List·Memᴰ·head refl)))))
+  chain-free h = h (row Chain (chainRow d)) (List·Memᴰ·tail (List·Memᴰ·tail (List·Memᴰ·tail (List·Memᴰ·tail (List·Memᴰ·tail (List·Memᴰ·head refl))))))
 
   module _ (w : Faultless d) (c : chainRow d ≡ false) where
+    no-weight : weightRow d ≡ false
+    unfolding weightRow
+    no-weight = any-none wrongWeightIn (d .roster) (w .weights)
+
     no-unknown : unknownRow d ≡ false
     unfolding unknownRow
     no-unknown =
@@ -149,10 +156,11 @@ module _ (d : Description) where
     pub facts-faultless : Every NotApplying (descriptionRows d)
     facts-faultless =
         every-more NotApplying _ _ (within-bounds (d .sections) (d .points) (d .trains) (w .laid .bounds))
+        (every-more NotApplying _ _ no-weight
         (every-more NotApplying _ _ no-unknown
         (every-more NotApplying _ _ no-join
         (every-more NotApplying _ _ no-loose
         (every-more NotApplying _ _ c
         (every-more NotApplying _ _ no-double
         (every-more NotApplying _ _ no-place
-        (every-none NotApplying)))))))
+        (every-none NotApplying))))))))

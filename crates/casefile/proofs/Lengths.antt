@@ -1,10 +1,11 @@
 -- What is written of an accepted railway is at most 4,096 bytes long: it has one H line, at most 16 P, 144 J, 96 G, 48 X and 4 T lines. Since a number
--- below 1,000 has three digits at most, no line has more than 16 bytes, and no J, G or X line more than 12.
+-- below 1,000 has three digits at most, no line has more than 20 bytes, and no J, G or X line more than 12.
 -- Assumes nothing.
 use Prim.Native.Nat.{ℕ, zero, suc, _+_, _*_, _<_, _≤_}
 use mathlib.Core.Path.{_≡_, refl}
 use mathlib.Core.Bool.{Bool, true, false, cond}
 use mathlib.Core.List.{List, [], _∷_, flatMap, List·Memᴰ·head, List·Memᴰ·tail}
+use mathlib.Core.Option.{Option, none, some}
 use native.Mathlib.Omega.{arith}
 use lib.Dec.{ltb}
 use lib.ListN.{length, length-append}
@@ -20,11 +21,12 @@ use Rattle.railway.specs.Bounds.{mostSections, sectionEnds, allEnds}
 use Rattle.railway.specs.Ends.{endIndex, endAt}
 use Rattle.railway.specs.Record.{linkAt, flagAt, closedAt}
 use Rattle.railway.proofs.Accepted.{Accepted, accepted-facts}
-use Rattle.casefile.specs.Form.{EndField, section, port, JoinLine, SignalLine, TrainLine, endField, pointLine, joinLine, signalLine, closedLine, trainLine, rising, spell, Writable, WritableEnd, WritableJoin, WritableSignal, WritableTrain}
+use Rattle.casefile.specs.Form.{EndField, section, port, JoinLine, SignalLine, TrainLine, endField, pointLine, joinLine, signalLine, closedLine, trainLine, rising, spell, Writable, WritableEnd, WritableJoin, WritableSignal, WritableWeight, WritableTrain}
 use Rattle.casefile.specs.Rows.{mostBytes}
 use Rattle.casefile.specs.Recording.{fieldOf, signalOf}
 use Rattle.casefile.specs.Writing.{joinFrom, joinAt, signalAt, closedLineOf, descriptionOf, writtenText}
 use Rattle.casefile.specs.Claims.{WrittenFits}
+use Rattle.casefile.proofs.Lines.{weightBytes, weight-last}
 use Rattle.casefile.proofs.Writer.{well-formed}
 
 decimal-short : (n : ℕ) → n < 1000 → length (decimal n) ≤ 3
@@ -46,13 +48,19 @@ closed-short : (n : ℕ) → Writable n → length (closedLine n) ≤ 12
 unfolding line
 closed-short n h = simp length-append (omega (arith, decimal-short n h))
 
-point-short : (n : ℕ) (s : Side) → n < 1000 → length (pointLine n s) ≤ 16
+point-short : (n : ℕ) (s : Side) → n < 1000 → length (pointLine n s) ≤ 20
 unfolding line
 point-short n s h = simp length-append (omega (arith, decimal-short n h))
 
-train-short : (n : ℕ) (t : TrainLine) → n < 1000 → WritableTrain t → length (trainLine n t) ≤ 16
+weight-short : (w : Option ℕ) → WritableWeight w → length (weightBytes w) ≤ 4
+weight-short none h = omega arith
+weight-short (some w) h = omega (arith, decimal-short w h)
+
+train-short : (n : ℕ) (t : TrainLine) → n < 1000 → WritableTrain t → length (trainLine n t) ≤ 20
 unfolding line
-train-short n t b h = simp length-append (omega (arith, decimal-short n b, decimal-short (t .start) (h .0), decimal-short (t .destination) (h .1)))
+train-short n t b h =
+    simp (weight-last, length-append)
+    (omega (arith, decimal-short n b, decimal-short (t .start) (h .0), decimal-short (t .destination) (h .1), weight-short (t .weight) (h .2)))
 
 module _ {A : Type 0} (good : A → Type 0) where
   each-short : (f : A → List ℕ) → ((x : A) → good x → length (f x) ≤ 12) → (xs : List A) → Every good xs → length (flatMap f xs) ≤ length xs * 12
@@ -60,8 +68,8 @@ module _ {A : Type 0} (good : A → Type 0) where
   each-short f h [] g = omega arith
   each-short f h (x ∷ xs) g = simp length-append (omega (arith, h x (g x (List·Memᴰ·head refl)), each-short f h xs (λ y m. g y (List·Memᴰ·tail m))))
 
-  rising-short : (f : ℕ → A → List ℕ) → ((n : ℕ) (x : A) → n < 1000 → good x → length (f n x) ≤ 16) → (n : ℕ) (xs : List A) → n + length xs ≤ 1000 → Every good xs
-      → length (rising f n xs) ≤ length xs * 16
+  rising-short : (f : ℕ → A → List ℕ) → ((n : ℕ) (x : A) → n < 1000 → good x → length (f n x) ≤ 20) → (n : ℕ) (xs : List A) → n + length xs ≤ 1000 → Every good xs
+      → length (rising f n xs) ≤ length xs * 20
   unfolding rising
   rising-short f h n [] b g = omega arith
   rising-short f h n (x ∷ xs) b g =

@@ -1,19 +1,20 @@
 -- Lines of a case text: each is read where it is written and written where it is read, field after field.
 -- Assumes nothing.
-use Prim.Native.Nat.{ℕ, _<_}
-use mathlib.Core.Path.{_≡_, refl}
+use Prim.Native.Nat.{ℕ, _+_, _<_}
+use mathlib.Core.Path.{_≡_, refl, _∙_}
 use mathlib.Core.Bool.{Bool, true, false, cond}
 use mathlib.Core.List.{List, [], _∷_, _++_, append-assoc}
+use mathlib.Core.Option.{Option, none, some}
 use native.Mathlib.Omega.{arith}
 use lib.Dec.{eqb}
-use lib.ListN.{drop}
+use lib.ListN.{getD, drop}
 use borrow.Author.Tests.{eqb-true, eq-eqb}
 use Rattle.text.specs.Text.{byte, decimal, line}
 use Rattle.text.specs.Reading.{Got, bad, got, then, isDigit, byteAt}
-use Rattle.text.proofs.Walking.{bad-got, carry, Lies, Reads, steps, go-on, stop-here, byte-sound, byte-complete, Written, number-sound, number-complete}
+use Rattle.text.proofs.Walking.{bad-got, carry, Lies, Reads, steps, on, go-on, stop-here, here, past, stands, byte-sound, byte-complete, Written, number-sound, number-complete}
 use Rattle.railway.specs.declared.Side.{Side}
-use Rattle.casefile.specs.Form.{EndField, JoinLine, SignalLine, TrainLine, sideByte, pointLine, joinLine, signalLine, closedLine, trainLine, Writable, WritableJoin, WritableSignal, WritableTrain}
-use Rattle.casefile.specs.Reading.{Counts, caseNumberAt, sideFieldAt, endFieldAt, headerAt, pointLineAt, joinLineAt, signalLineAt, closedLineAt, trainLineAt}
+use Rattle.casefile.specs.Form.{EndField, JoinLine, SignalLine, TrainLine, sideByte, weightField, pointLine, joinLine, signalLine, closedLine, trainLine, Writable, WritableJoin, WritableSignal, WritableWeight, WritableTrain}
+use Rattle.casefile.specs.Reading.{Counts, caseNumberAt, sideFieldAt, endFieldAt, headerAt, pointLineAt, joinLineAt, signalLineAt, closedLineAt, weightFieldAt, trainLineAt}
 use Rattle.casefile.proofs.Fields.{side-sound, side-complete, digit-not-side, WrittenEnd, end-sound, end-complete}
 
 -- a line that is read: its numbers can be written, and it stands there as it is spelled
@@ -39,6 +40,44 @@ countsLine h = line ((byte "H" ∷ []) ∷ decimal (h .sections) ∷ decimal (h 
 check : {A : Type 0} (m n : ℕ) (p : Bool) {x y : A} {b c : ℕ} → eqb m n ≡ p → cond p (got x b) bad ≡ got y c → (m ≡ n) × (got x b ≡ got y c)
 check m n true h e = (eqb-true m n h, e)
 check m n false h e = bad-got refl e
+
+-- THE WEIGHT that a line may end with: a tab and its number, or nothing
+abbrev pub weightBytes : Option ℕ → List ℕ
+weightBytes none = []
+weightBytes (some w) = 9 ∷ decimal w
+
+pub weight-last : (f : List ℕ) (w : Option ℕ) → line (f ∷ weightField w) ≡ f ++ (weightBytes w ++ (10 ∷ []))
+unfolding line
+weight-last f none = refl
+weight-last f (some w) = refl
+
+weight-stops : (w : Option ℕ) (rest : List ℕ) → isDigit (getD (weightBytes w ++ (10 ∷ rest)) 0 0) ≡ false
+weight-stops none rest = end-stops
+weight-stops (some w) rest = tab-stops
+
+pub record WrittenWeight (s : List ℕ) (at : ℕ) (w : Option ℕ) (c : ℕ) : Type 0 where
+  pub small : WritableWeight w
+  pub text : drop at s ≡ weightBytes w ++ drop c s
+
+module _ (s : List ℕ) (at : ℕ) where
+  weight-cases : (w : Option ℕ) (c : ℕ) (p : Bool) → eqb (getD s at 0) 9 ≡ p
+      → cond p (then (caseNumberAt s (at + 1)) (λ w c. got (some w) c)) (got none at) ≡ got w c → WrittenWeight s at w c
+  weight-cases w c true h e =
+      on (caseNumberAt s (at + 1)) _ w c e (λ n d f k.
+      let a = number-sound s (at + 1) 2 n d (omega arith) f in
+      carry (WrittenWeight s at) k (record { small = a .small; text = stands s at 9 (omega arith) (eqb-true (getD s at 0) 9 h) ∙ rw (a .text) }))
+  weight-cases w c false h e = carry (WrittenWeight s at) e (record { small = tt; text = refl })
+
+  weight-sound : (w : Option ℕ) (c : ℕ) → weightFieldAt s at ≡ got w c → WrittenWeight s at w c
+  unfolding weightFieldAt
+  weight-sound w c e = weight-cases w c (eqb (getD s at 0) 9) refl e
+
+  weight-complete : (w : Option ℕ) (rest : List ℕ) → WritableWeight w → Lies s at (weightBytes w ++ (10 ∷ rest)) → Reads s (weightFieldAt s at) w (10 ∷ rest)
+  unfolding weightFieldAt
+  weight-complete none rest h t = rw (here t) (stop-here t)
+  weight-complete (some w) rest h t =
+      rw (here t)
+      (go-on _ (number-complete s (10 ∷ rest) end-stops 2 w (at + 1) (omega arith) h (past (9 ∷ []) _ t)) (λ c u. stop-here u))
 
 -- one step of a line that was read
 module _ {B : Type 0} (s : List ℕ) (at : ℕ) (y : B) (c : ℕ) {P : Type 0} where
@@ -187,24 +226,27 @@ module _ (s : List ℕ) (at : ℕ) where
       number-on s c6 x c _ k6 (λ start c7 b k7.
       byte-on s c7 x c 9 _ (omega arith) k7 (λ x8 c8 e8 k8.
       number-on s c8 x c _ k8 (λ destination c9 d k9.
-      byte-on s c9 x c 10 _ (omega arith) k9 (λ x10 c10 e10 k10.
-      let m = check m n (eqb m n) refl k10 in
+      on (weightFieldAt s c9) _ x c k9 (λ weight c10 f10 k10.
+      byte-on s c10 x c 10 _ (omega arith) k10 (λ x11 c11 e11 k11.
+      let m = check m n (eqb m n) refl k11 in
+      let w = weight-sound s c9 weight c10 f10 in
       carry (WrittenLine (λ x. WritableTrain x × (n < 1000)) (trainLine n) s at) (m .1)
       (record {
-        small = ((omega (arith, b .small, d .small), omega (arith, b .small, d .small)), rw (m .0) at (a .small));
-        text = simp (e1, e2, a .text, e4, e5, e6, b .text, e8, d .text, e10, m .0, append-assoc);
-      })))))))))))
+        small = ((omega (arith, b .small), omega (arith, d .small), w .small), rw (m .0) at (a .small));
+        text = simp (e1, e2, a .text, e4, e5, e6, b .text, e8, d .text, w .text, e11, m .0, weight-last, append-assoc);
+      }))))))))))))
 
   pub train-complete : (n : ℕ) (x : TrainLine) (rest : List ℕ) → n < 1000 → WritableTrain x → Lies s at (trainLine n x ++ rest) → Reads s (trainLineAt s n at) x rest
   unfolding trainLineAt line
   train-complete n x rest h w t =
-      go-on _ (byte-complete s (byte "T") at _ (simp append-assoc at t)) (λ c1 t1.
+      go-on _ (byte-complete s (byte "T") at _ (simp (weight-last, append-assoc) at t)) (λ c1 t1.
       go-on _ (byte-complete s 9 c1 _ t1) (λ c2 t2.
       go-on _ (number-complete s _ tab-stops 2 n c2 (omega arith) h t2) (λ c3 t3.
       go-on _ (byte-complete s 9 c3 _ t3) (λ c4 t4.
       go-on _ (side-complete s c4 (x .heading) _ t4) (λ c5 t5.
       go-on _ (byte-complete s 9 c5 _ t5) (λ c6 t6.
-      go-on _ (number-complete s _ tab-stops 2 _ c6 (omega arith) (omega (arith, w .0, w .1)) t6) (λ c7 t7.
+      go-on _ (number-complete s _ tab-stops 2 _ c6 (omega arith) (omega (arith, w .0)) t6) (λ c7 t7.
       go-on _ (byte-complete s 9 c7 _ t7) (λ c8 t8.
-      go-on _ (number-complete s _ end-stops 2 _ c8 (omega arith) (omega (arith, w .0, w .1)) t8) (λ c9 t9.
-      go-on _ (byte-complete s 10 c9 _ t9) (λ c10 t10. rw (eq-eqb n n refl) (stop-here t10)))))))))))
+      go-on _ (number-complete s _ (weight-stops (x .weight) rest) 2 _ c8 (omega arith) (omega (arith, w .1)) t8) (λ c9 t9.
+      go-on _ (weight-complete s c9 (x .weight) rest (w .2) t9) (λ c10 t10.
+      go-on _ (byte-complete s 10 c10 _ t10) (λ c11 t11. rw (eq-eqb n n refl) (stop-here t11))))))))))))

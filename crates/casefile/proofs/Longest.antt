@@ -2,6 +2,7 @@
 -- Assumes nothing.
 use mathlib.Core.Path.{_≡_, refl}
 use mathlib.Core.List.{List, [], _∷_, flatMap}
+use mathlib.Core.Option.{none}
 use Prim.Native.Nat.{ℕ, zero, suc}
 use native.Mathlib.Omega.{arith}
 use lib.ListN.{length, replicate}
@@ -15,7 +16,7 @@ use Rattle.railway.specs.declared.Refusal.the-variants.{Length, Form, Double}
 use Rattle.railway.specs.Refusals.{first}
 use Rattle.railway.specs.Rows.{chainRow}
 use Rattle.casefile.specs.Form.{Description, rising, spell, Writable, WritableJoin, WritableSignal, WritableTrain, Describes}
-use Rattle.casefile.specs.Rows.{joinEnds, unknownRow, joinRow, looseRow, doubleRow, placeRow}
+use Rattle.casefile.specs.Rows.{joinEnds, weightRow, unknownRow, joinRow, looseRow, doubleRow, placeRow}
 use Rattle.casefile.specs.Recording.{railwayOf}
 use Rattle.casefile.specs.Given.{refused}
 use Rattle.casefile.specs.Reading.{headerAt, walk, read, caseAnswer}
@@ -41,7 +42,7 @@ long short wide =
       joins = [];
       signals = copies short (record { number = 1; side = Up }) (copies wide (record { number = 10; side = Up }) []);
       closed = [];
-      roster = record { heading = Up; start = 1; destination = 1 } ∷ [];
+      roster = record { heading = Up; start = 1; destination = 1; weight = none } ∷ [];
     }
 
 pub long-described : (a b : ℕ) → Describes (spell (long a b)) (long a b)
@@ -56,7 +57,7 @@ long-described a b =
             joins = every-none WritableJoin;
             signals = every-copies WritableSignal a _ _ (omega arith) (every-copies WritableSignal b _ _ (omega arith) (every-none WritableSignal));
             closed = every-none Writable;
-            roster = every-more WritableTrain _ _ (omega arith, omega arith) (every-none WritableTrain);
+            roster = every-more WritableTrain _ _ (omega arith, omega arith, tt) (every-none WritableTrain);
             one-a-point = refl;
             one-a-train = refl;
           };
@@ -67,5 +68,5 @@ long-described a b =
 pub lengths : (length (spell (long 813 2)) ≡ 4096) × (caseAnswer (spell (long 813 2)) ≡ refused Double)
     × (length (spell (long 812 3)) ≡ 4097) × (caseAnswer (spell (long 812 3)) ≡ refused Length)
     × (caseAnswer (replicate 4096 0) ≡ refused Form) × (caseAnswer (replicate 4097 0) ≡ refused Length)
-unfolding long copies spell flatMap rising first digits line isDigit byteAt digitsAt numberAt headerAt walk read caseAnswer anyBelow any repeats joinEnds unknownRow joinRow looseRow doubleRow placeRow railwayOf chainRow
+unfolding long copies spell flatMap rising first digits line isDigit byteAt digitsAt numberAt headerAt walk read caseAnswer anyBelow any repeats joinEnds weightRow unknownRow joinRow looseRow doubleRow placeRow railwayOf chainRow
 lengths = (refl, answer-of (spell (long 813 2)) (long 813 2) (long-described 813 2), refl, answer-of (spell (long 812 3)) (long 812 3) (long-described 812 3), refl, refl)

@@ -36,7 +36,7 @@ use Rattle.casefile.proofs.Exactly.{accepted-exactly, accepted-one}
 use Rattle.casefile.proofs.Faultless.{facts-faultless}
 use Rattle.casefile.proofs.Ends.{field-one}
 use Rattle.casefile.proofs.Described.{closed-flag, names-field, names-is, signal-names, as-described}
-use Rattle.casefile.proofs.Writer.{either-first, from-link, from-flag, from-closed, join-written, signal-written, closed-written, joined-link, link-joined, link-back, faultless, well-formed}
+use Rattle.casefile.proofs.Writer.{either-first, from-link, from-flag, from-closed, join-written, signal-written, closed-written, weight-said, joined-link, link-joined, link-back, faultless, well-formed}
 use Rattle.casefile.proofs.Lengths.{short}
 
 -- THE SAME LINES, THE SAME RAILWAY
@@ -54,11 +54,12 @@ roster-one : (t : TrainLine) (a b : Train) → TrainSaid t a → TrainSaid t b �
 roster-one t a b p q =
     let s : a .start .0 ≡ b .start .0 = omega (arith, p .start, q .start) in
     let d : a .destination .0 ≡ b .destination .0 = omega (arith, p .destination, q .destination) in
-    parts (a .heading) (b .heading) (a .start .0) (b .start .0) (a .destination .0) (b .destination .0) (p .heading ∙ sym (q .heading)) s d
+    parts (a .heading) (b .heading) (a .start .0) (b .start .0) (a .destination .0) (b .destination .0) (a .weight) (b .weight) (p .heading ∙ sym (q .heading)) s d (p .weight ∙ sym (q .weight))
   where
-    parts : (g h : Side) (m n k l : ℕ) → g ≡ h → m ≡ n → k ≡ l
-        → _≡_ {A = Train} (record { heading = g; start = record { 0 = m }; destination = record { 0 = k } }) (record { heading = h; start = record { 0 = n }; destination = record { 0 = l } })
-    parts g h m n k l x y z = rw (x, y, z)
+    parts : (g h : Side) (m n k l v w : ℕ) → g ≡ h → m ≡ n → k ≡ l → v ≡ w
+        → _≡_ {A = Train} (record { heading = g; start = record { 0 = m }; destination = record { 0 = k }; weight = v })
+        (record { heading = h; start = record { 0 = n }; destination = record { 0 = l }; weight = w })
+    parts g h m n k l v w x y z u = rw (x, y, z, u)
 
 module _ (d : Description) (r q : Railway) (t : AsDescribed d r) (u : AsDescribed d q) where
   joined-described : (e : End) → joined r e ≡ joined q e
@@ -154,7 +155,7 @@ module _ (r : Railway) (w : Accepted r) where
 
   roster-described : (t : ℕ) → t < r .trains → TrainSaid (getD (descriptionOf r .roster) t noTrainLine) (trainOf r t)
   unfolding descriptionOf
-  roster-described t h = rw (list-get (λ t. lineOfTrain (trainOf r t)) (r .trains) t noTrainLine h) (record { heading = refl; start = refl; destination = refl })
+  roster-described t h = rw (list-get (λ t. lineOfTrain (trainOf r t)) (r .trains) t noTrainLine h) (record { heading = refl; start = refl; destination = refl; weight = sym (weight-said (trainOf r t .weight)) })
 
   pub self-described : AsDescribed (descriptionOf r) r
   unfolding descriptionOf

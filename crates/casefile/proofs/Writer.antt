@@ -1,15 +1,16 @@
--- What the writer says of an accepted record: its description is well formed, and none of rows 3 to 8 and 13 applies to it. Each J line comes from a link at
+-- What the writer says of an accepted record: its description is well formed, and none of rows 3 to 8, 13 and 16 applies to it. Each J line comes from a link at
 -- the earlier of its two ends, and links are returned, so no end stands in two J lines; of a port and the end that its link leads to, the earlier has the
 -- J line.
 -- Assumes nothing.
-use Prim.Native.Nat.{ℕ, zero, suc, _-_, _/_, _%_, _<_}
+use Prim.Native.Nat.{ℕ, zero, suc, _-_, _/_, _%_, _<_, _≤_}
 use mathlib.Core.Path.{_≡_, refl, sym, _∙_, ap}
 use mathlib.Core.Logic.{_⊎_, inl, inr}
 use mathlib.Core.Bool.{Bool, true, false, cond}
 use mathlib.Core.List.{List, [], _∷_, _++_, map, List·Memᴰ, List·Memᴰ·head, List·Memᴰ·tail}
+use mathlib.Core.Option.{none, some}
 use native.Mathlib.Omega.{arith}
 use lib.Dec.{ltb, eqb}
-use borrow.Author.Tests.{eqb-false, eq-eqb, ne-eqb, lt-ltb, ltb-true}
+use borrow.Author.Tests.{eqb-true, eqb-false, eq-eqb, ne-eqb, lt-ltb, ltb-true}
 use Rattle.laws.specs.Below.{listBelow, gatherBelow}
 use Rattle.laws.specs.Lists.{any, repeats, Every}
 use Rattle.laws.proofs.Bools.{clash, not-true, lt?}
@@ -23,19 +24,19 @@ use Rattle.railway.specs.declared.Joined.{Joined}
 use Rattle.railway.specs.declared.Joined.the-variants.{Nothing, With}
 use Rattle.railway.specs.declared.Train.{Train}
 use Rattle.railway.specs.declared.Railway.{Railway}
-use Rattle.railway.specs.Bounds.{mostSections, sectionEnds, allEnds}
+use Rattle.railway.specs.Bounds.{mostWeight, mostSections, sectionEnds, allEnds}
 use Rattle.railway.specs.Ends.{Numbered, sideAt, endIndex, endAt}
-use Rattle.railway.specs.Record.{linkAt, flagAt, closedAt, joined, isClosed, legsOf, trainOf}
+use Rattle.railway.specs.Record.{linkAt, flagAt, closedAt, joined, isClosed, legsOf, trainOf, weightOf}
 use Rattle.railway.specs.Record as R
 use Rattle.railway.specs.Rows.{oneOwner}
 use Rattle.railway.specs.Rows as RR
 use Rattle.railway.proofs.Ends.{index-one, index-below, index-end, end-index, end-section}
 use Rattle.railway.proofs.Lookups.{joined-there, closed-there}
-use Rattle.railway.proofs.Accepted.{Right, Accepted, known-numbered, joined-known, joined-right, joined-back}
-use Rattle.casefile.specs.Form.{EndField, section, port, JoinLine, SignalLine, TrainLine, Writable, WritableEnd, WritableSignal, WritableTrain, WellFormed, sameEnd, sameSignal}
-use Rattle.casefile.specs.Rows.{within, known, ownerOf, sideOf, joinEnds, closedIn}
+use Rattle.railway.proofs.Accepted.{Right, Accepted, weight-right, known-numbered, joined-known, joined-right, joined-back}
+use Rattle.casefile.specs.Form.{EndField, section, port, JoinLine, SignalLine, TrainLine, unsaidWeight, saidWeight, Writable, WritableEnd, WritableSignal, WritableWeight, WritableTrain, WellFormed, sameEnd, sameSignal}
+use Rattle.casefile.specs.Rows.{wrongWeightIn, within, known, ownerOf, sideOf, joinEnds, closedIn}
 use Rattle.casefile.specs.Recording.{fieldOf, signalOf}
-use Rattle.casefile.specs.Writing.{joinFrom, joinAt, signalAt, closedLineOf, lineOfTrain, descriptionOf}
+use Rattle.casefile.specs.Writing.{joinFrom, joinAt, signalAt, closedLineOf, writtenWeight, lineOfTrain, descriptionOf}
 use Rattle.casefile.proofs.Faultless.{RightJoin, Laid, Faultless, is-within}
 use Rattle.casefile.proofs.Ends.{same-self, not-same, signal-is, field-one, one-end, other-end}
 
@@ -62,6 +63,21 @@ either-first e f a b o = elim (lt? (endIndex e) (endIndex f)) [
     | inr k ↦ let z : e ≡ f = index-one e f a b (omega arith) in clash (one-owner f) (rw z at o)
   ]
 ]
+
+-- THE WEIGHT that is said by what is written of it: itself; and it can be written
+pub weight-said : (w : ℕ) → saidWeight (writtenWeight w) ≡ w
+weight-said w = cases (eqb w unsaidWeight) refl
+  where
+    cases : (p : Bool) → eqb w unsaidWeight ≡ p → saidWeight (cond p none (some w)) ≡ w
+    cases true h = sym (eqb-true w unsaidWeight h)
+    cases false h = refl
+
+weight-small : (w : ℕ) → w ≤ mostWeight → WritableWeight (writtenWeight w)
+weight-small w h = cases (eqb w unsaidWeight)
+  where
+    cases : (p : Bool) → WritableWeight (cond p none (some w))
+    cases true = tt
+    cases false = omega arith
 
 -- WHERE A LINE COMES FROM. A line that stands there because of a flag.
 pub record Noted {A : Type 0} (flag : Bool) (line : A) (x : A) : Type 0 where
@@ -331,6 +347,13 @@ module _ (r : Railway) (w : Accepted r) where
       let k : RR.known r (Section (record { 0 = i / 2 }) (sideAt (i % 2))) ≡ true = rw (end-section i b) at (w .signal-known i b l) in
       ltb-true (i / 2) (r .sections) k
 
+  -- a train's weight is one that a train may have, and so is what its T line says
+  no-wrong : (t : ℕ) → t < r .trains → wrongWeightIn (lineOfTrain (trainOf r t)) ≡ false
+  unfolding weightOf
+  no-wrong t h =
+      let k = w .weights t h in
+      rw (weight-said (trainOf r t .weight)) (weight-right (trainOf r t .weight) (k .0) (k .1))
+
   laid : Laid (descriptionOf r)
   unfolding descriptionOf
   laid = record { bounds = w .bounds; join-known = join-known; join-right = join-right; ends-once = ends-once; port-joined = port-joined }
@@ -340,6 +363,7 @@ module _ (r : Railway) (w : Accepted r) where
   faultless =
       record {
         laid = laid;
+        weights = from-train (λ t. wrongWeightIn t ≡ false) (λ t h. no-wrong t h);
         signal-known =
             from-flag (λ g. within (g .number) (r .sections) ≡ true)
             (λ i b l. let k = flag-section i b l in is-within (suc (i / 2)) (r .sections) (omega arith) (omega arith));
@@ -365,6 +389,10 @@ module _ (r : Railway) (w : Accepted r) where
   field-small (Section n s) h = let b = w .bounds in let k = ltb-true (n .0) (r .sections) h in omega arith
   field-small (Port n l) h = let b = w .bounds in let k = ltb-true (n .0) (r .points) h in omega arith
 
+  small : (t : ℕ) → t < r .trains → WritableWeight (writtenWeight (trainOf r t .weight))
+  unfolding weightOf
+  small t h = weight-small (trainOf r t .weight) (w .weights t h .1)
+
   pub well-formed : WellFormed (descriptionOf r)
   unfolding descriptionOf
   well-formed =
@@ -379,7 +407,7 @@ module _ (r : Railway) (w : Accepted r) where
             (rw (t .origin .one) (field-small (endAt (t .index)) (k .0)), rw (t .origin .other) (field-small (t .origin .to) (k .1)));
         signals = from-flag WritableSignal (λ i h l. omega arith);
         closed = from-closed Writable (λ x h l. omega arith);
-        roster = from-train WritableTrain (λ t h. let k = w .train-known t h in (omega arith, omega arith));
+        roster = from-train WritableTrain (λ t h. let k = w .train-known t h in (omega arith, omega arith, small t h));
         one-a-point = list-length (legsOf r) (r .points);
         one-a-train = list-length (λ t. lineOfTrain (trainOf r t)) (r .trains);
       }

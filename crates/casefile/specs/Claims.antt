@@ -1,5 +1,5 @@
--- What is claimed of the case file, a sentence to each: of the lines, the writer's order and the same railway (document 01, "The case file"; document 02, Q-5
--- and Q-6), and of which number is given (there, "Numbers that a desk can get"). proofs/ has the proofs. Assumes nothing.
+-- What is claimed of the case file, a sentence to each: of the lines, the writer's order and the same railway (document 01, "The case file"; document 02, Q-5,
+-- Q-6 and Q-12), and of which number is given (there, "Numbers that a desk can get"). proofs/ has the proofs. Assumes nothing.
 use mathlib.Core.Path.{_≡_}
 use mathlib.Core.Bool.{true, false}
 use mathlib.Core.Logic.{_↔_, _⊎_}
@@ -22,8 +22,8 @@ use Rattle.railway.specs.Rows.{recordRefusal}
 use Rattle.railway.specs.Chains.{LongWay, Round}
 use Rattle.railway.specs.Same.{SameRailway}
 use Rattle.casefile.specs.declared.CaseRead.{CaseRead}
-use Rattle.casefile.specs.Form.{EndField, section, port, JoinLine, SignalLine, TrainLine, Description, Describes}
-use Rattle.casefile.specs.Rows.{mostBytes, FormRow, countRow, unknownRow, joinRow, looseRow}
+use Rattle.casefile.specs.Form.{EndField, section, port, JoinLine, SignalLine, TrainLine, Description, saidWeight, Describes}
+use Rattle.casefile.specs.Rows.{mostBytes, FormRow, countRow, weightRow, unknownRow, joinRow, looseRow}
 use Rattle.casefile.specs.Recording.{noTrainLine, railwayOf}
 use Rattle.casefile.specs.Writing.{writtenText}
 use Rattle.casefile.specs.Given.{accepted, refused, RefusedWith, AcceptedWith, ReaderPost}
@@ -53,9 +53,10 @@ AcceptedExactly = (text : List ℕ) (r : Railway) → (caseAnswer text ≡ accep
 abbrev pub ReaderAnswers : Type 0
 ReaderAnswers = (text : List ℕ) (a : CaseRead) → (a ≡ caseAnswer text) ↔ ReaderPost text a
 
--- ROW 13, IN WORDS (document 02, Q-6). Rows 3 to 6, which come before it, do not apply to what is said.
+-- ROW 13, IN WORDS (document 02, Q-6). Rows 3 to 6 and 16, which come before it, do not apply to what is said.
 pub record JoinableLines (d : Description) : Type 0 where
   pub count : countRow d ≡ false
+  pub weight : weightRow d ≡ false
   pub unknown : unknownRow d ≡ false
   pub join : joinRow d ≡ false
   pub loose : looseRow d ≡ false
@@ -99,6 +100,7 @@ pub record TrainSaid (t : TrainLine) (train : Train) : Type 0 where
   pub heading : train .heading ≡ t .heading
   pub start : suc (train .start .0) ≡ t .start
   pub destination : suc (train .destination .0) ≡ t .destination
+  pub weight : train .weight ≡ saidWeight (t .weight)
 
 -- The record has what the lines say: the H line its counts, P line n the legs of point n, the J lines its joins, the G lines its signals, the X lines
 -- its closed sections and T line t the data of train t.

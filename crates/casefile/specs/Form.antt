@@ -1,8 +1,9 @@
--- The form of a case text (document 01, "The case file"; document 02, Q-5): what such a text says, and how it is spelled. A text is in form if some well-formed
+-- The form of a case text (document 01, "The case file"; document 02, Q-5 and Q-12): what such a text says, and how it is spelled. A text is in form if some well-formed
 -- description spells it. Sections, points and trains count from 1 here, as in the text, and 0 can be written. Assumes nothing.
 use mathlib.Core.Path.{_≡_}
 use mathlib.Core.Bool.{Bool, false, _&&_}
 use mathlib.Core.List.{List, [], _∷_, _++_, flatMap}
+use mathlib.Core.Option.{Option, none, some}
 use Prim.Native.Nat.{ℕ, suc, _<_}
 use lib.Dec.{eqb}
 use lib.ListN.{length}
@@ -29,11 +30,12 @@ pub record SignalLine : Type 0 where
   pub number : ℕ
   pub side : Side
 
--- A T line but for its train number, which is its place among the T lines.
+-- A T line but for its train number, which is its place among the T lines. Its weight may be written or not.
 pub record TrainLine : Type 0 where
   pub heading : Side
   pub start : ℕ
   pub destination : ℕ
+  pub weight : Option ℕ
 
 -- The whole: the counts of the H line, the side of the legs from each P line, the J and G lines, the section of each X line, and the T lines, all in the
 -- text's order.
@@ -58,6 +60,15 @@ sameEnd (port m l) (port n k) = eqb m n && eqb (legIndex l) (legIndex k)
 abbrev pub sameSignal : SignalLine → SignalLine → Bool
 sameSignal g h = eqb (g .number) (h .number) && sameSide (g .side) (h .side)
 
+-- THE WEIGHT that a T line says (document 02, Q-12). That of a train whose line has none: 1.
+abbrev pub unsaidWeight : ℕ
+unsaidWeight = 1
+
+-- What the line says: the weight that is written, or else this one.
+abbrev pub saidWeight : Option ℕ → ℕ
+saidWeight none = unsaidWeight
+saidWeight (some w) = w
+
 -- FIELDS. A side or a heading: `u` or `d`.
 abbrev pub sideByte : Side → ℕ
 sideByte Up = byte "u"
@@ -77,6 +88,11 @@ sectionField n s = decimal n ++ (sideByte s ∷ [])
 abbrev pub endField : EndField → List ℕ
 endField (section n s) = sectionField n s
 endField (port n l) = decimal n ++ (legByte l ∷ [])
+
+-- The field of a weight, if one is written.
+abbrev pub weightField : Option ℕ → List (List ℕ)
+weightField none = []
+weightField (some w) = decimal w ∷ []
 
 -- LINES. H: the three counts.
 abbrev pub headerLine : Description → List ℕ
@@ -98,9 +114,9 @@ signalLine g = line ((byte "G" ∷ []) ∷ sectionField (g .number) (g .side) �
 abbrev pub closedLine : ℕ → List ℕ
 closedLine n = line ((byte "X" ∷ []) ∷ decimal n ∷ [])
 
--- T: a train's number, which way it heads, from which section and to which.
+-- T: a train's number, which way it heads, from which section and to which; the weight behind them, if it is written.
 abbrev pub trainLine : ℕ → TrainLine → List ℕ
-trainLine n t = line ((byte "T" ∷ []) ∷ decimal n ∷ (sideByte (t .heading) ∷ []) ∷ decimal (t .start) ∷ decimal (t .destination) ∷ [])
+trainLine n t = line ((byte "T" ∷ []) ∷ decimal n ∷ (sideByte (t .heading) ∷ []) ∷ decimal (t .start) ∷ decimal (t .destination) ∷ weightField (t .weight))
 
 -- THE TEXT. Lines numbered from n upwards, as P and T lines are.
 unfoldable pub rising : {A : Type 0} → (ℕ → A → List ℕ) → ℕ → List A → List ℕ
@@ -134,9 +150,14 @@ WritableJoin j = WritableEnd (j .one) × WritableEnd (j .other)
 abbrev pub WritableSignal : SignalLine → Type 0
 WritableSignal g = Writable (g .number)
 
--- A T line whose start and destination can be written; its own number is at most the H line's.
+-- No weight, or one that can be written.
+abbrev pub WritableWeight : Option ℕ → Type 0
+WritableWeight none = Unit {0}
+WritableWeight (some w) = Writable w
+
+-- A T line whose start, destination and weight can be written; its own number is at most the H line's.
 abbrev pub WritableTrain : TrainLine → Type 0
-WritableTrain t = Writable (t .start) × Writable (t .destination)
+WritableTrain t = Writable (t .start) × Writable (t .destination) × WritableWeight (t .weight)
 
 -- Every number can be written, and there is one P line a point and one T line a train.
 pub record WellFormed (d : Description) : Type 0 where

@@ -11,14 +11,14 @@ use lib.ListN.{length}
 use Rattle.laws.specs.Lists.{Every}
 use Rattle.railway.specs.declared.Railway.{Railway}
 use Rattle.railway.specs.declared.Refusal.{Refusal}
-use Rattle.railway.specs.declared.Refusal.the-variants.{Length, Form, Count, Unknown, Join, Loose, Chain, Double, Place, Space, PlanForm, PlanFault}
+use Rattle.railway.specs.declared.Refusal.the-variants.{Length, Form, Count, Weight, Unknown, Join, Loose, Chain, Double, Place, Space, PlanForm, PlanFault}
 use Rattle.railway.specs.declared.CaseAnswer.{CaseAnswer}
 use Rattle.railway.specs.declared.CaseAnswer.the-variants.{Accepted, Refused}
 use Rattle.railway.specs.Refusals.{number, numberGiven, NotApplying, FirstOf}
 use Rattle.railway.specs.Record.{emptyRailway}
 use Rattle.casefile.specs.declared.CaseRead.{CaseRead}
 use Rattle.casefile.specs.Form.{Description, Describes}
-use Rattle.casefile.specs.Rows.{mostBytes, LengthRow, FormRow, countRow, unknownRow, joinRow, looseRow, chainRow, doubleRow, placeRow, descriptionRows, descriptionTable}
+use Rattle.casefile.specs.Rows.{mostBytes, LengthRow, FormRow, countRow, weightRow, unknownRow, joinRow, looseRow, chainRow, doubleRow, placeRow, descriptionRows, descriptionTable}
 use Rattle.casefile.specs.Recording.{railwayOf}
 
 -- The answer that accepts a text, with its railway.
@@ -45,6 +45,7 @@ abbrev pub Applies : List ℕ → Refusal → Type 0
 Applies text Length = LengthRow text
 Applies text Form = FormRow text
 Applies text Count = Says text countRow
+Applies text Weight = Says text weightRow
 Applies text Unknown = Says text unknownRow
 Applies text Join = Says text joinRow
 Applies text Loose = Says text looseRow
@@ -63,7 +64,7 @@ caseTable = Length ∷ Form ∷ descriptionTable
 abbrev pub RefusedWith : List ℕ → Refusal → Type 0
 RefusedWith text f = FirstOf (Applies text) caseTable f
 
--- The text is not too long, says something to which none of rows 3 to 8 and 13 applies, and the railway is that of what it says.
+-- The text is not too long, says something to which none of rows 3 to 8, 13 and 16 applies, and the railway is that of what it says.
 pub record AcceptedWith (text : List ℕ) (r : Railway) : Type 0 where
   pub short : length text ≤ mostBytes
   pub description : Description

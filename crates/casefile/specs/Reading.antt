@@ -104,6 +104,10 @@ module _ (s : List ℕ) where
       then (byteAt s tab c) (λ x c. then (caseNumberAt c) (λ n c.
       then (byteAt s lineEnd c) (λ x c. got n c))))
 
+  -- A weight, if one is written: a tab and its number.
+  unfoldable pub weightFieldAt : ℕ → Got (Option ℕ)
+  weightFieldAt c = cond (eqb (getD s c 0) tab) (then (caseNumberAt (c + 1)) (λ w c. got (some w) c)) (got none c)
+
   -- A T line, whose number must be n.
   unfoldable pub trainLineAt : ℕ → ℕ → Got TrainLine
   trainLineAt n c =
@@ -112,7 +116,8 @@ module _ (s : List ℕ) where
       then (byteAt s tab c) (λ x c. then (sideFieldAt c) (λ heading c.
       then (byteAt s tab c) (λ x c. then (caseNumberAt c) (λ start c.
       then (byteAt s tab c) (λ x c. then (caseNumberAt c) (λ destination c.
-      then (byteAt s lineEnd c) (λ x c. cond (eqb m n) (got (record { heading = heading; start = start; destination = destination }) c) bad))))))))))
+      then (weightFieldAt c) (λ weight c.
+      then (byteAt s lineEnd c) (λ x c. cond (eqb m n) (got (record { heading = heading; start = start; destination = destination; weight = weight }) c) bad)))))))))))
 
   -- The whole text: the lines in their order, and nothing behind the last.
   unfoldable pub walk : Got Description
@@ -130,7 +135,7 @@ module _ (s : List ℕ) where
   unfoldable pub read : Option Description
   read = value walk
 
--- THE ANSWER. Rows 2 to 8 and 13, given what was read of a text; where nothing was, the form is at fault.
+-- THE ANSWER. Rows 2 to 8, 13 and 16, given what was read of a text; where nothing was, the form is at fault.
 abbrev pub formRows : Option Description → List Row
 formRows none = row Form true ∷ []
 formRows (some d) = row Form false ∷ descriptionRows d

@@ -3,6 +3,7 @@
 -- Assumes nothing.
 use mathlib.Core.Bool.{cond}
 use mathlib.Core.List.{List, [], _∷_}
+use mathlib.Core.Option.{none}
 use Prim.Native.Nat.{ℕ, suc, _-_, _/_, _%_}
 use lib.Dec.{eqb}
 use lib.ListN.{getD}
@@ -18,7 +19,7 @@ use Rattle.railway.specs.declared.Railway.{Railway}
 use Rattle.railway.specs.Bounds.{mostSections, mostPoints, mostTrains, sectionEnds, allEnds}
 use Rattle.railway.specs.Ends.{sideAt, endAt}
 use Rattle.railway.specs.Record.{linkByte}
-use Rattle.casefile.specs.Form.{EndField, section, port, JoinLine, SignalLine, TrainLine, Description, sameEnd, sameSignal}
+use Rattle.casefile.specs.Form.{EndField, section, port, JoinLine, SignalLine, TrainLine, Description, saidWeight, sameEnd, sameSignal}
 
 -- An end as written, in the record: its number less one.
 abbrev pub endOf : EndField → End
@@ -41,11 +42,11 @@ signalOf i = record { number = suc (i / 2); side = sideAt (i % 2) }
 
 -- What a T line says of its train, in the record.
 abbrev pub trainOfLine : TrainLine → Train
-trainOfLine t = record { heading = t .heading; start = record { 0 = t .start - 1 }; destination = record { 0 = t .destination - 1 } }
+trainOfLine t = record { heading = t .heading; start = record { 0 = t .start - 1 }; destination = record { 0 = t .destination - 1 }; weight = saidWeight (t .weight) }
 
 -- What stands for a T line that is not there.
 abbrev pub noTrainLine : TrainLine
-noTrainLine = record { heading = Up; start = 1; destination = 1 }
+noTrainLine = record { heading = Up; start = 1; destination = 1; weight = none }
 
 -- The railway of a description.
 unfoldable pub railwayOf : Description → Railway

@@ -1,4 +1,4 @@
--- Rows 1 to 8 and 13 of the table of numbers, for a case text: one definition a row, in the order in which they are given. From row 3 on they judge what
+-- Rows 1 to 8, 13 and 16 of the table of numbers, for a case text: one definition a row, in the order in which they are given. From row 3 on they judge what
 -- the text says.
 -- Assumes nothing.
 use mathlib.Core.Bool.{Bool, false, not, _&&_, _||_}
@@ -14,9 +14,9 @@ use Rattle.railway.specs.declared.Leg.the-variants.{Stem, Plus, Minus}
 use Rattle.railway.specs.declared.Refusal.{Refusal}
 use Rattle.railway.specs.Ends.{portSide}
 use Rattle.railway.specs.Refusals.{Row}
-use Rattle.railway.specs.Rows.{outside, Owner, ofSection, ofPoint, Tied, wrongPair, rowsBy}
+use Rattle.railway.specs.Rows.{outside, wrongWeight, Owner, ofSection, ofPoint, Tied, wrongPair, rowsBy}
 use Rattle.railway.specs.Rows as Record
-use Rattle.casefile.specs.Form.{EndField, section, port, JoinLine, SignalLine, TrainLine, Description, sameEnd, sameSignal, Describes}
+use Rattle.casefile.specs.Form.{EndField, section, port, JoinLine, SignalLine, TrainLine, Description, saidWeight, sameEnd, sameSignal, Describes}
 use Rattle.casefile.specs.Recording.{railwayOf}
 
 -- The bytes that a case text may have.
@@ -34,6 +34,14 @@ FormRow text = (d : Description) → Describes text d → ⊥
 -- 3, count: the H line has a number of sections, points or trains that no railway may have.
 abbrev pub countRow : Description → Bool
 countRow d = outside (d .sections) (d .points) (d .trains)
+
+-- A T line that says a weight which no train may have.
+abbrev pub wrongWeightIn : TrainLine → Bool
+wrongWeightIn t = wrongWeight (saidWeight (t .weight))
+
+-- 16, weight (document 02, Q-12): there is such a line, its weight 0 or over 255.
+unfoldable pub weightRow : Description → Bool
+weightRow d = any wrongWeightIn (d .roster)
 
 -- A number from 1 to a count.
 abbrev pub within : ℕ → ℕ → Bool
@@ -132,8 +140,8 @@ placeRow d =
 
 -- These rows of what a text says, from 3 on, in the order in which they are given.
 abbrev pub descriptionRows : Description → List Row
-descriptionRows d = rowsBy (countRow d) (unknownRow d) (joinRow d) (looseRow d) (chainRow d) (doubleRow d) (placeRow d)
+descriptionRows d = rowsBy (countRow d) (weightRow d) (unknownRow d) (joinRow d) (looseRow d) (chainRow d) (doubleRow d) (placeRow d)
 
 -- Their refusals, in that order.
 abbrev pub descriptionTable : List Refusal
-descriptionTable = map (λ x. x .refusal) (rowsBy false false false false false false false)
+descriptionTable = map (λ x. x .refusal) (rowsBy false false false false false false false false)

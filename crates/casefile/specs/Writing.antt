@@ -1,11 +1,11 @@
--- The writer (document 01, "The case file", last paragraph; document 02, Q-6; row 9 of the table of numbers): the text that it makes of a railway, and what it
+-- The writer (document 01, "The case file", last paragraph; document 02, Q-6 and Q-12; row 9 of the table of numbers): the text that it makes of a railway, and what it
 -- answers and leaves when it is handed a record and a lent buffer. Assumes nothing.
 use mathlib.Core.Path.{_≡_}
 use mathlib.Core.Bool.{Bool, cond}
 use mathlib.Core.List.{List, [], _∷_, _++_}
 use mathlib.Core.Option.{Option, none, some}
 use Prim.Native.Nat.{ℕ, suc}
-use lib.Dec.{ltb}
+use lib.Dec.{ltb, eqb}
 use lib.ListN.{length, drop}
 use Rattle.laws.specs.Below.{listBelow, gatherBelow}
 use Rattle.railway.specs.declared.Joined.{Joined}
@@ -21,7 +21,7 @@ use Rattle.railway.specs.Record.{linkAt, flagAt, closedAt, legsOf, trainOf}
 use Rattle.railway.specs.Rows.{recordRows}
 use Rattle.casefile.specs.declared.Written.{Written}
 use Rattle.casefile.specs.declared.Written.the-variants.{Bytes, Refused}
-use Rattle.casefile.specs.Form.{JoinLine, SignalLine, TrainLine, Description, spell}
+use Rattle.casefile.specs.Form.{JoinLine, SignalLine, TrainLine, Description, unsaidWeight, spell}
 use Rattle.casefile.specs.Recording.{fieldOf, signalOf}
 
 -- THE TEXT. A walk over all ends by index makes the J lines: section by section, the down end before the up end, and then point by point, the stem before the
@@ -44,9 +44,13 @@ signalAt r i = cond (flagAt r i) (signalOf i ∷ []) []
 abbrev pub closedLineOf : Railway → ℕ → List ℕ
 closedLineOf r x = cond (closedAt r x) (suc x ∷ []) []
 
+-- A weight as the writer puts it: 1 is omitted.
+abbrev pub writtenWeight : ℕ → Option ℕ
+writtenWeight w = cond (eqb w unsaidWeight) none (some w)
+
 -- The T line of a train.
 abbrev pub lineOfTrain : Train → TrainLine
-lineOfTrain t = record { heading = t .heading; start = suc (t .start .0); destination = suc (t .destination .0) }
+lineOfTrain t = record { heading = t .heading; start = suc (t .start .0); destination = suc (t .destination .0); weight = writtenWeight (t .weight) }
 
 -- What the writer's text says: all that the record has, by rising point, end, section and train.
 unfoldable pub descriptionOf : Railway → Description

@@ -1,15 +1,16 @@
 -- The table of a railway: each byte is what the record gives, as code writes it and as code reads it again. Writing goes byte after byte;
 -- reading finds the byte of a train and a section by its index, which determines them. Assumes nothing.
 use mathlib.Core.Path.{_≡_, refl, sym, _∙_, ap}
+use mathlib.Core.Logic.{inl, inr}
 use mathlib.Core.Bool.{Bool, true, false, cond, not, _&&_}
 use mathlib.Core.List.{List, [], _∷_}
 use Prim.Native.Nat.{ℕ, zero, suc, _+_, _-_, _*_, _/_, _%_, _≤_, _<_}
 use native.Mathlib.Omega.{arith}
 use lib.Dec.{eqb}
 use lib.ListN.{length, getD, set, replicate, length-replicate}
-use borrow.Author.Tests.{lt-ltb, le-ltb, eq-eqb, ne-eqb}
+use borrow.Author.Tests.{lt-ltb, le-ltb, eqb-false, eq-eqb, ne-eqb}
 use Rattle.laws.proofs.Filling.{FilledTo, fill-next}
-use Rattle.laws.proofs.Bools.{some-none}
+use Rattle.laws.proofs.Bools.{bool?, some-none}
 use Rattle.railway.specs.declared.Side.{Side}
 use Rattle.railway.specs.declared.Side.the-variants.{Up, Down}
 use Rattle.railway.specs.declared.Train.{Train}
@@ -19,7 +20,7 @@ use Rattle.railway.specs.declared.CaseAnswer.{CaseAnswer}
 use Rattle.railway.specs.declared.CaseAnswer.the-variants.{Accepted, Refused}
 use Rattle.railway.specs.Bounds.{mostSections, mostTrains}
 use Rattle.railway.specs.Ends.{sideIndex, sideAt}
-use Rattle.railway.specs.Record.{noTrain, flagAt, hasSignal, trainOf}
+use Rattle.railway.specs.Record.{noTrain, flagAt, hasSignal, trainOf, weightOf}
 use Rattle.railway.proofs.Ends.{side-small, section-index}
 use Rattle.railway.proofs.Lookups.{signal-there}
 use Rattle.railway.proofs.Accepted.{accepted-facts}
@@ -42,7 +43,7 @@ module _ (r : Railway) (s p k i : ℕ) (h : Counted r s p k) where
   count-trains n e = rw (ne-eqb i 0 n, ne-eqb i 1 e, h .trains)
 
 module _ (r : Railway) where
-  -- a train's three
+  -- a train's four
   module _ (i t : ℕ) (train : Train) (is : train ≡ trainOf r t) where
     pub roster-heading : (x : ℕ) → i ≡ 0 → x ≡ sideIndex (train .heading) → x ≡ rosterByte r i t
     unfolding rosterByte
@@ -52,20 +53,24 @@ module _ (r : Railway) where
     unfolding rosterByte
     roster-start p q = rw (ne-eqb i 0 p, eq-eqb i 1 q, ← is)
 
-    pub roster-destination : (i ≡ 0 → ⊥) → (i ≡ 1 → ⊥) → train .destination .0 ≡ rosterByte r i t
+    pub roster-destination : (i ≡ 0 → ⊥) → (i ≡ 1 → ⊥) → i ≡ 2 → train .destination .0 ≡ rosterByte r i t
     unfolding rosterByte
-    roster-destination p q = rw (ne-eqb i 0 p, ne-eqb i 1 q, ← is)
+    roster-destination p q n = rw (ne-eqb i 0 p, ne-eqb i 1 q, eq-eqb i 2 n, ← is)
+
+    pub roster-weight : (i ≡ 0 → ⊥) → (i ≡ 1 → ⊥) → (i ≡ 2 → ⊥) → train .weight ≡ rosterByte r i t
+    unfolding rosterByte weightOf
+    roster-weight p q n = rw (ne-eqb i 0 p, ne-eqb i 1 q, ne-eqb i 2 n) (ap (λ (x : Train). x .weight) is)
 
   -- all trains
   pub rostered : (a b c d : Train) → a ≡ trainOf r 0 → b ≡ trainOf r 1 → c ≡ trainOf r 2 → d ≡ trainOf r 3 → Rostered r (a ∷ b ∷ c ∷ d ∷ [])
-  rostered a b c d ha hb hc hd = record { each = λ t l. go t l }
+  rostered a b c d ha hb hc hd = record { each = λ t x l. go t x l }
     where
-      go : (t : ℕ) → t < mostTrains → getD (a ∷ b ∷ c ∷ d ∷ []) t noTrain ≡ trainOf r t
-      go zero l = ha
-      go (suc zero) l = hb
-      go (suc (suc zero)) l = hc
-      go (suc (suc (suc zero))) l = hd
-      go (suc (suc (suc (suc t)))) l = absurd (omega arith)
+      go : (t : ℕ) (x : Train) → t < mostTrains → getD (a ∷ b ∷ c ∷ d ∷ []) t x ≡ trainOf r t
+      go zero x l = ha
+      go (suc zero) x l = hb
+      go (suc (suc zero)) x l = hc
+      go (suc (suc (suc zero))) x l = hd
+      go (suc (suc (suc (suc t)))) x l = absurd (omega arith)
 
   -- the byte at an index
   module _ (i x : ℕ) where
@@ -127,7 +132,7 @@ module _ (r : Railway) (table : List ℕ) (h : Compiled r table) where
       let d : 192 + i - standBytes ≡ i = omega arith in
       h .bytes (192 + i) (omega arith) ∙ rw (le-ltb (192 + i) standBytes (omega arith), lt-ltb (192 + i) countBytes (omega arith), d)
 
-  pub roster-there : (i t : ℕ) → i < 3 → t < mostTrains → getD table (195 + 4 * i + t) 0 ≡ rosterByte r i t
+  pub roster-there : (i t : ℕ) → i < 4 → t < mostTrains → getD table (195 + 4 * i + t) 0 ≡ rosterByte r i t
   unfolding compiledByte
   roster-there i t l m =
       let d : (195 + 4 * i + t - countBytes) / mostTrains ≡ i = omega arith in
@@ -150,7 +155,7 @@ module _ (r : Railway) (table : List ℕ) (h : Compiled r table) where
   unfolding countByte
   trains-there = count-there 2 (omega arith)
 
--- a train's sections, by name
+-- a train's sections and weight, by name
 module _ (r : Railway) (t x : ℕ) where
   pub start-is : x ≡ rosterByte r 1 t → x ≡ trainOf r t .start .0
   unfolding rosterByte
@@ -159,6 +164,10 @@ module _ (r : Railway) (t x : ℕ) where
   pub destination-is : x ≡ rosterByte r 2 t → x ≡ trainOf r t .destination .0
   unfolding rosterByte
   destination-is h = h
+
+  pub weight-is : x ≡ rosterByte r 3 t → x ≡ weightOf r t
+  unfolding rosterByte
+  weight-is h = h
 
 -- how a train stands: as if parked, for what no railway can have
 module _ (r : Railway) (t x : ℕ) where
@@ -197,13 +206,16 @@ module _ (r : Railway) (table : List ℕ) (i t : ℕ) (h : Compiled r table) (pa
   unfolding rosterByte
   no-heading e = rw (eq-eqb i 0 e, no-train)
 
-  pub no-section : (i ≡ 0 → ⊥) → 0 ≡ rosterByte r i t
+  pub no-weight : i ≡ 3 → 1 ≡ rosterByte r i t
+  unfolding rosterByte weightOf
+  no-weight e = rw e (ap (λ (x : Train). x .weight) (sym no-train))
+
+  pub no-section : i < 4 → (i ≡ 0 → ⊥) → (i ≡ 3 → ⊥) → 0 ≡ rosterByte r i t
   unfolding rosterByte
-  no-section e = rw (ne-eqb i 0 e, no-train) (go (eqb i 1))
-    where
-      go : (b : Bool) → _≡_ {A = ℕ} 0 (cond b 0 0)
-      go true = refl
-      go false = refl
+  no-section l p q = elim (bool? (eqb i 1)) [
+    | inl e ↦ rw (ne-eqb i 0 p, e, no-train)
+    | inr e ↦ let n = eqb-false i 1 e in rw (ne-eqb i 0 p, e, eq-eqb i 2 (omega arith), no-train)
+  ]
 
 -- the side of a number
 pub heading-is : (r : Railway) (t x : ℕ) → x ≡ rosterByte r 0 t → sideAt x ≡ trainOf r t .heading

@@ -15,7 +15,7 @@ use Rattle.railway.specs.declared.Railway.{Railway}
 use Rattle.railway.specs.declared.Refusal.{Refusal}
 use Rattle.railway.specs.Bounds.{mostSections, mostTrains}
 use Rattle.railway.specs.Ends.{sideIndex}
-use Rattle.railway.specs.Record.{noTrain, hasSignal, trainOf}
+use Rattle.railway.specs.Record.{hasSignal, trainOf, weightOf}
 use Rattle.railway.specs.Rows.{recordRefusal}
 use Rattle.acceptance.specs.Answers.{Judged}
 use Rattle.compiled.specs.declared.Compilation.{Compilation}
@@ -28,9 +28,9 @@ standBytes = mostTrains * mostSections
 abbrev pub countBytes : ℕ
 countBytes = standBytes + 3
 
--- How long the table is: three bytes more for each train.
+-- How long the table is: four bytes more for each train.
 abbrev pub tableBytes : ℕ
-tableBytes = countBytes + 3 * mostTrains
+tableBytes = countBytes + 4 * mostTrains
 
 -- How a train stands: parked, held by a signal, or free.
 abbrev pub standByte : Bool → Bool → ℕ
@@ -66,9 +66,11 @@ freeOn r t x = within t x && (not (parkedOn r t x) && not (hasSignal r (endOn r 
 unfoldable pub countByte : Railway → ℕ → ℕ
 countByte r i = cond (eqb i 0) (r .sections) (cond (eqb i 1) (r .points) (r .trains))
 
--- The heading, start and destination of train t.
+-- The heading, start, destination and weight of train t.
 unfoldable pub rosterByte : Railway → ℕ → ℕ → ℕ
-rosterByte r i t = cond (eqb i 0) (sideIndex (trainOf r t .heading)) (cond (eqb i 1) (trainOf r t .start .0) (trainOf r t .destination .0))
+rosterByte r i t =
+    cond (eqb i 0) (sideIndex (trainOf r t .heading))
+    (cond (eqb i 1) (trainOf r t .start .0) (cond (eqb i 2) (trainOf r t .destination .0) (weightOf r t)))
 
 -- The byte at index i: how a train stands on a section, train by train; then the counts, and the trains' own.
 unfoldable pub compiledByte : Railway → ℕ → ℕ
@@ -81,7 +83,7 @@ pub record Compiled (r : Railway) (table : List ℕ) : Type 0 where
   pub accepted : recordRefusal r ≡ none
   pub bytes : (i : ℕ) → i < tableBytes → getD table i 0 ≡ compiledByte r i
 
--- What compiling a record gives: it is judged by rows 3 to 8 and 13; accepted, the table is the railway's; refused, it is all zero.
+-- What compiling a record gives: it is judged by rows 3 to 8, 13 and 16; accepted, the table is the railway's; refused, it is all zero.
 pub record CompilePost (r : Railway) (c : Compilation) : Type 0 where
   pub judged : Judged r (c .tested)
   pub accepted : recordRefusal r ≡ none → Compiled r (c .table)
@@ -95,7 +97,7 @@ pub record Counted (r : Railway) (s p k : ℕ) : Type 0 where
 
 -- These are its trains, and behind them what stands for none.
 pub record Rostered (r : Railway) (trains : List Train) : Type 0 where
-  pub each : (t : ℕ) → t < mostTrains → getD trains t noTrain ≡ trainOf r t
+  pub each : (t : ℕ) (d : Train) → t < mostTrains → getD trains t d ≡ trainOf r t
 
 -- The bytes of all trains before t stand in the table.
 pub record FilledBefore (r : Railway) (t : ℕ) (table : List ℕ) : Type 0 where

@@ -6,7 +6,7 @@ ghost use mathlib.Core.Path.{_≡_};
 ghost use Prim.Native.Nat.{ℕ, _+_, _<_, _≤_};
 ghost use Rattle.railway.specs.declared.Railway.{Railway};
 ghost use Rattle.railway.specs.Bounds.{mostTrains};
-ghost use Rattle.railway.specs.Record.{trainOf};
+ghost use Rattle.railway.specs.Record.{trainOf, weightOf};
 ghost use Rattle.railway.specs.Lent.{SignalsOf};
 ghost use Rattle.compiled.specs.Table.{standBytes, tableBytes, standByte, standOn, heldOn, freeOn, countByte, rosterByte, compiledByte, Compiled, CompilePost, Counted, Rostered, FilledBefore};
 use railway::CaseAnswer;
@@ -24,8 +24,8 @@ const COUNTS: usize = SECTIONS * TRAINS;
 
 const ROSTER: usize = COUNTS + 3;
 
-// Bytes of a table: three more for each train.
-pub const TABLE: usize = ROSTER + 3 * TRAINS;
+// Bytes of a table: four more for each train.
+pub const TABLE: usize = ROSTER + 4 * TRAINS;
 
 // A railway's table. Of every function that takes one, the promise is about the railways whose table it is.
 pub type Table = [u8; TABLE];
@@ -150,8 +150,10 @@ fn roster_byte(train: Train, i: usize) -> u8
         railway::side_index(h)
     } else if i == 1 {
         train.start.0
-    } else {
+    } else if i == 2 {
         train.destination.0
+    } else {
+        train.weight
     }
 }
 
@@ -197,9 +199,16 @@ pub fn destination_in(table: &Table, t: u8) -> u8
     roster_in(table, 2, t)
 }
 
-// One of a train's three bytes; past the table those of no train.
+// What a move of a train costs.
+pub fn weight_in(table: &Table, t: u8) -> u8
+    ensures { λ w. ⌜ ((r : Railway) → Compiled r (now (table .entry)) → w ≡ weightOf r t) ⌝ }
+{
+    roster_in(table, 3, t)
+}
+
+// One of a train's four bytes; past the table those of no train.
 fn roster_in(table: &Table, i: u8, t: u8) -> u8
-    requires { ⌜ i < 3 ⌝ }
+    requires { ⌜ i < 4 ⌝ }
     ensures { λ b. ⌜ ((r : Railway) → Compiled r (now (table .entry)) → b ≡ rosterByte r i t) ⌝ }
 {
     if t < Railway::TRAINS {
@@ -207,6 +216,8 @@ fn roster_in(table: &Table, i: u8, t: u8) -> u8
         table[at]
     } else if i == 0 {
         1
+    } else if i == 3 {
+        Railway::LEAST_WEIGHT
     } else {
         0
     }

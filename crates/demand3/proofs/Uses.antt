@@ -20,8 +20,8 @@ use Rattle.railway.specs.declared.Refusal.the-variants.{PlanForm, PlanFault}
 use Rattle.railway.specs.Ends.{endAt}
 use Rattle.railway.specs.declared.CaseAnswer.{CaseAnswer}
 use Rattle.railway.specs.Refusals.{first, numberGiven as caseNumber}
-use Rattle.railway.specs.Record.{isClosed, joinedBy, joined, hasSignal, legsOf, trainOf, withJoin, withSignal, withLegs, withTrain}
-use Rattle.railway.specs.Rows.{unknownRow, joinRow, looseRow, longer, chainRow, placeRow}
+use Rattle.railway.specs.Record.{isClosed, joinedBy, joined, hasSignal, legsOf, trainOf, weightOf, withJoin, withSignal, withLegs, withTrain}
+use Rattle.railway.specs.Rows.{weightRow, unknownRow, joinRow, looseRow, longer, chainRow, placeRow}
 use Rattle.railway.specs.Yards.{yardA}
 use Rattle.game.specs.Game.{at, may}
 use Rattle.game.specs.Placement.{codeOf, sectionsIn, placements, standsOn, startCode, shared}
@@ -172,27 +172,27 @@ solve-two κs a answer left yard nine₁ nine₂ learnt =
 
 -- what the promises compute to: 9 for tables of eight entries; the first line emitted, and taken; 10 for a test that comes first
 solver-nine : (a : SolverAnswer) (figs sets : List ℕ) → SolverPost yardA a (replicate 8 5) (replicate 9 6) figs sets → (numberGiven a ≡ some 9) × (figs ≡ replicate 8 5) × (sets ≡ replicate 9 6)
-unfolding caseRefusal tablesShort first unknownRow joinRow looseRow chainRow longer placeRow endAt joinedBy joined hasSignal legsOf trainOf withJoin withSignal withLegs withTrain anyBelow isClosed
+unfolding caseRefusal tablesShort first weightRow weightOf unknownRow joinRow looseRow chainRow longer placeRow endAt joinedBy joined hasSignal legsOf trainOf withJoin withSignal withLegs withTrain anyBelow isClosed
 solver-nine a figs sets p = (p .numbered, p .leaves .0, p .leaves .1)
 
 lines-nine : (place : PlanPlace) (b b′ : List ℕ) (a : Emitted) → EmitLinesPost yardA (replicate 8 5) (replicate 9 6) place b a b′ → emitNumber a ≡ some 9
-unfolding caseRefusal tablesShort first unknownRow joinRow looseRow chainRow longer placeRow endAt joinedBy joined hasSignal legsOf trainOf withJoin withSignal withLegs withTrain anyBelow isClosed
+unfolding caseRefusal tablesShort first weightRow weightOf unknownRow joinRow looseRow chainRow longer placeRow endAt joinedBy joined hasSignal legsOf trainOf withJoin withSignal withLegs withTrain anyBelow isClosed
 lines-nine place b b′ a p = p .numbered
 
 front-nine : (c : CheckerState) (text : List ℕ) (a : FrontAnswer) (c′ : Checking) → FrontPost yardA (record { state = c; figs = replicate 8 5; sets = replicate 9 6 }) text a c′ → frontNumber a ≡ some 9
-unfolding caseRefusal tablesShort first unknownRow joinRow looseRow chainRow longer placeRow endAt joinedBy joined hasSignal legsOf trainOf withJoin withSignal withLegs withTrain anyBelow isClosed
+unfolding caseRefusal tablesShort first weightRow weightOf unknownRow joinRow looseRow chainRow longer placeRow endAt joinedBy joined hasSignal legsOf trainOf withJoin withSignal withLegs withTrain anyBelow isClosed
 front-nine c text a c′ p = p .numbered
 
 first-written : (a : Emitted) (b : List ℕ) → EmitterPost yardA figsA setsA Top (replicate 9 7) a b → (a ≡ Line 7 (From 0)) × (b ≡ bytes "plan\t2\n" ++ (7 ∷ 7 ∷ []))
-unfolding bytes emitLine spell line digits codeOf sumBelow listBelow startCode caseRefusal tablesShort first unknownRow joinRow looseRow chainRow longer placeRow endAt joinedBy joined hasSignal legsOf trainOf withJoin withSignal withLegs withTrain anyBelow isClosed
+unfolding bytes emitLine spell line digits codeOf sumBelow listBelow startCode caseRefusal tablesShort first weightRow weightOf unknownRow joinRow looseRow chainRow longer placeRow endAt joinedBy joined hasSignal legsOf trainOf withJoin withSignal withLegs withTrain anyBelow isClosed
 first-written a b p = (p .answer, p .buffer)
 
 first-taken : (a : LineAnswer) (c : Checking) → LinePost yardA (freshChecking 9 9) (bytes "plan\t2\n") a c → (a ≡ Taken) × (c .state ≡ Begun 2 0)
-unfolding bytes takeLine listBelow whichBelow any all readLine guess fields valueOf sameText spell line digits fits caseRefusal tablesShort first unknownRow joinRow looseRow chainRow longer placeRow endAt joinedBy joined hasSignal legsOf trainOf withJoin withSignal withLegs withTrain anyBelow isClosed
+unfolding bytes takeLine listBelow whichBelow any all readLine guess fields valueOf sameText spell line digits fits caseRefusal tablesShort first weightRow weightOf unknownRow joinRow looseRow chainRow longer placeRow endAt joinedBy joined hasSignal legsOf trainOf withJoin withSignal withLegs withTrain anyBelow isClosed
 first-taken a c p = (p .answer, ap (λ (x : Checking). x .state) (p .checking))
 
 early-ten : (a : TestAnswer) (c : Checking) → TestPost yardA (freshChecking 9 9) a c → a ≡ Refused PlanForm
-unfolding testPlan caseRefusal tablesShort first unknownRow joinRow looseRow chainRow longer placeRow endAt joinedBy joined hasSignal legsOf trainOf withJoin withSignal withLegs withTrain anyBelow isClosed
+unfolding testPlan caseRefusal tablesShort first weightRow weightOf unknownRow joinRow looseRow chainRow longer placeRow endAt joinedBy joined hasSignal legsOf trainOf withJoin withSignal withLegs withTrain anyBelow isClosed
 early-ten a c p = p .answer
 
 solve-nine : (κs : Lfts 2) (a : Dens κs solve.ps) (answer : resT solve.r κs .Denot) (left : AtExit (endedOf 2 solve.ps solve.r) κs)
@@ -273,7 +273,7 @@ module _ (lent₁ lent₂ : List ℕ) (answered : CaseAnswer) (c : Checking) (en
 
 -- a text without its line end is refused with 10, and so is the test behind it
 cut-off : (u : LineCalls) → u ≡ callLines yardA (bytes "plan\t2" ∷ []) madeFresh → (u .answers ≡ LineRefused PlanForm ∷ []) × (takenTexts (u .answers) (bytes "plan\t2" ∷ []) ≡ [])
-unfolding bytes callLines takenTexts takeLine listBelow whichBelow any all readLine guess fields valueOf sameText spell line digits fits caseRefusal tablesShort first unknownRow joinRow looseRow chainRow longer placeRow endAt joinedBy joined hasSignal legsOf trainOf withJoin withSignal withLegs withTrain anyBelow isClosed
+unfolding bytes callLines takenTexts takeLine listBelow whichBelow any all readLine guess fields valueOf sameText spell line digits fits caseRefusal tablesShort first weightRow weightOf unknownRow joinRow looseRow chainRow longer placeRow endAt joinedBy joined hasSignal legsOf trainOf withJoin withSignal withLegs withTrain anyBelow isClosed
 cut-off u e = (ap (λ (x : LineCalls). x .answers) e, ap (λ (x : LineCalls). takenTexts (x .answers) (bytes "plan\t2" ∷ [])) e)
 
 out-of-form : (said : CaseAnswer) (c : Checking) → FreshPost yardA lent wider said c → (u : LineCalls) → Taking yardA c (bytes "plan\t2" ∷ []) u

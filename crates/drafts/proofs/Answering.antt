@@ -24,7 +24,7 @@ use Rattle.railway.specs.declared.Joined.the-variants.{Nothing, With}
 use Rattle.railway.specs.declared.Train.{Train}
 use Rattle.railway.specs.declared.Railway.{Railway}
 use Rattle.railway.specs.declared.Refusal.{Refusal}
-use Rattle.railway.specs.declared.Refusal.the-variants.{Count, Unknown, Join, Loose, Chain, Double, Place}
+use Rattle.railway.specs.declared.Refusal.the-variants.{Count, Weight, Unknown, Join, Loose, Chain, Double, Place}
 use Rattle.railway.specs.Bounds.{mostSections, sectionEnds}
 use Rattle.railway.specs.Refusals.{Row, row, first}
 use Rattle.railway.specs.Record.{isClosed, bareRailway, emptyRailway, joined, trainOf}
@@ -34,7 +34,7 @@ use Rattle.railway.proofs.Refusals.{refuse-none}
 use Rattle.railway.proofs.Lookups.{closed-there}
 use Rattle.railway.proofs.Accepted.{Bounded, bounded}
 use Rattle.casefile.specs.Form.{EndField, port, JoinLine, SignalLine, TrainLine, Description, WellFormed, sameEnd, sameSignal}
-use Rattle.casefile.specs.Rows.{within, known, unknownJoin, unknownSignal, unknownClosed, unknownTrain, wrongJoin, joinEnds, looseEnd, looseAt, countRow, unknownRow, joinRow, looseRow, doubleRow, closedIn, shutOut, placeRow, descriptionRows}
+use Rattle.casefile.specs.Rows.{within, known, unknownJoin, unknownSignal, unknownClosed, unknownTrain, wrongJoin, joinEnds, looseEnd, looseAt, countRow, wrongWeightIn, weightRow, unknownRow, joinRow, looseRow, doubleRow, closedIn, shutOut, placeRow, descriptionRows}
 use Rattle.casefile.specs.Recording.{partner, trainOfLine, noTrainLine, railwayOf}
 use Rattle.casefile.specs.Reading.{judged}
 use Rattle.casefile.proofs.Faultless.{within-is, known-parts}
@@ -46,6 +46,7 @@ use Rattle.drafts.proofs.Folding.{putRising, putEach, drafted}
 use Rattle.drafts.proofs.Stored.{same-everywhere}
 use Rattle.drafts.proofs.Sized.{Sized, sized-bare, sized-rising, sized-each, sized-point, sized-put-join, sized-put-signal, sized-put-closed, sized-put-train}
 use Rattle.drafts.proofs.Known.{unknown-noted}
+use Rattle.drafts.proofs.Weighing.{weight-noted}
 use Rattle.drafts.proofs.Built.{faults, doubles, closedAgain, KnownJoin, KnownSignal, KnownClosed, KnownTrain}
 use Rattle.drafts.proofs.Joining.{Fit, numbered-known, fit-faults, faults-fit, partner-none}
 use Rattle.drafts.proofs.Signalling.{index, single-doubles, doubles-single}
@@ -192,13 +193,19 @@ module _ (d : Description) (f : WellFormed d) where
     where
       cases : (c : Bool) → countRow d ≡ c
           → RR.countRow (putRising putTrain 1 (putEach putClosed (putEach putSignal (putEach putJoin (putRising putPoint 1
-          (record { railway = cond c emptyRailway (bareRailway (d .sections) (d .points) (d .trains)); unknown = false; wrong = false; double = false })
+          (record { railway = cond c emptyRailway (bareRailway (d .sections) (d .points) (d .trains)); weight = false; unknown = false; wrong = false; double = false })
           (d .legs)) (d .joins)) (d .signals)) (d .closed)) (d .roster) .railway) ≡ c
       cases true e = sized-count 0 0 0 _ (counts-of 0 0 0 _ (sized-bare 0 0 0))
       cases false e =
           let z = sized-bare (d .sections) (d .points) (d .trains) in
           sized-count (d .sections) (d .points) (d .trains) _ (counts-of (d .sections) (d .points) (d .trains) _ z) ∙ e
 
+  -- ROW 16: it is noted whatever the counts are
+  weight-same : drafted d .weight ≡ weightRow d
+  unfolding drafted opened
+  weight-same = weight-noted d _ refl
+
+  -- ROW 4
   module _ (h3 : countRow d ≡ false) where
     b : Bounded (d .sections) (d .points) (d .trains)
     b = bounded (d .sections) (d .points) (d .trains) h3
@@ -207,7 +214,7 @@ module _ (d : Description) (f : WellFormed d) where
     unfolding drafted opened
     unknown-same = rw h3 (unknown-noted d _ (sized-bare (d .sections) (d .points) (d .trains)) refl f)
 
-    module _ (h4 : unknownRow d ≡ false) where
+    module _ (h16 : weightRow d ≡ false) (h4 : unknownRow d ≡ false) where
       kj : Every (KnownJoin d) (d .joins)
       kj j m = not-and (known d (j .one)) (known d (j .other)) (any-false (unknownJoin d) (d .joins) j (known-parts d h4 .0) m)
 
@@ -221,10 +228,14 @@ module _ (d : Description) (f : WellFormed d) where
       kx n m = not-is (within n (d .sections)) (any-false (unknownClosed d) (d .closed) n (known-parts d h4 .2) m)
 
       kt : Every (KnownTrain d) (d .roster)
-      kt t m = not-and (within (t .start) (d .sections)) (within (t .destination) (d .sections)) (any-false (unknownTrain d) (d .roster) t (known-parts d h4 .3) m)
+      unfolding weightRow
+      kt t m =
+          let k = not-and (within (t .start) (d .sections)) (within (t .destination) (d .sections)) (any-false (unknownTrain d) (d .roster) t (known-parts d h4 .3) m) in
+          (k .0, k .1, any-false wrongWeightIn (d .roster) t h16 m)
 
       is : drafted d ≡ record {
         railway = built d f b h3 kj kg kx kt;
+        weight = false;
         unknown = false;
         wrong = faults (withPoints d f b h3 kj kg kx kt) (d .joins);
         double = doubles (withJoins d f b h3 kj kg kx kt) (d .signals) || closedAgain (withSignals d f b h3 kj kg kx kt) (d .closed);
@@ -276,20 +287,22 @@ module _ (d : Description) (f : WellFormed d) where
   rows-same : first (draftRows (drafted d)) ≡ first (descriptionRows d)
   rows-same =
       first-then Count _ _ _ _ count-same (λ h3.
+      first-then Weight _ _ _ _ weight-same (λ h16.
       first-then Unknown _ _ _ _ (unknown-same h3) (λ h4.
-      first-then Join _ _ _ _ (wrong-same h3 h4) (λ h5.
-      first-then Loose _ _ _ _ (ap RR.looseRow (railway-same h3 h4 h5) ∙ loose-same d (b h3) (joinable h3 h4)) (λ h6.
-      first-then Chain _ _ _ _ (ap RR.chainRow (railway-same h3 h4 h5)) (λ h13.
-      first-then Double _ _ _ _ (double-same h3 h4 h5) (λ h7.
-      first-then Place _ _ _ _ (ap RR.placeRow (railway-same h3 h4 h5) ∙ place-same d f (b h3) (kt h3 h4)) (λ h8. refl)))))))
+      first-then Join _ _ _ _ (wrong-same h3 h16 h4) (λ h5.
+      first-then Loose _ _ _ _ (ap RR.looseRow (railway-same h3 h16 h4 h5) ∙ loose-same d (b h3) (joinable h3 h16 h4)) (λ h6.
+      first-then Chain _ _ _ _ (ap RR.chainRow (railway-same h3 h16 h4 h5)) (λ h13.
+      first-then Double _ _ _ _ (double-same h3 h16 h4 h5) (λ h7.
+      first-then Place _ _ _ _ (ap RR.placeRow (railway-same h3 h16 h4 h5) ∙ place-same d f (b h3) (kt h3 h16 h4)) (λ h8. refl))))))))
 
   railway-given : first (descriptionRows d) ≡ none → drafted d .railway ≡ railwayOf d
   unfolding first
   railway-given e =
       let r3 = refuse-none (countRow d) Count _ e in
-      let r4 = refuse-none (unknownRow d) Unknown _ (r3 .1) in
+      let r16 = refuse-none (weightRow d) Weight _ (r3 .1) in
+      let r4 = refuse-none (unknownRow d) Unknown _ (r16 .1) in
       let r5 = refuse-none (joinRow d) Join _ (r4 .1) in
-      railway-same (r3 .0) (r4 .0) (r5 .0)
+      railway-same (r3 .0) (r16 .0) (r4 .0) (r5 .0)
 
   by-answer : (r : Railway) (o : Option Refusal) → (o ≡ none → r ≡ railwayOf d) → answerOf r o ≡ judged (some d) o
   by-answer r none h = rw (h refl)

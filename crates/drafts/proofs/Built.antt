@@ -1,7 +1,7 @@
--- The draft of a description whose counts are within their bounds and whose names are all there: what each line adds to the record, and the
+-- The draft of a description whose counts and weights are within their bounds and whose names are all there: what each line adds to the record, and the
 -- flags. Each line is put in as an update of the record alone, or with its own flag beside it.
 -- Assumes nothing.
-use Prim.Native.Nat.{ℕ, suc, _+_, _-_, _<_, _≤_}
+use Prim.Native.Nat.{ℕ, suc, _+_, _-_, _%_, _<_, _≤_}
 use mathlib.Core.Path.{_≡_, refl, _∙_, ap}
 use mathlib.Core.Bool.{Bool, true, false, _||_}
 use mathlib.Core.List.{List, [], _∷_, map, List·Memᴰ·head, List·Memᴰ·tail}
@@ -15,8 +15,9 @@ use Rattle.railway.specs.declared.Train.{Train}
 use Rattle.railway.specs.declared.Railway.{Railway}
 use Rattle.railway.specs.Bounds.{mostPoints, mostTrains}
 use Rattle.railway.specs.Record.{hasSignal, isClosed, withJoin, withSignal, withClosed, withLegs, withTrain}
-use Rattle.casefile.specs.Form.{EndField, section, JoinLine, SignalLine, TrainLine, Description}
-use Rattle.casefile.specs.Rows.{within, known}
+use Rattle.railway.proofs.Accepted.{right-weight}
+use Rattle.casefile.specs.Form.{EndField, section, JoinLine, SignalLine, TrainLine, Description, saidWeight}
+use Rattle.casefile.specs.Rows.{wrongWeightIn, within, known}
 use Rattle.casefile.specs.Recording.{endOf, trainOfLine}
 use Rattle.casefile.proofs.Faultless.{is-within}
 use Rattle.drafts.specs.declared.Draft.{Draft}
@@ -74,7 +75,11 @@ module _ (d : Description) where
   KnownClosed n = within n (d .sections) ≡ true
 
   abbrev pub KnownTrain : TrainLine → Type 0
-  KnownTrain t = (within (t .start) (d .sections) ≡ true) × (within (t .destination) (d .sections) ≡ true)
+  KnownTrain t = (within (t .start) (d .sections) ≡ true) × (within (t .destination) (d .sections) ≡ true) × (wrongWeightIn t ≡ false)
+
+  -- a weight that a train may have is a byte
+  whole-byte : (t : TrainLine) → wrongWeightIn t ≡ false → saidWeight (t .weight) % 256 ≡ saidWeight (t .weight)
+  whole-byte t h = let b = right-weight (saidWeight (t .weight)) h in omega arith
 
   -- one line
   module _ (w : Draft) (z : SizedBy d (w .railway)) where
@@ -86,17 +91,17 @@ module _ (d : Description) where
         rw (e, m, lt-ltb i mostPoints (omega arith))
 
     join-put : (j : JoinLine) → KnownJoin j
-        → putJoin w j ≡ record { railway = withJoin (w .railway) (endOf (j .one)) (endOf (j .other)); unknown = w .unknown; wrong = w .wrong || faulty (w .railway) (endOf (j .one)) (endOf (j .other)); double = w .double }
+        → putJoin w j ≡ record { railway = withJoin (w .railway) (endOf (j .one)) (endOf (j .other)); weight = w .weight; unknown = w .unknown; wrong = w .wrong || faulty (w .railway) (endOf (j .one)) (endOf (j .other)); double = w .double }
     unfolding putJoin
     join-put j h = rw (there-known d (w .railway) z (j .one) ∙ h .0, there-known d (w .railway) z (j .other) ∙ h .1)
 
     signal-put : (g : SignalLine) → KnownSignal g
-        → putSignal w g ≡ record { railway = withSignal (w .railway) (endOf (signalEnd g)); unknown = w .unknown; wrong = w .wrong; double = w .double || hasSignal (w .railway) (endOf (signalEnd g)) }
+        → putSignal w g ≡ record { railway = withSignal (w .railway) (endOf (signalEnd g)); weight = w .weight; unknown = w .unknown; wrong = w .wrong; double = w .double || hasSignal (w .railway) (endOf (signalEnd g)) }
     unfolding putSignal
     signal-put g h = rw (there-known d (w .railway) z (signalEnd g) ∙ h)
 
     closed-put : (n : ℕ) → KnownClosed n
-        → putClosed w n ≡ record { railway = withClosed (w .railway) (n - 1); unknown = w .unknown; wrong = w .wrong; double = w .double || isClosed (w .railway) (n - 1) }
+        → putClosed w n ≡ record { railway = withClosed (w .railway) (n - 1); weight = w .weight; unknown = w .unknown; wrong = w .wrong; double = w .double || isClosed (w .railway) (n - 1) }
     unfolding putClosed
     closed-put n h = rw (ap (within n) (z .sections) ∙ h)
 
@@ -105,7 +110,7 @@ module _ (d : Description) where
     train-put i t h b k =
         let e : within (suc i) (w .railway .trains) ≡ true = ap (within (suc i)) (z .trains) ∙ is-within (suc i) (d .trains) (omega arith) (omega arith) in
         let m : suc i - 1 ≡ i = omega arith in
-        rw (e, ap (within (t .start)) (z .sections) ∙ k .0, ap (within (t .destination)) (z .sections) ∙ k .1, m, lt-ltb i mostTrains (omega arith))
+        rw (e, ap (within (t .start)) (z .sections) ∙ k .0, ap (within (t .destination)) (z .sections) ∙ k .1, m, lt-ltb i mostTrains (omega arith), k .2, or-nothing (w .weight), whole-byte t (k .2))
 
   -- all lines of a kind
   pub points-put : d .points ≤ mostPoints → (xs : List Side) (i : ℕ) (w : Draft) → SizedBy d (w .railway) → i + length xs ≤ d .points
@@ -118,7 +123,7 @@ module _ (d : Description) where
       rw e (points-put b xs (suc i) _ (rw e at y) (omega arith))
 
   pub joins-put : (js : List JoinLine) (w : Draft) → SizedBy d (w .railway) → Every KnownJoin js
-      → putEach putJoin w js ≡ record { railway = joinAll (w .railway) js; unknown = w .unknown; wrong = w .wrong || faults (w .railway) js; double = w .double }
+      → putEach putJoin w js ≡ record { railway = joinAll (w .railway) js; weight = w .weight; unknown = w .unknown; wrong = w .wrong || faults (w .railway) js; double = w .double }
   unfolding putEach joinAll faults
   joins-put [] w z h = rw (or-nothing (w .wrong))
   joins-put (j ∷ js) w z h =
@@ -128,7 +133,7 @@ module _ (d : Description) where
       rw (e, ← a) (joins-put js _ (rw e at y) (λ x m. h x (List·Memᴰ·tail m)))
 
   pub signals-put : (gs : List SignalLine) (w : Draft) → SizedBy d (w .railway) → Every KnownSignal gs
-      → putEach putSignal w gs ≡ record { railway = signalAll (w .railway) gs; unknown = w .unknown; wrong = w .wrong; double = w .double || doubles (w .railway) gs }
+      → putEach putSignal w gs ≡ record { railway = signalAll (w .railway) gs; weight = w .weight; unknown = w .unknown; wrong = w .wrong; double = w .double || doubles (w .railway) gs }
   unfolding putEach signalAll doubles
   signals-put [] w z h = rw (or-nothing (w .double))
   signals-put (g ∷ gs) w z h =
@@ -138,7 +143,7 @@ module _ (d : Description) where
       rw (e, ← a) (signals-put gs _ (rw e at y) (λ x m. h x (List·Memᴰ·tail m)))
 
   pub closeds-put : (ns : List ℕ) (w : Draft) → SizedBy d (w .railway) → Every KnownClosed ns
-      → putEach putClosed w ns ≡ record { railway = closeAll (w .railway) ns; unknown = w .unknown; wrong = w .wrong; double = w .double || closedAgain (w .railway) ns }
+      → putEach putClosed w ns ≡ record { railway = closeAll (w .railway) ns; weight = w .weight; unknown = w .unknown; wrong = w .wrong; double = w .double || closedAgain (w .railway) ns }
   unfolding putEach closeAll closedAgain
   closeds-put [] w z h = rw (or-nothing (w .double))
   closeds-put (n ∷ ns) w z h =

@@ -11,13 +11,13 @@ use Rattle.laws.specs.Lists.{any}
 use Rattle.railway.specs.declared.End.{End}
 use Rattle.railway.specs.declared.Side.{Side}
 use Rattle.railway.specs.declared.Railway.{Railway}
-use Rattle.casefile.specs.Form.{EndField, section, port, JoinLine, SignalLine, TrainLine, Description, WellFormed}
+use Rattle.casefile.specs.Form.{EndField, section, port, JoinLine, SignalLine, TrainLine, Description, WellFormed, saidWeight}
 use Rattle.casefile.specs.Rows.{within, known, unknownJoin, unknownSignal, unknownClosed, unknownTrain, unknownRow}
 use Rattle.casefile.specs.Recording.{endOf}
 use Rattle.casefile.proofs.Faultless.{is-within}
 use Rattle.drafts.specs.declared.Draft.{Draft}
 use Rattle.drafts.specs.declared.KnownEnd.the-variants.{NotThere, There}
-use Rattle.drafts.specs.Drafting.{isThere, putPoint, putEnds, putJoin, putAt, putSignal, putClosed, putTrain, withRailway, unknownIn}
+use Rattle.drafts.specs.Drafting.{isThere, putPoint, putEnds, putJoin, putAt, putSignal, putClosed, weighedIn, putTrain, withRailway, unknownIn}
 use Rattle.drafts.proofs.Folding.{putRising, putEach}
 use Rattle.drafts.proofs.Sized.{Sized, SizedDraft, sized-rising, sized-each, sized-point, sized-put-join, sized-put-signal, sized-put-closed, sized-put-train}
 
@@ -89,7 +89,7 @@ module _ (d : Description) where
         rw (← there-known (w .railway) z (section (g .number) (g .side)))
         (at-unknown (isThere (w .railway) (section (g .number) (g .side))) (endOf (section (g .number) (g .side))))
 
-    closed-cases : (a b v : Bool) (r : Railway) → a ≡ b → cond a (record { railway = r; unknown = w .unknown; wrong = w .wrong; double = v }) (unknownIn w) .unknown ≡ (w .unknown || not b)
+    closed-cases : (a b v : Bool) (r : Railway) → a ≡ b → cond a (record { railway = r; weight = w .weight; unknown = w .unknown; wrong = w .wrong; double = v }) (unknownIn w) .unknown ≡ (w .unknown || not b)
     closed-cases a true v r e = rw e (sym (or-nothing (w .unknown)))
     closed-cases a false v r e = rw e (sym (or-all (w .unknown)))
 
@@ -97,16 +97,17 @@ module _ (d : Description) where
     unfolding putClosed
     closed-unknown n = closed-cases (within n (w .railway .sections)) (within n (d .sections)) _ _ (ap (within n) (z .sections))
 
-    train-cases : (a b c x y : Bool) (r : Railway) → a ≡ true → b ≡ x → c ≡ y → cond (a && (b && c)) (withRailway w r) (unknownIn w) .unknown ≡ (w .unknown || not (x && y))
-    train-cases a b c true true r e f g = rw (e, f, g) (sym (or-nothing (w .unknown)))
-    train-cases a b c true false r e f g = rw (e, f, g) (sym (or-all (w .unknown)))
-    train-cases a b c false y r e f g = rw (e, f) (sym (or-all (w .unknown)))
+    train-cases : (v : Draft) → v .unknown ≡ w .unknown → (a b c x y : Bool) (r : Railway) → a ≡ true → b ≡ x → c ≡ y
+        → cond (a && (b && c)) (withRailway v r) (unknownIn v) .unknown ≡ (w .unknown || not (x && y))
+    train-cases v u a b c true true r e f g = rw (e, f, g) (u ∙ sym (or-nothing (w .unknown)))
+    train-cases v u a b c true false r e f g = rw (e, f, g) (sym (or-all (w .unknown)))
+    train-cases v u a b c false y r e f g = rw (e, f) (sym (or-all (w .unknown)))
 
     pub train-unknown : (n : ℕ) (t : TrainLine) → 1 ≤ n → n ≤ d .trains → putTrain w n t .unknown ≡ (w .unknown || unknownTrain d t)
     unfolding putTrain
     train-unknown n t l h =
         let r = w .railway in
-        train-cases (within n (r .trains)) (within (t .start) (r .sections)) (within (t .destination) (r .sections)) _ _ _
+        train-cases (weighedIn w (saidWeight (t .weight))) refl (within n (r .trains)) (within (t .start) (r .sections)) (within (t .destination) (r .sections)) _ _ _
         (ap (within n) (z .trains) ∙ is-within n (d .trains) l h) (ap (within (t .start)) (z .sections)) (ap (within (t .destination)) (z .sections))
 
   pub unknown-noted : (w : Draft) → SizedBy (w .railway) → w .unknown ≡ false → WellFormed d

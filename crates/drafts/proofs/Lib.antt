@@ -2,6 +2,7 @@ pub mod Folding
 pub mod Stored
 pub mod Sized
 pub mod Known
+pub mod Weighing
 pub mod Built
 pub mod Joining
 pub mod Signalling

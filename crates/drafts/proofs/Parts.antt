@@ -1,28 +1,30 @@
 -- What the functions for one line answer, over plain values: each return is a case of the definition that its contract cites.
 -- Assumes nothing.
-use Prim.Native.Nat.{ℕ, _-_, _<_, _≤_}
-use mathlib.Core.Path.{_≡_, refl, sym, _∙_}
+use Prim.Native.Nat.{ℕ, _-_, _%_, _<_, _≤_}
+use mathlib.Core.Path.{_≡_, refl, sym, _∙_, ap}
 use mathlib.Core.Bool.{Bool, true, false, not, _&&_, _||_}
 use native.Mathlib.Omega.{arith}
-use lib.Dec.{leb}
-use borrow.Author.Tests.{leb-true, le-leb, lt-leb}
+use lib.Dec.{ltb, leb}
+use borrow.Author.Tests.{lt-ltb, le-ltb, leb-true, le-leb, lt-leb}
 use Rattle.laws.proofs.Bools.{clash, and-true}
 use Rattle.railway.specs.declared.Side.{Side}
 use Rattle.railway.specs.declared.Leg.{Leg}
 use Rattle.railway.specs.declared.End.{End}
 use Rattle.railway.specs.declared.End.the-variants.{Section, Port}
+use Rattle.railway.specs.declared.Train.{Train}
 use Rattle.railway.specs.declared.Railway.{Railway}
 use Rattle.railway.specs.Record.{hasSignal, isClosed, withJoin, withSignal, withClosed, withLegs, withTrain}
-use Rattle.casefile.specs.Form.{TrainLine}
+use Rattle.railway.specs.Bounds.{leastWeight, mostWeight}
+use Rattle.railway.specs.Rows.{wrongWeight}
+use Rattle.casefile.specs.Form.{TrainLine, saidWeight}
 use Rattle.casefile.specs.Rows.{within}
-use Rattle.casefile.specs.Recording.{trainOfLine}
 use Rattle.lines.specs.declared.NamedEnd.{NamedEnd}
 use Rattle.lines.specs.declared.NamedEnd.the-variants.{OfSection, OfPoint}
 use Rattle.lines.specs.Answers.{endNamed, joinNamed}
 use Rattle.drafts.specs.declared.Draft.{Draft}
 use Rattle.drafts.specs.declared.KnownEnd.{KnownEnd}
 use Rattle.drafts.specs.declared.KnownEnd.the-variants.{NotThere, There}
-use Rattle.drafts.specs.Drafting.{WithinCount, endIn, unknownIn, withRailway, putPoint, faulty, putJoin, putSignal, putClosed, putTrain}
+use Rattle.drafts.specs.Drafting.{WithinCount, endIn, unknownIn, withRailway, putPoint, faulty, putJoin, putSignal, putClosed, weighedIn, putRoster, putTrain}
 
 -- NUMBERS
 pub within-low : (n count : ℕ) → n < 1 → WithinCount n count false
@@ -79,7 +81,7 @@ module _ (d : Draft) (one other : NamedEnd) (x : KnownEnd) (hx : x ≡ endIn (d 
     join-second-not q = rw (← hx, ← hy, p, q)
 
     pub join-in : (f : End) → y ≡ There f → (r : Railway) → r ≡ withJoin (d .railway) e f → (v : Bool) → v ≡ faulty (d .railway) e f
-        → record { railway = r; unknown = d .unknown; wrong = d .wrong || v; double = d .double } ≡ putJoin d (joinNamed one other)
+        → record { railway = r; weight = d .weight; unknown = d .unknown; wrong = d .wrong || v; double = d .double } ≡ putJoin d (joinNamed one other)
     unfolding putJoin
     join-in f q r hr v hv = rw (← hx, ← hy, p, q, hr, hv)
 
@@ -89,13 +91,13 @@ module _ (d : Draft) (n : ℕ) (side : Side) (x : KnownEnd) (hx : x ≡ endIn (d
   signal-not p = rw (← hx, p)
 
   pub signal-in : (e : End) → x ≡ There e → (r : Railway) → r ≡ withSignal (d .railway) e → (v : Bool) → v ≡ hasSignal (d .railway) e
-      → record { railway = r; unknown = d .unknown; wrong = d .wrong; double = d .double || v } ≡ putSignal d (record { number = n; side = side })
+      → record { railway = r; weight = d .weight; unknown = d .unknown; wrong = d .wrong; double = d .double || v } ≡ putSignal d (record { number = n; side = side })
   unfolding putSignal
   signal-in e p r hr v hv = rw (← hx, p, hr, hv)
 
 module _ (d : Draft) (n : ℕ) (b : Bool) (h : b ≡ within n (d .railway .sections)) where
   pub closed-in : b ≡ true → (r : Railway) → r ≡ withClosed (d .railway) (n - 1) → (v : Bool) → v ≡ isClosed (d .railway) (n - 1)
-      → record { railway = r; unknown = d .unknown; wrong = d .wrong; double = d .double || v } ≡ putClosed d n
+      → record { railway = r; weight = d .weight; unknown = d .unknown; wrong = d .wrong; double = d .double || v } ≡ putClosed d n
   unfolding putClosed
   closed-in t r hr v hv = rw (sym h ∙ t, hr, hv)
 
@@ -103,15 +105,31 @@ module _ (d : Draft) (n : ℕ) (b : Bool) (h : b ≡ within n (d .railway .secti
   unfolding putClosed
   closed-not t = rw (sym h ∙ t)
 
-module _ (d : Draft) (n : ℕ) (t : TrainLine) (a b c : Bool) (ha : a ≡ within n (d .railway .trains)) (hb : b ≡ within (t .start) (d .railway .sections))
-    (hc : c ≡ within (t .destination) (d .railway .sections)) where
-  pub train-in : (a && (b && c)) ≡ true → (q : Railway) → q ≡ withTrain (d .railway) (n - 1) (trainOfLine t) → withRailway d q ≡ putTrain d n t
-  unfolding putTrain
-  train-in e q h = rw (← ha, ← hb, ← hc, e, h)
+module _ (d : Draft) (n : ℕ) (t : TrainLine) (w : ℕ) (hw : w ≡ saidWeight (t .weight)) (v : Draft) (hv : v ≡ weighedIn d w) (a b c : Bool)
+    (ha : a ≡ within n (v .railway .trains)) (hb : b ≡ within (t .start) (v .railway .sections)) (hc : c ≡ within (t .destination) (v .railway .sections)) where
+  abbrev pub trainGiven : Train
+  trainGiven = record { heading = t .heading; start = record { 0 = t .start - 1 }; destination = record { 0 = t .destination - 1 }; weight = w % 256 }
 
-  pub train-not : (a && (b && c)) ≡ false → unknownIn d ≡ putTrain d n t
+  put-in : putRoster v n t ≡ putTrain d n t
   unfolding putTrain
-  train-not e = rw (← ha, ← hb, ← hc, e)
+  put-in = ap (λ (x : Draft). putRoster x n t) (hv ∙ ap (weighedIn d) hw)
+
+  pub train-in : (a && (b && c)) ≡ true → (q : Railway) → q ≡ withTrain (v .railway) (n - 1) trainGiven → withRailway v q ≡ putTrain d n t
+  train-in e q h = let z : withRailway v q ≡ putRoster v n t = rw (← ha, ← hb, ← hc, e, h, hw) in z ∙ put-in
+
+  pub train-not : (a && (b && c)) ≡ false → unknownIn v ≡ putTrain d n t
+  train-not e = let z : unknownIn v ≡ putRoster v n t = rw (← ha, ← hb, ← hc, e) in z ∙ put-in
+
+-- WEIGHTS
+pub wrong-below : (w : ℕ) → w < leastWeight → true ≡ wrongWeight w
+wrong-below w h = rw (lt-ltb w leastWeight h)
+
+pub wrong-above : (w : ℕ) → leastWeight ≤ w → ltb mostWeight w ≡ wrongWeight w
+wrong-above w h = rw (le-ltb w leastWeight h)
+
+pub noted-weight : (d : Draft) (w : ℕ) (v : Bool) → v ≡ wrongWeight w
+    → record { railway = d .railway; weight = d .weight || v; unknown = d .unknown; wrong = d .wrong; double = d .double } ≡ weighedIn d w
+noted-weight d w v h = rw h
 
 -- three tests at once
 pub all-three : (a b c : Bool) → (a && (b && c)) ≡ true → (a ≡ true) × (b ≡ true) × (c ≡ true)

@@ -216,6 +216,7 @@ module _ (d : Description) (f : WellFormed d) (b : Bounded (d .sections) (d .poi
 
   pub drafted-is : drafted d ≡ record {
     railway = built;
+    weight = false;
     unknown = false;
     wrong = faults withPoints (d .joins);
     double = doubles withJoins (d .signals) || closedAgain withSignals (d .closed);
@@ -224,13 +225,14 @@ module _ (d : Description) (f : WellFormed d) (b : Bounded (d .sections) (d .poi
   drafted-is =
       let o = f .one-a-point in
       let q = f .one-a-train in
-      let w0 : Draft = record { railway = start; unknown = false; wrong = false; double = false } in
-      let w1 : Draft = record { railway = withPoints; unknown = false; wrong = false; double = false } in
-      let w2 : Draft = record { railway = withJoins; unknown = false; wrong = faults withPoints (d .joins); double = false } in
-      let w3 : Draft = record { railway = withSignals; unknown = false; wrong = faults withPoints (d .joins); double = doubles withJoins (d .signals) } in
+      let w0 : Draft = record { railway = start; weight = false; unknown = false; wrong = false; double = false } in
+      let w1 : Draft = record { railway = withPoints; weight = false; unknown = false; wrong = false; double = false } in
+      let w2 : Draft = record { railway = withJoins; weight = false; unknown = false; wrong = faults withPoints (d .joins); double = false } in
+      let w3 : Draft = record { railway = withSignals; weight = false; unknown = false; wrong = faults withPoints (d .joins); double = doubles withJoins (d .signals) } in
       let w4 : Draft =
       record {
         railway = withAllClosed;
+        weight = false;
         unknown = false;
         wrong = faults withPoints (d .joins);
         double = doubles withJoins (d .signals) || closedAgain withSignals (d .closed);

@@ -13,13 +13,12 @@ use Rattle.railway.specs.declared.Railway.{Railway}
 use Rattle.railway.specs.Bounds.{mostSections, mostPoints, mostTrains, sectionEnds, allEnds}
 use Rattle.railway.specs.Ends.{endIndex}
 use Rattle.railway.specs.Record.{bareRailway, noLegs, noLink, noTrain, isClosed, withJoin, withSignal, withClosed, withLegs, withTrain}
-use Rattle.casefile.specs.Form.{JoinLine, SignalLine, TrainLine, section}
+use Rattle.casefile.specs.Form.{JoinLine, SignalLine, TrainLine, saidWeight, section}
 use Rattle.casefile.specs.Rows.{within}
-use Rattle.casefile.specs.Recording.{trainOfLine}
 use Rattle.drafts.specs.declared.Draft.{Draft}
 use Rattle.drafts.specs.declared.KnownEnd.{KnownEnd}
 use Rattle.drafts.specs.declared.KnownEnd.the-variants.{NotThere, There}
-use Rattle.drafts.specs.Drafting.{endIn, putPoint, putEnds, putJoin, putAt, putSignal, putClosed, putTrain, withRailway, unknownIn}
+use Rattle.drafts.specs.Drafting.{endIn, putPoint, putEnds, putJoin, putAt, putSignal, putClosed, weighedIn, trainInByte, putTrain, withRailway, unknownIn}
 use Rattle.drafts.proofs.Folding.{putRising, putEach}
 use Rattle.drafts.proofs.Stored.{everywhere-length}
 
@@ -113,7 +112,7 @@ module _ (s p k : ℕ) where
     sized-put-closed n = cases (within n (d .railway .sections))
       where
         cases : (b : Bool)
-            → SizedDraft (cond b (record { railway = withClosed (d .railway) (n - 1); unknown = d .unknown; wrong = d .wrong; double = d .double || isClosed (d .railway) (n - 1) }) (unknownIn d))
+            → SizedDraft (cond b (record { railway = withClosed (d .railway) (n - 1); weight = d .weight; unknown = d .unknown; wrong = d .wrong; double = d .double || isClosed (d .railway) (n - 1) }) (unknownIn d))
         cases true = sized-closed (d .railway) z (n - 1)
         cases false = z
 
@@ -121,8 +120,8 @@ module _ (s p k : ℕ) where
     unfolding putTrain
     sized-put-train n t = cases (within n (d .railway .trains) && (within (t .start) (d .railway .sections) && within (t .destination) (d .railway .sections)))
       where
-        cases : (b : Bool) → SizedDraft (cond b (withRailway d (withTrain (d .railway) (n - 1) (trainOfLine t))) (unknownIn d))
-        cases true = sized-train (d .railway) z (n - 1) (trainOfLine t)
+        cases : (b : Bool) → SizedDraft (cond b (withRailway (weighedIn d (saidWeight (t .weight))) (withTrain (d .railway) (n - 1) (trainInByte t))) (unknownIn (weighedIn d (saidWeight (t .weight)))))
+        cases true = sized-train (d .railway) z (n - 1) (trainInByte t)
         cases false = z
 
   module _ {A : Type 0} where

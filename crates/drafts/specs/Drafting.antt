@@ -1,25 +1,26 @@
--- Reading a case text in one walk: the record is built line by line, beside three flags for what the record cannot show. Contracts cite these
+-- Reading a case text in one walk: the record is built line by line, beside four flags for what the record cannot show. Contracts cite these
 -- definitions and proofs/ ties them to the casefile's; nothing of document 01 rests on this file. Assumes nothing.
 use mathlib.Core.Path.{_≡_}
 use mathlib.Core.Bool.{Bool, true, false, cond, not, _&&_, _||_}
 use mathlib.Core.List.{List, [], _∷_}
 use mathlib.Core.Option.{Option, none, some}
-use Prim.Native.Nat.{ℕ, zero, suc, _-_, _≤_}
+use Prim.Native.Nat.{ℕ, zero, suc, _-_, _%_, _≤_}
 use lib.Dec.{ltb, leb, eqb}
 use lib.ListN.{length, getD}
 use Rattle.text.specs.Text.{byte}
 use Rattle.text.specs.Reading.{Got, bad, got, then}
 use Rattle.railway.specs.declared.Side.{Side}
 use Rattle.railway.specs.declared.End.{End}
+use Rattle.railway.specs.declared.Train.{Train}
 use Rattle.railway.specs.declared.Railway.{Railway}
 use Rattle.railway.specs.declared.Refusal.{Refusal}
 use Rattle.railway.specs.Refusals.{Row, first}
 use Rattle.railway.specs.Record.{bareRailway, emptyRailway, joined, hasSignal, isClosed, withJoin, withSignal, withClosed, withLegs, withTrain}
-use Rattle.railway.specs.Rows.{outside, tied, wrongPair, unjoined, countRow, looseRow, chainRow, placeRow, rowsBy}
+use Rattle.railway.specs.Rows.{outside, wrongWeight, tied, wrongPair, unjoined, countRow, looseRow, chainRow, placeRow, rowsBy}
 use Rattle.casefile.specs.declared.CaseRead.{CaseRead}
-use Rattle.casefile.specs.Form.{EndField, section, port, JoinLine, SignalLine, TrainLine}
+use Rattle.casefile.specs.Form.{EndField, section, port, JoinLine, SignalLine, TrainLine, saidWeight}
 use Rattle.casefile.specs.Rows.{within}
-use Rattle.casefile.specs.Recording.{endOf, trainOfLine}
+use Rattle.casefile.specs.Recording.{endOf}
 use Rattle.casefile.specs.Given.{accepted, refused}
 use Rattle.casefile.specs.Reading.{Counts, headerAt, pointLineAt, joinLineAt, signalLineAt, closedLineAt, trainLineAt}
 use Rattle.drafts.specs.declared.Draft.{Draft}
@@ -49,15 +50,15 @@ endIn r e = cond (isThere r e) (There (endOf e)) NotThere
 
 -- THE DRAFT. A name that is not there is noted and changes nothing else.
 abbrev pub unknownIn : Draft → Draft
-unknownIn d = record { railway = d .railway; unknown = true; wrong = d .wrong; double = d .double }
+unknownIn d = record { railway = d .railway; weight = d .weight; unknown = true; wrong = d .wrong; double = d .double }
 
 -- The record goes on, the flags stay.
 abbrev pub withRailway : Draft → Railway → Draft
-withRailway d r = record { railway = r; unknown = d .unknown; wrong = d .wrong; double = d .double }
+withRailway d r = record { railway = r; weight = d .weight; unknown = d .unknown; wrong = d .wrong; double = d .double }
 
 -- The H line: its counts where they are within their bounds; else the record stays empty, and row 3 applies to it.
 unfoldable pub opened : ℕ → ℕ → ℕ → Draft
-opened s p k = record { railway = cond (outside s p k) emptyRailway (bareRailway s p k); unknown = false; wrong = false; double = false }
+opened s p k = record { railway = cond (outside s p k) emptyRailway (bareRailway s p k); weight = false; unknown = false; wrong = false; double = false }
 
 -- A P line.
 unfoldable pub putPoint : Draft → ℕ → Side → Draft
@@ -70,7 +71,7 @@ faulty r e f = wrongPair (tied r e) (tied r f) || not (unjoined (joined r e) && 
 -- A join of two ends that a line names.
 abbrev pub putEnds : Draft → KnownEnd → KnownEnd → Draft
 putEnds d (There e) (There f) =
-    record { railway = withJoin (d .railway) e f; unknown = d .unknown; wrong = d .wrong || faulty (d .railway) e f; double = d .double }
+    record { railway = withJoin (d .railway) e f; weight = d .weight; unknown = d .unknown; wrong = d .wrong || faulty (d .railway) e f; double = d .double }
 putEnds d (There e) NotThere = unknownIn d
 putEnds d NotThere k = unknownIn d
 
@@ -80,7 +81,7 @@ putJoin d j = putEnds d (endIn (d .railway) (j .one)) (endIn (d .railway) (j .ot
 
 -- A signal at an end that a line names; one may stand there already.
 abbrev pub putAt : Draft → KnownEnd → Draft
-putAt d (There e) = record { railway = withSignal (d .railway) e; unknown = d .unknown; wrong = d .wrong; double = d .double || hasSignal (d .railway) e }
+putAt d (There e) = record { railway = withSignal (d .railway) e; weight = d .weight; unknown = d .unknown; wrong = d .wrong; double = d .double || hasSignal (d .railway) e }
 putAt d NotThere = unknownIn d
 
 -- A G line.
@@ -91,15 +92,27 @@ putSignal d g = putAt d (endIn (d .railway) (section (g .number) (g .side)))
 unfoldable pub putClosed : Draft → ℕ → Draft
 putClosed d n =
     cond (within n (d .railway .sections))
-    (record { railway = withClosed (d .railway) (n - 1); unknown = d .unknown; wrong = d .wrong; double = d .double || isClosed (d .railway) (n - 1) })
+    (record { railway = withClosed (d .railway) (n - 1); weight = d .weight; unknown = d .unknown; wrong = d .wrong; double = d .double || isClosed (d .railway) (n - 1) })
+    (unknownIn d)
+
+-- A weight that no train may have is noted and changes nothing else.
+abbrev pub weighedIn : Draft → ℕ → Draft
+weighedIn d w = record { railway = d .railway; weight = d .weight || wrongWeight w; unknown = d .unknown; wrong = d .wrong; double = d .double }
+
+-- The train of a T line, its weight cut to a byte: one that a byte cannot have has been noted.
+abbrev pub trainInByte : TrainLine → Train
+trainInByte t = record { heading = t .heading; start = record { 0 = t .start - 1 }; destination = record { 0 = t .destination - 1 }; weight = saidWeight (t .weight) % 256 }
+
+-- A train at its place in a draft, if it and its two sections are there.
+abbrev pub putRoster : Draft → ℕ → TrainLine → Draft
+putRoster d n t =
+    cond (within n (d .railway .trains) && (within (t .start) (d .railway .sections) && within (t .destination) (d .railway .sections)))
+    (withRailway d (withTrain (d .railway) (n - 1) (trainInByte t)))
     (unknownIn d)
 
 -- A T line.
 unfoldable pub putTrain : Draft → ℕ → TrainLine → Draft
-putTrain d n t =
-    cond (within n (d .railway .trains) && (within (t .start) (d .railway .sections) && within (t .destination) (d .railway .sections)))
-    (withRailway d (withTrain (d .railway) (n - 1) (trainOfLine t)))
-    (unknownIn d)
+putTrain d n t = putRoster (weighedIn d (saidWeight (t .weight))) n t
 
 -- A KIND OF LINE: the letter that a line of it begins with; whether the H line says how many there are, and then how many, their numbers rising from 1
 -- (of the other kinds all come that there are); and what a line, read at a place and with a number, makes of a draft.
@@ -176,9 +189,9 @@ draftOf s = then (headerAt s 0) (λ h c. kindsInto s h kinds c (opened (h .secti
 abbrev pub linesGot : Lines → Got Draft
 linesGot l = cond (l .good) (got (l .draft) (l .next .at)) bad
 
--- THE ANSWER: rows 3 to 8 and 13, by the record and the flags.
+-- THE ANSWER: rows 3 to 8, 13 and 16, by the record and the flags.
 abbrev pub draftRows : Draft → List Row
-draftRows d = rowsBy (countRow (d .railway)) (d .unknown) (d .wrong) (looseRow (d .railway)) (chainRow (d .railway)) (d .double) (placeRow (d .railway))
+draftRows d = rowsBy (countRow (d .railway)) (d .weight) (d .unknown) (d .wrong) (looseRow (d .railway)) (chainRow (d .railway)) (d .double) (placeRow (d .railway))
 
 -- Accepted with the record where no row applies, else refused.
 abbrev pub answerOf : Railway → Option Refusal → CaseRead

@@ -1,10 +1,13 @@
-// What a reader keeps of a case text on its way: the record as it is built, line by line, beside three flags for what the record cannot show.
+// What a reader keeps of a case text on its way: the record as it is built, line by line, beside four flags for what the record cannot show.
 // The types are declared here; specs/ has what each line makes of a draft and what a draft is answered with, proofs/ that it is the text's answer.
 ghost use mathlib.Core.Path.{_≡_};
 ghost use mathlib.Core.Bool.{true, false};
-ghost use Rattle.lines.specs.Answers.{endNamed, joinNamed};
-ghost use Rattle.drafts.specs.Drafting.{WithinCount, endIn, unknownIn, putPoint, faulty, putJoin, putSignal, putClosed, putTrain, letter, counted};
+ghost use Rattle.railway.specs.Rows.{wrongWeight};
+ghost use Rattle.casefile.specs.Form.{saidWeight};
+ghost use Rattle.lines.specs.Answers.{endNamed, joinNamed, weightNamed, trainNamed};
+ghost use Rattle.drafts.specs.Drafting.{WithinCount, endIn, unknownIn, putPoint, faulty, putJoin, putSignal, putClosed, weighedIn, putTrain, letter, counted};
 use lines::NamedEnd;
+use lines::NamedWeight;
 use railway::End;
 use railway::PointNo;
 use railway::Railway;
@@ -13,9 +16,10 @@ use railway::Side;
 use railway::Train;
 use text::Cursor;
 
-// The record so far; a name was not there; a join may not be; a signal, or a closed section, was named twice.
+// The record so far; a weight was one that no train may have; a name was not there; a join may not be; a signal, or a closed section, was named twice.
 pub struct Draft {
     pub railway: Railway,
+    pub weight: bool,
     pub unknown: bool,
     pub wrong: bool,
     pub double: bool,
@@ -118,6 +122,7 @@ fn noted(d: Draft) -> Draft
     let r = d.railway;
     Draft {
         railway: r,
+        weight: d.weight,
         unknown: true,
         wrong: d.wrong,
         double: d.double,
@@ -132,6 +137,7 @@ pub fn put_point(d: Draft, n: u64, side: Side) -> Draft
         let i = (n - 1) as u8;
         return Draft {
             railway: r.with_legs(PointNo(i), side),
+            weight: d.weight,
             unknown: d.unknown,
             wrong: d.wrong,
             double: d.double,
@@ -153,6 +159,7 @@ pub fn put_join(d: Draft, one: NamedEnd, other: NamedEnd) -> Draft
     let bad = is_faulty(r, e, f);
     Draft {
         railway: r.with_join(e, f),
+        weight: d.weight,
         unknown: d.unknown,
         wrong: d.wrong | bad,
         double: d.double,
@@ -184,6 +191,7 @@ pub fn put_signal(d: Draft, n: u64, side: Side) -> Draft
     let twice = r.has_signal(e);
     Draft {
         railway: r.with_signal(e),
+        weight: d.weight,
         unknown: d.unknown,
         wrong: d.wrong,
         double: d.double | twice,
@@ -199,6 +207,7 @@ pub fn put_closed(d: Draft, n: u64) -> Draft
         let twice = r.closed_at(x);
         return Draft {
             railway: r.with_closed(x),
+            weight: d.weight,
             unknown: d.unknown,
             wrong: d.wrong,
             double: d.double | twice,
@@ -207,10 +216,55 @@ pub fn put_closed(d: Draft, n: u64) -> Draft
     noted(d)
 }
 
-pub fn put_train(d: Draft, n: u64, heading: Side, start: u64, destination: u64) -> Draft
-    ensures { λ e. ⌜ e ≡ putTrain d n (record { heading = heading; start = start; destination = destination }) ⌝ }
+// The weight that a line says: 1 where it has none.
+fn said(weight: NamedWeight) -> u64
+    ensures { λ w. ⌜ w ≡ saidWeight (weightNamed weight) ⌝ }
+{
+    match weight {
+        NamedWeight::Unsaid => 1,
+        NamedWeight::Said(w) => w,
+    }
+}
+
+// Whether no train may have a weight.
+fn is_wrong(w: u64) -> bool
+    ensures { λ b. ⌜ b ≡ wrongWeight w ⌝ }
+{
+    if w < Railway::LEAST_WEIGHT as u64 {
+        return true;
+    }
+    (Railway::MOST_WEIGHT as u64) < w
+}
+
+// The draft with a weight noted, if it is such a one.
+fn weighed(d: Draft, w: u64) -> Draft
+    ensures { λ e. ⌜ e ≡ weighedIn d w ⌝ }
 {
     let r = d.railway;
+    let bad = is_wrong(w);
+    Draft {
+        railway: r,
+        weight: d.weight | bad,
+        unknown: d.unknown,
+        wrong: d.wrong,
+        double: d.double,
+    }
+}
+
+// A weight that a byte cannot have stands in the record as another; it has been noted.
+pub fn put_train(
+    d: Draft,
+    n: u64,
+    heading: Side,
+    start: u64,
+    destination: u64,
+    weight: NamedWeight,
+) -> Draft
+    ensures { λ e. ⌜ e ≡ putTrain d n (trainNamed heading start destination weight) ⌝ }
+{
+    let w = said(weight);
+    let e = weighed(d, w);
+    let r = e.railway;
     let numbered = within(n, r.trains);
     let starts = within(start, r.sections);
     let ends = within(destination, r.sections);
@@ -218,20 +272,23 @@ pub fn put_train(d: Draft, n: u64, heading: Side, start: u64, destination: u64) 
         let t = (n - 1) as u8;
         let from = (start - 1) as u8;
         let to = (destination - 1) as u8;
+        let byte = (w % 256) as u8;
         let train = Train {
             heading: heading,
             start: SectionNo(from),
             destination: SectionNo(to),
+            weight: byte,
         };
         let next = r.with_train(t, train);
         return Draft {
             railway: next,
-            unknown: d.unknown,
-            wrong: d.wrong,
-            double: d.double,
+            weight: e.weight,
+            unknown: e.unknown,
+            wrong: e.wrong,
+            double: e.double,
         };
     }
-    noted(d)
+    noted(e)
 }
 
 // The end that a line names, counted from 0, if it is there by the record's counts.

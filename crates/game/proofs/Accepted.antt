@@ -15,11 +15,12 @@ use Rattle.railway.specs.declared.Joined.{Joined}
 use Rattle.railway.specs.declared.Joined.the-variants.{Nothing, With}
 use Rattle.railway.specs.declared.Railway.{Railway}
 use Rattle.railway.specs.declared.Refusal.{Refusal}
-use Rattle.railway.specs.Bounds.{mostSections, mostPoints, mostTrains, sectionEnds, allEnds}
+use Rattle.railway.specs.Bounds.{leastWeight, mostWeight, mostSections, mostPoints, mostTrains, sectionEnds, allEnds}
 use Rattle.railway.specs.Ends.{endIndex, endAt}
 use Rattle.railway.specs.Refusals.{first, refuseIf}
-use Rattle.railway.specs.Record.{linkAt, joined, trainOf}
-use Rattle.railway.specs.Rows.{countRow, known, unknownLink, unknownLinkAt, unknownSignalAt, unknownClosedAt, unknownTrainAt, unknownRow, recordRefusal}
+use Rattle.railway.specs.Record.{linkAt, joined, trainOf, weightOf}
+use Rattle.railway.specs.Rows.{countRow, wrongWeightAt, weightRow, known, unknownLink, unknownLinkAt, unknownSignalAt, unknownClosedAt, unknownTrainAt, unknownRow, recordRefusal}
+use Rattle.railway.proofs.Accepted.{right-weight}
 -- (Plays is named so that it is checked before: a wrong definition then shows at a computed value.)
 use Rattle.game.proofs.Plays as Plays
 
@@ -37,6 +38,7 @@ pub record Facts (r : Railway) : Type 0 where
   pub joins : (e : End) → Known r (joined r e)
   pub starts : (t : ℕ) → t < r .trains → trainOf r t .start .0 < r .sections
   pub destinations : (t : ℕ) → t < r .trains → trainOf r t .destination .0 < r .sections
+  pub weights : (t : ℕ) → t < r .trains → (leastWeight ≤ weightOf r t) × (weightOf r t ≤ mostWeight)
 
 -- where nothing is refused the first row does not apply, and the others refuse nothing either
 off : (b : Bool) (f : Refusal) (rest : Option Refusal) → refuseIf b f rest ≡ none → (b ≡ false) × (rest ≡ none)
@@ -75,10 +77,11 @@ module _ (r : Railway) where
       (ltb-true _ _ (both .0), ltb-true _ _ (both .1))
 
   pub facts : recordRefusal r ≡ none → Facts r
-  unfolding recordRefusal first unknownRow
+  unfolding recordRefusal first weightRow unknownRow
   facts a =
       let count = off (countRow r) _ _ a in
-      let unknown = off (unknownRow r) _ _ (count .1) in
+      let weight = off (weightRow r) _ _ (count .1) in
+      let unknown = off (unknownRow r) _ _ (weight .1) in
       let c = five (ltb (r .sections) 1) (ltb mostSections (r .sections)) (ltb mostPoints (r .points)) (ltb (r .trains) 1) (ltb mostTrains (r .trains)) (count .0) in
       let u = four (anyBelow (unknownLinkAt r) allEnds) (anyBelow (unknownSignalAt r) sectionEnds) (anyBelow (unknownClosedAt r) mostSections) (anyBelow (unknownTrainAt r) (r .trains)) (unknown .0) in
       record {
@@ -90,4 +93,5 @@ module _ (r : Railway) where
         joins = joins-known (u .0);
         starts = λ t l. train-known (u .3) t l .0;
         destinations = λ t l. train-known (u .3) t l .1;
+        weights = λ t l. right-weight (weightOf r t) (any-false (wrongWeightAt r) (r .trains) (weight .0) t l);
       }

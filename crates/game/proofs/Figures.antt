@@ -1,17 +1,17 @@
 -- The other way round: a table that has every figure, and settings that keep them, agree with every single turn. And a placement has one figure only.
 -- A setting that keeps n, played first and the table's settings after it, forces home within n, so the figure is n at most. Assumes nothing.
 use mathlib.Core.Path.{_≡_, refl, _∙_}
-use mathlib.Core.Logic.{inl, inr}
+use mathlib.Core.Logic.{_⊎_, inl, inr}
 use mathlib.Core.Bool.{true, false}
 use mathlib.Core.List.{List, [], _∷_}
 use mathlib.Core.Option.{Option, none, some}
-use Prim.Native.Nat.{ℕ, zero, suc, _≤_, _<_}
+use Prim.Native.Nat.{ℕ, zero, suc, _+_, _≤_, _<_}
 use native.Mathlib.Omega.{arith}
-use Rattle.laws.proofs.Bools.{option?, clash}
-use Rattle.game.specs.Game.{Game, Turn, Way, Choice, standing, home, over, grown, play, HomeWithin, Forced, IsFigure}
+use Rattle.laws.proofs.Bools.{bool?, option?, clash}
+use Rattle.game.specs.Game.{Outcome, lost, at, Game, Turn, Way, Choice, Position, lostByMove, standing, mover, home, over, grown, standAfter, turn, step, play, cost, spent, spentAt, homeAt, HomeWithin, Forced, IsFigure}
 use Rattle.game.specs.Claim.{Keeps}
-use Rattle.game.specs.Local.{Inside, Solved}
-use Rattle.game.proofs.Turns.{lost-not-home, keeps-map}
+use Rattle.game.specs.Local.{Costs, Inside, Solved}
+use Rattle.game.proofs.Turns.{lost-not-home, may-train, mover-cases, spent-grown, keeps-map}
 use Rattle.game.proofs.Homing.{comes-home}
 
 -- a placement has one figure
@@ -41,7 +41,7 @@ module _ {S : Type 0} (g : Game S) where
   ended w c p o zero = refl
   ended w c p o (suc m) = let e : play g w c p m ≡ standing [] p = ended w c p o m in rw (e, o)
 
-  -- from where the trains are lost home is not forced; and within 0 turns only at home
+  -- from where the trains are lost home is not forced; and within a total of 0 only at home
   pub lost-unforced : (p n : ℕ) → g .isLost p ≡ true → Forced g p n → ⊥
   lost-unforced p n l x =
       let a : HomeWithin g (x .0) (λ h p s. 0) p n = x .1 (λ h p s. 0) in
@@ -49,15 +49,47 @@ module _ {S : Type 0} (g : Game S) where
       let e : play g (x .0) (λ h p s. 0) p (a .0) ≡ standing [] p = ended (x .0) (λ h p s. 0) p (o .1) (a .0) in
       clash (a .2) (rw e (o .0))
 
-  pub forced-zero : (p : ℕ) → Forced g p 0 → home g p ≡ true
-  unfolding play
-  forced-zero p x = let a : HomeWithin g (x .0) (λ h p s. 0) p 0 = x .1 (λ h p s. 0) in let z : a .0 ≡ 0 = omega arith in rw z at (a .2)
+  -- a play in which nothing has been spent stands where it started
+  abbrev Begun : ℕ → Position S → Type 0
+  Begun p lostByMove = Unit {0}
+  Begun p (standing h q) = (q ≡ p) ⊎ (1 ≤ spent g h)
+
+  module _ (costs : Costs g) (w : Way S) (c : Choice S) (p : ℕ) where
+    begun-after : (h : List (Turn S)) (q : ℕ) (s : S) (m : Option ℕ) (o : Outcome) → 1 ≤ cost g m → Begun p (standAfter g (grown g h q s m) o)
+    begun-after h q s m (lost x) l = tt
+    begun-after h q s m (at y) l = inr (omega (arith, spent-grown g h q s m))
+
+    begun-turn : (h : List (Turn S)) (q : ℕ) (s : S) (t : ℕ) → Begun p (turn g h q s (mover g q s t))
+    begun-turn h q s t = elim (mover-cases g q s t) [
+      | inl u ↦ rw (u .1) (begun-after h q s (some (u .0)) (g .next q s (u .0)) (costs (u .0) (may-train g q s (u .0) (u .2))))
+      | inr u ↦ rw (u .0) (inr (omega (arith, spent-grown g h q s none)))
+    ]
+
+    begun-step : (x : Position S) → Begun p x → Begun p (step g w c x)
+    begun-step lostByMove b = tt
+    begun-step (standing h q) b = elim (bool? (over g q)) [
+      | inl e ↦ rw e b
+      | inr e ↦ rw e (begun-turn h q (w h q) (c h q (w h q)))
+    ]
+
+    begun : (m : ℕ) → Begun p (play g w c p m)
+    unfolding play
+    begun zero = inl refl
+    begun (suc m) = begun-step (play g w c p m) (begun m)
+
+    unspent : (x : Position S) → Begun p x → spentAt g x ≤ 0 → homeAt g x ≡ true → home g p ≡ true
+    unspent lostByMove b l e = clash e refl
+    unspent (standing h q) (inl z) l e = rw z at e
+    unspent (standing h q) (inr b) l e = absurd (omega arith)
+
+  pub forced-zero : Costs g → (p : ℕ) → Forced g p 0 → home g p ≡ true
+  forced-zero costs p x = let a : HomeWithin g (x .0) (λ h p s. 0) p 0 = x .1 (λ h p s. 0) in unspent costs (x .0) (λ h p s. 0) p (play g (x .0) (λ h p s. 0) p (a .0)) (begun costs (x .0) (λ h p s. 0) p (a .0)) (a .1) (a .2)
 
   pub home-forced : S → (p : ℕ) → home g p ≡ true → Forced g p 0
-  unfolding play
+  unfolding play spent
   home-forced s p e = ((λ h q. s), λ c. (0, omega arith, e))
 
-module _ {S : Type 0} (g : Game S) (F : ℕ → Option ℕ) (f : ℕ → S) (inside : Inside g)
+module _ {S : Type 0} (g : Game S) (F : ℕ → Option ℕ) (f : ℕ → S) (costs : Costs g) (inside : Inside g)
     (figures : (p : ℕ) → p < g .placements → IsFigure g p (F p))
     (keeping : (p n : ℕ) → p < g .placements → F p ≡ some (suc n) → Keeps g F p (f p) (suc n)) where
   has : (p : ℕ) (o : Option ℕ) → p < g .placements → F p ≡ o → IsFigure g p o
@@ -77,7 +109,7 @@ module _ {S : Type 0} (g : Game S) (F : ℕ → Option ℕ) (f : ℕ → S) (ins
       rw z at (l .1)
 
   kept : (p n : ℕ) → p < g .placements → F p ≡ some n → home g p ≡ false → Keeps g F p (f p) n
-  kept p zero hp e h = clash (forced-zero g p (has p (some 0) hp e .0)) h
+  kept p zero hp e h = clash (forced-zero g costs p (has p (some 0) hp e .0)) h
   kept p (suc n) hp e h = keeping p n hp e
 
   pub figures-solved : Solved g F f
@@ -86,5 +118,5 @@ module _ {S : Type 0} (g : Game S) (F : ℕ → Option ℕ) (f : ℕ → S) (ins
         lost-none = lost-none;
         home-zero = home-zero;
         kept = kept;
-        least = λ p s n hp going k. least p n hp (firstly s f, comes-home g F f inside lost-none kept (firstly s f) (firstly-later g s f) p n hp going k);
+        least = λ p s n hp going k. least p n hp (firstly s f, comes-home g F f costs inside lost-none kept (firstly s f) (firstly-later g s f) p n hp going k);
       }

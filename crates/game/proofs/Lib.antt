@@ -3,6 +3,7 @@ pub mod Turns
 pub mod Homing
 pub mod Whole
 pub mod Figures
+pub mod ByTurns
 pub mod Settle
 pub mod Codes
 pub mod Accepted

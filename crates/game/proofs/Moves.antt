@@ -4,7 +4,7 @@ use mathlib.Core.Path.{_≡_, refl, _∙_, ap}
 use mathlib.Core.Bool.{Bool, true, false, cond}
 use mathlib.Core.List.{List}
 use mathlib.Core.Option.{Option, none, some}
-use Prim.Native.Nat.{ℕ, zero, suc, _^_, _<_}
+use Prim.Native.Nat.{ℕ, zero, suc, _^_, _≤_, _<_}
 use native.Mathlib.Omega.{arith}
 use lib.ListN.{length, set, length-set}
 use borrow.Author.Tests.{ltb-true}
@@ -18,10 +18,10 @@ use Rattle.railway.specs.declared.End.the-variants.{Section, Port}
 use Rattle.railway.specs.declared.Joined.{Joined}
 use Rattle.railway.specs.declared.Joined.the-variants.{Nothing, With}
 use Rattle.railway.specs.declared.Railway.{Railway}
-use Rattle.railway.specs.Record.{joined, isClosed, trainOf}
+use Rattle.railway.specs.Record.{joined, isClosed, trainOf, weightOf}
 use Rattle.railway.specs.Passing.{Passage, through, mostMet, nowhere, pastPoint, pastJoin, follow, passes, inUse, entered}
 use Rattle.game.specs.Game.{lost, at, collision}
-use Rattle.game.specs.Local.{Inside}
+use Rattle.game.specs.Local.{Costs, Inside}
 use Rattle.game.specs.Placement.{sectionsIn, sectionsOf, standsOn, placements, startCode}
 use Rattle.game.specs.Setting.{Setting, headsFor}
 use Rattle.game.specs.Moves.{occupied, codeWith, enters, moveOf, gameOf, ClosedLose}
@@ -104,6 +104,13 @@ module _ (r : Railway) (ok : Facts r) where
 
   pub inside : Inside (gameOf r)
   inside p s t q hp m e = move-inside p s t q e
+
+  -- every move costs something, and 255 at most
+  pub costs : Costs (gameOf r)
+  costs t l = ok .weights t l .0
+
+  pub most : (t : ℕ) → t < r .trains → weightOf r t ≤ suc 254
+  most t l = ok .weights t l .1
 
   -- THE START is a placement, and each train stands on its start there
   abbrev starts : List ℕ

@@ -1,5 +1,5 @@
 -- Moves and plays by computation: one line for each clause of document 01, "A turn", and of document 02, Q-2 (parked trains), Q-5 (closed
--- sections) and Q-6 (points joined to points), and what a way and a choice are handed. No theorem rests on these; they show what the definitions
+-- sections), Q-6 (points joined to points) and Q-12 (weights), and what a way and a choice are handed. No theorem rests on these; they show what the definitions
 -- say, where the theorem on whole plays would not notice a slip. Assumes nothing. In Yard A (three sections) placement (a, b) has code
 -- (a - 1) + 3 (b - 1): (2, 1) is 1, (3, 1) is 2, (1, 2) is 3, (3, 2) is 5, (1, 3) is 6, (2, 3) is 7. In the crossover (four sections) it has code
 -- (a - 1) + 4 (b - 1): (2, 1) is 1, (4, 1) is 3, the start (1, 2) is 4, (4, 2) is 7, (2, 3) is 9, (2, 4) is 13.
@@ -8,6 +8,7 @@ use mathlib.Core.Bool.{Bool, true, false, cond, not, _&&_}
 use mathlib.Core.List.{List, [], _∷_}
 use mathlib.Core.Option.{Option, none, some}
 use Prim.Native.Nat.{ℕ}
+use native.Mathlib.Omega.{arith}
 use lib.Dec.{eqb}
 use Rattle.laws.specs.Below.{allBelow, anyBelow, sumBelow, listBelow, lowest}
 use Rattle.railway.specs.declared.Side.the-variants.{Up, Down}
@@ -15,14 +16,15 @@ use Rattle.railway.specs.declared.Leg.the-variants.{Stem, Plus, Minus}
 use Rattle.railway.specs.declared.Railway.{Railway}
 use Rattle.railway.specs.Ends.{endAt}
 use Rattle.railway.specs.Refusals.{first}
-use Rattle.railway.specs.Record.{isClosed, withClosed, joinedBy, joined, hasSignal, legsOf, trainOf, withJoin, withSignal, withLegs, withTrain}
+use Rattle.railway.specs.Record.{isClosed, withClosed, joinedBy, joined, hasSignal, legsOf, trainOf, weightOf, withJoin, withSignal, withLegs, withTrain}
 use Rattle.railway.specs.Passing.{follow, passes, entered}
-use Rattle.railway.specs.Rows.{unknownRow, joinRow, looseRow, longer, chainRow, placeRow, recordRefusal}
-use Rattle.game.specs.Game.{derailment, collision, lost, at, Turn, Way, Choice, lostByMove, standing, play}
+use Rattle.railway.specs.Rows.{weightRow, unknownRow, joinRow, looseRow, longer, chainRow, placeRow, recordRefusal}
+use Rattle.game.specs.Game.{derailment, collision, lost, at, Turn, Way, Choice, lostByMove, standing, play, spent, spentAt}
+use Rattle.game.specs.Claim.{Within}
 use Rattle.game.specs.Placement.{codeOf, sectionsIn, standsOn, sectionsOf, startCode, atHome, shared}
 use Rattle.game.specs.Setting.{Setting, headsFor, held, free, signalOpen, mayMove}
 use Rattle.game.specs.Moves.{occupied, moveOf, gameOf}
-use Rattle.railway.specs.Yards.{yardH, lineP, lineJ, lineG, lineX, lineT, sec, port, yardA, yardALess}
+use Rattle.railway.specs.Yards.{yardH, lineP, lineJ, lineG, lineX, lineT, lineTW, sec, port, yardA, yardALess}
 use Rattle.railway.proofs.Passes.{crossover, lies}
 
 -- THE YARDS. A loop: up from 1 a train gets back to 1 over the plus leg, and to 2 over the minus leg.
@@ -73,8 +75,12 @@ shutLoop =
 yards : (recordRefusal yardA ≡ none) × (recordRefusal yardALess ≡ none) × (recordRefusal loop ≡ none) × (recordRefusal lines ≡ none) × (recordRefusal inTheWay ≡ none)
     × (recordRefusal shutLine ≡ none) × (recordRefusal shutLoop ≡ none)
     × (startCode yardA ≡ 7) × (startCode lines ≡ 513) × (startCode crossover ≡ 4) × (sectionsOf lines 524 ≡ 2 ∷ 4 ∷ 6 ∷ []) × (sectionsOf inTheWay 7 ≡ 1 ∷ 2 ∷ [])
-unfolding recordRefusal first unknownRow joinRow looseRow chainRow longer placeRow anyBelow joinedBy joined legsOf trainOf endAt withJoin withSignal withLegs withTrain startCode codeOf sumBelow listBelow sectionsIn withClosed isClosed
+unfolding recordRefusal first weightRow weightOf unknownRow joinRow looseRow chainRow longer placeRow anyBelow joinedBy joined legsOf trainOf endAt withJoin withSignal withLegs withTrain startCode codeOf sumBelow listBelow sectionsIn withClosed isClosed
 yards = (refl, refl, refl, refl, refl, refl, refl, refl, refl, refl, refl, refl)
+
+-- Yard A with weights: 5 for train 1, 2 for train 2.
+abbrev weighed : Railway
+weighed = lineTW 2 Down 3 1 2 (lineTW 1 Up 2 3 5 yardA)
 
 -- THE SETTINGS. All points at plus and all signals closed; all at minus and closed; all at minus and open.
 abbrev plus : Setting
@@ -193,3 +199,18 @@ plays :  -- home in two turns, a setting for each anew; there the play has ended
     × (play (gameOf crossover) (always (laid false false)) (names 0) 4 2 ≡ lostByMove)
 unfolding play lowest moveOf passes follow occupied mayMove free held signalOpen headsFor standsOn sectionsIn codeOf sumBelow trainOf endAt joinedBy joined hasSignal allBelow anyBelow atHome shared withJoin withSignal withLegs withTrain entered isClosed
 plays = (refl, refl, refl, refl, refl, refl, refl, refl, refl, refl, refl, refl, refl, refl, refl, refl, refl, refl)
+
+-- WHAT PLAYS COST, in the yard with weights: the weight of the train that moved, though another was named; nothing more once home is reached;
+totals : (spentAt (gameOf weighed) (play (gameOf weighed) by-placement (names 0) 7 2) ≡ 7)
+    × (spentAt (gameOf weighed) (play (gameOf weighed) by-placement (names 0) 7 4) ≡ 7)
+    -- an idle turn 1, behind a move and by itself
+    × (spentAt (gameOf weighed) (play (gameOf weighed) (always plus) (names 1) 7 2) ≡ 3)
+    × (spentAt (gameOf weighed) (play (gameOf weighed) (always shut) (names 1) 1 3) ≡ 3)
+    -- where no weight is said, the number of turns
+    × (spentAt (gameOf yardA) (play (gameOf yardA) by-placement (names 0) 7 2) ≡ 2)
+unfolding spent weightOf play lowest moveOf passes follow occupied mayMove free held signalOpen headsFor standsOn sectionsIn codeOf sumBelow trainOf endAt joinedBy joined hasSignal allBelow anyBelow atHome shared withJoin withSignal withLegs withTrain entered isClosed
+totals = (refl, refl, refl, refl, refl)
+
+-- SMALLER BY THE WEIGHT: with a weight of 2 figure 0 is within 2, and figure 1 is not.
+by-two : Within 2 2 (some 0) × (Within 2 2 (some 1) → ⊥)
+by-two = (omega arith, λ l. omega arith)

@@ -1,20 +1,21 @@
--- Tables made round by round agree with every single turn, and no more rounds are needed than there are placements. Round n gives figure n
--- where some setting moves only below n. A figure was given in its own round and stays, so a setting that keeps figure j by the whole table
--- keeps it by the table of round j - 1; each round adds a placement or is the last. Assumes nothing.
+-- Tables made round by round agree with every single turn, and no more rounds are needed than the largest weight for each placement. Round n
+-- gives figure n where some setting keeps n. A figure was given in its own round and stays, so a setting that keeps figure j by the whole table
+-- keeps it by the table of round j - 1; as many rounds as the largest weight add a placement, or no later one does. Assumes nothing.
 use mathlib.Core.Path.{_≡_, refl, sym, _∙_, subst}
 use mathlib.Core.Logic.{_⊎_, inl, inr}
 use mathlib.Core.Bool.{Bool, true, false, cond, not, _&&_}
 use mathlib.Core.Option.{Option, none, some}
-use Prim.Native.Nat.{ℕ, zero, suc, _+_, _≤_, _<_}
+use Prim.Native.Nat.{ℕ, zero, suc, _+_, _*_, _≤_, _<_}
 use native.Mathlib.Omega.{arith}
 use native.Mathlib.Decide.{le-ind}
+use native.Mathlib.Nat.{mul-suc, mul-le-mul-left}
 use Rattle.laws.specs.Below.{countBelow, lowest, orElse}
 use Rattle.laws.proofs.Bools.{bool?, option?, lt?, clash, some-none}
 use Rattle.laws.proofs.Below.{lowest-cases, count-le, count-more}
 use Rattle.game.specs.Game.{Game, home, over}
 use Rattle.game.specs.Claim.{Keeps}
-use Rattle.game.specs.Local.{Solved}
-use Rattle.game.proofs.Turns.{no-keeps-zero, keeps-map}
+use Rattle.game.specs.Local.{Costs, Solved}
+use Rattle.game.proofs.Turns.{may-train, no-keeps-zero, keeps-map}
 
 abbrev pub isSome : Option ℕ → Bool
 isSome none = false
@@ -34,7 +35,11 @@ pub record Searches {S : Type 0} (g : Game S) (meant : ℕ → ℕ → S) (find 
   pub sound : (F : ℕ → Option ℕ) (p n v : ℕ) → p < g .placements → find F p n ≡ some v → Keeps g F p (meant p v) n
   pub complete : (F : ℕ → Option ℕ) (p n : ℕ) (s : S) → p < g .placements → Keeps g F p s n → (v : ℕ) × (find F p n ≡ some v)
 
-module _ {S : Type 0} (g : Game S) (find : (ℕ → Option ℕ) → ℕ → ℕ → Option ℕ) where
+-- No weight is larger than suc gap: after so many rounds that add nothing, no round adds anything.
+abbrev pub AtMostWeight : {S : Type 0} → Game S → ℕ → Type 0
+AtMostWeight g gap = (t : ℕ) → t < g .trains → g .weight t ≤ suc gap
+
+module _ {S : Type 0} (g : Game S) (gap : ℕ) (find : (ℕ → Option ℕ) → ℕ → ℕ → Option ℕ) where
   -- One round: who has a figure keeps it, and n goes to whoever has none yet and a setting that keeps n.
   abbrev pub round : ℕ → (ℕ → Option ℕ) → ℕ → Option ℕ
   round n F p = orElse (F p) (cond (over g p) none (given n (find F p n)))
@@ -44,14 +49,14 @@ module _ {S : Type 0} (g : Game S) (find : (ℕ → Option ℕ) → ℕ → ℕ 
   table zero p = cond (home g p) (some 0) none
   table (suc n) p = round (suc n) (table n) p
 
-  -- The lowest placement, if any, that round n + 1 adds.
+  -- The lowest placement, if any, that one of the next gap + 1 rounds adds.
   abbrev pub added : ℕ → Option ℕ
-  added n = lowest (λ p. not (isSome (table n p)) && isSome (table (suc n) p)) (g .placements)
+  added n = lowest (λ p. not (isSome (table n p)) && isSome (table (suc (n + gap)) p)) (g .placements)
 
-  -- Go on from round n, for d rounds at most, until one adds nothing.
+  -- Go on from round n, gap + 1 rounds at a time and d times at most, until they add nothing.
   unfoldable pub settle : ℕ → ℕ → ℕ
   settle zero n = n
-  settle (suc d) n = cond (isSome (added n)) (settle d (suc n)) n
+  settle (suc d) n = cond (isSome (added n)) (settle d (suc (n + gap))) n
 
   abbrev pub rounds : ℕ
   rounds = settle (g .placements) 0
@@ -69,9 +74,9 @@ module _ {S : Type 0} (g : Game S) (find : (ℕ → Option ℕ) → ℕ → ℕ 
 same-some : {o : Option ℕ} {m n : ℕ} → o ≡ some m → o ≡ some n → m ≡ n
 same-some p q = cc
 
-module _ {S : Type 0} (g : Game S) (meant : ℕ → ℕ → S) (find : (ℕ → Option ℕ) → ℕ → ℕ → Option ℕ) (right : Searches g meant find) where
+module _ {S : Type 0} (g : Game S) (costs : Costs g) (gap : ℕ) (most : AtMostWeight g gap) (meant : ℕ → ℕ → S) (find : (ℕ → Option ℕ) → ℕ → ℕ → Option ℕ) (right : Searches g meant find) where
   abbrev pub tab : ℕ → ℕ → Option ℕ
-  tab = table g find
+  tab = table g gap find
 
   -- a figure stays
   pub stays : (n p j : ℕ) → tab n p ≡ some j → tab (suc n) p ≡ some j
@@ -115,7 +120,7 @@ module _ {S : Type 0} (g : Game S) (meant : ℕ → ℕ → S) (find : (ℕ → 
     | inr f ↦ let z : f .0 ≡ j = same-some (stays n p (f .0) (f .1)) e in back n p j (rw z at (f .1))
   ]
 
-  -- where a setting keeps all below the next round's number, that round leaves a figure
+  -- where a setting keeps the next round's number, that round leaves a figure
   hit : (n p : ℕ) (s : S) → p < g .placements → over g p ≡ false → Keeps g (tab n) p s (suc n) → (j : ℕ) × (tab (suc n) p ≡ some j)
   unfolding table
   hit n p s hp o k = elim (option? (tab n p)) [
@@ -131,7 +136,7 @@ module _ {S : Type 0} (g : Game S) (meant : ℕ → ℕ → S) (find : (ℕ → 
   ]
 
   abbrev pub Stable : ℕ → Type 0
-  Stable n = (p : ℕ) → p < g .placements → tab (suc n) p ≡ tab n p
+  Stable n = (p : ℕ) → p < g .placements → tab (suc (n + gap)) p ≡ tab n p
 
   lost-none : (n p : ℕ) → g .isLost p ≡ true → tab n p ≡ none
   unfolding table
@@ -150,29 +155,30 @@ module _ {S : Type 0} (g : Game S) (meant : ℕ → ℕ → S) (find : (ℕ → 
       let f : (s : S) × Keeps g (tab i) p s (suc i) = found i p hp (back n p (suc i) e) in
       (f .0, keeps-map g (tab i) (tab n) p (f .0) (suc i) (suc i) (λ t q j m e eq lj. (later i n q j (omega arith) eq, lj)) (f .1))
 
-  setting-keeps : (n p j : ℕ) → p < g .placements → tab n p ≡ some j → home g p ≡ false → Keeps g (tab n) p (meant p (settingFor g find (tab n) p (tab n p))) j
+  setting-keeps : (n p j : ℕ) → p < g .placements → tab n p ≡ some j → home g p ≡ false → Keeps g (tab n) p (meant p (settingFor g gap find (tab n) p (tab n p))) j
   setting-keeps n p j hp e h =
       let k : (s : S) × Keeps g (tab n) p s j = kept n p j hp e h in
       let r : (r : ℕ) × (find (tab n) p j ≡ some r) = right .complete (tab n) p j (k .0) hp (k .1) in
       rw (e, r .1) (right .sound (tab n) p j (r .0) hp (r .1))
 
   least : (n : ℕ) → Stable n → (p : ℕ) (s : S) (m : ℕ) → p < g .placements → over g p ≡ false → Keeps g (tab n) p s m → (j : ℕ) × (tab n p ≡ some j) × (j ≤ m)
-  least n st p s zero hp o k = absurd (no-keeps-zero g (tab n) p s k)
+  least n st p s zero hp o k = absurd (no-keeps-zero g (tab n) costs p s k)
   least n st p s (suc i) hp o k = elim (lt? i n) [
     | inl l ↦
-        let k′ : Keeps g (tab i) p s (suc i) = keeps-map g (tab n) (tab i) p s (suc i) (suc i) (λ t q j m x e lj. (later j i q j (omega arith) (back n q j e), lj)) k in
+        let k′ : Keeps g (tab i) p s (suc i) = keeps-map g (tab n) (tab i) p s (suc i) (suc i) (λ t q j m x e lj. (later j i q j (let c : 1 ≤ g .weight t = costs t (may-train g p s t m) in omega arith) (back n q j e), lj)) k in
         let r : (j : ℕ) × (tab (suc i) p ≡ some j) = hit i p s hp o k′ in
         (r .0, later (suc i) n p (r .0) l (r .1), range (suc i) p (r .0) (r .1))
     | inr l ↦
-        let k′ : Keeps g (tab n) p s (suc n) = keeps-map g (tab n) (tab n) p s (suc i) (suc n) (λ t q j m x e lj. (e, (let b : j ≤ n = range n q j e in omega arith))) k in
-        let r : (j : ℕ) × (tab (suc n) p ≡ some j) = hit n p s hp o k′ in
+        let k′ : Keeps g (tab (n + gap)) p s (suc (n + gap)) = keeps-map g (tab n) (tab (n + gap)) p s (suc i) (suc (n + gap))
+        (λ t q j m x e lj. (later n (n + gap) q j (omega arith) e, (let b : j ≤ n = range n q j e in let c : g .weight t ≤ suc gap = most t (may-train g p s t m) in omega arith))) k in
+        let r : (j : ℕ) × (tab (suc (n + gap)) p ≡ some j) = hit (n + gap) p s hp o k′ in
         let e : tab n p ≡ some (r .0) = sym (st p hp) ∙ r .1 in
         let b : r .0 ≤ n = range n p (r .0) e in
         (r .0, e, omega arith)
   ]
 
   -- a table that a further round leaves alone agrees with every single turn
-  pub solved : (n : ℕ) → Stable n → Solved g (tab n) (λ p. meant p (settingFor g find (tab n) p (tab n p)))
+  pub solved : (n : ℕ) → Stable n → Solved g (tab n) (λ p. meant p (settingFor g gap find (tab n) p (tab n p)))
   solved n st = record {
     lost-none = λ p hp. lost-none n p;
     home-zero = λ p hp. home-zero n p;
@@ -198,36 +204,42 @@ old? none none e f = refl
 old? none (some j) e f = clash refl e
 old? (some i) b e f = f i refl
 
-module _ {S : Type 0} (g : Game S) (meant : ℕ → ℕ → S) (find : (ℕ → Option ℕ) → ℕ → ℕ → Option ℕ) (right : Searches g meant find) where
-  still : (n p : ℕ) → isSome (table g find n p) ≡ true → isSome (table g find (suc n) p) ≡ true
-  still n p e = let j : (j : ℕ) × (table g find n p ≡ some j) = some-is (table g find n p) e in let z : table g find (suc n) p ≡ some (j .0) = stays g meant find right n p (j .0) (j .1) in rw z
+module _ {S : Type 0} (g : Game S) (costs : Costs g) (gap : ℕ) (most : AtMostWeight g gap) (meant : ℕ → ℕ → S) (find : (ℕ → Option ℕ) → ℕ → ℕ → Option ℕ) (right : Searches g meant find) where
+  still : (n p : ℕ) → isSome (table g gap find n p) ≡ true → isSome (table g gap find (suc (n + gap)) p) ≡ true
+  still n p e = let j : (j : ℕ) × (table g gap find n p ≡ some j) = some-is (table g gap find n p) e in let z : table g gap find (suc (n + gap)) p ≡ some (j .0) = later g costs gap most meant find right n (suc (n + gap)) p (j .0) (omega arith) (j .1) in rw z
 
-  -- a round adds one, or the table is stable
+  -- gap + 1 rounds add one, or the table is stable
   added-cases : (n : ℕ)
-      → ((isSome (added g find n) ≡ true) × (count (table g find n) (g .placements) < count (table g find (suc n)) (g .placements)))
-      ⊎ ((isSome (added g find n) ≡ false) × Stable g meant find right n)
-  added-cases n = elim (lowest-cases (λ p. not (isSome (table g find n p)) && isSome (table g find (suc n) p)) (g .placements)) [
+      → ((isSome (added g gap find n) ≡ true) × (count (table g gap find n) (g .placements) < count (table g gap find (suc (n + gap))) (g .placements)))
+      ⊎ ((isSome (added g gap find n) ≡ false) × Stable g costs gap most meant find right n)
+  added-cases n = elim (lowest-cases (λ p. not (isSome (table g gap find n p)) && isSome (table g gap find (suc (n + gap)) p)) (g .placements)) [
     | inl r ↦
-        let x : (table g find n (r .0) ≡ none) × ((j : ℕ) × (table g find (suc n) (r .0) ≡ some j)) = new? (table g find n (r .0)) (table g find (suc n) (r .0)) (r .3) in
-        inl (rw (r .1), count-more (λ p. isSome (table g find n p)) (λ p. isSome (table g find (suc n) p)) (still n) (g .placements) (r .0) (r .2) (rw (x .0)) (rw (x .1 .1)))
-    | inr r ↦ inr (rw (r .0), λ p hp. old? (table g find n p) (table g find (suc n) p) (r .1 p hp) (λ j. stays g meant find right n p j))
+        let x : (table g gap find n (r .0) ≡ none) × ((j : ℕ) × (table g gap find (suc (n + gap)) (r .0) ≡ some j)) = new? (table g gap find n (r .0)) (table g gap find (suc (n + gap)) (r .0)) (r .3) in
+        inl (rw (r .1), count-more (λ p. isSome (table g gap find n p)) (λ p. isSome (table g gap find (suc (n + gap)) p)) (still n) (g .placements) (r .0) (r .2) (rw (x .0)) (rw (x .1 .1)))
+    | inr r ↦ inr (rw (r .0), λ p hp. old? (table g gap find n p) (table g gap find (suc (n + gap)) p) (r .1 p hp) (λ j. later g costs gap most meant find right n (suc (n + gap)) p j (omega arith)))
   ]
 
-  settles : (d n : ℕ) → n ≤ count (table g find n) (g .placements) → g .placements ≤ d + n
-      → Stable g meant find right (settle g find d n) × (settle g find d n ≤ g .placements)
+  settles : (d n i : ℕ) → i ≤ count (table g gap find n) (g .placements) → g .placements ≤ d + i → n ≤ suc gap * i
+      → Stable g costs gap most meant find right (settle g gap find d n) × (settle g gap find d n ≤ suc gap * g .placements)
   unfolding settle
-  settles zero n c l = elim (added-cases n) [
-    | inl a ↦ absurd (omega (arith, count-le (λ p. isSome (table g find (suc n) p)) (g .placements), a .1))
-    | inr a ↦ (a .1, omega (arith, count-le (λ p. isSome (table g find n p)) (g .placements)))
+  settles zero n i c l b = elim (added-cases n) [
+    | inl a ↦ absurd (omega (arith, count-le (λ p. isSome (table g gap find (suc (n + gap)) p)) (g .placements), a .1))
+    | inr a ↦ (a .1, omega (arith, small n i c b))
   ]
-  settles (suc d) n c l = elim (added-cases n) [
-    | inl a ↦ rw (a .0) (settles d (suc n) (omega (arith, a .1)) (omega arith))
-    | inr a ↦ rw (a .0) (a .1, omega (arith, count-le (λ p. isSome (table g find n p)) (g .placements)))
+    where
+      small : (n i : ℕ) → i ≤ count (table g gap find n) (g .placements) → n ≤ suc gap * i → n ≤ suc gap * g .placements
+      small n i c b = let m : suc gap * i ≤ suc gap * g .placements = mul-le-mul-left (suc gap) (omega (arith, count-le (λ p. isSome (table g gap find n p)) (g .placements))) in omega arith
+  settles (suc d) n i c l b = elim (added-cases n) [
+    | inl a ↦ rw (a .0) (settles d (suc (n + gap)) (suc i) (omega (arith, a .1)) (omega arith) (let e : suc gap * suc i ≡ suc gap * i + suc gap = mul-suc (suc gap) i in omega arith))
+    | inr a ↦ rw (a .0) (a .1, small n i c b)
   ]
+    where
+      small : (n i : ℕ) → i ≤ count (table g gap find n) (g .placements) → n ≤ suc gap * i → n ≤ suc gap * g .placements
+      small n i c b = let m : suc gap * i ≤ suc gap * g .placements = mul-le-mul-left (suc gap) (omega (arith, count-le (λ p. isSome (table g gap find n p)) (g .placements))) in omega arith
 
-  pub settled : Stable g meant find right (rounds g find) × (rounds g find ≤ g .placements)
-  settled = settles (g .placements) 0 (omega arith) (omega arith)
+  pub settled : Stable g costs gap most meant find right (rounds g gap find) × (rounds g gap find ≤ suc gap * g .placements)
+  settled = settles (g .placements) 0 0 (omega arith) (omega arith) (omega arith)
 
   -- THE SECOND THEOREM: what is computed round by round agrees with every single turn.
-  pub rounds-solved : Solved g (figures g find) (λ p. meant p (settings g find p))
-  rounds-solved = solved g meant find right (rounds g find) (settled .0)
+  pub rounds-solved : Solved g (figures g gap find) (λ p. meant p (settings g gap find p))
+  rounds-solved = solved g costs gap most meant find right (rounds g gap find) (settled .0)

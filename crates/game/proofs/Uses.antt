@@ -3,8 +3,9 @@
 use mathlib.Core.Path.{_≡_, refl, sym, _∙_}
 use mathlib.Core.Logic.{inl, inr}
 use mathlib.Core.Bool.{Bool, true, false}
+use mathlib.Core.List.{List, []}
 use mathlib.Core.Option.{Option, none, some}
-use Prim.Native.Nat.{ℕ, zero, suc, _≤_}
+use Prim.Native.Nat.{ℕ, zero, suc, _+_, _≤_}
 use native.Mathlib.Omega.{arith}
 use lib.Dec.{ltb}
 use lib.ListN.{getD-replicate}
@@ -17,8 +18,8 @@ use Rattle.railway.specs.Record.{isClosed, withClosed, joinedBy, joined, hasSig
 use Rattle.railway.specs.Passing.{follow, passes, entered}
 use Rattle.railway.specs.Rows.{recordRefusal}
 use Rattle.railway.specs.Yards.{yardA}
-use Rattle.game.specs.Game.{derailment, lost, at, Way, Choice, following, positional, may, play, homeAt, HomeWithin, ComesHome}
-use Rattle.game.specs.Claim.{Whole}
+use Rattle.game.specs.Game.{derailment, lost, at, Way, Choice, following, positional, Turn, standing, may, grown, play, homeAt, spentAt, HomeWithin, ComesHome}
+use Rattle.game.specs.Claim.{Keeps, Whole}
 use Rattle.game.specs.Placement.{codeOf, sectionsIn, standsOn}
 use Rattle.game.specs.Setting.{Setting, SameSetting, headsFor, held, mayMove, free, signalOpen}
 use Rattle.game.specs.Moves.{occupied, moveOf, gameOf, ClosedSections}
@@ -31,28 +32,37 @@ use Rattle.game.proofs.Plays.{shutLine}
 use Rattle.game.proofs.Inhabited.{small, small-whole, everywhere}
 
 module _ (F : ℕ → Option ℕ) (f : ℕ → Bool) (claims : Whole small F f) where
-  -- the figures: home has 0, the placement on the way 1, the lost one none
-  has-figures : (F 0 ≡ some 0) × (F 1 ≡ some 1) × (F 2 ≡ none)
+  -- the figures: home has 0, the placement on the way the weight of the train, the lost one none
+  has-figures : (F 0 ≡ some 0) × (F 1 ≡ some 3) × (F 2 ≡ none)
   unfolding table settle keepsTest anyBelow allBelow lowest
   has-figures = (
     figure-one small 0 (F 0) (some 0) (claims .figures 0 (omega arith)) (small-whole .figures 0 (omega arith)),
-    figure-one small 1 (F 1) (some 1) (claims .figures 1 (omega arith)) (small-whole .figures 1 (omega arith)),
+    figure-one small 1 (F 1) (some 3) (claims .figures 1 (omega arith)) (small-whole .figures 1 (omega arith)),
     figure-one small 2 (F 2) none (claims .figures 2 (omega arith)) (small-whole .figures 2 (omega arith)),
   )
 
-  -- who follows f is home in time, so f lets the train move
+  -- who follows f comes home, so f lets the train move; and has then spent 3 at most
   lets-move : f 1 ≡ true
   unfolding play lowest
-  lets-move = let h = claims .follow 1 1 (omega arith) (has-figures .1) (λ h p s. 0) in elim (bool? (f 1)) [ inl e ↦ e | inr e ↦ clash (h .2) (stays e (h .0) (h .1)) ]
+  lets-move = let h = claims .follow 1 3 (omega arith) (has-figures .1) (λ h p s. 0) in elim (bool? (f 1)) [
+    | inl e ↦ e
+    | inr e ↦ clash (h .2) (let z = stands e (h .0) .1 in rw z refl)
+  ]
     where
-      stays : f 1 ≡ false → (m : ℕ) → m ≤ 1 → homeAt small (play small (following f) (λ h p s. 0) 1 m) ≡ false
-      stays e zero l = refl
-      stays e (suc zero) l = rw e
-      stays e (suc (suc m)) l = absurd (omega arith)
+      stands : f 1 ≡ false → (m : ℕ) → (h : List (Turn Bool)) × (play small (following f) (λ h p s. 0) 1 m ≡ standing h 1)
+      stands e zero = ([], refl)
+      stands e (suc m) = let r = stands e m in (grown small (r .0) 1 false none, rw (r .1, e) refl)
 
-  -- no way is home within no turn
-  not-at-once : (w : Way Bool) → (c : Choice Bool) × ¬ (HomeWithin small w c 1 0)
-  not-at-once w = let x = claims .not-sooner w 1 1 (omega arith) (has-figures .1) in (x .0, x .1 0 (omega arith))
+  in-time : (c : Choice Bool) → (m : ℕ) × (spentAt small (play small (following f) c 1 m) ≤ 3) × (homeAt small (play small (following f) c 1 m) ≡ true)
+  in-time c = claims .follow 1 3 (omega arith) (has-figures .1) c
+
+  -- no way is home within a total of 2
+  not-at-once : (w : Way Bool) → (c : Choice Bool) × ¬ (HomeWithin small w c 1 2)
+  not-at-once w = let x = claims .not-sooner w 1 3 (omega arith) (has-figures .1) in (x .0, x .1 2 (omega arith))
+
+  -- what decides the figure is the weight of the move: behind it is home, with 0
+  decided : (s : Bool) → Keeps small F 1 s 3 → (figure : ℕ) × (figure + 3 ≡ 3)
+  decided s k = let d = claims .decided 1 3 s (omega arith) refl (has-figures .1) k in (d .figure, d .makes)
 
   -- no figure where the trains are lost, for no way comes home from there; and no way comes home where there is no figure
   lost-none : F 2 ≡ none

@@ -1,10 +1,10 @@
--- A game of placements, settings and trains, and its plays: document 01, "A turn", for any rules of moving.
+-- A game of placements, settings and trains, and its plays: document 01, "A turn", for any rules of moving; totals and figures by weights: document 02, Q-12.
 -- Placements and trains are numbers here; what they stand for on a railway is in Placement, Setting and Moves. Assumes nothing.
 use mathlib.Core.Path.{_≡_}
 use mathlib.Core.Bool.{Bool, true, false, cond, not, _&&_, _||_}
 use mathlib.Core.List.{List, [], _∷_, _++_}
 use mathlib.Core.Option.{Option, none, some}
-use Prim.Native.Nat.{ℕ, zero, suc, _≤_}
+use Prim.Native.Nat.{ℕ, zero, suc, _+_, _≤_}
 use lib.Dec.{ltb}
 use Rattle.laws.specs.Below.{lowest}
 
@@ -28,6 +28,8 @@ pub record Game (S : Type 0) : Type 0 where
   pub allowed : ℕ → S → ℕ → Bool
   -- what moving train t in placement p under setting s ends in
   pub next : ℕ → S → ℕ → Outcome
+  -- what a move of train t costs
+  pub weight : ℕ → ℕ
 
 -- One turn that was played: the placement before it, the setting, and the train that moved, if one did.
 pub record Turn (S : Type 0) : Type 0 where
@@ -101,14 +103,29 @@ module _ {S : Type 0} (g : Game S) where
   play w c p zero = standing [] p
   play w c p (suc n) = step w c (play w c p n)
 
+  -- What a turn costs: the weight of the train that moved; 1 if none did.
+  abbrev pub cost : Option ℕ → ℕ
+  cost none = 1
+  cost (some t) = g .weight t
+
+  -- What the turns behind a play have cost, in sum.
+  unfoldable pub spent : List (Turn S) → ℕ
+  spent [] = 0
+  spent (x ∷ h) = cost (x .moved) + spent h
+
+  -- The same of where a play stands; a play that is lost is never home, so nothing rests on its 0.
+  abbrev pub spentAt : Position S → ℕ
+  spentAt lostByMove = 0
+  spentAt (standing h p) = spent h
+
   -- The play stands at home.
   abbrev pub homeAt : Position S → Bool
   homeAt lostByMove = false
   homeAt (standing h p) = home p
 
-  -- HOME WITHIN n turns: behind one of the first n, or at the start, the trains are home.
+  -- HOME WITHIN a total of n: after some turns, or at the start, the trains are home, and the turns have cost n at most.
   abbrev pub HomeWithin : Way S → Choice S → ℕ → ℕ → Type 0
-  HomeWithin w c p n = (m : ℕ) × (m ≤ n) × (homeAt (play w c p m) ≡ true)
+  HomeWithin w c p n = (m : ℕ) × (spentAt (play w c p m) ≤ n) × (homeAt (play w c p m) ≡ true)
 
   -- The play comes home.
   abbrev pub ComesHome : Way S → Choice S → ℕ → Type 0
@@ -118,7 +135,7 @@ module _ {S : Type 0} (g : Game S) where
   abbrev pub Beats : Choice S → Way S → ℕ → Type 0
   Beats c w p = (m : ℕ) → homeAt (play w c p m) ≡ false
 
-  -- Forced within n turns: there is a way of working that is home within n, however the trains choose.
+  -- Forced within a total of n: there is a way of working that is home within n, however the trains choose.
   abbrev pub Forced : ℕ → ℕ → Type 0
   Forced p n = (w : Way S) × ((c : Choice S) → HomeWithin w c p n)
 

@@ -3,4 +3,5 @@ pub mod Placement
 pub mod Setting
 pub mod Moves
 pub mod Claim
+pub mod ByTurns
 pub mod Local

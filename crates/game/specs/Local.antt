@@ -4,24 +4,28 @@
 use mathlib.Core.Path.{_≡_}
 use mathlib.Core.Bool.{Bool, true, false, not, _&&_, _||_}
 use mathlib.Core.Option.{Option, none, some}
-use Prim.Native.Nat.{ℕ, _≤_, _<_}
-use lib.Dec.{ltb}
+use Prim.Native.Nat.{ℕ, _+_, _≤_, _<_}
+use lib.Dec.{leb}
 use Rattle.laws.specs.Below.{allBelow, anyBelow}
 use Rattle.game.specs.Game.{at, Game, may, home, over}
 use Rattle.game.specs.Claim.{figureOf, Keeps}
 
--- A figure is there and is smaller than n, computed.
-abbrev pub isBelow : ℕ → Option ℕ → Bool
-isBelow n none = false
-isBelow n (some j) = ltb j n
+-- A figure is there and, with weight w, is at most n, computed.
+abbrev pub isWithin : ℕ → ℕ → Option ℕ → Bool
+isWithin n w none = false
+isWithin n w (some j) = leb (j + w) n
 
--- Train t may not move, or comes to a figure below n.
-abbrev pub goesBelow : {S : Type 0} → Game S → (ℕ → Option ℕ) → ℕ → S → ℕ → ℕ → Bool
-goesBelow g F p s n t = not (may g p s t) || isBelow n (figureOf F (g .next p s t))
+-- Train t may not move, or comes to a figure that with its weight is at most n.
+abbrev pub goesWithin : {S : Type 0} → Game S → (ℕ → Option ℕ) → ℕ → S → ℕ → ℕ → Bool
+goesWithin g F p s n t = not (may g p s t) || isWithin n (g .weight t) (figureOf F (g .next p s t))
 
 -- That a setting keeps a figure, computed.
 unfoldable pub keepsTest : {S : Type 0} → Game S → (ℕ → Option ℕ) → ℕ → S → ℕ → Bool
-keepsTest g F p s n = anyBelow (may g p s) (g .trains) && allBelow (goesBelow g F p s n) (g .trains)
+keepsTest g F p s n = anyBelow (may g p s) (g .trains) && allBelow (goesWithin g F p s n) (g .trains)
+
+-- Every move costs something.
+abbrev pub Costs : {S : Type 0} → Game S → Type 0
+Costs g = (t : ℕ) → t < g .trains → 1 ≤ g .weight t
 
 -- The moves of a game stay among its placements.
 abbrev pub Inside : {S : Type 0} → Game S → Type 0

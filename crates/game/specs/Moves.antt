@@ -8,7 +8,7 @@ use lib.ListN.{set}
 use lib.Dec.{eqb}
 use Rattle.laws.specs.Below.{anyBelow}
 use Rattle.railway.specs.declared.Railway.{Railway}
-use Rattle.railway.specs.Record.{isClosed}
+use Rattle.railway.specs.Record.{isClosed, weightOf}
 use Rattle.railway.specs.Passing.{passes, entered}
 use Rattle.railway.specs.Rows.{recordRefusal}
 use Rattle.game.specs.Game.{derailment, collision, Outcome, lost, at, Game}
@@ -47,6 +47,7 @@ gameOf r =
       isLost = shared r;
       allowed = mayMove r;
       next = moveOf r;
+      weight = weightOf r;
     }
 
 -- What a setting says besides of the railway's points and signals tells nothing: settings that agree on those let the same trains move, to

@@ -1,9 +1,10 @@
--- A line as code reads it: a field behind a tab is one step, read or not; sides, legs and ends are read by looking for one byte after the other.
+-- A line as code reads it: a field behind a tab is one step, read or not; sides, legs and ends are read by looking for one byte after the other, and a weight where there is a tab.
 -- Assumes nothing.
 use Prim.Native.Nat.{ℕ, _+_}
 use mathlib.Core.Path.{_≡_, refl, _∙_}
 use mathlib.Core.Bool.{true, false, cond}
 use mathlib.Core.List.{List}
+use mathlib.Core.Option.{none, some}
 use lib.Dec.{eqb}
 use lib.ListN.{getD}
 use borrow.Author.Tests.{eq-eqb, ne-eqb}
@@ -15,7 +16,7 @@ use Rattle.railway.specs.declared.Side.the-variants.{Up, Down}
 use Rattle.railway.specs.declared.Leg.{Leg}
 use Rattle.railway.specs.declared.Leg.the-variants.{Stem, Plus, Minus}
 use Rattle.casefile.specs.Form.{section, port, sideByte, legByte}
-use Rattle.casefile.specs.Reading.{sideFieldAt, legFieldAt, markAt}
+use Rattle.casefile.specs.Reading.{caseNumberAt, sideFieldAt, legFieldAt, markAt, weightFieldAt}
 use Rattle.lines.specs.Answers.{behindTab}
 
 -- A LINE WHOSE FIRST FIELDS HAVE BEEN READ: it gives what its rest gives
@@ -89,6 +90,20 @@ module _ (s : List ℕ) (at : ℕ) where
 
   pub mark-none : (n : ℕ) → sideFieldAt s at ≡ bad → legFieldAt s at ≡ bad → bad ≡ markAt s n at (sideFieldAt s at)
   mark-none n e f = rw (e, f)
+
+  -- THE WEIGHT: no tab, or a tab with a number behind it or none
+  pub weight-unsaid : eqb (getD s at 0) 9 ≡ false → got none at ≡ weightFieldAt s at
+  unfolding weightFieldAt
+  weight-unsaid t = rw t
+
+  module _ (c : ℕ) (t : (eqb (getD s at 0) 9 ≡ true) × (c ≡ at + 1)) where
+    pub weight-said : (w d : ℕ) → caseNumberAt s c ≡ got w d → got (some w) d ≡ weightFieldAt s at
+    unfolding weightFieldAt
+    weight-said w d e = rw (t .0, ← t .1, e)
+
+    pub weight-none : caseNumberAt s c ≡ bad → bad ≡ weightFieldAt s at
+    unfolding weightFieldAt
+    weight-none e = rw (t .0, ← t .1, e)
 
 -- THE NUMBER THAT IS DUE
 pub number-due : {A : Type 0} (m n : ℕ) {x : A} {c : ℕ} → m ≡ n → got x c ≡ cond (eqb m n) (got x c) bad

@@ -1,5 +1,6 @@
 -- What the answers of the line functions stand for. Contracts cite these; nothing of document 01 rests on them. Assumes nothing.
 use mathlib.Core.List.{List}
+use mathlib.Core.Option.{Option, none, some}
 use Prim.Native.Nat.{ℕ}
 use Rattle.text.specs.Text.{tab}
 use Rattle.text.specs.Reading.{Got, bad, got, then, byteAt}
@@ -21,6 +22,10 @@ use Rattle.lines.specs.declared.JoinRead.{JoinRead}
 use Rattle.lines.specs.declared.JoinRead.the-variants.{NoJoin, EndsAre}
 use Rattle.lines.specs.declared.SignalRead.{SignalRead}
 use Rattle.lines.specs.declared.SignalRead.the-variants.{NoSignal, SignalIs}
+use Rattle.lines.specs.declared.NamedWeight.{NamedWeight}
+use Rattle.lines.specs.declared.NamedWeight.the-variants.{Unsaid, Said}
+use Rattle.lines.specs.declared.WeightRead.{WeightRead}
+use Rattle.lines.specs.declared.WeightRead.the-variants.{NoWeight, WeightIs}
 use Rattle.lines.specs.declared.TrainRead.{TrainRead}
 use Rattle.lines.specs.declared.TrainRead.the-variants.{NoTrain, TrainIs}
 
@@ -67,7 +72,21 @@ abbrev pub signalGot : SignalRead → Got SignalLine
 signalGot NoSignal = bad
 signalGot (SignalIs n s c) = got (record { number = n; side = s }) (c .at)
 
+-- A weight that code names, as a case file does.
+abbrev pub weightNamed : NamedWeight → Option ℕ
+weightNamed Unsaid = none
+weightNamed (Said w) = some w
+
+-- A weight, as it was read.
+abbrev pub weightGot : WeightRead → Got (Option ℕ)
+weightGot NoWeight = bad
+weightGot (WeightIs w c) = got (weightNamed w) (c .at)
+
+-- The T line of what code names.
+abbrev pub trainNamed : Side → ℕ → ℕ → NamedWeight → TrainLine
+trainNamed heading start destination weight = record { heading = heading; start = start; destination = destination; weight = weightNamed weight }
+
 -- A T line, as it was read.
 abbrev pub trainGot : TrainRead → Got TrainLine
 trainGot NoTrain = bad
-trainGot (TrainIs h s d c) = got (record { heading = h; start = s; destination = d }) (c .at)
+trainGot (TrainIs h s d w c) = got (trainNamed h s d w) (c .at)

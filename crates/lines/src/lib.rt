@@ -2,8 +2,8 @@
 // up to the first field that is not the number, end or side that it must be. Any bytes and any cursor may come in.
 ghost use mathlib.Core.Path.{_≡_};
 ghost use Rattle.text.specs.Answers.{numberGot};
-ghost use Rattle.casefile.specs.Reading.{caseNumberAt, sideFieldAt, legFieldAt, endFieldAt, headerAt, pointLineAt, joinLineAt, signalLineAt, closedLineAt, trainLineAt};
-ghost use Rattle.lines.specs.Answers.{behindTab, sideGot, legGot, endGot, countsGot, joinGot, signalGot, trainGot};
+ghost use Rattle.casefile.specs.Reading.{caseNumberAt, sideFieldAt, legFieldAt, endFieldAt, headerAt, pointLineAt, joinLineAt, signalLineAt, closedLineAt, weightFieldAt, trainLineAt};
+ghost use Rattle.lines.specs.Answers.{behindTab, sideGot, legGot, endGot, countsGot, joinGot, signalGot, weightGot, trainGot};
 use railway::Leg;
 use railway::Side;
 use text::Byte;
@@ -52,10 +52,21 @@ pub enum SignalRead {
     SignalIs(u64, Side, Cursor),
 }
 
-// A T line: heading, start, destination.
+// A weight as it is written, or none.
+pub enum NamedWeight {
+    Unsaid,
+    Said(u64),
+}
+
+enum WeightRead {
+    NoWeight,
+    WeightIs(NamedWeight, Cursor),
+}
+
+// A T line: heading, start, destination, weight.
 pub enum TrainRead {
     NoTrain,
-    TrainIs(Side, u64, u64, Cursor),
+    TrainIs(Side, u64, u64, NamedWeight, Cursor),
 }
 
 fn side_field(text: &[u8], c: Cursor) -> SideRead
@@ -227,7 +238,20 @@ pub fn closed_line(text: &[u8], c: Cursor) -> Number
     Number::Value(n, c3)
 }
 
-// `T`, the number n, heading, start, destination.
+// A weight behind a tab, if there is a tab.
+fn weight_field(text: &[u8], c: Cursor) -> WeightRead
+    ensures { λ r. ⌜ weightGot r ≡ weightFieldAt (now (text .entry)) (c .at) ⌝ }
+{
+    let Byte::Past(field) = text::byte_at(text, c, TAB) else {
+        return WeightRead::WeightIs(NamedWeight::Unsaid, c);
+    };
+    let Number::Value(w, next) = text::number_at(text, field, Width::Three) else {
+        return WeightRead::NoWeight;
+    };
+    WeightRead::WeightIs(NamedWeight::Said(w), next)
+}
+
+// `T`, the number n, heading, start, destination, and a weight where one is written.
 pub fn train_line(text: &[u8], c: Cursor, n: u64) -> TrainRead
     ensures { λ r. ⌜ trainGot r ≡ trainLineAt (now (text .entry)) n (c .at) ⌝ }
 {
@@ -246,11 +270,14 @@ pub fn train_line(text: &[u8], c: Cursor, n: u64) -> TrainRead
     let Number::Value(destination, c5) = tab_number(text, c4) else {
         return TrainRead::NoTrain;
     };
-    let Byte::Past(c6) = text::byte_at(text, c5, LINE_END) else {
+    let WeightRead::WeightIs(weight, c6) = weight_field(text, c5) else {
+        return TrainRead::NoTrain;
+    };
+    let Byte::Past(c7) = text::byte_at(text, c6, LINE_END) else {
         return TrainRead::NoTrain;
     };
     if m == n {
-        return TrainRead::TrainIs(heading, start, destination, c6);
+        return TrainRead::TrainIs(heading, start, destination, weight, c7);
     }
     TrainRead::NoTrain
 }

@@ -99,12 +99,17 @@ fn counts(s: u8, p: u8, k: u8) -> Railway {
 }
 
 fn train(r: Railway, t: u8, heading: Side, from: u8, to: u8) -> Railway {
+    weighing(r, t, heading, from, to, 1)
+}
+
+fn weighing(r: Railway, t: u8, heading: Side, from: u8, to: u8, weight: u8) -> Railway {
     r.with_train(
         t,
         Train {
             heading: heading,
             start: SectionNo(from),
             destination: SectionNo(to),
+            weight: weight,
         },
     )
 }
@@ -218,6 +223,32 @@ fn firsts_of_a() {
     show_first(b"(2,3) with a short table", &t, &w, &[], 7, 9);
 }
 
+// Yard A with weights, 5 for train 1 and 2 for train 2: what is just enough and what is one less, and figures at their largest.
+fn firsts_by_weights() {
+    let a = yard_a_less().with_signal(down(0));
+    let r = weighing(weighing(a, 0, Side::Up, 1, 2, 5), 1, Side::Down, 2, 0, 2);
+    let t = table_of(r);
+    let w = ways_of(r);
+    let mut figures = [NO_FIGURE; 9];
+    figures[1] = 5;
+    figures[2] = 0;
+    show_first(b"weight 2, from 7 to 5", &t, &w, &figures, 7, 7);
+    show_first(b"weight 2, from 6 to 5", &t, &w, &figures, 7, 6);
+    show_first(b"weight 5, from 5 to 0", &t, &w, &figures, 1, 5);
+    show_first(b"weight 5, from 4 to 0", &t, &w, &figures, 1, 4);
+    figures[1] = 4294967292;
+    show_first(b"weight 2, the largest", &t, &w, &figures, 7, 4294967294);
+    figures[1] = 4294967294;
+    show_first(
+        b"weight 2, both the largest",
+        &t,
+        &w,
+        &figures,
+        7,
+        4294967294,
+    );
+}
+
 fn firsts_at_legs() {
     let zeros = [0u32; 9];
     let mut most = [0u32; 9];
@@ -292,6 +323,7 @@ fn main() {
     codes();
     moves_of_a();
     firsts_of_a();
+    firsts_by_weights();
     firsts_at_legs();
     ring();
     firsts_at_loop();

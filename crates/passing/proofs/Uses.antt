@@ -13,9 +13,9 @@ use Rattle.railway.specs.declared.Railway.{Railway}
 use Rattle.railway.specs.declared.Refusal.the-variants.{Count}
 use Rattle.railway.specs.Ends.{endAt}
 use Rattle.railway.specs.Refusals.{first, numberGiven}
-use Rattle.railway.specs.Record.{emptyRailway, isClosed, joinedBy, joined, hasSignal, legsOf, trainOf, withJoin, withLegs, withTrain}
+use Rattle.railway.specs.Record.{emptyRailway, isClosed, joinedBy, joined, hasSignal, legsOf, trainOf, weightOf, withJoin, withLegs, withTrain}
 use Rattle.railway.specs.Passing.{follow, passes}
-use Rattle.railway.specs.Rows.{unknownRow, joinRow, looseRow, longer, chainRow, placeRow, recordRefusal}
+use Rattle.railway.specs.Rows.{weightRow, unknownRow, joinRow, looseRow, longer, chainRow, placeRow, recordRefusal}
 use Rattle.railway.specs.Yards.{yardH, lineP, lineJ, lineT, sec, port}
 use Rattle.passing.specs.declared.Reached.the-variants.{Nowhere, Section}
 use Rattle.passing.specs.declared.Passing.{Passing}
@@ -33,7 +33,7 @@ crossover =
     (lineP 1 Up (yardH 4 2 1))))))))
 
 taken : recordRefusal crossover ≡ none
-unfolding recordRefusal first unknownRow joinRow looseRow longer chainRow placeRow endAt joinedBy joined hasSignal legsOf trainOf withJoin withLegs withTrain anyBelow isClosed
+unfolding recordRefusal first weightRow weightOf unknownRow joinRow looseRow longer chainRow placeRow endAt joinedBy joined hasSignal legsOf trainOf withJoin withLegs withTrain anyBelow isClosed
 taken = refl
 
 over-both : (a : Passing) → PassPost crossover (sec 1 Up) 0 a → a .passed ≡ record { reached = Section (record { 0 = 3 }); count = 2; points = 0 ∷ 1 ∷ 0 ∷ 0 ∷ [] }

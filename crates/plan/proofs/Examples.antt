@@ -19,9 +19,9 @@ use Rattle.railway.specs.declared.Railway.{Railway}
 use Rattle.railway.specs.declared.Refusal.the-variants.{Space}
 use Rattle.railway.specs.Ends.{endAt}
 use Rattle.railway.specs.Refusals.{first}
-use Rattle.railway.specs.Record.{isClosed, withClosed, joinedBy, joined, hasSignal, legsOf, trainOf, withJoin, withSignal, withLegs, withTrain}
+use Rattle.railway.specs.Record.{isClosed, withClosed, joinedBy, joined, hasSignal, legsOf, trainOf, weightOf, withJoin, withSignal, withLegs, withTrain}
 use Rattle.railway.specs.Passing.{follow, passes, entered}
-use Rattle.railway.specs.Rows.{unknownRow, joinRow, looseRow, longer, chainRow, placeRow}
+use Rattle.railway.specs.Rows.{weightRow, unknownRow, joinRow, looseRow, longer, chainRow, placeRow}
 use Rattle.game.specs.Local.{keepsTest}
 use Rattle.game.specs.Placement.{codeOf, sectionsIn, standsOn, startCode, atHome, shared}
 use Rattle.game.specs.Setting.{headsFor, held, mayMove, free, signalOpen}
@@ -30,7 +30,7 @@ use Rattle.railway.specs.Yards.{yardH, lineX, lineJ, lineG, lineT, sec, yardA, 
 use Rattle.tables.specs.Entries.{entryFrom}
 use Rattle.tables.specs.Tables.{tablesShort, caseRefusal}
 use Rattle.tables.proofs.KnownYards.{figsA, setsA}
-use Rattle.tables.proofs.Examples.{ladder}
+use Rattle.tables.proofs.Examples.{ladder, weighed}
 use Rattle.plan.specs.declared.PlanPlace.{PlanPlace}
 use Rattle.plan.specs.declared.PlanPlace.the-variants.{Top, From}
 use Rattle.plan.specs.declared.Emitted.the-variants.{Line, End, NoPlan, Refused}
@@ -148,6 +148,16 @@ scripts =
     ∷ script inLine 3 ("plan\t2\n" gets 0 ∷ "1\t2\t0\t.\n" gets 0 ∷ "2\t1\t0\t.\n" gets 0 ∷ "3\t0\t0\t.\n" gets 0 ∷ []) 0
     ∷ script closedBetween 3 ("plan\t2\n" gets 0 ∷ "1\t2\t0\t.\n" gets 0 ∷ "2\t1\t0\t.\n" gets 0 ∷ "3\t0\t0\t.\n" gets 0 ∷ []) 11
     ∷ script startsBehind 3 ("plan\t0\n" gets 0 ∷ "2\t1\t0\t.\n" gets 0 ∷ "3\t0\t0\t.\n" gets 0 ∷ []) 0
+    -- Yard A with weights, 5 and 2: figures smaller by just the weight of the move; by one less in the first turn, and in the second, though every figure is smaller
+    ∷ script weighed 9 ("plan\t7\n" gets 0 ∷ "2\t1\t5\t1\t-\n" gets 0 ∷ "3\t1\t0\t0\t-\n" gets 0 ∷ "2\t3\t7\t0\t+\n" gets 0 ∷ []) 0
+    ∷ script weighed 9 ("plan\t6\n" gets 0 ∷ "2\t1\t5\t1\t-\n" gets 0 ∷ "3\t1\t0\t0\t-\n" gets 0 ∷ "2\t3\t6\t0\t+\n" gets 0 ∷ []) 11
+    ∷ script weighed 9 ("plan\t7\n" gets 0 ∷ "2\t1\t4\t1\t-\n" gets 0 ∷ "3\t1\t0\t0\t-\n" gets 0 ∷ "2\t3\t7\t0\t+\n" gets 0 ∷ []) 11
+    -- the largest figures, smaller by just the weight; by one less; and a figure at home that with the weight would come round to 3 in 32 bits
+    ∷ script weighed 9 ("plan\t4294967294\n" gets 0 ∷ "2\t1\t4294967292\t1\t-\n" gets 0 ∷ "3\t1\t4294967287\t0\t-\n" gets 0 ∷ "2\t3\t4294967294\t0\t+\n" gets 0 ∷ []) 0
+    ∷ script weighed 9 ("plan\t4294967294\n" gets 0 ∷ "2\t1\t4294967293\t1\t-\n" gets 0 ∷ "3\t1\t4294967288\t0\t-\n" gets 0 ∷ "2\t3\t4294967294\t0\t+\n" gets 0 ∷ []) 11
+    ∷ script weighed 9 ("plan\t5\n" gets 0 ∷ "2\t1\t3\t1\t-\n" gets 0 ∷ "3\t1\t4294967294\t0\t-\n" gets 0 ∷ "2\t3\t5\t0\t+\n" gets 0 ∷ []) 11
+    -- Yard A's own plan, in which turns are counted
+    ∷ script weighed 9 ("plan\t2\n" gets 0 ∷ "2\t1\t1\t1\t-\n" gets 0 ∷ "3\t1\t0\t0\t-\n" gets 0 ∷ "2\t3\t2\t0\t+\n" gets 0 ∷ []) 11
     -- one section: no points, and a point too many
     ∷ script yardOne 1 ("plan\t0\n" gets 0 ∷ "1\t0\t0\t-\n" gets 10 ∷ "1\t0\t0\t.\n" gets 0 ∷ []) 0
     -- the largest figure
@@ -165,7 +175,7 @@ scripts =
     ∷ []
 
 as-said : all holds scripts ≡ true
-unfolding all numbers bytes callLines takeLine testPlan caseRefusal tablesShort first unknownRow joinRow looseRow chainRow longer placeRow endAt joinedBy joined hasSignal legsOf trainOf withJoin withSignal withLegs withTrain allBelow anyBelow sumBelow whichBelow listBelow lowest fromBits any readLine guess fields valueOf sameText spell line digits fits entryFrom codeOf testHolds placementPasses listedSetting keepsTest sectionsIn standsOn startCode atHome shared headsFor mayMove free held signalOpen passes follow occupied moveOf entered isClosed withClosed
+unfolding all numbers bytes callLines takeLine testPlan caseRefusal tablesShort first weightRow weightOf unknownRow joinRow looseRow chainRow longer placeRow endAt joinedBy joined hasSignal legsOf trainOf withJoin withSignal withLegs withTrain allBelow anyBelow sumBelow whichBelow listBelow lowest fromBits any readLine guess fields valueOf sameText spell line digits fits entryFrom codeOf testHolds placementPasses listedSetting keepsTest sectionsIn standsOn startCode atHome shared headsFor mayMove free held signalOpen passes follow occupied moveOf entered isClosed withClosed
 as-said = refl
 
 -- THE EMITTER in Yard A, with its tables: the first line, the last line with bytes past it, a buffer that is too short, the end, a place past
@@ -182,7 +192,7 @@ emitted :
     × (emitLine yardA (replicate 9 4294967295) setsA Top [] ≡ leaves NoPlan [])
     × (emitLine yardA (replicate 8 4294967295) setsA Top [] ≡ leaves (Refused Space) [])
     × (numberGiven (emitLine wrongJoin [] [] Top [] .answer) ≡ some 5)
-unfolding bytes emitLine caseRefusal tablesShort first unknownRow joinRow looseRow chainRow longer placeRow endAt joinedBy joined hasSignal legsOf trainOf withJoin withSignal withLegs withTrain anyBelow sumBelow whichBelow listBelow lowest lineFor spell line digits codeOf sectionsIn startCode isClosed
+unfolding bytes emitLine caseRefusal tablesShort first weightRow weightOf unknownRow joinRow looseRow chainRow longer placeRow endAt joinedBy joined hasSignal legsOf trainOf withJoin withSignal withLegs withTrain anyBelow sumBelow whichBelow listBelow lowest lineFor spell line digits codeOf sectionsIn startCode isClosed
 emitted = (refl, refl, refl, refl, refl, refl, refl, refl)
 
 -- THE ORDER OF SEVERAL POINTS, point 1 first and in bit 0, and of two open
@@ -199,5 +209,5 @@ several-points :
     × (lineEntry ladder startLadder ≡ 196609)
     × (lineFor ladder figsLadder (set (replicate 49 0) 42 196609) 42 ≡ startLadder)
     × (emitLine ladder figsLadder (set (replicate 49 0) 42 65540) (From 0) (replicate 12 7) ≡ record { answer = Line 12 (From 43); buffer = bytes "1\t7\t3\t1\t--+\n" })
-unfolding bytes emitLine caseRefusal tablesShort first unknownRow joinRow looseRow chainRow longer placeRow endAt joinedBy joined hasSignal legsOf trainOf withJoin withSignal withLegs withTrain anyBelow sumBelow whichBelow listBelow lowest fromBits any all readLine guess fields valueOf sameText fits lineFor spell line digits codeOf sectionsIn startCode entryFrom isClosed
+unfolding bytes emitLine caseRefusal tablesShort first weightRow weightOf unknownRow joinRow looseRow chainRow longer placeRow endAt joinedBy joined hasSignal legsOf trainOf withJoin withSignal withLegs withTrain anyBelow sumBelow whichBelow listBelow lowest fromBits any all readLine guess fields valueOf sameText fits lineFor spell line digits codeOf sectionsIn startCode entryFrom isClosed
 several-points = (refl, refl, refl, refl, refl)

@@ -14,6 +14,7 @@ pub mod Fresh
 pub mod Checks
 pub mod SeveralCalls
 pub mod Plan
+pub mod ByTurns
 pub mod Demand
 pub mod Outputs
 pub mod Examples

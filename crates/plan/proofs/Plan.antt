@@ -69,10 +69,10 @@ map-twice : {A B : Type 0} (f : A → B) (g : ℕ → A) (xs : List ℕ) → map
 map-twice f g [] = refl
 map-twice f g (x ∷ xs) = ap (λ (l : List _). f (g x) ∷ l) (map-twice f g xs)
 
-all-below : (s : ℕ) (xs : List ℕ) → AllBelow s xs → all (λ x. ltb x s) xs ≡ true
+all-within : (s : ℕ) (xs : List ℕ) → AllBelow s xs → all (λ x. ltb x s) xs ≡ true
 unfolding all
-all-below s [] h = refl
-all-below s (x ∷ xs) h = and-both (ltb x s) (all (λ x. ltb x s) xs) (lt-ltb x s (h 0 (omega arith))) (all-below s xs (λ i l. h (suc i) (omega arith)))
+all-within s [] h = refl
+all-within s (x ∷ xs) h = and-both (ltb x s) (all (λ x. ltb x s) xs) (lt-ltb x s (h 0 (omega arith))) (all-within s xs (λ i l. h (suc i) (omega arith)))
 
 module _ (r : Railway) (accepted : recordRefusal r ≡ none) (figs sets : List ℕ) where
   abbrev ok : Facts r
@@ -89,7 +89,7 @@ module _ (r : Railway) (accepted : recordRefusal r ≡ none) (figs sets : List �
   line-fits p l e =
       let f = some-is (figureIn figs p) e in
       let a : eqb (length (sectionsOf r p)) (r .trains) ≡ true = eq-eqb _ _ (sections-length (r .sections) (r .trains) p) in
-      let b : all (λ x. ltb x (r .sections)) (sectionsOf r p) ≡ true = all-below (r .sections) (sectionsOf r p) (sections-below (r .sections) (r .trains) p (ok .one-section)) in
+      let b : all (λ x. ltb x (r .sections)) (sectionsOf r p) ≡ true = all-within (r .sections) (sectionsOf r p) (sections-below (r .sections) (r .trains) p (ok .one-section)) in
       let c : ltb (getD figs p noFigure) noFigure ≡ true = lt-ltb _ _ (entry-below (getD figs p noFigure) (f .0) l (f .1)) in
       let d : eqb (length (lineFor r figs sets p .opens)) (r .trains) ≡ true = eq-eqb _ _ (list-length _ (r .trains)) in
       let g : eqb (length (lineFor r figs sets p .plus)) (r .points) ≡ true = eq-eqb _ _ (list-length _ (r .points)) in

@@ -23,19 +23,21 @@ use Rattle.railway.specs.declared.Refusal.the-variants.{Space, PlanForm, PlanFa
 use Rattle.railway.specs.Ends.{endAt}
 use Rattle.railway.specs.declared.CaseAnswer.{CaseAnswer}
 use Rattle.railway.specs.Refusals.{first, numberGiven as caseNumber}
-use Rattle.railway.specs.Record.{isClosed, joinedBy, joined, hasSignal, legsOf, trainOf, withJoin, withSignal, withLegs, withTrain}
+use Rattle.railway.specs.Record.{isClosed, joinedBy, joined, hasSignal, legsOf, trainOf, weightOf, withJoin, withSignal, withLegs, withTrain}
 use Rattle.railway.specs.Passing.{follow, passes, entered}
-use Rattle.railway.specs.Rows.{unknownRow, joinRow, looseRow, longer, chainRow, placeRow}
+use Rattle.railway.specs.Rows.{weightRow, unknownRow, joinRow, looseRow, longer, chainRow, placeRow}
 use Rattle.railway.specs.Yards.{yardA}
 use Rattle.game.specs.Game.{Choice, following, HomeWithin}
 use Rattle.game.specs.Local.{keepsTest}
 use Rattle.game.specs.Placement.{codeOf, sectionsIn, placements, standsOn, startCode, atHome, shared}
 use Rattle.game.specs.Setting.{Setting, headsFor, held, mayMove, free, signalOpen}
 use Rattle.game.specs.Moves.{occupied, moveOf, gameOf}
+use Rattle.game.proofs.Inhabited.{yard-ones}
 use Rattle.tables.specs.Entries.{entryFrom}
 use Rattle.tables.specs.Tables.{noFigure, tablesShort, caseRefusal}
 use Rattle.tables.proofs.Refusals.{case-accepted}
-use Rattle.tables.proofs.KnownYards.{figsA, setsA, yardA-accepted}
+use Rattle.tables.specs.ByTurns.{FilledInTurns}
+use Rattle.tables.proofs.KnownYards.{figsA, setsA, yardA-accepted, yardA-filled}
 use Rattle.plan.specs.declared.PlanPlace.{PlanPlace}
 use Rattle.plan.specs.declared.PlanPlace.the-variants.{Top, From}
 use Rattle.plan.specs.declared.Emitted.{Emitted}
@@ -47,7 +49,7 @@ use Rattle.plan.specs.declared.LineAnswer.the-variants.{Taken, Refused a
 use Rattle.plan.specs.declared.TestAnswer.{TestAnswer}
 use Rattle.plan.specs.declared.TestAnswer.the-variants.{Pass, Refused as TestRefused}
 use Rattle.plan.specs.Lines.{PlacementLine, startLine, placementLine, spell, fits, Spells, lineCode}
-use Rattle.plan.specs.Text.{hasFigure, lineFor}
+use Rattle.plan.specs.Text.{hasFigure, lineFor, planTexts}
 use Rattle.plan.specs.Emitter.{numberGiven, isLine, Wrote, Due, due}
 use Rattle.plan.specs.Test.{Listing, Test, lineOn, byLines, listedSetting}
 use Rattle.plan.specs.Reading.{guess, readLine}
@@ -56,12 +58,14 @@ use Rattle.plan.specs.Checker.{lineEntry, lineNumber, testNumber, Checki
 use Rattle.plan.specs.Promises.{EmitterPost, LinePost, TestPost, FreshPost}
 use Rattle.plan.specs.Rules.{EmitRule, LineChanges}
 use Rattle.plan.specs.Checked.{Form, Passing, Failing, Checked}
+use Rattle.plan.specs.ByTurns.{TestInTurns, PlanAsBefore}
 use Rattle.plan.proofs.Reading.{reads-line}
 use Rattle.plan.proofs.Forms.{Last, only, more, form-last, form-one}
 use Rattle.plan.proofs.Rules.{differ, emit-rule, check-rule}
 use Rattle.plan.proofs.Tested.{tested, plan-works}
 use Rattle.plan.proofs.Emits.{none-refused}
-use Rattle.plan.proofs.Inhabited.{nine}
+use Rattle.plan.proofs.Inhabited.{nine, linesA, computed}
+use Rattle.plan.proofs.ByTurns.{plans-as-before}
 
 -- kinds told apart by a number
 abbrev isFresh : CheckerState → ℕ
@@ -91,16 +95,16 @@ emit-leaves r figs sets place b b′ a p e = p .buffer ∙ emit-rule r figs sets
 numbered : (a : Emitted) (b′ : List ℕ) (x : LineAnswer) (c₁ : Checking) (t : TestAnswer) (c₂ : Checking)
     → EmitterPost yardA (replicate 8 7) (replicate 9 7) Top [] a b′ → LinePost yardA (freshChecking 8 9) [] x c₁ → TestPost yardA (freshChecking 9 8) t c₂
     → (numberGiven a ≡ some 9) × (lineNumber x ≡ some 9) × (testNumber t ≡ some 9)
-unfolding tablesShort first unknownRow joinRow looseRow chainRow longer placeRow endAt joinedBy joined hasSignal legsOf trainOf withJoin withSignal withLegs withTrain anyBelow isClosed
+unfolding tablesShort first weightRow weightOf unknownRow joinRow looseRow chainRow longer placeRow endAt joinedBy joined hasSignal legsOf trainOf withJoin withSignal withLegs withTrain anyBelow isClosed
 numbered a b′ x c₁ t c₂ p q u = (p .numbered, q .numbered, u .numbered)
 
 -- THE EMITTER'S RULE, of anything that a call may have left. In Yard A the line from code 3 on has ten bytes.
 refused-first : (w : Wrote) → EmitRule yardA (replicate 8 7) (replicate 9 7) Top [] w → w .answer ≡ EmitRefused Space
-unfolding caseRefusal tablesShort first unknownRow joinRow looseRow chainRow longer placeRow endAt joinedBy joined hasSignal legsOf trainOf withJoin withSignal withLegs withTrain anyBelow isClosed
+unfolding caseRefusal tablesShort first weightRow weightOf unknownRow joinRow looseRow chainRow longer placeRow endAt joinedBy joined hasSignal legsOf trainOf withJoin withSignal withLegs withTrain anyBelow isClosed
 refused-first w rule = rule .first Space refl
 
 unrefused : caseRefusal yardA figsA setsA ≡ none
-unfolding caseRefusal tablesShort first unknownRow joinRow looseRow chainRow longer placeRow endAt joinedBy joined hasSignal legsOf trainOf withJoin withSignal withLegs withTrain anyBelow isClosed
+unfolding caseRefusal tablesShort first weightRow weightOf unknownRow joinRow looseRow chainRow longer placeRow endAt joinedBy joined hasSignal legsOf trainOf withJoin withSignal withLegs withTrain anyBelow isClosed
 unrefused = refl
 
 abbrev last-line : Due
@@ -210,7 +214,7 @@ abbrev pub otherTexts : String → List (List ℕ)
 otherTexts first = bytes first ∷ bytes "2\t1\t8\t1\t-\n" ∷ bytes "3\t1\t7\t0\t+\n" ∷ bytes "2\t3\t9\t0\t+\n" ∷ []
 
 forms : Form yardA (otherTexts "plan\t9\n") 9 otherLines × Form yardA (otherTexts "plan\t8\n") 8 otherLines × (testHolds yardA 9 (byLines yardA otherLines) ≡ true) × (testHolds yardA 8 (byLines yardA otherLines) ≡ false)
-unfolding bytes all rises spell line digits fits allBelow anyBelow sumBelow whichBelow listBelow codeOf testHolds placementPasses listedSetting lineOn keepsTest sectionsIn standsOn startCode atHome shared headsFor held mayMove signalOpen free passes follow occupied moveOf endAt joinedBy joined hasSignal trainOf withJoin withSignal withLegs withTrain entered isClosed
+unfolding bytes all rises spell line digits fits allBelow anyBelow sumBelow whichBelow listBelow codeOf testHolds placementPasses listedSetting lineOn keepsTest sectionsIn standsOn startCode atHome shared headsFor held mayMove signalOpen free passes follow occupied moveOf endAt joinedBy joined hasSignal trainOf weightOf withJoin withSignal withLegs withTrain entered isClosed
 forms = (record { spelled = refl; fit = refl; rising = refl }, record { spelled = refl; fit = refl; rising = refl }, refl, refl)
 
 passed : Test yardA 9 (byLines yardA otherLines)
@@ -300,5 +304,21 @@ followed L t c = plan-works yardA yardA-accepted 2 L t c
 
 -- FRESH TABLES: eight entries are too few for Yard A, which is number 9, and both tables stay as they were
 pub fresh-kept : (a : CaseAnswer) (c : Checking) → FreshPost yardA (replicate 8 5) (replicate 9 6) a c → (caseNumber a ≡ some 9) × (c .figs ≡ replicate 8 5) × (c .sets ≡ replicate 9 6)
-unfolding caseRefusal tablesShort first unknownRow joinRow looseRow chainRow longer placeRow endAt joinedBy joined hasSignal legsOf trainOf withJoin withSignal withLegs withTrain anyBelow isClosed
+unfolding caseRefusal tablesShort first weightRow weightOf unknownRow joinRow looseRow chainRow longer placeRow endAt joinedBy joined hasSignal legsOf trainOf withJoin withSignal withLegs withTrain anyBelow isClosed
 fresh-kept a c p = (p .numbered, ap (λ (x : Checking). x .figs) (p .checking), ap (λ (x : Checking). x .sets) (p .checking))
+
+-- WITH ALL WEIGHTS 1, as Yard A has them: whoever says that plans are as before says that the plan by another maker passes the test in turns, and does not with another
+-- first line, and that all tables with figures in turns make Yard A's plan.
+module _ (says : PlanAsBefore yardA) where
+  passes-in-turns : TestInTurns yardA 9 (byLines yardA otherLines)
+  passes-in-turns = says .tested 9 (byLines yardA otherLines) .0 passed
+
+  fails-in-turns : ¬ (TestInTurns yardA 8 (byLines yardA otherLines))
+  fails-in-turns t = unpassed (says .tested 8 (byLines yardA otherLines) .1 t)
+
+  plan-in-turns : (figs sets : List ℕ) → FilledInTurns yardA figs sets → planTexts yardA figs sets ≡ linesA
+  plan-in-turns figs sets f = sym (says .texts figsA setsA figs sets yardA-filled f) ∙ computed .1
+
+-- and so it is
+as-before-there : (figs sets : List ℕ) → FilledInTurns yardA figs sets → planTexts yardA figs sets ≡ linesA
+as-before-there = plan-in-turns (plans-as-before yardA yardA-accepted yard-ones)

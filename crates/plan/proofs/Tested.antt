@@ -1,5 +1,5 @@
 -- The test of a plan. Computed it is true exactly if the plan passes; plans that list the same pass together; and whoever follows one that
--- passes is home in time, for the figure listed falls at every turn. Assumes nothing.
+-- passes is home in time, for the figure listed falls at every turn by what it costs at least. Assumes nothing.
 use mathlib.Core.Path.{_≡_, refl, sym, _∙_, ap, subst}
 use mathlib.Core.Logic.{inl, inr}
 use mathlib.Core.Bool.{Bool, true, false, not, _&&_, _||_}
@@ -11,8 +11,8 @@ use Rattle.laws.specs.Below.{allBelow}
 use Rattle.laws.proofs.Bools.{bool?, option?, clash, either, or-left, or-right, and-true, and-both}
 use Rattle.laws.proofs.Below.{all-at, all-of}
 use Rattle.railway.specs.declared.Railway.{Railway}
-use Rattle.game.specs.Game.{Outcome, Game, Choice, following, may, home, over, play, HomeWithin}
-use Rattle.game.specs.Claim.{Below, figureOf, Keeps, Alike}
+use Rattle.game.specs.Game.{Outcome, Game, Choice, following, may, home, over, play, spent, HomeWithin}
+use Rattle.game.specs.Claim.{Within, figureOf, Keeps, Alike}
 use Rattle.game.specs.Local.{keepsTest}
 use Rattle.game.specs.Placement.{placements, startCode, atHome, shared}
 use Rattle.game.specs.Setting.{Setting, SameSetting, held}
@@ -20,7 +20,7 @@ use Rattle.game.specs.Moves.{gameOf}
 use Rattle.game.proofs.Turns.{keeps-test, test-keeps, over-cases}
 use Rattle.game.proofs.Figures.{keeps-same}
 use Rattle.game.proofs.Accepted.{Facts, facts}
-use Rattle.game.proofs.Moves.{inside, start-below}
+use Rattle.game.proofs.Moves.{inside, costs, start-below}
 use Rattle.game.proofs.Agreeing.{alike}
 use Rattle.game.proofs.Homing.{comes-home}
 use Rattle.tables.proofs.Entries.{open-same}
@@ -115,7 +115,7 @@ keeps-alike : {S : Type 0} (g : Game S) (F : ℕ → Option ℕ) (p : ℕ) (s o 
 keeps-alike g F p s o n a k =
     record {
       one-may = (k .one-may .0, sym (a .same-trains (k .one-may .0)) ∙ k .one-may .1);
-      all-below = λ t m. let y : may g p s t ≡ true = a .same-trains t ∙ m in subst (λ (x : Outcome). Below n (figureOf F x)) (a .same-ends t y) (k .all-below t y);
+      all-within = λ t m. let y : may g p s t ≡ true = a .same-trains t ∙ m in subst (λ (x : Outcome). Within n (g .weight t) (figureOf F x)) (a .same-ends t y) (k .all-within t y);
     }
 
 module _ (r : Railway) (ok : Facts r) (L M : Listing) (same : SameListing r L M) where
@@ -147,13 +147,13 @@ module _ (r : Railway) (ok : Facts r) (m : ℕ) (L : Listing) (t : Test r m L) w
   kept p n l f h = t .kept p n l f (let a : shared r p ≡ false = t .apart p n l f in rw a at h)
 
   pub works : (c : Choice Setting) → HomeWithin (gameOf r) (following (listedSetting r L)) c (startCode r) m
-  unfolding play
+  unfolding play spent
   works c = elim (bool? (over (gameOf r) (startCode r))) [
     | inl y ↦ elim (over-cases (shared r (startCode r)) (atHome r (startCode r)) y) [
       | inl z ↦ clash z (t .apart (startCode r) m (start-below r ok) (t .start))
       | inr z ↦ (0, omega arith, z)
     ]
-    | inr y ↦ comes-home (gameOf r) (L .figure) (listedSetting r L) (inside r ok) lost-none kept (following (listedSetting r L)) (λ h p s u q. refl) (startCode r) m (start-below r ok) y
+    | inr y ↦ comes-home (gameOf r) (L .figure) (listedSetting r L) (costs r ok) (inside r ok) lost-none kept (following (listedSetting r L)) (λ h p s u q. refl) (startCode r) m (start-below r ok) y
         (kept (startCode r) m (start-below r ok) (t .start) (not-home (shared r (startCode r)) (atHome r (startCode r)) y)) c
   ]
     where

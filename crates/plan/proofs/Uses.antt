@@ -16,16 +16,19 @@ use Rattle.text.specs.Reading.{fields, valueOf, sameText}
 use Rattle.railway.specs.declared.CaseAnswer.{CaseAnswer}
 use Rattle.railway.specs.Ends.{endAt}
 use Rattle.railway.specs.Refusals.{first}
-use Rattle.railway.specs.Record.{isClosed, joinedBy, joined, hasSignal, legsOf, trainOf, withJoin, withSignal, withLegs, withTrain}
-use Rattle.railway.specs.Rows.{unknownRow, joinRow, looseRow, longer, chainRow, placeRow}
+use Rattle.railway.specs.Record.{isClosed, joinedBy, joined, hasSignal, legsOf, trainOf, weightOf, withJoin, withSignal, withLegs, withTrain}
+use Rattle.railway.specs.Rows.{weightRow, unknownRow, joinRow, looseRow, longer, chainRow, placeRow}
 use Rattle.railway.specs.Yards.{yardA, headOn}
 use Rattle.game.specs.Game.{Game, Way, Choice, lostByMove, standing, following, positional, may, home, over, step, play, homeAt, HomeWithin, ComesHome, Position}
 use Rattle.game.specs.Placement.{codeOf, sectionsIn, standsOn, startCode, atHome, shared}
 use Rattle.game.specs.Setting.{Setting, SameSetting, headsFor, held, mayMove, free, signalOpen}
 use Rattle.game.specs.Moves.{gameOf}
+use Rattle.game.specs.ByTurns.{HomeInTurns}
 use Rattle.game.proofs.Turns.{home-over, may-train}
 use Rattle.game.proofs.Figures.{figure-one, ended}
 use Rattle.game.proofs.Agreeing.{agreeing-alike}
+use Rattle.game.proofs.ByTurns.{one-as-before}
+use Rattle.game.proofs.Inhabited.{yard-ones}
 use Rattle.tables.specs.declared.SolverAnswer.{SolverAnswer}
 use Rattle.tables.specs.declared.SolverAnswer.the-variants.{Refused, Unsolvable, Figure}
 use Rattle.tables.specs.Tables.{figureIn, settingIn, tablesShort, Filled}
@@ -90,7 +93,7 @@ none-other (l ∷ ls) [] = refl
 none-other (l ∷ ls) (x ∷ answers) = none-other ls answers
 
 empty-out : isTaken (takeLine yardA madeFresh [] .answer) ≡ false
-unfolding bytes takeLine tablesShort first unknownRow joinRow looseRow chainRow longer placeRow endAt joinedBy joined hasSignal legsOf trainOf withJoin withSignal withLegs withTrain anyBelow listBelow any all readLine guess fields valueOf sameText spell line digits fits whichBelow isClosed
+unfolding bytes takeLine tablesShort first weightRow weightOf unknownRow joinRow looseRow chainRow longer placeRow endAt joinedBy joined hasSignal legsOf trainOf withJoin withSignal withLegs withTrain anyBelow listBelow any all readLine guess fields valueOf sameText spell line digits fits whichBelow isClosed
 empty-out = refl
 
 -- YARD A
@@ -123,7 +126,10 @@ module _ (a : SolverAnswer) (figs sets : List ℕ) (d : Demand3 yardA a figs set
   -- `plays .follow`: who follows the setting table from (2, 3) is home behind the second turn, whatever the choice of trains
   home-in-two : (c : Choice Setting) → homeAt (gameOf yardA) (play (gameOf yardA) (following (settingIn yardA sets)) c 7 2) ≡ true
   unfolding play atHome shared standsOn sectionsIn allBelow anyBelow trainOf withJoin withSignal withLegs withTrain
-  home-in-two c = let h = d .plays .follow 7 2 (omega (arith, nine)) figure-two c in go (h .0) (h .1) (h .2)
+  home-in-two c =
+      let h : HomeInTurns (gameOf yardA) (following (settingIn yardA sets)) c 7 2 =
+      one-as-before Setting (gameOf yardA) yard-ones .within (following (settingIn yardA sets)) c 7 2 .0 (d .plays .follow 7 2 (omega (arith, nine)) figure-two c) in
+      go (h .0) (h .1) (h .2)
     where
       go : (m : ℕ) → m ≤ 2 → homeAt (gameOf yardA) (play (gameOf yardA) (following (settingIn yardA sets)) c 7 m) ≡ true
           → homeAt (gameOf yardA) (play (gameOf yardA) (following (settingIn yardA sets)) c 7 2) ≡ true

@@ -88,7 +88,8 @@ CheckedHolds =
     (r : Railway) → recordRefusal r ≡ none → (c : Checking) → FreshTables r c → (texts : List (List ℕ))
     → (let u : LineCalls = callLines r texts c in Checked r texts (u .answers) (takenTexts (u .answers) texts) (u .end))
 
--- A plan that passes can be followed: from the start its settings lead home within the figure of its first line, against every choice of trains.
+-- A plan that passes can be followed: from the start its settings lead home within a total of the figure of its first line, against every choice of
+-- trains.
 abbrev pub PlanWorks : Type 0
 PlanWorks =
     (r : Railway) → recordRefusal r ≡ none → (m : ℕ) (L : Listing) → Test r m L

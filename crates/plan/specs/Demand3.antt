@@ -98,7 +98,7 @@ pub record Demand3 (r : Railway) (a : SolverAnswer) (figs sets : List ℕ) : Typ
   pub answer : figureGiven a ≡ figureIn figs (startCode r)
   -- code by code, an entry of the setting table is that of the plan's setting
   pub settings : (p : ℕ) → p < placements r → IsPlanEntry r (figureIn figs) p (figureIn figs p) (getD sets p 0)
-  -- of whole plays: code by code, the figure table has the placement's figure (`plays .figures`); the settings lead home within it, no way of
+  -- of whole plays: code by code, the figure table has the placement's figure (`plays .figures`); the settings lead home within that total, no way of
   -- working does better against all choices of trains, a figure is missing just where no way comes home against them all, and one choice of
   -- trains wins from all those placements
   pub plays : Whole (gameOf r) (figureIn figs) (settingIn r sets)

@@ -9,6 +9,7 @@ pub mod Calls
 pub mod Rules
 pub mod Checked
 pub mod Demand3
+pub mod ByTurns
 pub mod Outputs
 pub mod Reading
 pub mod FirstLine

@@ -12,9 +12,10 @@ use Rattle.laws.specs.Below.{allBelow, anyBelow}
 use Rattle.laws.proofs.Bools.{bool?, some-none}
 use Rattle.laws.proofs.Below.{any-one, any-none, all-but, all-each}
 use Rattle.railway.specs.declared.Railway.{Railway}
+use Rattle.railway.specs.Record.{weightOf}
 use Rattle.game.specs.Game.{Outcome, may}
 use Rattle.game.specs.Claim.{figureOf}
-use Rattle.game.specs.Local.{isBelow, goesBelow, keepsTest}
+use Rattle.game.specs.Local.{isWithin, goesWithin, keepsTest}
 use Rattle.game.specs.Placement.{placements, startCode, atHome, shared}
 use Rattle.game.specs.Setting.{held}
 use Rattle.game.specs.Moves.{moveOf, gameOf}
@@ -54,18 +55,18 @@ module _ (r : Railway) (p v t : ℕ) (o : Bool) (is : o ≡ opensIn v t) where
 
 -- ONE TRAIN: where its move ends, if it may move
 module _ (r : Railway) (figs : List ℕ) (p v n t : ℕ) (o : Move) (is : ended o ≡ moveUnder r p v t) where
-  pub stays-below : o ≡ NotAllowed → true ≡ goesBelow (gameOf r) (figureIn figs) p (settingAt r p v) n t
+  pub stays-within : o ≡ NotAllowed → true ≡ goesWithin (gameOf r) (figureIn figs) p (settingAt r p v) n t
   unfolding moveUnder
-  stays-below e = elim (bool? (may (gameOf r) p (settingAt r p v) t)) [
+  stays-within e = elim (bool? (may (gameOf r) p (settingAt r p v) t)) [
     | inl y ↦ let z : moveUnder r p v t ≡ some (moveOf r p (settingAt r p v) t) = rw y in some-none (is ∙ z) (ap ended e)
     | inr y ↦ rw y
   ]
 
-  pub moves-below : (b : Bool) → ¬ (ended o ≡ none) → ((x : Outcome) → ended o ≡ some x → b ≡ isBelow n (figureOf (figureIn figs) x))
-      → b ≡ goesBelow (gameOf r) (figureIn figs) p (settingAt r p v) n t
+  pub moves-within : (w : ℕ) → w ≡ weightOf r t → (b : Bool) → ¬ (ended o ≡ none) → ((x : Outcome) → ended o ≡ some x → b ≡ isWithin n w (figureOf (figureIn figs) x))
+      → b ≡ goesWithin (gameOf r) (figureIn figs) p (settingAt r p v) n t
   unfolding moveUnder
-  moves-below b moved h = elim (bool? (may (gameOf r) p (settingAt r p v) t)) [
-    | inl y ↦ let z : moveUnder r p v t ≡ some (moveOf r p (settingAt r p v) t) = rw y in rw y (h (moveOf r p (settingAt r p v) t) (is ∙ z))
+  moves-within w weighs b moved h = elim (bool? (may (gameOf r) p (settingAt r p v) t)) [
+    | inl y ↦ let z : moveUnder r p v t ≡ some (moveOf r p (settingAt r p v) t) = rw y in rw (y, ← weighs) (h (moveOf r p (settingAt r p v) t) (is ∙ z))
     | inr y ↦ let z : moveUnder r p v t ≡ none = rw y in absurd (moved (is ∙ z))
   ]
 
@@ -75,7 +76,7 @@ module _ (r : Railway) (figs : List ℕ) (p v n : ℕ) (s : Bool) (is : s ≡ an
   unfolding keepsTest
   none-keeps y = rw (sym is ∙ y)
 
-  pub some-keeps : (b : Bool) → s ≡ true → b ≡ allBelow (goesBelow (gameOf r) (figureIn figs) p (settingAt r p v) n) (r .trains)
+  pub some-keeps : (b : Bool) → s ≡ true → b ≡ allBelow (goesWithin (gameOf r) (figureIn figs) p (settingAt r p v) n) (r .trains)
       → b ≡ keepsTest (gameOf r) (figureIn figs) p (settingAt r p v) n
   unfolding keepsTest
   some-keeps b y e = rw (sym is ∙ y) e

@@ -9,7 +9,7 @@ ghost use Rattle.railway.specs.declared.Railway.{Railway};
 ghost use Rattle.railway.specs.Record.{isClosed};
 ghost use Rattle.game.specs.Game.{Outcome, may};
 ghost use Rattle.game.specs.Claim.{figureOf};
-ghost use Rattle.game.specs.Local.{isBelow, goesBelow, keepsTest};
+ghost use Rattle.game.specs.Local.{isWithin, goesWithin, keepsTest};
 ghost use Rattle.game.specs.Placement.{placements};
 ghost use Rattle.game.specs.Moves.{gameOf};
 ghost use Rattle.tables.specs.Entries.{settingAt};
@@ -122,12 +122,12 @@ fn train_signalled(table: &Table, q: Placement, v: u32, t: u8) -> bool
     }
 }
 
-// Entry v keeps figure n: somebody may move under it, and whoever may comes to a listed placement with a figure below n.
+// Entry v keeps figure n: somebody may move under it, and whoever may comes to a listed placement with a figure smaller than n by its weight at least.
 fn keeps(table: &Table, ways: &Ways, figures: &[u32], q: Placement, v: u32, n: u32) -> bool
     ensures { λ b. ⌜ ((r : Railway) (p : ℕ) → On r p (now (table .entry)) q → Laid r (isClosed r) (now (ways .entry)) → b ≡ keepsTest (gameOf r) (figureIn (now (figures .entry))) p (settingAt r p v) n) ⌝ }
 {
     if some_may(table, q, v) {
-        all_below(table, ways, figures, q, v, n)
+        all_within(table, ways, figures, q, v, n)
     } else {
         false
     }
@@ -147,13 +147,13 @@ fn some_may(table: &Table, q: Placement, v: u32) -> bool
     false
 }
 
-fn all_below(table: &Table, ways: &Ways, figures: &[u32], q: Placement, v: u32, n: u32) -> bool
-    ensures { λ b. ⌜ ((r : Railway) (p : ℕ) → On r p (now (table .entry)) q → Laid r (isClosed r) (now (ways .entry)) → b ≡ allBelow (goesBelow (gameOf r) (figureIn (now (figures .entry))) p (settingAt r p v) n) (r .trains)) ⌝ }
+fn all_within(table: &Table, ways: &Ways, figures: &[u32], q: Placement, v: u32, n: u32) -> bool
+    ensures { λ b. ⌜ ((r : Railway) (p : ℕ) → On r p (now (table .entry)) q → Laid r (isClosed r) (now (ways .entry)) → b ≡ allBelow (goesWithin (gameOf r) (figureIn (now (figures .entry))) p (settingAt r p v) n) (r .trains)) ⌝ }
 {
     let k = compiled::trains_in(table);
     let mut t: u8 = 0;
     while t < k {
-        if goes_below(table, ways, figures, q, v, n, t) {
+        if goes_within(table, ways, figures, q, v, n, t) {
             t += 1;
         } else {
             return false;
@@ -162,8 +162,8 @@ fn all_below(table: &Table, ways: &Ways, figures: &[u32], q: Placement, v: u32, 
     true
 }
 
-// The train may not move, or its move ends below n.
-fn goes_below(
+// The train may not move, or its move ends in a figure smaller than n by its weight at least.
+fn goes_within(
     table: &Table,
     ways: &Ways,
     figures: &[u32],
@@ -172,29 +172,23 @@ fn goes_below(
     n: u32,
     t: u8,
 ) -> bool
-    ensures { λ b. ⌜ ((r : Railway) (p : ℕ) → On r p (now (table .entry)) q → Laid r (isClosed r) (now (ways .entry)) → b ≡ goesBelow (gameOf r) (figureIn (now (figures .entry))) p (settingAt r p v) n t) ⌝ }
+    ensures { λ b. ⌜ ((r : Railway) (p : ℕ) → On r p (now (table .entry)) q → Laid r (isClosed r) (now (ways .entry)) → b ≡ goesWithin (gameOf r) (figureIn (now (figures .entry))) p (settingAt r p v) n t) ⌝ }
 {
     let m = moves::move_in(table, ways, q, v, t);
     let Move::NotAllowed = m else {
-        return is_below(figures, m, n);
+        return is_within(figures, m, compiled::weight_in(table, t), n);
     };
     true
 }
 
-// What a move ends in has a figure below n.
-fn is_below(figures: &[u32], m: Move, n: u32) -> bool
-    ensures { λ b. ⌜ ((o : Outcome) → ended m ≡ some o → b ≡ isBelow n (figureOf (figureIn (now (figures .entry))) o)) ⌝ }
+// What a move ends in has a figure smaller than n by this weight at least.
+fn is_within(figures: &[u32], m: Move, weight: u8, n: u32) -> bool
+    ensures { λ b. ⌜ ((o : Outcome) → ended m ≡ some o → b ≡ isWithin n weight (figureOf (figureIn (now (figures .entry))) o)) ⌝ }
 {
     match m {
         Move::NotAllowed => false,
         Move::Derails => false,
         Move::Collides => false,
-        Move::At(q) => {
-            let f = tables::entry_at(figures, q, NO_FIGURE);
-            if f == NO_FIGURE {
-                return false;
-            }
-            f < n
-        }
+        Move::At(q) => tables::is_within(tables::entry_at(figures, q, NO_FIGURE), weight, n),
     }
 }

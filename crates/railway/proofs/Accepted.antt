@@ -17,13 +17,13 @@ use Rattle.railway.specs.declared.End.{End}
 use Rattle.railway.specs.declared.End.the-variants.{Section, Port}
 use Rattle.railway.specs.declared.Joined.{Joined}
 use Rattle.railway.specs.declared.Joined.the-variants.{Nothing, With}
-use Rattle.railway.specs.declared.Refusal.the-variants.{Count, Unknown, Join, Loose, Chain, Double, Place}
+use Rattle.railway.specs.declared.Refusal.the-variants.{Count, Weight, Unknown, Join, Loose, Chain, Double, Place}
 use Rattle.railway.specs.declared.Railway.{Railway}
-use Rattle.railway.specs.Bounds.{mostSections, mostPoints, mostTrains, sectionEnds, allEnds}
+use Rattle.railway.specs.Bounds.{leastWeight, mostWeight, mostSections, mostPoints, mostTrains, sectionEnds, allEnds}
 use Rattle.railway.specs.Ends.{Numbered, endIndex, endAt, sameSide}
 use Rattle.railway.specs.Refusals.{first}
-use Rattle.railway.specs.Record.{isClosed, linkAt, flagAt, joined, trainOf, sideOf}
-use Rattle.railway.specs.Rows.{unknownClosedAt, shutOutAt, outside, known, unknownLink, unknownLinkAt, unknownSignalAt, unknownTrainAt, ownerOf, oneOwner, tied, wrongPair, wrongLink, wrongLinkAt, leadsTo, unreturned, unreturnedAt, unjoined, looseAt, longer, mostBehind, chainedAt, sharesWith, sharesAt, countRow, unknownRow, joinRow, looseRow, chainRow, doubleRow, placeRow, recordRefusal}
+use Rattle.railway.specs.Record.{isClosed, linkAt, flagAt, joined, trainOf, weightOf, sideOf}
+use Rattle.railway.specs.Rows.{unknownClosedAt, shutOutAt, wrongWeight, wrongWeightAt, weightRow, outside, known, unknownLink, unknownLinkAt, unknownSignalAt, unknownTrainAt, ownerOf, oneOwner, tied, wrongPair, wrongLink, wrongLinkAt, leadsTo, unreturned, unreturnedAt, unjoined, looseAt, longer, mostBehind, chainedAt, sharesWith, sharesAt, countRow, unknownRow, joinRow, looseRow, chainRow, doubleRow, placeRow, recordRefusal}
 use Rattle.railway.specs.Chains.{Joinable}
 use Rattle.railway.proofs.Ends.{end-index, index-one, numbered-of}
 use Rattle.railway.proofs.Refusals.{refuse-none}
@@ -56,6 +56,13 @@ pub within-bounds : (s p k : ℕ) → Bounded s p k → outside s p k ≡ false
 within-bounds s p k b =
     simp (le-ltb s 1 (b .some-section), le-ltb mostSections s (b .few-sections), le-ltb mostPoints p (b .few-points), le-ltb k 1 (b .some-train), le-ltb mostTrains k (b .few-trains))
 
+-- a weight that a train may have, both ways
+pub right-weight : (w : ℕ) → wrongWeight w ≡ false → (leastWeight ≤ w) × (w ≤ mostWeight)
+right-weight w e = let a = or-false (ltb w leastWeight) (ltb mostWeight w) e in (ltb-false w leastWeight (a .0), ltb-false mostWeight w (a .1))
+
+pub weight-right : (w : ℕ) → leastWeight ≤ w → w ≤ mostWeight → wrongWeight w ≡ false
+weight-right w a b = or-none (ltb w leastWeight) (ltb mostWeight w) (le-ltb w leastWeight a) (le-ltb mostWeight w b)
+
 -- a join as it should be
 pub record Right (r : Railway) (e f : End) : Type 0 where
   pub not-one : oneOwner (ownerOf e) (ownerOf f) ≡ false
@@ -71,6 +78,7 @@ pub record Laid (r : Railway) : Type 0 where
 
 pub record Accepted (r : Railway) : Type 0 where
   pub bounds : Bounded (r .sections) (r .points) (r .trains)
+  pub weights : (t : ℕ) → t < r .trains → (leastWeight ≤ weightOf r t) × (weightOf r t ≤ mostWeight)
   pub link-known : (i : ℕ) (f : End) → i < allEnds → linkAt r i ≡ With f → (known r (endAt i) ≡ true) × (known r f ≡ true)
   pub signal-known : (i : ℕ) → i < sectionEnds → flagAt r i ≡ true → known r (endAt i) ≡ true
   pub closed-known : (x : ℕ) → x < mostSections → isClosed r x ≡ true → x < r .sections
@@ -132,10 +140,11 @@ laid-facts r h =
 
 module _ (r : Railway) where
   pub accepted-facts : recordRefusal r ≡ none → Accepted r
-  unfolding recordRefusal first chainRow placeRow
+  unfolding recordRefusal first weightRow chainRow placeRow
   accepted-facts e =
       let r3 = refuse-none (countRow r) Count _ e in
-      let r4 = refuse-none (unknownRow r) Unknown _ (r3 .1) in
+      let r16 = refuse-none (weightRow r) Weight _ (r3 .1) in
+      let r4 = refuse-none (unknownRow r) Unknown _ (r16 .1) in
       let r5 = refuse-none (joinRow r) Join _ (r4 .1) in
       let r6 = refuse-none (looseRow r) Loose _ (r5 .1) in
       let r13 = refuse-none (chainRow r) Chain _ (r6 .1) in
@@ -146,6 +155,7 @@ module _ (r : Railway) where
       let pl = or-false (anyBelow (sharesAt r) (r .trains)) (anyBelow (shutOutAt r) (r .trains)) (r8 .0) in
       record {
         bounds = w .bounds;
+        weights = λ t h. right-weight (weightOf r t) (any-false (wrongWeightAt r) (r .trains) (r16 .0) t h);
         link-known = w .link-known;
         signal-known = λ i h l. not-is (known r (endAt i)) (rw l at (any-false (unknownSignalAt r) sectionEnds (k .flags) i h));
         closed-known = λ x h l. ltb-true x (r .sections) (not-is (ltb x (r .sections)) (rw l at (any-false (unknownClosedAt r) mostSections (k .shut) x h)));
@@ -191,6 +201,10 @@ module _ (r : Railway) where
     tight n l Nothing b h = absurd (w .port-joined n l b h)
     tight n l (With f) b h = refl
 
+    no-weight : weightRow r ≡ false
+    unfolding weightRow
+    no-weight = none-any _ (r .trains) (λ t b. weight-right (weightOf r t) (w .weights t b .0) (w .weights t b .1))
+
     no-unknown : unknownRow r ≡ false
     unfolding unknownRow
     no-unknown =
@@ -235,7 +249,7 @@ module _ (r : Railway) where
 
     pub facts-accepted : recordRefusal r ≡ none
     unfolding recordRefusal first
-    facts-accepted = simp (within-bounds (r .sections) (r .points) (r .trains) (w .bounds), no-unknown, no-join, no-loose, no-chain, no-place)
+    facts-accepted = simp (within-bounds (r .sections) (r .points) (r .trains) (w .bounds), no-weight, no-unknown, no-join, no-loose, no-chain, no-place)
 
 -- what is known has a number that a railway can have
 numbered-within : (r : Railway) → Bounded (r .sections) (r .points) (r .trains) → (e : End) → known r e ≡ true → Numbered e

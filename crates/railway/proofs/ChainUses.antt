@@ -26,22 +26,22 @@ use Rattle.railway.specs.declared.Railway.{Railway}
 use Rattle.railway.specs.Refusals.{first, numberOf}
 use Rattle.railway.specs.Record.{joined}
 use Rattle.railway.specs.Passing.{through, mostMet, follow, passes}
-use Rattle.railway.specs.Rows.{chainRow, recordRefusal}
+use Rattle.railway.specs.Rows.{weightRow, chainRow, recordRefusal}
 use Rattle.railway.specs.Yards.{sec, port}
 use Rattle.railway.specs.Chains.{portOut, portPast, onward, leftBy, Joinable, LongWay, Round}
 use Rattle.railway.proofs.Chains.{chain-exactly, accepted-unbroken}
 
--- 13 GIVEN. Where row 13 applies behind rows 3 to 6, the number is 13.
-thirteen : (r : Railway) → Joinable r → chainRow r ≡ true → numberOf (recordRefusal r) ≡ some 13
+-- 13 GIVEN. Where row 13 applies and none of those before it, the number is 13.
+thirteen : (r : Railway) → weightRow r ≡ false → Joinable r → chainRow r ≡ true → numberOf (recordRefusal r) ≡ some 13
 unfolding recordRefusal first
-thirteen r h c = rw (h .count, h .unknown, h .join, h .loose, c)
+thirteen r w h c = rw (h .count, w, h .unknown, h .join, h .loose, c)
 
 -- Whatever else there is: where 1u leads over the plus legs of points 1 to 5 to a section, the record gets 13;
-five-in-row : (r : Railway) → Joinable r → (x : SectionNo) (s : Side) → joined r (sec 1 Up) ≡ With (port 1 Stem) → joined r (port 1 Plus) ≡ With (port 2 Stem) → joined r (port 2 Plus) ≡ With (port 3 Stem)
+five-in-row : (r : Railway) → weightRow r ≡ false → Joinable r → (x : SectionNo) (s : Side) → joined r (sec 1 Up) ≡ With (port 1 Stem) → joined r (port 1 Plus) ≡ With (port 2 Stem) → joined r (port 2 Plus) ≡ With (port 3 Stem)
     → joined r (port 3 Plus) ≡ With (port 4 Stem) → joined r (port 4 Plus) ≡ With (port 5 Stem) → joined r (port 5 Plus) ≡ With (Section x s) → numberOf (recordRefusal r) ≡ some 13
 unfolding leftBy
-five-in-row r h x s a b c d e f =
-    thirteen r h
+five-in-row r w h x s a b c d e f =
+    thirteen r w h
     (chain-exactly r h .1
     (inl (record {
       plus = λ n. true;
@@ -57,10 +57,10 @@ five-in-row r h x s a b c d e f =
     })))
 
 -- and where 1+ leads to 2+ and 2s to 1s, a round, whether or not a section leads to it.
-round-of-two : (r : Railway) → Joinable r → joined r (port 1 Plus) ≡ With (port 2 Plus) → joined r (port 2 Stem) ≡ With (port 1 Stem) → numberOf (recordRefusal r) ≡ some 13
+round-of-two : (r : Railway) → weightRow r ≡ false → Joinable r → joined r (port 1 Plus) ≡ With (port 2 Plus) → joined r (port 2 Stem) ≡ With (port 1 Stem) → numberOf (recordRefusal r) ≡ some 13
 unfolding leftBy
-round-of-two r h a b =
-    thirteen r h (chain-exactly r h .1 (inr (record { plus = λ n. true; point = record { 0 = 0 }; leg = Plus; further = 1; again = rw (a, b) })))
+round-of-two r w h a b =
+    thirteen r w h (chain-exactly r h .1 (inr (record { plus = λ n. true; point = record { 0 = 0 }; leg = Plus; further = 1; again = rw (a, b) })))
 
 -- 13 NOT GIVEN. Where no port is joined to a port, row 13 does not apply: neither a way over more than four points nor a round goes on from its first.
 module _ (r : Railway) (apart : (n m : PointNo) (l k : Leg) → joined r (Port n l) ≡ With (Port m k) → ⊥) (plus : ℕ → Bool) where

@@ -18,8 +18,8 @@ use Rattle.railway.specs.declared.Joined.the-variants.{Nothing, With}
 use Rattle.railway.specs.declared.Railway.{Railway}
 use Rattle.railway.specs.Ends.{endIndex, endAt}
 use Rattle.railway.specs.Refusals.{first, numberOf}
-use Rattle.railway.specs.Record.{isClosed, bareRailway, emptyRailway, joinedBy, joined, hasSignal, legsOf, trainOf, sideOf, withLinks, setLink, withJoin, withSignal, withLegs, withTrain, withClosed}
-use Rattle.railway.specs.Rows.{unknownRow, joinRow, looseRow, longer, chainRow, placeRow, rowsBy, recordRefusal}
+use Rattle.railway.specs.Record.{isClosed, bareRailway, emptyRailway, joinedBy, joined, hasSignal, legsOf, trainOf, weightOf, sideOf, withLinks, setLink, withJoin, withSignal, withLegs, withTrain, withClosed}
+use Rattle.railway.specs.Rows.{weightRow, unknownRow, joinRow, looseRow, longer, chainRow, placeRow, rowsBy, recordRefusal}
 use Rattle.railway.specs.Chains.{Joinable}
 
 -- records, with the document's numbers: what is added to bare counts
@@ -33,7 +33,11 @@ port : Leg → ℕ → End
 port l n = Port (record { 0 = n - 1 }) l
 
 train : ℕ → Side → ℕ → ℕ → Railway → Railway
-train t h a b r = withTrain r (t - 1) (record { heading = h; start = record { 0 = a - 1 }; destination = record { 0 = b - 1 } })
+train t h a b r = withTrain r (t - 1) (record { heading = h; start = record { 0 = a - 1 }; destination = record { 0 = b - 1 }; weight = 1 })
+
+-- the same with a weight
+weighing : ℕ → ℕ → Side → ℕ → ℕ → Railway → Railway
+weighing w t h a b r = withTrain r (t - 1) (record { heading = h; start = record { 0 = a - 1 }; destination = record { 0 = b - 1 }; weight = w })
 
 join : End → End → Railway → Railway
 join a b r = withJoin r a b
@@ -124,6 +128,12 @@ cases =
     ∷ gets (some 3) (bareRailway 2 17 1)
     ∷ gets (some 3) (bareRailway 2 0 0)
     ∷ gets (some 3) (bareRailway 2 0 5)
+    -- 16: a weight of 0, of any train that is there, before 4 and behind 3; 255 is a weight; a weight over it, which a byte cannot have
+    ∷ gets (some 16) (weighing 0 1 Up 1 1 two)
+    ∷ gets (some 16) (weighing 0 2 Up 3 2 two2)
+    ∷ gets (some 3) (weighing 0 1 Up 1 1 (bareRailway 0 0 1))
+    ∷ gets none (weighing 0 2 Up 2 2 (weighing 255 1 Up 1 1 two))
+    ∷ gets (some 16) (weighing 256 1 Up 1 1 two)
     -- 4: a join to an unknown section or point, one at such an end, a signal, a start, a destination, a closed section
     ∷ gets (some 4) (join (u 1) (d 3) two)
     ∷ gets (some 4) (join (u 1) (port Stem 1) two)
@@ -160,8 +170,9 @@ cases =
     ∷ gets (some 8) (train 3 Up 1 3 (train 2 Up 2 2 (bareRailway 3 0 3)))
     ∷ gets (some 8) (shut 1 two)
     ∷ gets (some 8) (shut 2 (train 1 Up 1 2 two))
-    -- 3 with 4, 4 with 5, 4 with 6, 5 with 6, 5 with 8, 6 with 8; a round with 4, 5, 6 and 8, and five in a row with 8: the first in the order of the rows
+    -- 3 with 4, 16 with 8, 4 with 5, 4 with 6, 5 with 6, 5 with 8, 6 with 8; a round with 4, 5, 6 and 8, and five in a row with 8: the first in the order of the rows
     ∷ gets (some 3) (signal (d 3) (bareRailway 2 17 1))
+    ∷ gets (some 16) (weighing 0 2 Up 1 2 two2)
     ∷ gets (some 4) (join (u 1) (u 2) (signal (d 3) two))
     ∷ gets (some 4) (train 1 Up 3 1 (bareRailway 2 1 1))
     ∷ gets (some 5) (join (u 1) (u 2) (bareRailway 2 1 1))
@@ -175,29 +186,30 @@ cases =
     ∷ []
 
 numbers : map (λ k. numberOf (recordRefusal (k .of))) cases ≡ map (λ k. k .number) cases
-unfolding anyBelow endAt first joinedBy joined hasSignal isClosed legsOf trainOf withJoin withSignal withLegs withTrain withClosed unknownRow joinRow looseRow longer chainRow placeRow recordRefusal u d port train join half byte signal legs shut two two2 fork inRow lastOf fourInRow fiveInRow round crossover gets cases
+unfolding anyBelow endAt first joinedBy joined hasSignal isClosed legsOf trainOf weightOf withJoin withSignal withLegs withTrain withClosed weightRow unknownRow joinRow looseRow longer chainRow placeRow recordRefusal u d port train weighing join half byte signal legs shut two two2 fork inRow lastOf fourInRow fiveInRow round crossover gets cases
 numbers = refl
 
 -- Rows 3 to 6 do not apply to the round, nor to five in a row.
 round-joinable : Joinable (round 2 1)
-unfolding anyBelow endAt joinedBy joined hasSignal isClosed legsOf trainOf withJoin withLegs unknownRow joinRow looseRow port join legs round
+unfolding anyBelow endAt joinedBy joined hasSignal isClosed legsOf trainOf withJoin withLegs weightRow weightOf unknownRow joinRow looseRow port join legs round
 round-joinable = record { count = refl; unknown = refl; join = refl; loose = refl }
 
 five-joinable : Joinable (fiveInRow 1)
-unfolding anyBelow endAt joinedBy joined hasSignal isClosed legsOf trainOf withJoin unknownRow joinRow looseRow u d port join inRow lastOf fiveInRow
+unfolding anyBelow endAt joinedBy joined hasSignal isClosed legsOf trainOf withJoin weightRow weightOf unknownRow joinRow looseRow u d port join inRow lastOf fiveInRow
 five-joinable = record { count = refl; unknown = refl; join = refl; loose = refl }
 
 -- THE ORDER, row by row: each applies with all behind it, and comes first.
 order : map numberOf (
-    first (rowsBy true true true true true true true)
-    ∷ first (rowsBy false true true true true true true)
-    ∷ first (rowsBy false false true true true true true)
-    ∷ first (rowsBy false false false true true true true)
-    ∷ first (rowsBy false false false false true true true)
-    ∷ first (rowsBy false false false false false true true)
-    ∷ first (rowsBy false false false false false false true)
+    first (rowsBy true true true true true true true true)
+    ∷ first (rowsBy false true true true true true true true)
+    ∷ first (rowsBy false false true true true true true true)
+    ∷ first (rowsBy false false false true true true true true)
+    ∷ first (rowsBy false false false false true true true true)
+    ∷ first (rowsBy false false false false false true true true)
+    ∷ first (rowsBy false false false false false false true true)
+    ∷ first (rowsBy false false false false false false false true)
     ∷ []
-    ) ≡ some 3 ∷ some 4 ∷ some 5 ∷ some 6 ∷ some 13 ∷ some 7 ∷ some 8 ∷ []
+    ) ≡ some 3 ∷ some 16 ∷ some 4 ∷ some 5 ∷ some 6 ∷ some 13 ∷ some 7 ∷ some 8 ∷ []
 unfolding first
 order = refl
 

@@ -14,6 +14,7 @@ use Rattle.laws.proofs.Lists.{getD-inside}
 use Rattle.railway.specs.declared.Side.the-variants.{Up}
 use Rattle.railway.specs.declared.End.{End}
 use Rattle.railway.specs.declared.Legs.{Legs}
+use Rattle.railway.specs.declared.Train.{Train}
 use Rattle.railway.specs.declared.Joined.{Joined}
 use Rattle.railway.specs.declared.Joined.the-variants.{Nothing}
 use Rattle.railway.specs.declared.Railway.{Railway}
@@ -122,9 +123,9 @@ module _ (r : Railway) (n : ℕ) where
   unfolding legsOf
   legs-past h = either-way n (r .points) (getD (r .legs) n noLegs .side) Up (ap (λ (l : Legs). l .side) (List·getD-eq-default (r .legs) noLegs h))
 
-  pub roster-there : n < r .trains → getD (r .roster) n noTrain ≡ trainOf r n
+  pub roster-there : (d : Train) → n < r .trains → n < length (r .roster) → getD (r .roster) n d ≡ trainOf r n
   unfolding trainOf
-  roster-there h = within n (r .trains) (getD (r .roster) n noTrain) noTrain h
+  roster-there d h l = getD-inside (r .roster) n d noTrain l ∙ within n (r .trains) (getD (r .roster) n noTrain) noTrain h
 
   pub roster-none : r .trains ≤ n → noTrain ≡ trainOf r n
   unfolding trainOf

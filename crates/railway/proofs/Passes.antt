@@ -12,9 +12,9 @@ use Rattle.railway.specs.declared.Leg.the-variants.{Stem, Plus, Minus}
 use Rattle.railway.specs.declared.Railway.{Railway}
 use Rattle.railway.specs.Ends.{endAt}
 use Rattle.railway.specs.Refusals.{first, numberOf}
-use Rattle.railway.specs.Record.{isClosed, joinedBy, joined, legsOf, trainOf, withJoin, withSignal, withClosed, withLegs, withTrain}
+use Rattle.railway.specs.Record.{isClosed, joinedBy, joined, legsOf, trainOf, weightOf, withJoin, withSignal, withClosed, withLegs, withTrain}
 use Rattle.railway.specs.Passing.{Passage, follow, passes, entered}
-use Rattle.railway.specs.Rows.{unknownRow, joinRow, looseRow, longer, chainRow, placeRow, recordRefusal}
+use Rattle.railway.specs.Rows.{weightRow, unknownRow, joinRow, looseRow, longer, chainRow, placeRow, recordRefusal}
 use Rattle.railway.specs.Yards.{yardH, lineP, lineJ, lineG, lineX, lineT, sec, port}
 
 -- A CROSSOVER. Section 1 leads over point 1 to section 2, section 3 over point 2 to section 4, and the minus legs of the two points are joined. Train 1 is to
@@ -69,7 +69,7 @@ shut = lineT 1 Up 1 1 (lineX 2 (lineJ (sec 1 Up) (sec 2 Down) (yardH 2 0 1)))
 
 -- the last of them is refused, for its five points
 yards : (recordRefusal crossover ≡ none) × (recordRefusal stairs ≡ none) × (recordRefusal shut ≡ none) × (numberOf (recordRefusal longStairs) ≡ some 13)
-unfolding recordRefusal first unknownRow joinRow looseRow chainRow longer placeRow anyBelow joinedBy joined legsOf trainOf endAt withJoin withSignal withClosed withLegs withTrain isClosed
+unfolding recordRefusal first weightRow weightOf unknownRow joinRow looseRow chainRow longer placeRow anyBelow joinedBy joined legsOf trainOf endAt withJoin withSignal withClosed withLegs withTrain isClosed
 yards = (refl, refl, refl, refl)
 
 -- THE POINTS of the crossover, the first at plus or not, and the second.

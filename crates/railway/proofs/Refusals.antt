@@ -13,7 +13,7 @@ use Rattle.laws.specs.Lists.{Every}
 use Rattle.laws.proofs.Bools.{clash, some-none, some-one, not-true}
 use Rattle.laws.proofs.Lists.{every-none, every-more}
 use Rattle.railway.specs.declared.Refusal.{Refusal}
-use Rattle.railway.specs.declared.Refusal.the-variants.{Length, Form, Count, Unknown, Join, Loose, Chain, Double, Place, Space, PlanForm, PlanFault}
+use Rattle.railway.specs.declared.Refusal.the-variants.{Length, Form, Count, Weight, Unknown, Join, Loose, Chain, Double, Place, Space, PlanForm, PlanFault}
 use Rattle.railway.specs.Refusals.{number, Row, row, Applying, NotApplying, refuseIf, first, numberOf, FirstRow}
 
 first-step : (b : Bool) (x : Row) (xs : List Row) (f : Refusal) → x .applies ≡ b → refuseIf b (x .refusal) (first xs) ≡ some f
@@ -98,7 +98,8 @@ byNumber n =
     (cond (eqb n 9) Space
     (cond (eqb n 10) PlanForm
     (cond (eqb n 11) PlanFault
-    Chain))))))))))
+    (cond (eqb n 13) Chain
+    Weight)))))))))))
 
 number-back : (f : Refusal) → byNumber (number f) ≡ f
 unfolding byNumber
@@ -114,6 +115,7 @@ number-back Space = refl
 number-back PlanForm = refl
 number-back PlanFault = refl
 number-back Chain = refl
+number-back Weight = refl
 
 pub number-one : (f g : Refusal) → number f ≡ number g → f ≡ g
 number-one f g e = sym (number-back f) ∙ (let z : byNumber (number f) ≡ byNumber (number g) = rw e in z) ∙ number-back g

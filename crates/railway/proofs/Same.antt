@@ -1,6 +1,6 @@
 -- To be the same railway is an equivalence, and nothing that a record answers tells two such records apart: its lookups, its rows, its test.
 -- Each lookup is guarded by the counts and bounds within which records are compared, so it goes by cases of its guard. Assumes nothing.
-use mathlib.Core.Path.{_≡_, refl, sym, _∙_}
+use mathlib.Core.Path.{_≡_, refl, sym, _∙_, ap}
 use mathlib.Core.Bool.{Bool, true, false, cond}
 use mathlib.Core.List.{[]}
 use Prim.Native.Nat.{ℕ, zero, suc, _<_}
@@ -15,12 +15,13 @@ use Rattle.railway.specs.declared.End.{End}
 use Rattle.railway.specs.declared.End.the-variants.{Section, Port}
 use Rattle.railway.specs.declared.Joined.{Joined}
 use Rattle.railway.specs.declared.Joined.the-variants.{Nothing, With}
-use Rattle.railway.specs.declared.Refusal.the-variants.{Count, Unknown, Join, Loose, Chain, Double, Place}
+use Rattle.railway.specs.declared.Refusal.the-variants.{Count, Weight, Unknown, Join, Loose, Chain, Double, Place}
+use Rattle.railway.specs.declared.Train.{Train}
 use Rattle.railway.specs.declared.Railway.{Railway}
 use Rattle.railway.specs.Bounds.{mostSections, sectionEnds, allEnds}
 use Rattle.railway.specs.Ends.{endIndex, endAt}
-use Rattle.railway.specs.Record.{linkAt, flagAt, closedAt, joined, hasSignal, isClosed, legsOf, trainOf, sideOf}
-use Rattle.railway.specs.Rows.{known, unknownLink, unknownLinkAt, unknownSignalAt, unknownClosedAt, unknownTrainAt, wrongLink, wrongLinkAt, unreturned, unreturnedAt, looseAt, longerPast, longerOver, longer, mostBehind, chainedAt, sharesWith, sharesAt, shutOutAt, countRow, unknownRow, joinRow, looseRow, chainRow, placeRow, recordRefusal}
+use Rattle.railway.specs.Record.{linkAt, flagAt, closedAt, joined, hasSignal, isClosed, legsOf, trainOf, weightOf, sideOf}
+use Rattle.railway.specs.Rows.{wrongWeightAt, weightRow, known, unknownLink, unknownLinkAt, unknownSignalAt, unknownClosedAt, unknownTrainAt, wrongLink, wrongLinkAt, unreturned, unreturnedAt, looseAt, longerPast, longerOver, longer, mostBehind, chainedAt, sharesWith, sharesAt, shutOutAt, countRow, unknownRow, joinRow, looseRow, chainRow, placeRow, recordRefusal}
 use Rattle.railway.specs.Same.{SameRailway}
 use Rattle.railway.proofs.Lookups.{legs-none, roster-none}
 use Rattle.railway.proofs.Refusals.{first-same}
@@ -108,7 +109,18 @@ module _ (r q : Railway) (h : SameRailway r q) where
   known-same (Section n s) = rw (h .sections)
   known-same (Port n l) = rw (h .points)
 
+  pub weight-same : (t : ℕ) → weightOf r t ≡ weightOf q t
+  unfolding weightOf
+  weight-same t = ap (λ (x : Train). x .weight) (roster-same t)
+
   -- the rows
+  weights-same : weightRow r ≡ weightRow q
+  unfolding weightRow
+  weights-same =
+      let a : anyBelow (wrongWeightAt r) (r .trains) ≡ anyBelow (wrongWeightAt q) (r .trains)
+      = any-same (wrongWeightAt r) (wrongWeightAt q) (r .trains) (λ t b. rw (weight-same t)) in
+      rw (a, h .trains)
+
   unknown-link-same : (e : End) (j : Joined) → unknownLink r e j ≡ unknownLink q e j
   unknown-link-same e Nothing = refl
   unknown-link-same e (With f) = rw (known-same e, known-same f)
@@ -192,9 +204,10 @@ module _ (r q : Railway) (h : SameRailway r q) where
   unfolding recordRefusal
   refusal-same =
       first-same Count (countRow r) (countRow q) _ _ count-same
+      (first-same Weight (weightRow r) (weightRow q) _ _ weights-same
       (first-same Unknown (unknownRow r) (unknownRow q) _ _ unknown-same
       (first-same Join (joinRow r) (joinRow q) _ _ join-same
       (first-same Loose (looseRow r) (looseRow q) _ _ loose-same
       (first-same Chain (chainRow r) (chainRow q) _ _ chain-same
       (first-same Double false false _ _ refl
-      (first-same Place (placeRow r) (placeRow q) [] [] place-same refl))))))
+      (first-same Place (placeRow r) (placeRow q) [] [] place-same refl)))))))

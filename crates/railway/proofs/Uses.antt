@@ -20,11 +20,11 @@ use Rattle.railway.specs.declared.End.the-variants.{Section, Port}
 use Rattle.railway.specs.declared.Joined.the-variants.{Nothing, With}
 use Rattle.railway.specs.declared.Railway.{Railway}
 use Rattle.railway.specs.declared.Refusal.{Refusal}
-use Rattle.railway.specs.declared.Refusal.the-variants.{Count, Unknown, Join, Loose, Chain, Double, Place}
+use Rattle.railway.specs.declared.Refusal.the-variants.{Count, Weight, Unknown, Join, Loose, Chain, Double, Place}
 use Rattle.railway.specs.Ends.{Numbered, endIndex, endAt}
-use Rattle.railway.specs.Record.{isClosed, noLink, joinedBy, joined, legsOf, trainOf, withLinks, withJoin, withSignal, withLegs, withTrain}
+use Rattle.railway.specs.Record.{isClosed, noLink, joinedBy, joined, legsOf, trainOf, weightOf, withLinks, withJoin, withSignal, withLegs, withTrain}
 use Rattle.railway.specs.Refusals.{number, Row, row, Applying, NotApplying, numberOf}
-use Rattle.railway.specs.Rows.{known, unknownRow, joinRow, looseRow, longer, chainRow, placeRow, recordRows, recordRefusal}
+use Rattle.railway.specs.Rows.{known, weightRow, unknownRow, joinRow, looseRow, longer, chainRow, placeRow, recordRows, recordRefusal}
 use Rattle.railway.specs.Yards.{yardA, lineT}
 use Rattle.railway.specs.Same.{SameByte, SameButForNone}
 use Rattle.railway.specs.Claims.{JoinOf}
@@ -42,15 +42,15 @@ off xs h = every-more (λ y. Applying y → ⊥) _ xs (λ p. clash p refl) h
 
 -- It gets 8: row 8 applies, and none before it.
 eight : numberOf (recordRefusal shared) ≡ some 8
-unfolding anyBelow endAt joinedBy joined legsOf trainOf withJoin withSignal withLegs withTrain unknownRow joinRow looseRow longer chainRow placeRow shared isClosed
+unfolding anyBelow endAt joinedBy joined legsOf trainOf weightOf withJoin withSignal withLegs withTrain weightRow unknownRow joinRow looseRow longer chainRow placeRow shared isClosed
 eight =
     record-numbers .given shared Place .1
     (record {
-      before = row Count false ∷ row Unknown false ∷ row Join false ∷ row Loose false ∷ row Chain false ∷ row Double false ∷ [];
+      before = row Count false ∷ row Weight false ∷ row Unknown false ∷ row Join false ∷ row Loose false ∷ row Chain false ∷ row Double false ∷ [];
       after = [];
       order = refl;
       here = refl;
-      not-before = off _ (off _ (off _ (off _ (off _ (off _ (every-none (λ y. Applying y → ⊥)))))));
+      not-before = off _ (off _ (off _ (off _ (off _ (off _ (off _ (every-none (λ y. Applying y → ⊥))))))));
     })
 
 -- It gets nothing else: whatever refusal has the number that it gets is that of row 8.
@@ -73,19 +73,19 @@ place-applies : (r : Railway) → numberOf (recordRefusal r) ≡ some 8 → plac
 place-applies r e =
     let w = record-numbers .given r Place .0 e in
     let m : List·Memᴰ (row Place true) (recordRows r) = rw (w .order) (Memᴰ·append-right (w .before) (List·Memᴰ·head refl)) in
-    last _ (other _ _ _ (λ z. omega arith) (other _ _ _ (λ z. omega arith) (other _ _ _ (λ z. omega arith) (other _ _ _ (λ z. omega arith) (other _ _ _ (λ z. omega arith) (other _ _ _ (λ z. omega arith) m))))))
+    last _ (other _ _ _ (λ z. omega arith) (other _ _ _ (λ z. omega arith) (other _ _ _ (λ z. omega arith) (other _ _ _ (λ z. omega arith) (other _ _ _ (λ z. omega arith) (other _ _ _ (λ z. omega arith) (other _ _ _ (λ z. omega arith) m)))))))
 
 -- Yard A gets no number, for no row applies to it; and a record that gets none has no loose port.
 none-off : (xs : List Row) {f : Refusal} → Every NotApplying xs → Every NotApplying (row f false ∷ xs)
 none-off xs h = every-more NotApplying _ xs refl h
 
 yard-a-accepted : numberOf (recordRefusal yardA) ≡ none
-unfolding anyBelow endAt joinedBy joined legsOf trainOf withJoin withSignal withLegs withTrain unknownRow joinRow looseRow longer chainRow placeRow isClosed
-yard-a-accepted = record-numbers .accepted yardA .1 (none-off _ (none-off _ (none-off _ (none-off _ (none-off _ (none-off _ (none-off _ (every-none NotApplying))))))))
+unfolding anyBelow endAt joinedBy joined legsOf trainOf weightOf withJoin withSignal withLegs withTrain weightRow unknownRow joinRow looseRow longer chainRow placeRow isClosed
+yard-a-accepted = record-numbers .accepted yardA .1 (none-off _ (none-off _ (none-off _ (none-off _ (none-off _ (none-off _ (none-off _ (none-off _ (every-none NotApplying)))))))))
 
 ports-joined : (r : Railway) → numberOf (recordRefusal r) ≡ none → looseRow r ≡ false
 ports-joined r e =
-    record-numbers .accepted r .0 e (row Loose (looseRow r)) (List·Memᴰ·tail (List·Memᴰ·tail (List·Memᴰ·tail (List·Memᴰ·head refl))))
+    record-numbers .accepted r .0 e (row Loose (looseRow r)) (List·Memᴰ·tail (List·Memᴰ·tail (List·Memᴰ·tail (List·Memᴰ·tail (List·Memᴰ·head refl)))))
 
 -- BYTES FOR ENDS. An end with byte 96 is 1s, and whatever end has it is what the byte says; no end has byte 144, some end has byte 143; from 144 on no
 -- byte says an end, that which is written for no join least of all.

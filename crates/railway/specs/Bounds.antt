@@ -22,6 +22,14 @@ fewestTrains = 1
 abbrev pub mostTrains : ℕ
 mostTrains = 4
 
+-- The least weight of a train: what one move of it costs (document 02, Q-12).
+abbrev pub leastWeight : ℕ
+leastWeight = 1
+
+-- The largest weight.
+abbrev pub mostWeight : ℕ
+mostWeight = 255
+
 -- The ends of that many sections: each has two.
 abbrev pub sectionEnds : ℕ
 sectionEnds = 2 * mostSections

@@ -63,7 +63,7 @@ pub record Round (r : Railway) : Type 0 where
   pub further : ℕ
   pub again : leftBy r plus (suc further) (Port point leg) ≡ some (Port point leg)
 
--- Rows 3 to 6, which come before, do not apply.
+-- Rows 3 to 6, which come before, do not apply. (So does row 16, on which nothing here depends.)
 pub record Joinable (r : Railway) : Type 0 where
   pub count : countRow r ≡ false
   pub unknown : unknownRow r ≡ false

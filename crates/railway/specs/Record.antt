@@ -1,5 +1,5 @@
 -- The railway record: the empty one, what it answers when it is asked, and its updates (document 01, "The railway").
--- What is asked of something that is not there has an answer too: no join, no signal, not closed, legs up, a train up from section 1 to 1.
+-- What is asked of something that is not there has an answer too: no join, no signal, not closed, legs up, a train up from section 1 to 1, of weight 1.
 -- An update of what no railway can have changes nothing. Assumes nothing.
 use mathlib.Core.Bool.{Bool, true, false, cond, _&&_}
 use mathlib.Core.List.{List}
@@ -15,7 +15,7 @@ use Rattle.railway.specs.declared.Joined.the-variants.{Nothing, With}
 use Rattle.railway.specs.declared.Legs.{Legs}
 use Rattle.railway.specs.declared.Train.{Train}
 use Rattle.railway.specs.declared.Railway.{Railway}
-use Rattle.railway.specs.Bounds.{mostSections, mostPoints, mostTrains, sectionEnds, allEnds}
+use Rattle.railway.specs.Bounds.{mostSections, mostPoints, mostTrains, leastWeight, sectionEnds, allEnds}
 use Rattle.railway.specs.Ends.{portSide, endIndex, endAt}
 
 -- WHAT STANDS FOR SOMETHING THAT IS NOT THERE. Legs: up.
@@ -26,9 +26,9 @@ noLegs = record { side = Up }
 abbrev pub noLink : ℕ
 noLink = 255
 
--- A train: up, from section 1 to 1.
+-- A train: up, from section 1 to 1, of the least weight.
 abbrev pub noTrain : Train
-noTrain = record { heading = Up; start = record { 0 = 0 }; destination = record { 0 = 0 } }
+noTrain = record { heading = Up; start = record { 0 = 0 }; destination = record { 0 = 0 }; weight = leastWeight }
 
 -- The record of these counts in which nothing else is said yet.
 abbrev pub bareRailway : ℕ → ℕ → ℕ → Railway
@@ -85,9 +85,13 @@ isClosed r x = cond (ltb x mostSections) (closedAt r x) false
 unfoldable pub legsOf : Railway → ℕ → Side
 legsOf r n = cond (ltb n (r .points)) (getD (r .legs) n noLegs .side) Up
 
--- A train's heading, start and destination.
+-- A train's heading, start, destination and weight.
 unfoldable pub trainOf : Railway → ℕ → Train
 trainOf r t = cond (ltb t (r .trains)) (getD (r .roster) t noTrain) noTrain
+
+-- What a move of a train costs (document 02, Q-12).
+unfoldable pub weightOf : Railway → ℕ → ℕ
+weightOf r t = trainOf r t .weight
 
 -- The side of an end: a section's own, a port's by the legs of its point.
 abbrev pub sideOf : Railway → End → Side

@@ -1,4 +1,4 @@
--- Rows 3 to 8 and 13 of the table of numbers, for a record handed in: one definition a row, in the order in which they are given, and the first that applies.
+-- Rows 3 to 8, 13 and 16 of the table of numbers, for a record handed in: one definition a row, in the order in which they are given, and the first that applies.
 -- A record can have faults that no text can express; each row says what it makes of them (docs/DECISIONS.md gives the reasons). Assumes nothing.
 use mathlib.Core.Bool.{Bool, true, false, not, _&&_, _||_}
 use mathlib.Core.List.{List, [], _∷_}
@@ -16,12 +16,12 @@ use Rattle.railway.specs.declared.Joined.{Joined}
 use Rattle.railway.specs.declared.Joined.the-variants.{Nothing, With}
 use Rattle.railway.specs.declared.Railway.{Railway}
 use Rattle.railway.specs.declared.Refusal.{Refusal}
-use Rattle.railway.specs.declared.Refusal.the-variants.{Count, Unknown, Join, Loose, Chain, Double, Place}
-use Rattle.railway.specs.Bounds.{fewestSections, fewestTrains, mostSections, mostPoints, mostTrains, sectionEnds, allEnds}
+use Rattle.railway.specs.declared.Refusal.the-variants.{Count, Weight, Unknown, Join, Loose, Chain, Double, Place}
+use Rattle.railway.specs.Bounds.{fewestSections, fewestTrains, mostSections, mostPoints, mostTrains, leastWeight, mostWeight, sectionEnds, allEnds}
 use Rattle.railway.specs.Ends.{sameSide, endIndex, endAt}
 use Rattle.railway.specs.Refusals.{Row, row, first}
 use Rattle.railway.specs.Passing.{mostMet}
-use Rattle.railway.specs.Record.{linkAt, flagAt, joined, isClosed, trainOf, sideOf}
+use Rattle.railway.specs.Record.{linkAt, flagAt, joined, isClosed, trainOf, weightOf, sideOf}
 
 -- Too few or too many sections, points or trains.
 abbrev pub outside : ℕ → ℕ → ℕ → Bool
@@ -30,6 +30,18 @@ outside s p k = ltb s fewestSections || ltb mostSections s || ltb mostPoints p |
 -- 3, count: a count lies outside its bounds.
 abbrev pub countRow : Railway → Bool
 countRow r = outside (r .sections) (r .points) (r .trains)
+
+-- A weight that no train may have. Records and case texts share this.
+abbrev pub wrongWeight : ℕ → Bool
+wrongWeight w = ltb w leastWeight || ltb mostWeight w
+
+-- The weight of a train is such a one.
+abbrev pub wrongWeightAt : Railway → ℕ → Bool
+wrongWeightAt r t = wrongWeight (weightOf r t)
+
+-- 16, weight: the weight of some train is 0, or over 255. (Document 02, Q-12. A record has a byte for it, so 0 alone can come.)
+unfoldable pub weightRow : Railway → Bool
+weightRow r = anyBelow (wrongWeightAt r) (r .trains)
 
 -- The section or point of an end is there.
 abbrev pub known : Railway → End → Bool
@@ -194,9 +206,10 @@ unfoldable pub placeRow : Railway → Bool
 placeRow r = anyBelow (sharesAt r) (r .trains) || anyBelow (shutOutAt r) (r .trains)
 
 -- These rows in the order in which they are given, by whether each applies.
-abbrev pub rowsBy : Bool → Bool → Bool → Bool → Bool → Bool → Bool → List Row
-rowsBy count unknown join loose chain double place =
+abbrev pub rowsBy : Bool → Bool → Bool → Bool → Bool → Bool → Bool → Bool → List Row
+rowsBy count weight unknown join loose chain double place =
     row Count count
+    ∷ row Weight weight
     ∷ row Unknown unknown
     ∷ row Join join
     ∷ row Loose loose
@@ -207,7 +220,7 @@ rowsBy count unknown join loose chain double place =
 
 -- Those of a record.
 abbrev pub recordRows : Railway → List Row
-recordRows r = rowsBy (countRow r) (unknownRow r) (joinRow r) (looseRow r) (chainRow r) (doubleRow r) (placeRow r)
+recordRows r = rowsBy (countRow r) (weightRow r) (unknownRow r) (joinRow r) (looseRow r) (chainRow r) (doubleRow r) (placeRow r)
 
 -- What the test of a record gives: the first row that applies; none: the record is accepted.
 unfoldable pub recordRefusal : Railway → Option Refusal

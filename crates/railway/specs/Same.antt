@@ -1,5 +1,5 @@
 -- When two records stand for one railway (document 01, end of "The case file"), whatever bytes they have for no join (document 02, Q-4); closed sections
--- count too (Q-5). Joins, signals and closed sections are compared at every end and section that a railway can have, for row 4 looks at all of them; legs
+-- count too (Q-5), and the trains' weights (Q-12). Joins, signals and closed sections are compared at every end and section that a railway can have, for row 4 looks at all of them; legs
 -- and trains within the counts. Assumes nothing.
 use mathlib.Core.Path.{_≡_}
 use mathlib.Core.Logic.{_⊎_}

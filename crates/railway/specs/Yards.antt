@@ -30,9 +30,13 @@ lineG e r = withSignal r e
 abbrev pub lineX : ℕ → Railway → Railway
 lineX n r = withClosed r (n - 1)
 
--- A T line: a train's heading, start and destination.
+-- A T line with a weight: a train's heading, start, destination and weight.
+abbrev pub lineTW : ℕ → Side → ℕ → ℕ → ℕ → Railway → Railway
+lineTW t heading a b w r = withTrain r (t - 1) (record { heading = heading; start = record { 0 = a - 1 }; destination = record { 0 = b - 1 }; weight = w })
+
+-- A T line without one: the weight is 1.
 abbrev pub lineT : ℕ → Side → ℕ → ℕ → Railway → Railway
-lineT t heading a b r = withTrain r (t - 1) (record { heading = heading; start = record { 0 = a - 1 }; destination = record { 0 = b - 1 } })
+lineT t heading a b r = lineTW t heading a b 1 r
 
 -- A section end, by the number of its section.
 abbrev pub sec : ℕ → Side → End

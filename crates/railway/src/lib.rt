@@ -1,11 +1,11 @@
 // The railway record: sections, points, trains, joins, signals and closed sections in tables of fixed size. It goes by value, and is
 // small: what an end is joined to stands there as one byte. Every lookup and every update is total: what no railway can have is joined
 // to nothing, has no signal, is not closed, and changes nothing.
-// The test of a record, rows 3 to 8 and 13 of the table of numbers, is the crate `acceptance`.
+// The test of a record, rows 3 to 8, 13 and 16 of the table of numbers, is the crate `acceptance`.
 ghost use mathlib.Core.Path.{_≡_};
 ghost use lib.ListN.{getD};
 ghost use Rattle.railway.specs.declared.Railway.{Railway};
-ghost use Rattle.railway.specs.Bounds.{fewestSections, fewestTrains, mostSections, mostPoints, mostTrains, sectionEnds, allEnds};
+ghost use Rattle.railway.specs.Bounds.{fewestSections, fewestTrains, mostSections, mostPoints, mostTrains, leastWeight, mostWeight, sectionEnds, allEnds};
 ghost use Rattle.railway.specs.Ends.{opposite, sideIndex, legIndex, endIndex, sideAt, legAt, endAt, portSide};
 ghost use Rattle.railway.specs.Record.{noLink, noTrain, emptyRailway, joinedBy, linkAt, flagAt, joined, hasSignal, isClosed, legsOf, trainOf, sideOf, withJoin, withSignal, withLegs, withTrain, withClosed};
 ghost use Rattle.railway.specs.Refusals.{number};
@@ -48,6 +48,7 @@ pub struct Train {
     pub heading: Side,
     pub start: SectionNo,
     pub destination: SectionNo,
+    pub weight: u8,
 }
 
 // Why a case, a record, a table or a plan is refused, in the order in which they are given; `number` gives the documents' number.
@@ -55,6 +56,7 @@ pub enum Refusal {
     Length,
     Form,
     Count,
+    Weight,
     Unknown,
     Join,
     Loose,
@@ -104,6 +106,11 @@ impl Railway {
 
     pub const TRAINS: u8 = 4;
 
+    // What a move of a train may cost: its weight.
+    pub const LEAST_WEIGHT: u8 = 1;
+
+    pub const MOST_WEIGHT: u8 = 255;
+
     pub const SECTION_ENDS: u8 = 2 * Railway::SECTIONS;
 
     pub const ENDS: u8 = Railway::SECTION_ENDS + 3 * Railway::POINTS;
@@ -116,7 +123,7 @@ impl Railway {
         ensures empty { λ r. ⌜ r ≡ emptyRailway ⌝ }
         ensures sections { λ r. do ⌜ ((← ⟦Railway::FEWEST_SECTIONS⟧ .entry) ≡ fewestSections) × ((← ⟦Railway::SECTIONS⟧ .entry) ≡ mostSections) ⌝ }
         ensures points { λ r. do ⌜ (← ⟦Railway::POINTS⟧ .entry) ≡ mostPoints ⌝ }
-        ensures trains { λ r. do ⌜ ((← ⟦Railway::FEWEST_TRAINS⟧ .entry) ≡ fewestTrains) × ((← ⟦Railway::TRAINS⟧ .entry) ≡ mostTrains) ⌝ }
+        ensures trains { λ r. do ⌜ ((← ⟦Railway::FEWEST_TRAINS⟧ .entry) ≡ fewestTrains) × ((← ⟦Railway::TRAINS⟧ .entry) ≡ mostTrains) × ((← ⟦Railway::LEAST_WEIGHT⟧ .entry) ≡ leastWeight) × ((← ⟦Railway::MOST_WEIGHT⟧ .entry) ≡ mostWeight) ⌝ }
         ensures ends { λ r. do ⌜ ((← ⟦Railway::SECTION_ENDS⟧ .entry) ≡ sectionEnds) × ((← ⟦Railway::ENDS⟧ .entry) ≡ allEnds) × ((← ⟦Railway::NO_LINK⟧ .entry) ≡ noLink) ⌝ }
     {
         let up = Legs { side: Side::Up };
@@ -202,7 +209,7 @@ impl Railway {
         }
     }
 
-    // A train, counted from 0; up from section 1 to 1 for one that is not there.
+    // A train, counted from 0; up from section 1 to 1, of weight 1, for one that is not there.
     pub fn train_of(self, t: u8) -> Train
         ensures { λ x. ⌜ x ≡ trainOf self t ⌝ }
     {
@@ -315,6 +322,7 @@ impl Refusal {
             Refusal::PlanForm => 10,
             Refusal::PlanFault => 11,
             Refusal::Chain => 13,
+            Refusal::Weight => 16,
         }
     }
 }
@@ -348,6 +356,7 @@ fn no_train() -> Train
         heading: Side::Up,
         start: SectionNo(0),
         destination: SectionNo(0),
+        weight: Railway::LEAST_WEIGHT,
     }
 }
 

@@ -58,13 +58,14 @@ module _ (s p k : ℕ) where
     judged-so : (y : Bool) → x ≡ y → outside s p k ≡ y
     judged-so y e = sym outside-capped ∙ rw (← ha, ← hb, ← hc) (sym hx) ∙ e
 
-    pub begin-out : x ≡ true → (r : Railway) → r ≡ emptyRailway → (d : Draft) → d ≡ record { railway = r; unknown = false; wrong = false; double = false } → d ≡ opened s p k
+    pub begin-out : x ≡ true → (r : Railway) → r ≡ emptyRailway → (d : Draft) → d ≡ record { railway = r; weight = false; unknown = false; wrong = false; double = false } → d ≡ opened s p k
     unfolding opened
     begin-out e r q d w = w ∙ rw (judged-so true e, q)
 
     pub begin-in : x ≡ false → (r : Railway) → r ≡ emptyRailway → (d : Draft)
         → d ≡ record {
           railway = record { sections = a; points = b; trains = c; legs = r .legs; links = r .links; signals = r .signals; closed = r .closed; roster = r .roster };
+          weight = false;
           unknown = false;
           wrong = false;
           double = false;

@@ -12,15 +12,15 @@ use Rattle.laws.proofs.Lists.{every-none, every-more}
 use Rattle.text.specs.Text.{bytes}
 use Rattle.railway.specs.declared.Side.the-variants.{Down}
 use Rattle.railway.specs.declared.Railway.{Railway}
-use Rattle.railway.specs.declared.Refusal.the-variants.{Length, Form, Chain, Place}
+use Rattle.railway.specs.declared.Refusal.the-variants.{Length, Form, Weight, Chain, Place}
 use Rattle.railway.specs.Refusals.{numberGiven, first, numberOf}
-use Rattle.railway.specs.Record.{emptyRailway, trainOf, withJoin, withSignal, withTrain}
+use Rattle.railway.specs.Record.{emptyRailway, trainOf, weightOf, withJoin, withSignal, withTrain}
 use Rattle.railway.specs.Rows.{recordRefusal}
 use Rattle.railway.specs.Yards.{headOn}
 use Rattle.casefile.specs.declared.CaseRead.{CaseRead}
 use Rattle.casefile.specs.Given.{accepted, refused, Applies, ReaderPost}
 use Rattle.casefile.specs.YardTexts.{YardText, yardTexts, AllAccepted}
-use Rattle.casefile.proofs.Uses.{nothing-said, textShutOut, shut-out, textRound, round-chain}
+use Rattle.casefile.proofs.Uses.{nothing-said, textShutOut, shut-out, textRound, round-chain, textSeven, textWithOne, weighing, read-seven, read-with-one, textZero, text256, weight-zero, weight-256}
 use Rattle.casefile.proofs.YardTexts.{yards-accepted}
 use Rattle.reader.proofs.Consequences.{reader-accepts, reader-refuses, reader-settles, reader-gives}
 
@@ -64,6 +64,22 @@ shut-out-refused a p = ap (λ (x : CaseRead). numberGiven (x .answer)) (reader-r
 -- A text with a round of two points gets 13, though its signal is named twice.
 round-refused : (a : CaseRead) → ReaderPost (bytes textRound) a → numberGiven (a .answer) ≡ some 13
 round-refused a p = ap (λ (x : CaseRead). numberGiven (x .answer)) (reader-refuses (bytes textRound) a p Chain .1 round-chain)
+
+-- A text whose T line ends with 7 is read with that weight, and one whose T line ends with 1 with 1.
+seven-read : (a : CaseRead) → ReaderPost (bytes textSeven) a → weightOf (a .railway) 0 ≡ 7
+unfolding weightOf trainOf withTrain
+seven-read a p = ap (λ (x : CaseRead). weightOf (x .railway) 0) (reader-accepts (bytes textSeven) a p (weighing 7) .1 read-seven)
+
+one-read : (a : CaseRead) → ReaderPost (bytes textWithOne) a → weightOf (a .railway) 0 ≡ 1
+unfolding weightOf trainOf withTrain
+one-read a p = ap (λ (x : CaseRead). weightOf (x .railway) 0) (reader-accepts (bytes textWithOne) a p (weighing 1) .1 read-with-one)
+
+-- A weight of 0 gets 16, and so does one of 256, though the train starts on a section that is not there.
+zero-refused : (a : CaseRead) → ReaderPost (bytes textZero) a → numberGiven (a .answer) ≡ some 16
+zero-refused a p = ap (λ (x : CaseRead). numberGiven (x .answer)) (reader-refuses (bytes textZero) a p Weight .1 weight-zero)
+
+above-refused : (a : CaseRead) → ReaderPost (bytes text256) a → numberGiven (a .answer) ≡ some 16
+above-refused a p = ap (λ (x : CaseRead). numberGiven (x .answer)) (reader-refuses (bytes text256) a p Weight .1 weight-256)
 
 -- A text that is refused with 1 has more than 4,096 bytes.
 long-refused : (text : List ℕ) (a : CaseRead) → ReaderPost text a → a ≡ refused Length → 4096 < length text

@@ -1,6 +1,6 @@
-// The reader of a case text: accepted with its railway, or refused with the first of rows 1 to 8 and 13 that applies. One walk over the text, line by
-// line (`walk`). The record is built on the way, beside three flags for what it cannot show: a name that is not there, a join that may not be, a
-// signal or a closed section named twice. Any bytes may come in, of any length.
+// The reader of a case text: accepted with its railway, or refused with the first of rows 1 to 8, 13 and 16 that applies. One walk over the text, line by
+// line (`walk`). The record is built on the way, beside four flags for what it cannot show: a weight that no train may have, a name that is not
+// there, a join that may not be, a signal or a closed section named twice. Any bytes may come in, of any length.
 ghost use mathlib.Core.Path.{_≡_};
 ghost use mathlib.Core.Bool.{false};
 ghost use Rattle.text.specs.Reading.{then};
@@ -40,12 +40,12 @@ fn refuse(f: Refusal) -> CaseRead
     }
 }
 
-// Rows 3 to 8 and 13, in the order in which they are given.
+// Rows 3 to 8, 13 and 16, in the order in which they are given.
 fn answer(d: Draft) -> CaseRead
     ensures { λ r. ⌜ r ≡ draftAnswer d ⌝ }
 {
     let r = d.railway;
-    match acceptance::first_row(r, d.unknown, d.wrong, d.double) {
+    match acceptance::first_row(r, d.weight, d.unknown, d.wrong, d.double) {
         CaseAnswer::Refused(f) => refuse(f),
         CaseAnswer::Accepted => CaseRead {
             answer: CaseAnswer::Accepted,
@@ -107,10 +107,11 @@ fn capped(n: u64) -> u8
 
 // A record, and nothing noted.
 fn fresh(r: Railway) -> Draft
-    ensures { λ d. ⌜ d ≡ record { railway = r; unknown = false; wrong = false; double = false } ⌝ }
+    ensures { λ d. ⌜ d ≡ record { railway = r; weight = false; unknown = false; wrong = false; double = false } ⌝ }
 {
     Draft {
         railway: r,
+        weight: false,
         unknown: false,
         wrong: false,
         double: false,

@@ -1,6 +1,7 @@
-// Records and what their test answers: each row 3 to 8 and 13, its edges, and rows that apply together. A line each: what the record is,
+// Records and what their test answers: each row 3 to 8, 13 and 16, its edges, and rows that apply together. A line each: what the record is,
 // a tab, and `accepted` or `refused` with the number. A record is given by its counts and by pieces of five bytes: `P1d..` legs,
 // `J1u2d` a join, `G1u..` a signal, `X2...` a closed section, `T123.` train 1 up from section 2 to 3, with the case file's numbers, letters and signs.
+// The last byte of a train is its weight: `.` for 1, `0` for 0, `*` for 255.
 // Row 7 has no line of its own: a record has one flag a signal and one a section, and what is set twice is set.
 use libc::STDOUT_FILENO;
 use railway::CaseAnswer;
@@ -37,6 +38,16 @@ fn end(n: u8, mark: u8) -> End {
     }
 }
 
+fn weight(b: u8) -> u8 {
+    if b == b'0' {
+        0
+    } else if b == b'*' {
+        255
+    } else {
+        1
+    }
+}
+
 // The record with one piece added: a letter and four bytes.
 fn with_piece(r: Railway, letter: u8, a: u8, b: u8, c: u8, d: u8) -> Railway {
     match letter {
@@ -50,6 +61,7 @@ fn with_piece(r: Railway, letter: u8, a: u8, b: u8, c: u8, d: u8) -> Railway {
                 heading: Side::Up,
                 start: SectionNo(number(b)),
                 destination: SectionNo(number(c)),
+                weight: weight(d),
             },
         ),
         _ => r,
@@ -110,6 +122,8 @@ fn accepted() {
     show(b"legs up", 3, 1, 1, b"P1u..J1s1uJ2d1+J1-3d");
     show(b"sections closed, one twice", 4, 0, 1, b"X2...X4...X2...");
     show(b"4 trains", 4, 0, 4, b"T222.T333.T444.");
+    show(b"weights 1 and 255", 2, 0, 2, b"T111.T222*");
+    show(b"weight 0 of train 2 of 1", 2, 0, 1, b"T2220");
     show_record(b"bytes 144 and 254 for no join", other_nones());
     show(b"a crossover", 4, 2, 1, b"P2d..J1-2-J1s1uJ1+2dJ2+3uJ2s4d");
     show(
@@ -135,6 +149,11 @@ fn row3() {
     show(b"17 points", 2, 17, 1, b"");
     show(b"no train", 2, 0, 0, b"");
     show(b"5 trains", 2, 0, 5, b"");
+}
+
+fn row16() {
+    show(b"weight 0", 1, 0, 1, b"T1110");
+    show(b"weight 0 of train 4", 4, 0, 4, b"T111*T222.T333*T4440");
 }
 
 fn row4() {
@@ -249,6 +268,14 @@ fn together() {
     show(b"4 and 8", 2, 0, 2, b"T131.T221.");
     show(b"4 and 8, closed", 2, 0, 1, b"X1...X3...");
     show(b"5 and 8, closed", 2, 0, 1, b"X1...J1u2u");
+    show(b"3 and 16", 49, 0, 1, b"T1110");
+    show(b"3 and 16, 5 trains", 4, 0, 5, b"T1110");
+    show(b"16 and 4", 2, 0, 1, b"T1310");
+    show(b"16 and 4, a join", 2, 0, 1, b"J1u1sT1110");
+    show(b"16 and 5", 2, 0, 1, b"J1u2uT1110");
+    show(b"16 and 6", 2, 1, 1, b"T1110");
+    show(b"16 and 13", 1, 2, 1, b"P2d..J1s2sJ1+2+J1-2-T1110");
+    show(b"16 and 8", 2, 0, 2, b"T111.T2120");
     show(b"3 and 13", 49, 2, 1, b"P2d..J1s2sJ1+2+J1-2-");
     show(b"4 and 13", 1, 2, 1, b"P2d..J1s2sJ1+2+J1-2-G2u..");
     show(b"5 and 13", 2, 2, 1, b"P2d..J1s2sJ1+2+J1-2-J1u2u");
@@ -260,6 +287,7 @@ fn together() {
 fn main() {
     accepted();
     row3();
+    row16();
     row4();
     row5();
     row6();

@@ -5,6 +5,7 @@ use mathlib.Core.Path.{_≡_, refl, sym, _∙_, ap, subst}
 use mathlib.Core.Logic.{inl, inr}
 use mathlib.Core.Bool.{true}
 use mathlib.Core.List.{List, [], _∷_, List·Memᴰ, List·Memᴰ·head, List·Memᴰ·tail}
+use mathlib.Core.Option.{none, some}
 use Prim.Native.Nat.{ℕ}
 use native.Mathlib.Omega.{arith}
 use lib.ListN.{take, replicate}
@@ -18,9 +19,10 @@ use Rattle.railway.specs.declared.Leg.the-variants.{Plus, Minus}
 use Rattle.railway.specs.declared.End.{End}
 use Rattle.railway.specs.declared.End.the-variants.{Section, Port}
 use Rattle.railway.specs.declared.Joined.the-variants.{Nothing, With}
+use Rattle.railway.specs.declared.Train.{Train}
 use Rattle.railway.specs.declared.Railway.{Railway}
 use Rattle.railway.specs.Ends.{endAt}
-use Rattle.railway.specs.Record.{joinedBy, linkAt, flagAt, closedAt, joined, hasSignal, isClosed, legsOf, trainOf, withJoin, withSignal, withClosed, withLegs, withTrain}
+use Rattle.railway.specs.Record.{joinedBy, linkAt, flagAt, closedAt, joined, hasSignal, isClosed, legsOf, trainOf, weightOf, withJoin, withSignal, withClosed, withLegs, withTrain}
 use Rattle.railway.specs.Yards.{yardA}
 use Rattle.casefile.specs.declared.CaseRead.{CaseRead}
 use Rattle.casefile.specs.declared.Written.{Written}
@@ -33,9 +35,9 @@ use Rattle.casefile.specs.Reading.{caseAnswer}
 use Rattle.casefile.proofs.Exactly.{accepted-exactly, reader-answers}
 use Rattle.casefile.proofs.Call.{promised}
 use Rattle.casefile.proofs.YardTexts.{yards-accepted}
-use Rattle.casefile.proofs.Uses.{descriptionA, says-a, says-a-only, shut, textShut, sayingShut, says-shut-only, crossing, textCrossing, descriptionCrossing, says-crossing-only}
+use Rattle.casefile.proofs.Uses.{descriptionA, says-a, says-a-only, shut, textShut, sayingShut, says-shut-only, crossing, textCrossing, descriptionCrossing, says-crossing-only, textSeven, textWithout, sayingWeight, weighing, says-seven-only, says-without-only}
 use Rattle.reader.proofs.Consequences.{reader-accepts}
-use Rattle.writer.proofs.Uses.{bytes-written, shut-written, crossing-written}
+use Rattle.writer.proofs.Uses.{bytes-written, shut-written, crossing-written, seven-written}
 use Rattle.reader.proofs.read_case.Kinds as read
 use Rattle.reader.proofs.read_case.Reads.{Asked as ReadAsked}
 use Rattle.reader.proofs.read_case.Statement.{statement as ReadMet}
@@ -186,6 +188,21 @@ inner-said answer c q given =
       said .joins (Port (record { 0 = 1 }) Minus) (Port (record { 0 = 0 }) Minus) .1 (record { join = _; member = last; ties = inr ((refl, refl), (refl, refl)) }),
     )
 
+-- Whatever railway is given for the text with 7 in its T line has weight 7 for its train, and for that without 1.
+weight-said : (answer : CaseRead) → ReadCall (bytes textSeven) answer → (q : Railway) → answer ≡ accepted q → weightOf q 0 ≡ 7
+unfolding weightOf
+weight-said answer c q given =
+    let t = roundtrip-runs .described (bytes textSeven) answer c q given in
+    let said : AsDescribed (sayingWeight (some 7)) q = rw (says-seven-only (t .0) (t .1)) at (t .2) in
+    said .roster 0 (omega arith) .weight
+
+weight-unsaid : (answer : CaseRead) → ReadCall (bytes textWithout) answer → (q : Railway) → answer ≡ accepted q → weightOf q 0 ≡ 1
+unfolding weightOf
+weight-unsaid answer c q given =
+    let t = roundtrip-runs .described (bytes textWithout) answer c q given in
+    let said : AsDescribed (sayingWeight none) q = rw (says-without-only (t .0) (t .1)) at (t .2) in
+    said .roster 0 (omega arith) .weight
+
 -- WRITTEN AND READ BACK. Yard A's record, written into a buffer of 4,096 bytes: it takes 68, and these are read as a railway with its signal at 1d.
 write-promise : (r : Railway) (w : Written) (after : List ℕ) → WriteCall r (replicate 4096 7) w after → WriterPost r (replicate 4096 7) w after
 write-promise r w after c =
@@ -215,3 +232,11 @@ unfolding joinedBy endAt withJoin withLegs withTrain
 inner-back w after c answer d =
     let t = roundtrip-runs .read-back crossing (replicate 4096 7) after w c 70 (crossing-written w after (write-promise crossing w after c)) answer d in
     ap (λ (x : CaseRead). linkAt (x .railway) 98) (t .1) ∙ sym (t .2 .joins 98 (omega arith))
+
+-- The record of a train with weight 7 takes 20, and these are read as a railway that has that weight.
+weight-back : (w : Written) (after : List ℕ) → WriteCall (weighing 7) (replicate 4096 7) w after → (answer : CaseRead) → ReadCall (take 20 after) answer
+    → weightOf (answer .railway) 0 ≡ 7
+unfolding weightOf trainOf withTrain
+weight-back w after c answer d =
+    let t = roundtrip-runs .read-back (weighing 7) (replicate 4096 7) after w c 20 (seven-written w after (write-promise (weighing 7) w after c)) answer d in
+    ap (λ (x : CaseRead). weightOf (x .railway) 0) (t .1) ∙ sym (ap (λ (x : Train). x .weight) (t .2 .roster 0 (omega arith)))

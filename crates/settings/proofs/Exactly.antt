@@ -1,5 +1,5 @@
 -- What a search answers, of all whole settings. At a placement that is not lost: an entry is found exactly if it is that of the plan's
--- setting, which keeps the placement below the figure and before which, in the plan's order, no setting that does comes; and nothing is found
+-- setting, which keeps the figure and before which, in the plan's order, no setting that does comes; and nothing is found
 -- exactly if no whole setting keeps it. This is what the tables' search is proved to give, read through the answer. Assumes nothing.
 use mathlib.Core.Path.{_≡_, ap}
 use mathlib.Core.Bool.{Bool, true, cond}

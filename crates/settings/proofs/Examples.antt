@@ -8,11 +8,11 @@ use Prim.Native.Nat.{ℕ}
 use Rattle.railway.specs.declared.Side.the-variants.{Up, Down}
 use Rattle.railway.specs.declared.Leg.the-variants.{Stem, Plus, Minus}
 use Rattle.railway.specs.declared.Railway.{Railway}
-use Rattle.railway.specs.Yards.{yardH, lineP, lineJ, lineG, lineT, sec, port, yardALess, yardA, upTwoOne}
+use Rattle.railway.specs.Yards.{yardH, lineP, lineJ, lineG, lineT, lineTW, sec, port, yardALess, yardA, upTwoOne}
 use Rattle.laws.specs.Below.{allBelow, anyBelow, sumBelow, lowest}
 use Rattle.laws.specs.Bits.{fromBits}
 use Rattle.railway.specs.Ends.{endAt}
-use Rattle.railway.specs.Record.{isClosed, joinedBy, joined, hasSignal, trainOf, withJoin, withSignal, withLegs, withTrain}
+use Rattle.railway.specs.Record.{isClosed, joinedBy, joined, hasSignal, trainOf, weightOf, withJoin, withSignal, withLegs, withTrain}
 use Rattle.railway.specs.Passing.{entered, passes, follow}
 use Rattle.game.specs.Local.{keepsTest}
 use Rattle.game.specs.Placement.{codeOf, sectionsIn, standsOn, shared}
@@ -44,6 +44,10 @@ bothHeld = lineG (sec 1 Up) secondHeld
 abbrev toStem : Railway
 toStem = lineT 1 Down 3 1 (fork 1)
 
+-- Yard A with weights: 5 for train 1, 2 for train 2.
+abbrev weighed : Railway
+weighed = lineTW 2 Down 3 1 2 (lineTW 1 Up 2 3 5 yardA)
+
 -- A question: a yard, its figures by code, the placement's code and the figure; and the entry that is first.
 pub record First : Type 0 where
   pub yard : Railway
@@ -58,6 +62,10 @@ first r fs p n e = record { yard = r; figures = fs; code = p; figure = n; entry 
 -- Figures: Yard A's before its start has one; all zero; zero but at one code.
 abbrev ofA : List ℕ
 ofA = noFigure ∷ 1 ∷ 0 ∷ noFigure ∷ noFigure ∷ noFigure ∷ noFigure ∷ noFigure ∷ noFigure ∷ []
+
+-- Those of the yard with weights before its start has one.
+abbrev ofWeighed : List ℕ
+ofWeighed = noFigure ∷ 5 ∷ 0 ∷ noFigure ∷ noFigure ∷ noFigure ∷ noFigure ∷ noFigure ∷ noFigure ∷ []
 
 abbrev zeros : List ℕ
 zeros = 0 ∷ 0 ∷ 0 ∷ 0 ∷ 0 ∷ 0 ∷ 0 ∷ 0 ∷ 0 ∷ []
@@ -88,6 +96,10 @@ firsts =
     ∷ first toStem zeros 2 1 (some 0)
     ∷ first toStem notOne 2 1 (some 1)
     ∷ first upTwoOne zeros 1 1 none
+    ∷ first weighed ofWeighed 7 7 (some 1)
+    ∷ first weighed ofWeighed 7 6 none
+    ∷ first weighed ofWeighed 1 5 (some 65536)
+    ∷ first weighed ofWeighed 1 4 none
     ∷ first loopYard figsLoop 12 3 (some 7)
     ∷ first loopYard figsLoop 12 2 none
     ∷ first loopYard figsLoop 13 3 (some 6)
@@ -100,5 +112,5 @@ abbrev given : First → Option ℕ
 given x = firstKeeping (x .yard) (figureIn (x .figures)) (x .code) (x .figure)
 
 pub firsts-hold : map given firsts ≡ map (λ x. x .entry) firsts
-unfolding firstKeeping find tryOpen firstFound keepsTest settingAt entryFrom fromBits lowest moveOf passes follow occupied mayMove free held signalOpen headsFor standsOn sectionsIn codeOf sumBelow trainOf endAt joinedBy joined hasSignal allBelow anyBelow shared withJoin withSignal withLegs withTrain entered isClosed
+unfolding firstKeeping find tryOpen firstFound keepsTest settingAt entryFrom fromBits lowest moveOf passes follow occupied mayMove free held signalOpen headsFor standsOn sectionsIn codeOf sumBelow trainOf weightOf endAt joinedBy joined hasSignal allBelow anyBelow shared withJoin withSignal withLegs withTrain entered isClosed
 firsts-hold = refl

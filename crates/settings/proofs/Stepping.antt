@@ -16,16 +16,16 @@ use Rattle.railway.specs.declared.End.{End}
 use Rattle.railway.specs.declared.Railway.{Railway}
 use Rattle.railway.specs.Bounds.{sectionEnds}
 use Rattle.railway.specs.Ends.{endIndex, endAt}
-use Rattle.railway.specs.Record.{isClosed}
+use Rattle.railway.specs.Record.{isClosed, weightOf}
 use Rattle.railway.specs.Passing.{entered}
 use Rattle.railway.proofs.Accepted.{accepted-facts}
-use Rattle.game.specs.Local.{isBelow}
+use Rattle.game.specs.Local.{isWithin}
 use Rattle.game.specs.Placement.{codeOn}
 use Rattle.game.specs.Setting.{headsFor, free}
 use Rattle.game.specs.Moves.{occupied, codeWith}
 use Rattle.game.proofs.Accepted.{Facts, facts}
 use Rattle.game.proofs.Moves.{entered-below}
-use Rattle.tables.specs.Tables.{noFigure, figureIn}
+use Rattle.tables.specs.Tables.{noFigure, figureEntry, figureIn}
 use Rattle.tables.specs.Find.{endsGood, isGood}
 use Rattle.routes.specs.Routes.{Way, routesFrom, nth, mostWays, noSection, sectionByte, toByte, wayWord}
 use Rattle.routes.proofs.Ways.{nth-past}
@@ -53,33 +53,24 @@ module _ (r : Railway) (p : ℕ) (table : List ℕ) (q : Placement) (on : On r p
 
   -- ENTERING A SECTION, the figure looked at before the other trains
   module _ (figs : List ℕ) (n t y : ℕ) (there : t < r .trains) (inside : y < r .sections) (c s w x b : ℕ) (code : c ≡ codeOn r (sectionIn q)) (sections : s ≡ r .sections) (stride : w ≡ strideOf s t)
-      (here : x ≡ sectionIn q t) (put : b ≡ codePut c w x y) (f : ℕ) (is : f ≡ getD figs b noFigure) where
-    ends-by : (o : Bool) → o ≡ occupied r p t y → cond o false (isBelow n (figureIn figs b)) ≡ endsGood r (figureIn figs) p n t y
+      (here : x ≡ sectionIn q t) (put : b ≡ codePut c w x y) (f : ℕ) (is : f ≡ getD figs b noFigure) (heavy : ℕ) (weighs : heavy ≡ weightOf r t) (d : Bool) (within : d ≡ isWithin n heavy (figureEntry f)) where
+    ends-by : (o : Bool) → o ≡ occupied r p t y → cond o false d ≡ endsGood r (figureIn figs) p n t y
     ends-by true e = rw (← e)
-    ends-by false e = let z : b ≡ codeWith r p t y = code-put-is r p table q on t y there inside c x w s b code here sections stride put in rw (← e, ← z)
+    ends-by false e = let z : b ≡ codeWith r p t y = code-put-is r p table q on t y there inside c x w s b code here sections stride put in rw (within, is, weighs, z, ← e)
 
-    pub ends-not : n ≤ f → false ≡ endsGood r (figureIn figs) p n t y
+    pub ends-not : d ≡ false → false ≡ endsGood r (figureIn figs) p n t y
     ends-not l = either-way (occupied r p t y) ∙ ends-by (occupied r p t y) refl
       where
-        far : isBelow n (figureIn figs b) ≡ false
-        far = elim (eq? f noFigure) [
-          | inl e ↦ rw (← is, eq-eqb f noFigure e)
-          | inr e ↦ rw (← is, ne-eqb f noFigure e) (le-ltb f n l)
-        ]
-
-        either-way : (o : Bool) → false ≡ cond o false (isBelow n (figureIn figs b))
+        either-way : (o : Bool) → false ≡ cond o false d
         either-way true = refl
-        either-way false = sym far
+        either-way false = sym l
 
-    pub ends-unless : n < 4294967296 → f < n → (k : ℕ) (o : Bool) → k ≡ r .trains → o ≡ anyBelow (otherIn q t y) k → not o ≡ endsGood r (figureIn figs) p n t y
-    ends-unless ln l k o ek e = turned o ∙ ends-by o (other-on r p table q on t y k o ek e)
+    pub ends-unless : d ≡ true → (k : ℕ) (o : Bool) → k ≡ r .trains → o ≡ anyBelow (otherIn q t y) k → not o ≡ endsGood r (figureIn figs) p n t y
+    ends-unless l k o ek e = turned o ∙ ends-by o (other-on r p table q on t y k o ek e)
       where
-        near : isBelow n (figureIn figs b) ≡ true
-        near = rw (← is, ne-eqb f noFigure (λ h. omega arith)) (lt-ltb f n l)
-
-        turned : (o : Bool) → not o ≡ cond o false (isBelow n (figureIn figs b))
+        turned : (o : Bool) → not o ≡ cond o false d
         turned true = refl
-        turned false = sym near
+        turned false = sym l
 
   -- THE WAYS OF A TRAIN, read from the table by the index of the end that it heads for
   module _ (t : ℕ) where

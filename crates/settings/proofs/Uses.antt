@@ -1,4 +1,4 @@
--- What the search is said to give, at work in Yard A: at (2, 3) it finds the plan's entry below figure 2, the point at plus, and at (1, 3) nothing.
+-- What the search is said to give, at work in Yard A: at (2, 3) it finds the plan's entry for figure 2, the point at plus, and at (1, 3) nothing.
 -- Assumes nothing.
 use mathlib.Core.Path.{_≡_, refl}
 use mathlib.Core.Option.{none, some}

@@ -17,7 +17,8 @@ abbrev pub entryFound : Found → Option ℕ
 entryFound Nothing = none
 entryFound (Entry v) = some v
 
--- The entry of the first setting, in the plan's order, under which somebody may move at placement p, and whoever may comes to a figure below n.
+-- The entry of the first setting, in the plan's order, under which somebody may move at placement p, and whoever may comes to a figure that is smaller than n
+-- by at least the mover's weight.
 -- Where trains share a section, nothing is kept.
 unfoldable pub firstKeeping : Railway → (ℕ → Option ℕ) → ℕ → ℕ → Option ℕ
 firstKeeping r F p n = cond (shared r p) none (find r F p n)

@@ -34,7 +34,7 @@ pub record Asked (r : Railway) (p : ℕ) (table ways : List ℕ) (q : Placement)
 abbrev pub noBits : ℕ
 noBits = 65536
 
--- With the points by these bits the move of train t ends in a figure below n.
+-- With the points by these bits the move of train t ends in a figure that is smaller than n by at least its weight.
 abbrev pub goodAt : Railway → (ℕ → Option ℕ) → ℕ → ℕ → ℕ → ℕ → Bool
 goodAt r F p n b t = isGood (endsGood r F p n t) (entered r (bit b) (headsFor r p t))
 

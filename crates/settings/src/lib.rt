@@ -1,4 +1,4 @@
-// The first setting that keeps a placement below a figure, or nothing: what one step of a solver asks. It looks at the ways of the trains that may move, so
+// The first setting that keeps a figure at a placement, or nothing: what one step of a solver asks. It looks at the ways of the trains that may move, so
 // that its time goes with those and not with the settings. Each train is looked at by itself first, and mostly that decides; only where several free trains
 // ask for different points are their ways combined.
 ghost use mathlib.Core.Path.{_≡_};
@@ -39,7 +39,7 @@ pub enum Found {
     Entry(u32),
 }
 
-// THE FIRST SETTING that keeps a placement below figure n, in the plan's order: no signal open, else that of the lowest train
+// THE FIRST SETTING that keeps figure n at a placement, in the plan's order: no signal open, else that of the lowest train
 // that works; and of the points that work then the smallest bits.
 pub fn find_setting(table: &Table, ways: &Ways, figures: &[u32], p: u32, n: u32) -> Found
     ensures { λ f. ⌜ ((r : Railway) → Compiled r (now (table .entry)) → Laid r (isClosed r) (now (ways .entry)) → entryFound f ≡ firstKeeping r (figureIn (now (figures .entry))) p n) ⌝ }
@@ -62,17 +62,18 @@ pub fn find_in(table: &Table, ways: &Ways, figures: &[u32], q: Placement, c: u32
     look(table, ways, figures, q, c, n, k)
 }
 
-// EACH TRAIN BY ITSELF. Entering section y ends the move of train t below figure n. The figure is looked at first: seldom is there a train to collide with
-// where it is small enough.
+// EACH TRAIN BY ITSELF. Entering section y ends the move of train t in a figure that is smaller than n by at least its weight. The figure is looked at first:
+// seldom is there a train to collide with where it is small enough.
 fn ends_good(table: &Table, figures: &[u32], q: Placement, c: u32, n: u32, t: u8, y: u8) -> bool
     ensures { λ b. ⌜ ((r : Railway) (p : ℕ) → On r p (now (table .entry)) q → c ≡ codeOn r (sectionIn q) → t < r .trains → y < r .sections → b ≡ endsGood r (figureIn (now (figures .entry))) p n t y) ⌝ }
 {
     let stride = moves::power(compiled::sections_in(table), t);
     let after = moves::code_put(c, stride, placement::section_at(q, t), y);
-    if n <= tables::entry_at(figures, after, tables::NO_FIGURE) {
-        return false;
+    let entry = tables::entry_at(figures, after, tables::NO_FIGURE);
+    if tables::is_within(entry, compiled::weight_in(table, t), n) {
+        return !moves::other_in(q, t, y, compiled::trains_in(table));
     }
-    !moves::other_in(q, t, y, compiled::trains_in(table))
+    false
 }
 
 // The smallest point bits under which train t has a good way; `NO_BITS`: it has none. They are what that way wants, so ways that want more than has been

@@ -16,6 +16,7 @@ use Rattle.tables.specs.Tables.{noFigure, figureIn, caseRefusal}
 use Rattle.tables.specs.Solver.{numberGiven, figureGiven, SolverTables, SolverPost}
 use Rattle.tables.proofs.Exists.{few-placements}
 use Rattle.tables.proofs.Refusals.{case-none}
+use Rattle.marks.specs.Marks.{mostCodes}
 use Rattle.compiled.specs.declared.Compilation.{Compilation}
 use Rattle.compiled.specs.Table.{Compiled}
 use Rattle.cases.specs.Cases.{CasePost}
@@ -45,7 +46,7 @@ module _ (r : Railway) (figs sets : List ℕ) (c : Compilation) (p : CasePost r 
     its-table = opened-table p e
 
     -- few enough placements for every round to have a number, and an entry for each
-    pub room : (m + 1 < noFigure) × ((m ≤ length figs) × (m ≤ length sets))
+    pub room : (m ≤ mostCodes) × ((m ≤ length figs) × (m ≤ length sets))
     room =
         let n : m ≡ placements r = counts r its-table in
         let few = few-placements r (its-table .accepted) in

@@ -38,9 +38,6 @@ entry-is x j e = elim (bool? (eqb x noFigure)) [
   | inr y ↦ let s : figureEntry x ≡ some x = rw y in some-one (sym s ∙ e)
 ]
 
-pub entry-empty : (x : ℕ) → figureEntry x ≡ none → eqb x noFigure ≡ true
-entry-empty x e = elim (bool? (eqb x noFigure)) [ inl y ↦ y | inr y ↦ let s : figureEntry x ≡ some x = rw y in some-none s e ]
-
 -- BEFORE THE FIRST ROUND
 pub first-home : (r : Railway) (home p : ℕ) → recordRefusal r ≡ none → home ≡ homeCode r → p ≡ home → 0 ≡ firstFigure r p
 first-home r home p accepted e same =

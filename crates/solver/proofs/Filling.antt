@@ -1,133 +1,130 @@
--- Rounds until one adds nothing. Every round but the last leaves fewer placements without a figure, so that with m placements the round after
--- the m-th adds nothing, if none has before. Assumes nothing.
-use mathlib.Core.Path.{_≡_, refl, sym, _∙_}
-use mathlib.Core.Bool.{Bool, true, false}
+-- Round after round. Each leaves the tables of its number, and goes on to the next round that is due: so the tables of all rounds before that are the same.
+-- Behind the round of the largest weight for each placement every figure has come, and the tables are filled. Assumes nothing.
+use mathlib.Core.Path.{_≡_, refl, sym, _∙_, ap}
+use mathlib.Core.Logic.{inl, inr}
 use mathlib.Core.List.{List}
 use mathlib.Core.Option.{none, some}
-use Prim.Native.Nat.{ℕ, suc, _+_, _*_, _/_, _^_, _≤_, _<_}
+use Prim.Native.Nat.{ℕ, suc, _+_, _-_, _*_, _≤_, _<_}
 use native.Mathlib.Omega.{arith}
-use native.Mathlib.Numerals.{add-one}
-use lib.ListN.{length, replicate, length-replicate}
-use Rattle.laws.proofs.Below.{count-le}
+use lib.ListN.{length, getD, replicate, length-replicate, getD-replicate, List·getD-eq-default}
+use Rattle.laws.proofs.Bools.{lt?}
 use Rattle.railway.specs.declared.Railway.{Railway}
-use Rattle.railway.specs.Bounds.{mostSections, mostTrains}
+use Rattle.railway.specs.Bounds.{mostTrains, mostWeight}
 use Rattle.railway.specs.Record.{isClosed}
 use Rattle.railway.specs.Rows.{recordRefusal}
 use Rattle.game.specs.Placement.{placements}
-use Rattle.tables.specs.Tables.{noFigure, figureIn}
+use Rattle.tables.specs.Tables.{figureIn}
 use Rattle.tables.specs.Solver.{Kept, SolverTables}
 use Rattle.tables.specs.Rounds.{RoundTables}
 use Rattle.tables.proofs.Exists.{few-placements, solution}
 use Rattle.tables.proofs.Rounds.{of-up-to}
+use Rattle.tables.proofs.Steps.{accepted-go}
 use Rattle.routes.specs.Routes.{Laid}
 use Rattle.compiled.specs.Table.{Compiled}
 use Rattle.predecessors.specs.Behind.{Behind}
-use Rattle.solver.specs.Rounds.{After, unfigured, unfiguredIn, RoundPost}
-use Rattle.solver.specs.Visits.{stretchLength, Marked}
+use Rattle.marks.specs.Marks.{stretchOf, stretches, dueAt, Room}
+use Rattle.solver.specs.Rounds.{After, RoundPost}
+use Rattle.solver.specs.Visits.{Marked}
 
--- one mark for each stretch of the largest table
+-- the marks of the largest table
 abbrev pub markCount : ℕ
-markCount = mostSections ^ mostTrains / stretchLength
+markCount = (mostTrains + 1) * stretches
 
 kept-on : (r : Railway) (a b c : List ℕ) → Kept r a b → Kept r b c → Kept r a c
 kept-on r a b c x y = record { as-long = y .as-long ∙ x .as-long; past = λ p l. y .past p l ∙ x .past p l }
 
--- n rounds have been played, and each gave a figure to some placement
-pub record Played (r : Railway) (m n : ℕ) (figs₀ sets₀ figs sets marks : List ℕ) : Type 0 where
-  pub after : After r n figs₀ sets₀ figs sets
-  pub left : n + unfiguredIn r figs ≤ m
-  pub marked : Marked r figs marks
+kept-self : (r : Railway) (a : List ℕ) → Kept r a a
+kept-self r a = record { as-long = refl; past = λ p l. refl }
+
+-- round n is the next
+pub record Played (r : Railway) (n : ℕ) (figs₀ sets₀ figs sets marks : List ℕ) : Type 0 where
+  pub tables : RoundTables r (n - 1) figs sets
+  pub kept-figs : Kept r figs₀ figs
+  pub kept-sets : Kept r sets₀ sets
+  pub marked : Marked r n (record { train = 0; code = 0 }) figs marks
 
 pub record Filling (table ways behind : List ℕ) (m : ℕ) (figs₀ sets₀ figs sets marks : List ℕ) (n : ℕ) : Type 0 where
-  pub within : n ≤ m + 1
+  pub some-round : 1 ≤ n
   pub long-figs : length figs ≡ length figs₀
   pub long-sets : length sets ≡ length sets₀
   pub long-marks : length marks ≡ markCount
-  pub played : (r : Railway) → Compiled r table → Laid r (isClosed r) ways → Behind r behind → m ≡ placements r → Played r m n figs₀ sets₀ figs sets marks
+  pub played : (r : Railway) → Compiled r table → Laid r (isClosed r) ways → Behind r behind → m ≡ placements r → Played r n figs₀ sets₀ figs sets marks
 
 -- what a round promises of every railway of these tables
-abbrev pub Rounds : List ℕ → List ℕ → List ℕ → ℕ → ℕ → List ℕ → List ℕ → List ℕ → List ℕ → List ℕ → List ℕ → Bool → Type 0
-Rounds table ways behind m n figs sets marks figs′ sets′ marks′ b =
-    (r : Railway) (k : ℕ) → Compiled r table → Laid r (isClosed r) ways → Behind r behind → m ≡ placements r → n ≡ suc k → n < noFigure → RoundTables r k figs sets → Marked r figs marks
-    → RoundPost r n figs sets figs′ sets′ b × Marked r figs′ marks′
+abbrev pub Rounds : List ℕ → List ℕ → List ℕ → ℕ → ℕ → List ℕ → List ℕ → List ℕ → List ℕ → List ℕ → List ℕ → ℕ → Type 0
+Rounds table ways behind m n figs sets marks figs′ sets′ marks′ e =
+    (r : Railway) (k : ℕ) → Compiled r table → Laid r (isClosed r) ways → Behind r behind → m ≡ placements r → n ≡ suc k → RoundTables r k figs sets → Marked r n (record { train = 0; code = 0 }) figs marks
+    → RoundPost r n figs sets figs′ sets′ e × Marked r e (record { train = 0; code = 0 }) figs′ marks′
 
 -- what stands before the rounds
 abbrev pub Clears : List ℕ → ℕ → List ℕ → List ℕ → List ℕ → List ℕ → Type 0
 Clears table m figs sets figs′ sets′ = (r : Railway) → Compiled r table → m ≡ placements r → After r 0 figs sets figs′ sets′
 
-kept-self : (r : Railway) (a : List ℕ) → Kept r a a
-kept-self r a = record { as-long = refl; past = λ p l. refl }
+zeros : (n i : ℕ) → getD {A = ℕ} (replicate n 0) i 0 ≡ 0
+zeros n i = elim (lt? i n) [ inl l ↦ getD-replicate n i 0 0 l | inr l ↦ List·getD-eq-default (replicate n 0) 0 (omega (arith, length-replicate {A = ℕ} n 0)) ]
 
--- before the first round no figure is above 0
-first-marked : (r : Railway) (figs sets : List ℕ) → recordRefusal r ≡ none → RoundTables r 0 figs sets → Marked r figs (replicate markCount 0)
+-- before the first round no figure is above 0, and every stretch is due
+first-marked : (r : Railway) (figs sets : List ℕ) → recordRefusal r ≡ none → RoundTables r 0 figs sets → Marked r 1 (record { train = 0; code = 0 }) figs (replicate markCount 0)
 first-marked r figs sets accepted t =
     record {
-      room = enough (replicate markCount 0) (length-replicate {A = ℕ} markCount 0);
+      room = record { enough = length-replicate {A = ℕ} markCount 0 };
+      few = few-placements r accepted;
       most = λ q j l e. omega (arith, none-yet q j l e);
+      due = λ q j t l lt first e h. blank (replicate markCount 0) markCount refl t q _;
     }
   where
-    enough : (marks : List ℕ) → length marks ≡ markCount → placements r ≤ stretchLength * length marks
-    enough marks e = omega (arith, few-placements r accepted)
-
     none-yet : (q j : ℕ) → q < placements r → figureIn figs q ≡ some j → j ≤ 0
     none-yet q j l e = let s = solution r accepted in of-up-to 0 (s .figure q) j (sym (t .figures q l (s .figure q) (s .figures q l)) ∙ e) .1
 
+    blank : (marks : List ℕ) (count : ℕ) → marks ≡ replicate count 0 → (t q k : ℕ) → dueAt marks t q ≤ k
+    blank marks count e t q k = let z : dueAt marks t q ≡ 0 = ap (λ (xs : List ℕ). dueAt xs t q) e ∙ zeros count (t * stretches + stretchOf q) in omega arith
+
 module _ (table ways behind : List ℕ) (m : ℕ) (figs sets figs₀ sets₀ : List ℕ) (cleared : Clears table m figs sets figs₀ sets₀) where
-  pub filling-start : Filling table ways behind m figs₀ sets₀ figs₀ sets₀ (replicate markCount 0) 0
+  pub filling-start : Filling table ways behind m figs₀ sets₀ figs₀ sets₀ (replicate markCount 0) 1
   filling-start =
       record {
-        within = omega arith;
+        some-round = omega arith;
         long-figs = refl;
         long-sets = refl;
         long-marks = length-replicate {A = ℕ} markCount 0;
         played = λ r h w d e.
             record {
-              after = record { tables = cleared r h e .tables; kept-figs = kept-self r figs₀; kept-sets = kept-self r sets₀ };
-              left = omega (arith, count-le (unfigured figs₀) (placements r));
+              tables = cleared r h e .tables;
+              kept-figs = kept-self r figs₀;
+              kept-sets = kept-self r sets₀;
               marked = first-marked r figs₀ sets₀ (h .accepted) (cleared r h e .tables);
             };
       }
 
   module _ (figs₁ sets₁ marks₁ : List ℕ) (n : ℕ) (x : Filling table ways behind m figs₀ sets₀ figs₁ sets₁ marks₁ n) where
-    -- a round too many cannot have added anything
-    pub filling-over : m < n → (r : Railway) → Compiled r table → Laid r (isClosed r) ways → Behind r behind → m ≡ placements r → SolverTables r figs sets figs₁ sets₁
-    filling-over l r h w d e = absurd (omega (arith, x .played r h w d e .left))
+    -- behind the last round that there can be all figures are there
+    pub filling-over : mostWeight * m < n → (r : Railway) → Compiled r table → Laid r (isClosed r) ways → Behind r behind → m ≡ placements r → SolverTables r figs sets figs₁ sets₁
+    filling-over l r h w d e =
+        let p = x .played r h w d e in
+        let go = accepted-go r (h .accepted) in
+        let below : mostWeight * placements r < n = rw (← e) l in
+        record {
+          filled = go .filled (n - 1) figs₁ sets₁ (p .tables) .0 (λ q j lq i. omega (arith, go .most q j lq i));
+          kept-figs = kept-on r figs figs₀ figs₁ (cleared r h e .kept-figs) (p .kept-figs);
+          kept-sets = kept-on r sets sets₀ sets₁ (cleared r h e .kept-sets) (p .kept-sets);
+        }
 
-    module _ (small : m + 1 < noFigure) (going : n ≤ m) (figs′ sets′ marks′ : List ℕ) (b : Bool) (round : Rounds table ways behind m (n + 1) figs₁ sets₁ marks₁ figs′ sets′ marks′ b) where
-      both : (r : Railway) → Compiled r table → Laid r (isClosed r) ways → Behind r behind → m ≡ placements r → RoundPost r (n + 1) figs₁ sets₁ figs′ sets′ b × Marked r figs′ marks′
-      both r h w d e = let p = x .played r h w d e in round r n h w d e (add-one n) (omega (arith, p .left)) (p .after .tables) (p .marked)
-
-      post : (r : Railway) → Compiled r table → Laid r (isClosed r) ways → Behind r behind → m ≡ placements r → RoundPost r (n + 1) figs₁ sets₁ figs′ sets′ b
-      post r h w d e = both r h w d e .0
-
-      pub filling-next : length figs′ ≡ length figs₁ → length sets′ ≡ length sets₁ → length marks′ ≡ length marks₁ → b ≡ true → Filling table ways behind m figs₀ sets₀ figs′ sets′ marks′ (n + 1)
-      filling-next ef es em on =
-          record {
-            within = omega arith;
-            long-figs = ef ∙ x .long-figs;
-            long-sets = es ∙ x .long-sets;
-            long-marks = em ∙ x .long-marks;
-            played = λ r h w d e.
-                let y = post r h w d e in
-                let p = x .played r h w d e in
-                record {
-                  after =
-                      record {
-                        tables = y .after .tables;
-                        kept-figs = kept-on r figs₀ figs₁ figs′ (p .after .kept-figs) (y .after .kept-figs);
-                        kept-sets = kept-on r sets₀ sets₁ sets′ (p .after .kept-sets) (y .after .kept-sets);
-                      };
-                  left = omega (arith, p .left, y .fewer on);
-                  marked = both r h w d e .1;
-                };
-          }
-
-      pub filling-end : b ≡ false → (r : Railway) → Compiled r table → Laid r (isClosed r) ways → Behind r behind → m ≡ placements r → SolverTables r figs sets figs′ sets′
-      filling-end off r h w d e =
-          let y = post r h w d e in
-          let p = x .played r h w d e in
-          record {
-            filled = y .last off;
-            kept-figs = kept-on r figs figs₀ figs′ (cleared r h e .kept-figs) (kept-on r figs₀ figs₁ figs′ (p .after .kept-figs) (y .after .kept-figs));
-            kept-sets = kept-on r sets sets₀ sets′ (cleared r h e .kept-sets) (kept-on r sets₀ sets₁ sets′ (p .after .kept-sets) (y .after .kept-sets));
-          }
+    pub filling-next : (figs′ sets′ marks′ : List ℕ) (e : ℕ) → n < e → Rounds table ways behind m n figs₁ sets₁ marks₁ figs′ sets′ marks′ e → length figs′ ≡ length figs₁ → length sets′ ≡ length sets₁ → length marks′ ≡ length marks₁
+        → Filling table ways behind m figs₀ sets₀ figs′ sets′ marks′ e
+    filling-next figs′ sets′ marks′ e on round ef es em =
+        record {
+          some-round = omega arith;
+          long-figs = ef ∙ x .long-figs;
+          long-sets = es ∙ x .long-sets;
+          long-marks = em ∙ x .long-marks;
+          played = λ r h w d eq.
+              let p = x .played r h w d eq in
+              let y = round r (n - 1) h w d eq (omega (arith, x .some-round)) (p .tables) (p .marked) in
+              let post : RoundPost r n figs₁ sets₁ figs′ sets′ e = y .0 in
+              record {
+                tables = accepted-go r (h .accepted) .quiet n (e - 1) figs′ sets′ (post .after .tables) (omega arith) (λ k due lk. omega (arith, post .quiet k due lk));
+                kept-figs = kept-on r figs₀ figs₁ figs′ (p .kept-figs) (post .after .kept-figs);
+                kept-sets = kept-on r sets₀ sets₁ sets′ (p .kept-sets) (post .after .kept-sets);
+                marked = y .1;
+              };
+        }

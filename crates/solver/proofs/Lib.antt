@@ -4,5 +4,6 @@ pub mod Gaining
 pub mod Visits
 pub mod Retracing
 pub mod Loops
+pub mod Turns
 pub mod Filling
 pub mod Answering

@@ -33,7 +33,8 @@ use Rattle.moves.proofs.Moving.{code-put-is, put-on-is}
 use Rattle.moves.proofs.Round.{code-back}
 use Rattle.predecessors.specs.Behind.{endBehind, sectionBehind, BackBy, Behind}
 use Rattle.predecessors.proofs.Before.{came-by, behind-below, behind-last, end-inside, end-at-behind}
-use Rattle.solver.specs.Visits.{Round, Visited, Waits, empty, outside, figured, One, By}
+use Rattle.marks.specs.declared.Soon.{Soon}
+use Rattle.solver.specs.Visits.{Turned, Round, Visited, Waits, empty, outside, figured, One, By}
 use Rattle.solver.proofs.Entries.{read-figure, read-none}
 use Rattle.solver.proofs.Visits.{visited-rests}
 
@@ -51,7 +52,7 @@ module _ (figs : List ℕ) (m p : ℕ) where
   waits-inside b (figured h) e = clash e refl
 
 -- ONE SECTION BEHIND: a visit of the placement with the train there, of code p, if it waits for one
-module _ (r : Railway) (table ways : List ℕ) (m n c t y p : ℕ) (figs sets marks : List ℕ) (o : Round r table ways m n figs marks) (there : y < r .sections) (put : p ≡ codeWith r c t y) where
+module _ (r : Railway) (table ways : List ℕ) (m n : ℕ) (soon : Soon) (d : Turned) (c t y p : ℕ) (figs sets marks : List ℕ) (o : Round r table ways m n soon d figs marks) (there : y < r .sections) (put : p ≡ codeWith r c t y) where
   below : p < placements r
   below = rw put (code-with-below r (facts r (o .compiled .accepted)) c t y there)
 
@@ -60,20 +61,20 @@ module _ (r : Railway) (table ways : List ℕ) (m n c t y p : ℕ) (figs sets ma
   not-waiting b (outside l) e f = omega (arith, below, o .counted)
   not-waiting b (figured h) e f = h f
 
-  pub no-visit : (b : Bool) → Waits figs m p b → b ≡ false → Visited r n (One p) figs sets figs sets marks false
-  no-visit b w e = visited-rests r n (One p) figs sets marks (o .marked) (λ q l k f g. absurd (not-waiting b w e (rw k at f)))
+  pub no-visit : (b : Bool) → Waits figs m p b → b ≡ false → Visited r n d (One p) figs sets figs sets marks
+  no-visit b w e = visited-rests r n d (One p) figs sets marks (o .marked) (λ q l k f g. absurd (not-waiting b w e (rw k at f)))
 
   module _ (q v : Placement) (on : On r c table q) (lt : t < r .trains) (b : Bool) (w : Waits figs m p b) (e : b ≡ true)
       (moved : (u : ℕ) → sectionIn v u ≡ putIn q t y u) where
-    pub one-visit : (figs′ sets′ marks′ : List ℕ) (a : Bool)
-        → ((r : Railway) (m : ℕ) → Round r table ways m n figs marks → On r p table v → p < placements r → figureIn figs p ≡ none → Visited r n (One p) figs sets figs′ sets′ marks′ a)
-        → Visited r n (One p) figs sets figs′ sets′ marks′ a
-    one-visit figs′ sets′ marks′ a visit = go b w e
+    pub one-visit : (figs′ sets′ marks′ : List ℕ)
+        → ((r : Railway) (m : ℕ) (d : Turned) → Round r table ways m n soon d figs marks → On r p table v → p < placements r → figureIn figs p ≡ none → Visited r n d (One p) figs sets figs′ sets′ marks′)
+        → Visited r n d (One p) figs sets figs′ sets′ marks′
+    one-visit figs′ sets′ marks′ visit = go b w e
       where
-        go : (b : Bool) → Waits figs m p b → b ≡ true → Visited r n (One p) figs sets figs′ sets′ marks′ a
+        go : (b : Bool) → Waits figs m p b → b ≡ true → Visited r n d (One p) figs sets figs′ sets′ marks′
         go b (outside l) e = clash e refl
         go b (figured h) e = clash e refl
-        go b (empty inside none-yet) e = visit r m o (rw put (put-on-is r c table q on t y lt there v moved)) below none-yet
+        go b (empty inside none-yet) e = visit r m d o (rw put (put-on-is r c table q on t y lt there v moved)) below none-yet
 
 -- STRIDES, each from the one before
 module _ (s t w : ℕ) (e : w ≡ strideOf s t) where

@@ -3,17 +3,18 @@
 -- Assumes nothing.
 use mathlib.Core.Path.{_≡_, refl, sym, _∙_, ap}
 use mathlib.Core.Logic.{_⊎_, inl, inr}
-use mathlib.Core.Bool.{Bool, true, false, _||_}
+use mathlib.Core.Bool.{false}
 use mathlib.Core.List.{List}
 use mathlib.Core.Option.{Option, none, some}
-use Prim.Native.Nat.{ℕ, _≤_, _<_}
+use Prim.Native.Nat.{ℕ, _+_, _≤_, _<_}
 use native.Mathlib.Omega.{arith}
 use lib.ListN.{length, getD, set}
-use lib.Dec.{eqb}
 use lib.Seq.{getD-set-same, getD-set-other}
 use borrow.Author.Tests.{le-leb}
-use Rattle.laws.proofs.Bools.{lt?, eq?, clash, some-none, not-true, or-false}
+use Rattle.laws.proofs.Bools.{eq?, some-none}
 use Rattle.railway.specs.declared.Railway.{Railway}
+use Rattle.railway.specs.Bounds.{mostTrains, mostWeight}
+use Rattle.railway.specs.Record.{weightOf}
 use Rattle.railway.specs.Rows.{recordRefusal}
 use Rattle.game.specs.Game.{over, IsFigure}
 use Rattle.game.specs.Placement.{placements}
@@ -23,12 +24,13 @@ use Rattle.game.proofs.Figures.{home-forced}
 use Rattle.tables.specs.Entries.{settingAt}
 use Rattle.tables.specs.Tables.{noFigure, figureEntry, figureIn}
 use Rattle.tables.specs.Rounds.{RoundTables}
+use Rattle.marks.specs.Marks.{mostCodes, dueAt, mostAt, Room, soonBy, Raised}
+use Rattle.marks.specs.declared.Soon.{Soon}
 use Rattle.tables.specs.Find.{find}
 use Rattle.tables.proofs.Carry.{Carries, find-carry}
 use Rattle.settings.specs.Answers.{firstKeeping}
-use Rattle.solver.specs.Rounds.{unfigured}
-use Rattle.solver.specs.Visits.{Homed, stretchOf, Marked, Round, Changed, same, gained, Visited, One}
-use Rattle.solver.proofs.Entries.{entry-some, entry-is, entry-empty, finds-nothing, finds-entry}
+use Rattle.solver.specs.Visits.{Homed, Turned, since, First, Marked, Round, Changed, same, gained, Visited, One}
+use Rattle.solver.proofs.Entries.{entry-some, entry-is, finds-nothing, finds-entry}
 
 pub round-homed : (r : Railway) (n : ℕ) (figs sets : List ℕ) → RoundTables r n figs sets → Homed r figs
 round-homed r n figs sets t p l h =
@@ -58,11 +60,8 @@ changed-then r F F₁ n q f v f₁ v₁ f₂ v₂ small finds (same a b) (gained
 changed-then r F F₁ n q f v f₁ v₁ f₂ v₂ small finds (gained e o a h) (same c d) = gained e o (c ∙ a) (h ∙ ap (λ (x : ℕ). some x) (sym d))
 changed-then r F F₁ n q f v f₁ v₁ f₂ v₂ small finds (gained e o a h) (gained e′ o′ c h′) = some-none (ap figureEntry a ∙ entry-some n (λ z. omega arith)) e′
 
-empty-entry : (x : ℕ) → eqb x noFigure ≡ true → figureEntry x ≡ none
-empty-entry x e = rw e
-
 -- ANY VISITS
-module _ (r : Railway) (n : ℕ) (S : ℕ → Type 0) (figs sets figs′ sets′ marks′ : List ℕ) (a : Bool) (s : Visited r n S figs sets figs′ sets′ marks′ a) where
+module _ (r : Railway) (n : ℕ) (c : Turned) (S : ℕ → Type 0) (figs sets figs′ sets′ marks′ : List ℕ) (s : Visited r n c S figs sets figs′ sets′ marks′) where
   pub visited-onward : (q j : ℕ) → q < placements r → figureIn figs q ≡ some j → figureIn figs′ q ≡ some j
   visited-onward q j l = changed-onward r (figureIn figs) n q _ _ _ _ refl (s .each q l) j
 
@@ -75,138 +74,113 @@ module _ (r : Railway) (n : ℕ) (S : ℕ → Type 0) (figs sets figs′ sets′
   visited-none-yet : (q : ℕ) → q < placements r → figureIn figs′ q ≡ none → figureIn figs q ≡ none
   visited-none-yet q l = changed-none r (figureIn figs) n q _ _ _ _ (s .each q l)
 
-  pub visited-keeps : (q : ℕ) → unfigured figs′ q ≡ true → unfigured figs q ≡ true
-  visited-keeps q x = elim (lt? q (placements r)) [
-    | inl l ↦ entry-empty (getD figs q noFigure) (visited-none-yet q l (empty-entry (getD figs′ q noFigure) x))
-    | inr l ↦ rw (s .past-figs q noFigure l) at x
-  ]
-
   -- for fewer kinds
-  pub visited-less : (U : ℕ → Type 0) → ((q : ℕ) → q < placements r → U q → S q) → Visited r n U figs sets figs′ sets′ marks′ a
+  pub visited-less : (U : ℕ → Type 0) → ((q : ℕ) → q < placements r → U q → S q) → Visited r n c U figs sets figs′ sets′ marks′
   visited-less U h =
       record {
         each = s .each;
         past-figs = s .past-figs;
         past-sets = s .past-sets;
-        unchanged = s .unchanged;
-        more = s .more;
         settled = λ q l u. s .settled q l (h q l u);
         marked = s .marked;
       }
 
+  -- with other marks, when more codes have had their turn
+  pub visited-marked : (d : Turned) (marks″ : List ℕ) → Marked r n d figs′ marks″ → Visited r n d S figs sets figs′ sets′ marks″
+  visited-marked d marks″ k = record { each = s .each; past-figs = s .past-figs; past-sets = s .past-sets; settled = s .settled; marked = k }
+
   -- the round goes on
-  pub round-on : (table ways : List ℕ) (m : ℕ) (marks : List ℕ) → Round r table ways m n figs marks → Round r table ways m n figs′ marks′
-  round-on table ways m marks o =
+  pub round-on : (table ways : List ℕ) (m : ℕ) (soon : Soon) (d : Turned) (marks : List ℕ) → Round r table ways m n soon d figs marks → Round r table ways m n soon c figs′ marks′
+  round-on table ways m soon d marks o =
       record {
         compiled = o .compiled;
         laid = o .laid;
         counted = o .counted;
         small = o .small;
+        soonest = o .soonest;
         homed = λ p l h. visited-onward p 0 l (o .homed p l h);
         marked = s .marked;
       }
 
 -- NOTHING ENTERED
-module _ (r : Railway) (n : ℕ) (S : ℕ → Type 0) (figs sets marks : List ℕ) (k : Marked r figs marks) where
-  pub visited-rests : ((q : ℕ) → q < placements r → S q → figureIn figs q ≡ none → over (gameOf r) q ≡ false → find r (figureIn figs) q n ≡ none) → Visited r n S figs sets figs sets marks false
-  visited-rests h =
-      record {
-        each = λ q l. same refl refl;
-        past-figs = λ q d l. refl;
-        past-sets = λ q d l. refl;
-        unchanged = λ e. (refl, refl);
-        more = λ e. clash e refl;
-        settled = h;
-        marked = k;
-      }
+module _ (r : Railway) (n : ℕ) (c : Turned) (S : ℕ → Type 0) (figs sets marks : List ℕ) (k : Marked r n c figs marks) where
+  pub visited-rests : ((q : ℕ) → q < placements r → S q → figureIn figs q ≡ none → over (gameOf r) q ≡ false → find r (figureIn figs) q n ≡ none) → Visited r n c S figs sets figs sets marks
+  visited-rests h = record { each = λ q l. same refl refl; past-figs = λ q d l. refl; past-sets = λ q d l. refl; settled = h; marked = k }
 
-  pub visited-none : ((q : ℕ) → q < placements r → S q → ⊥) → Visited r n S figs sets figs sets marks false
+  pub visited-none : ((q : ℕ) → q < placements r → S q → ⊥) → Visited r n c S figs sets figs sets marks
   visited-none h = visited-rests (λ q l u. absurd (h q l u))
 
 -- SOME VISITS, AND SOME MORE
-module _ (r : Railway) (accepted : recordRefusal r ≡ none) (n : ℕ) (small : n < noFigure) (S T U : ℕ → Type 0) (figs sets figs₁ sets₁ marks₁ figs₂ sets₂ marks₂ : List ℕ) (a b : Bool)
-    (x : Visited r n S figs sets figs₁ sets₁ marks₁ a) (y : Visited r n T figs₁ sets₁ figs₂ sets₂ marks₂ b) (covers : (q : ℕ) → q < placements r → U q → S q ⊎ T q) where
+module _ (r : Railway) (accepted : recordRefusal r ≡ none) (n : ℕ) (c d : Turned) (small : n + mostWeight < noFigure) (S T U : ℕ → Type 0) (figs sets figs₁ sets₁ marks₁ figs₂ sets₂ marks₂ : List ℕ)
+    (x : Visited r n c S figs sets figs₁ sets₁ marks₁) (y : Visited r n d T figs₁ sets₁ figs₂ sets₂ marks₂) (covers : (q : ℕ) → q < placements r → U q → S q ⊎ T q) where
   finds : (q : ℕ) → q < placements r → find r (figureIn figs₁) q n ≡ find r (figureIn figs) q n
-  finds = visited-finds r n S figs sets figs₁ sets₁ marks₁ a x accepted
+  finds = visited-finds r n c S figs sets figs₁ sets₁ marks₁ x accepted
 
-  both-unchanged : (a ≡ false → (figs₁ ≡ figs) × (sets₁ ≡ sets)) → (b ≡ false → (figs₂ ≡ figs₁) × (sets₂ ≡ sets₁)) → (a || b) ≡ false → (figs₂ ≡ figs) × (sets₂ ≡ sets)
-  both-unchanged h k e = let z = or-false a b e in (k (z .1) .0 ∙ h (z .0) .0, k (z .1) .1 ∙ h (z .0) .1)
-
-  Gain : List ℕ → List ℕ → Type 0
-  Gain old new = (q : ℕ) × (q < placements r) × (unfigured new q ≡ false) × (unfigured old q ≡ true)
-
-  either-more : (c : Bool) → (c ≡ true → Gain figs figs₁) → (b ≡ true → Gain figs₁ figs₂) → (c || b) ≡ true → Gain figs figs₂
-  unfolding Gain
-  either-more true h k e =
-      let g : (q : ℕ) × (q < placements r) × (unfigured figs₁ q ≡ false) × (unfigured figs q ≡ true) = h refl in
-      (g .0, g .1, not-true (unfigured figs₂ (g .0)) (λ z. clash (visited-keeps r n T figs₁ sets₁ figs₂ sets₂ marks₂ b y (g .0) z) (g .2)), g .3)
-  either-more false h k e =
-      let g : (q : ℕ) × (q < placements r) × (unfigured figs₂ q ≡ false) × (unfigured figs₁ q ≡ true) = k e in
-      (g .0, g .1, g .2, visited-keeps r n S figs sets figs₁ sets₁ marks₁ a x (g .0) (g .3))
-
-  pub visited-then : Visited r n U figs sets figs₂ sets₂ marks₂ (a || b)
-  unfolding Gain
+  pub visited-then : Visited r n d U figs sets figs₂ sets₂ marks₂
   visited-then =
       record {
-        each = λ q l. changed-then r (figureIn figs) (figureIn figs₁) n q _ _ _ _ _ _ small (finds q l) (x .each q l) (y .each q l);
-        past-figs = λ q d l. y .past-figs q d l ∙ x .past-figs q d l;
-        past-sets = λ q d l. y .past-sets q d l ∙ x .past-sets q d l;
-        unchanged = both-unchanged (x .unchanged) (y .unchanged);
-        more = either-more a (x .more) (y .more);
+        each = λ q l. changed-then r (figureIn figs) (figureIn figs₁) n q _ _ _ _ _ _ (omega arith) (finds q l) (x .each q l) (y .each q l);
+        past-figs = λ q e l. y .past-figs q e l ∙ x .past-figs q e l;
+        past-sets = λ q e l. y .past-sets q e l ∙ x .past-sets q e l;
         settled = λ q l u e o. elim (covers q l u) [
-          | inl s ↦ x .settled q l s (visited-none-yet r n T figs₁ sets₁ figs₂ sets₂ marks₂ b y q l e) o
+          | inl s ↦ x .settled q l s (visited-none-yet r n d T figs₁ sets₁ figs₂ sets₂ marks₂ y q l e) o
           | inr t ↦ sym (finds q l) ∙ y .settled q l t e o
         ];
         marked = y .marked;
       }
 
 -- ONE VISIT, of a placement without a figure
-module _ (r : Railway) (table ways : List ℕ) (m n p : ℕ) (figs sets marks : List ℕ) (o : Round r table ways m n figs marks) (l : p < placements r) (empty : figureIn figs p ≡ none)
+module _ (r : Railway) (table ways : List ℕ) (m n : ℕ) (soon : Soon) (d : Turned) (p : ℕ) (figs sets marks : List ℕ) (o : Round r table ways m n soon d figs marks) (l : p < placements r) (empty : figureIn figs p ≡ none)
     (found : Option ℕ) (searched : found ≡ firstKeeping r (figureIn figs) p n) where
-  pub visit-rests : found ≡ none → Visited r n (One p) figs sets figs sets marks false
-  visit-rests e = visited-rests r n (One p) figs sets marks (o .marked) (λ q lq u y g. rw u (finds-nothing r n p figs found searched e (rw u at g)))
+  pub visit-rests : found ≡ none → Visited r n d (One p) figs sets figs sets marks
+  visit-rests e = visited-rests r n d (One p) figs sets marks (o .marked) (λ q lq u y g. rw u (finds-nothing r n p figs found searched e (rw u at g)))
 
-  module _ (inside-figs : p < length figs) (inside-sets : p < length sets) (marks′ : List ℕ) (as-long : length marks′ ≡ length marks)
-      (grow : (i : ℕ) → getD marks i 0 ≤ getD marks′ i 0) (marks-it : stretchOf p < length marks → n ≤ getD marks′ (stretchOf p) 0) where
-    pub visit-gains : (v : ℕ) → found ≡ some v → Visited r n (One p) figs sets (set figs p n) (set sets p v) marks′ true
+  module _ (inside-figs : p < length figs) (inside-sets : p < length sets) (marks′ : List ℕ) (raise : Room marks → p < mostCodes → Raised marks p n soon marks′) where
+    raised : Raised marks p n soon marks′
+    raised = raise (o .marked .room) (omega (arith, o .marked .few))
+
+    -- a figure of the new table is n at p, or stood there before
+    figure-of : (q j : ℕ) → figureIn (set figs p n) q ≡ some j → ((q ≡ p) × (j ≡ n)) ⊎ (figureIn figs q ≡ some j)
+    figure-of q j e = elim (eq? q p) [
+      | inl z ↦
+          let a : figureIn (set figs p n) p ≡ some j = rw z at e in
+          inl (z, sym (entry-is (getD (set figs p n) p noFigure) j a) ∙ getD-set-same figs p n noFigure inside-figs)
+      | inr z ↦ inr (sym (ap figureEntry (getD-set-other figs p q n noFigure z)) ∙ e)
+    ]
+
+    most : (q j : ℕ) → q < placements r → figureIn (set figs p n) q ≡ some j → j ≤ mostAt marks′ q
+    most q j lq e = elim (figure-of q j e) [
+      | inl z ↦ rw (z .0, z .1) (raised .most)
+      | inr z ↦ omega (arith, o .marked .most q j lq z, raised .higher q (omega (arith, o .marked .few)))
+    ]
+
+    due : (q j t : ℕ) → q < placements r → t < r .trains → First r t → figureIn (set figs p n) q ≡ some j → since n d t q ≤ j + weightOf r t → dueAt marks′ t q ≤ j + weightOf r t
+    due q j t lq lt first e h =
+        let ok = facts r (o .compiled .accepted) in
+        let few : t < mostTrains = omega (arith, ok .few-trains) in
+        elim (figure-of q j e) [
+          | inl z ↦
+              let is : soonBy soon t ≡ n + weightOf r t = o .soonest t lt first in
+              let light : weightOf r t ≤ mostWeight = ok .weights t lt .1 in
+              rw (z .0, z .1) (omega (arith, raised .due t few (omega (arith, o .small))))
+          | inr z ↦ omega (arith, o .marked .due q j t lq lt first z h, raised .sooner t q few (omega (arith, o .marked .few)))
+        ]
+
+    pub visit-gains : (v : ℕ) → found ≡ some v → Visited r n d (One p) figs sets (set figs p n) (set sets p v) marks′
     visit-gains v e =
         record {
           each = λ q lq. elim (eq? q p) [
             | inl z ↦ rw z (gained empty (x .0) (getD-set-same figs p n noFigure inside-figs) (x .1 ∙ ap (λ (y : ℕ). some y) (sym (getD-set-same sets p v 0 inside-sets))))
             | inr z ↦ same (getD-set-other figs p q n noFigure z) (getD-set-other sets p q v 0 z)
           ];
-          past-figs = λ q d lq. getD-set-other figs p q n d (λ z. omega arith);
-          past-sets = λ q d lq. getD-set-other sets p q v d (λ z. omega arith);
-          unchanged = λ y. clash refl y;
-          more = λ y. (p, l, not-true (unfigured (set figs p n) p) (λ z. some-none figure-now (empty-entry (getD (set figs p n) p noFigure) z)), entry-empty (getD figs p noFigure) empty);
+          past-figs = λ q e lq. getD-set-other figs p q n e (λ z. omega arith);
+          past-sets = λ q e lq. getD-set-other sets p q v e (λ z. omega arith);
           settled = λ q lq u y g. some-none figure-now (rw u at y);
-          marked = record { room = omega (arith, o .marked .room); most = most };
+          marked = record { room = raised .room; few = o .marked .few; most = most; due = due };
         }
       where
         x : (over (gameOf r) p ≡ false) × (find r (figureIn figs) p n ≡ some v)
         x = finds-entry r n p figs found searched (o .homed p l) empty v e
 
-        most : (q j : ℕ) → q < placements r → figureIn (set figs p n) q ≡ some j → j ≤ getD marks′ (stretchOf q) 0
-        most q j lq e = elim (eq? q p) [
-          | inl z ↦
-              let a : figureIn (set figs p n) p ≡ some j = rw z at e in
-              let b : n ≡ j = sym (getD-set-same figs p n noFigure inside-figs) ∙ entry-is (getD (set figs p n) p noFigure) j a in
-              rw (z, ← b) (marks-it (omega (arith, o .marked .room)))
-          | inr z ↦
-              let a : figureIn figs q ≡ some j = sym (ap figureEntry (getD-set-other figs p q n noFigure z)) ∙ e in
-              omega (arith, o .marked .most q j lq a, grow (stretchOf q))
-        ]
-
         figure-now : figureIn (set figs p n) p ≡ some n
         figure-now = ap figureEntry (getD-set-same figs p n noFigure inside-figs) ∙ entry-some n (λ z. omega (arith, o .small))
-
--- MARKS: one is raised, the others stay
-module _ (marks : List ℕ) (c n : ℕ) (inside : stretchOf c < length marks) (lower : getD marks (stretchOf c) 0 < n) where
-  pub mark-raised : ((i : ℕ) → getD marks i 0 ≤ getD (set marks (stretchOf c) n) i 0) × (stretchOf c < length marks → n ≤ getD (set marks (stretchOf c) n) (stretchOf c) 0)
-  mark-raised = (
-    λ i. elim (eq? i (stretchOf c)) [
-      | inl z ↦ rw (z, getD-set-same marks (stretchOf c) n 0 inside) (omega arith)
-      | inr z ↦ rw (getD-set-other marks (stretchOf c) i n 0 z) (omega arith)
-    ],
-    λ l. rw (getD-set-same marks (stretchOf c) n 0 inside) (omega arith),
-  )

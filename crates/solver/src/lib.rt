@@ -1,8 +1,8 @@
 // The solver: a record and two lent tables, filled in place round by round. In round n a placement without a figure gets n if some
-// setting leads from it to smaller figures only. The search for figure n reads only figures below n, so entries made in the same round do not
-// disturb it. A placement that gains figure n has a move to one of figure n - 1, so a round visits only what is one move before those: they
-// are its frontier. Marks, one for a stretch of codes, say how large the figures in it are at most, so that a round passes by the stretches
-// where the frontier has none.
+// setting leads from it, by whatever move, to figures that are smaller by at least the mover's weight. The search for figure n reads only figures below n, so entries
+// made in the same round do not disturb it. A placement that gains figure n has a move of some train to a figure that makes n with the train's weight, so a round
+// visits only what is one such move before those: they are its frontier. Marks say for each stretch of codes and each weight which round is the next that the
+// figures there make due, so that a round passes by the stretches where the frontier has none, and rounds that are due nowhere are passed by altogether.
 // The functions under `solve` promise what they do for every accepted railway whose compiled table and ways they are handed: those into sections that are not
 // closed, for moves, and those to all sections, for going back.
 ghost use mathlib.Core.Path.{_≡_};
@@ -11,21 +11,25 @@ ghost use mathlib.Core.Option.{none};
 ghost use Prim.Native.Nat.{ℕ, suc, _+_, _%_, _≤_, _<_};
 ghost use lib.ListN.{length, getD};
 ghost use Rattle.railway.specs.declared.Railway.{Railway};
-ghost use Rattle.railway.specs.Record.{isClosed};
+ghost use Rattle.railway.specs.Record.{isClosed, weightOf};
 ghost use Rattle.railway.specs.Rows.{recordRefusal};
 ghost use Rattle.game.specs.Placement.{placements, startCode};
 ghost use Rattle.game.specs.Moves.{codeWith};
 ghost use Rattle.tables.specs.Tables.{noFigure, figureIn};
 ghost use Rattle.tables.specs.Solver.{numberGiven, figureGiven, SolverTables, SolverPost};
-ghost use Rattle.tables.specs.Rounds.{firstFigure, RoundTables};
+ghost use Rattle.tables.specs.Rounds.{firstFigure, RoundTables, mostFigure};
 ghost use Rattle.routes.specs.Routes.{Laid};
 ghost use Rattle.compiled.specs.Table.{Compiled};
 ghost use Rattle.moves.specs.Answers.{homeCode};
 ghost use Rattle.moves.specs.Steps.{strideOf, On};
 ghost use Rattle.predecessors.specs.Behind.{Behind};
 ghost use Rattle.solver.specs.Rounds.{After, RoundPost};
-ghost use Rattle.solver.specs.Visits.{stretchLength, stretchOf, Marked, Round, Visited, Passed, Waits, One, By, Comes, Before};
+ghost use Rattle.marks.specs.Marks.{stretchLength, mostCodes};
+ghost use Rattle.solver.specs.Visits.{Turned, First, Marked, Round, Visited, Stretch, Passed, Waits, One, By, ByWeight, Comes, Ahead, Apart};
 use compiled::Table;
+use marks::MARKS;
+use marks::STRETCH;
+use marks::Soon;
 use placement::Placement;
 use railway::CaseAnswer;
 use railway::Railway;
@@ -35,19 +39,6 @@ use routes::Ways;
 use settings::Found;
 use tables::NO_FIGURE;
 use tables::SolverAnswer;
-
-// The most sections.
-const SECTIONS: usize = Railway::SECTIONS as usize;
-
-// The most codes: a factor for each of four trains.
-const MOST_CODES: usize = SECTIONS * SECTIONS * SECTIONS * SECTIONS;
-
-// How many codes a stretch has. Nine times the most sections is a moderate length: there are few marks, and few codes are looked at where a
-// mark does not rule them out.
-const STRETCH: u32 = 9 * (Railway::SECTIONS as u32);
-
-// How many marks there are: one for each stretch of the largest table.
-const MARKS: usize = MOST_CODES / (STRETCH as usize);
 
 // How many codes are looked at together.
 const BLOCK: u32 = 16;
@@ -71,7 +62,8 @@ pub fn solve(r: Railway, figures: &mut [u32], settings: &mut [u32]) -> SolverAns
     }
 }
 
-// Rounds until one adds nothing. Each round but the last gives a figure to some placement, so there are at most m and one more.
+// Round after round, each time on to the next that is due. No figure is larger than the largest weight times the number of placements, so
+// that with the round of that number all have come.
 fn fill(
     table: &Table,
     ways: &Ways,
@@ -80,19 +72,16 @@ fn fill(
     settings: &mut [u32],
     m: u32,
 )
-    requires { ⌜ m + 1 < noFigure ⌝ }
+    requires { ⌜ m ≤ mostCodes ⌝ }
     requires { ⌜ (m ≤ length (now figures)) × (m ≤ length (now settings)) ⌝ }
     ensures { λ u. ⌜ ((r : Railway) → Compiled r (now (table .entry)) → Laid r (isClosed r) (now (ways .entry)) → Behind r (now (behind .entry)) → m ≡ placements r → SolverTables r (now (figures .entry)) (now (settings .entry)) (now (figures .exit)) (now (settings .exit))) ⌝ }
 {
     clear(table, figures, settings, m);
     let mut marks = [0u32; MARKS];
-    let mut n: u32 = 0;
-    while n <= m {
-        n += 1;
-        let added = one_round(table, ways, behind, figures, settings, &mut marks, m, n);
-        if !added {
-            return;
-        }
+    let last = (Railway::MOST_WEIGHT as u32) * m;
+    let mut n: u32 = 1;
+    while n <= last {
+        n = one_round(table, ways, behind, figures, settings, &mut marks, m, n);
     }
 }
 
@@ -118,7 +107,7 @@ fn first_figure(home: u32, p: u32) -> u32
     if p == home { 0 } else { NO_FIGURE }
 }
 
-// Round n, in place, stretch after stretch. Whether it gave a figure to any placement.
+// Round n, in place, stretch after stretch; and which round is the next that can bring anything.
 fn one_round(
     table: &Table,
     ways: &Ways,
@@ -128,25 +117,71 @@ fn one_round(
     marks: &mut [u32],
     m: u32,
     n: u32,
-) -> bool
-    requires { ⌜ (m ≤ length (now figures)) × (m ≤ length (now settings)) ⌝ }
-    ensures { λ b. ⌜ ((r : Railway) (k : ℕ) → Compiled r (now (table .entry)) → Laid r (isClosed r) (now (ways .entry)) → Behind r (now (behind .entry)) → m ≡ placements r → n ≡ suc k → n < noFigure → RoundTables r k (now (figures .entry)) (now (settings .entry)) → Marked r (now (figures .entry)) (now (marks .entry)) → RoundPost r n (now (figures .entry)) (now (settings .entry)) (now (figures .exit)) (now (settings .exit)) b × Marked r (now (figures .exit)) (now (marks .exit))) ⌝ }
+) -> u32
+    requires { ⌜ (m ≤ length (now figures)) × (m ≤ length (now settings)) × (n ≤ mostFigure) ⌝ }
+    ensures { λ e. ⌜ (n < e) × ((r : Railway) (k : ℕ) → Compiled r (now (table .entry)) → Laid r (isClosed r) (now (ways .entry)) → Behind r (now (behind .entry)) → m ≡ placements r → n ≡ suc k → RoundTables r k (now (figures .entry)) (now (settings .entry)) → Marked r n (record { train = 0; code = 0 }) (now (figures .entry)) (now (marks .entry)) → RoundPost r n (now (figures .entry)) (now (settings .entry)) (now (figures .exit)) (now (settings .exit)) e × Marked r e (record { train = 0; code = 0 }) (now (figures .exit)) (now (marks .exit))) ⌝ }
 {
-    let mut added = false;
+    let soon = dues::soon(table, n);
+    let k = compiled::trains_in(table);
+    let mut t: u8 = 0;
+    while t < k {
+        round_by(table, ways, behind, figures, settings, marks, m, n, soon, t);
+        t += 1;
+    }
+    dues::next_round(table, marks, m, n)
+}
+
+// Round n by the weight of train t, stretch after stretch, unless a lower train has the weight too, whose turn it was then, or no stretch is due by it.
+fn round_by(
+    table: &Table,
+    ways: &Ways,
+    behind: &Ways,
+    figures: &mut [u32],
+    settings: &mut [u32],
+    marks: &mut [u32],
+    m: u32,
+    n: u32,
+    soon: Soon,
+    t: u8,
+)
+    requires { ⌜ (m ≤ length (now figures)) × (m ≤ length (now settings)) ⌝ }
+    ensures { λ u. ⌜ ((r : Railway) → Behind r (now (behind .entry)) → Round r (now (table .entry)) (now (ways .entry)) m n soon (record { train = t; code = 0 }) (now (figures .entry)) (now (marks .entry)) → t < r .trains → Visited r n (record { train = suc t; code = 0 }) (Apart r n (now (figures .entry)) 0 m t) (now (figures .entry)) (now (settings .entry)) (now (figures .exit)) (now (settings .exit)) (now (marks .exit))) ⌝ }
+{
+    if dues::shares_weight(table, t) {
+        return;
+    }
+    if n == 0 {
+        return;
+    }
+    if n < marks::next_due(marks, t, m, n - 1) {
+        return;
+    }
     let mut c: u32 = 0;
     while c < m {
         let upto = stretch_end(c, m);
-        added = added | visit_stretch(table, ways, behind, figures, settings, marks, m, n, c, upto);
+        visit_stretch(
+            table,
+            ways,
+            behind,
+            figures,
+            settings,
+            marks,
+            m,
+            n,
+            soon,
+            t,
+            c,
+            upto,
+        );
         c = upto;
     }
-    added
 }
 
 // Where the stretch that begins with code c ends, the last one at m.
 fn stretch_end(c: u32, m: u32) -> u32
     requires { ⌜ c < m ⌝ }
     requires { ⌜ c % stretchLength ≡ 0 ⌝ }
-    ensures { λ e. ⌜ (c < e) × (e ≤ m) × ((q : ℕ) → c ≤ q → q < e → stretchOf q ≡ stretchOf c) × (e < m → e % stretchLength ≡ 0) ⌝ }
+    ensures { λ e. ⌜ (c < e) × (e ≤ m) × Stretch m c e × (e < m → e % stretchLength ≡ 0) ⌝ }
 {
     if m - c <= STRETCH {
         return m;
@@ -154,7 +189,8 @@ fn stretch_end(c: u32, m: u32) -> u32
     c + STRETCH
 }
 
-// Round n for what is one move before the frontier's placements in a stretch, unless its mark says that there are none.
+// Round n for a stretch, if the weight of train t makes it due: what is one move of a train of that weight before its placements of the frontier, and then when it
+// is due again.
 fn visit_stretch(
     table: &Table,
     ways: &Ways,
@@ -164,18 +200,18 @@ fn visit_stretch(
     marks: &mut [u32],
     m: u32,
     n: u32,
+    soon: Soon,
+    t: u8,
     from: u32,
     upto: u32,
-) -> bool
-    requires { ⌜ (m ≤ length (now figures)) × (m ≤ length (now settings)) × (upto ≤ m) ⌝ }
-    ensures { λ b. ⌜ ((r : Railway) → Behind r (now (behind .entry)) → Round r (now (table .entry)) (now (ways .entry)) m n (now (figures .entry)) (now (marks .entry)) → ((q : ℕ) → from ≤ q → q < upto → stretchOf q ≡ stretchOf from) → Visited r n (Before r n (now (figures .entry)) from upto) (now (figures .entry)) (now (settings .entry)) (now (figures .exit)) (now (settings .exit)) (now (marks .exit)) b) ⌝ }
+)
+    requires { ⌜ (m ≤ length (now figures)) × (m ≤ length (now settings)) × (from < upto) × (upto ≤ m) ⌝ }
+    ensures { λ u. ⌜ ((r : Railway) → Behind r (now (behind .entry)) → Round r (now (table .entry)) (now (ways .entry)) m n soon (record { train = t; code = from }) (now (figures .entry)) (now (marks .entry)) → t < r .trains → First r t → Stretch m from upto → Visited r n (record { train = t; code = upto }) (Ahead r n (weightOf r t) (now (figures .entry)) from upto) (now (figures .entry)) (now (settings .entry)) (now (figures .exit)) (now (settings .exit)) (now (marks .exit))) ⌝ }
 {
-    if n == 0 {
-        return false;
+    if n < marks::due_at(marks, t, from) {
+        return;
     }
-    if mark_at(marks, from) < n - 1 {
-        return false;
-    }
+    let w = compiled::weight_in(table, t);
     visit_codes(
         table,
         ways,
@@ -185,32 +221,17 @@ fn visit_stretch(
         marks,
         m,
         n,
+        soon,
+        w,
         from,
         upto,
-    )
+    );
+    let most = marks::most_at(marks, from);
+    let due = dues::due_behind(table, figures, most, n, from, upto, t);
+    marks::set_due(marks, t, from, due);
 }
 
-// The mark of the stretch of code c.
-fn mark_at(marks: &[u32], c: u32) -> u32
-    ensures { λ f. ⌜ f ≡ getD (now (marks .entry)) (stretchOf c) 0 ⌝ }
-{
-    let i = (c / STRETCH) as usize;
-    if i < marks.len() { marks[i] } else { 0 }
-}
-
-// The mark of the stretch of code c is n at least.
-fn mark(marks: &mut [u32], c: u32, n: u32)
-    ensures { λ u. ⌜ ((i : ℕ) → getD (now (marks .entry)) i 0 ≤ getD (now (marks .exit)) i 0) × (stretchOf c < length (now (marks .entry)) → n ≤ getD (now (marks .exit)) (stretchOf c) 0) ⌝ }
-{
-    let i = (c / STRETCH) as usize;
-    if i < marks.len() {
-        if marks[i] < n {
-            marks[i] = n;
-        }
-    }
-}
-
-// Round n for what is one move before the frontier's placements with codes in a range.
+// Round n for what is one move of a train of weight w before the placements with codes in a range whose figure makes n with w.
 fn visit_codes(
     table: &Table,
     ways: &Ways,
@@ -220,20 +241,35 @@ fn visit_codes(
     marks: &mut [u32],
     m: u32,
     n: u32,
+    soon: Soon,
+    w: u8,
     from: u32,
     upto: u32,
-) -> bool
-    requires { ⌜ (m ≤ length (now figures)) × (m ≤ length (now settings)) × (upto ≤ m) × (0 < n) ⌝ }
-    ensures { λ b. ⌜ ((r : Railway) → Behind r (now (behind .entry)) → Round r (now (table .entry)) (now (ways .entry)) m n (now (figures .entry)) (now (marks .entry)) → Visited r n (Before r n (now (figures .entry)) from upto) (now (figures .entry)) (now (settings .entry)) (now (figures .exit)) (now (settings .exit)) (now (marks .exit)) b) ⌝ }
+)
+    requires { ⌜ (m ≤ length (now figures)) × (m ≤ length (now settings)) × (upto ≤ m) ⌝ }
+    ensures { λ u. ⌜ ((r : Railway) (d : Turned) → Behind r (now (behind .entry)) → Round r (now (table .entry)) (now (ways .entry)) m n soon d (now (figures .entry)) (now (marks .entry)) → Visited r n d (Ahead r n w (now (figures .entry)) from upto) (now (figures .entry)) (now (settings .entry)) (now (figures .exit)) (now (settings .exit)) (now (marks .exit))) ⌝ }
 {
-    let last = n - 1;
-    let mut added = false;
+    if n < (w as u32) {
+        return;
+    }
+    let last = n - (w as u32);
     let mut c = next_with(figures, last, from, upto);
     while c < upto {
-        added = added | visit_before(table, ways, behind, figures, settings, marks, m, n, c);
+        visit_before(
+            table,
+            ways,
+            behind,
+            figures,
+            settings,
+            marks,
+            m,
+            n,
+            soon,
+            w,
+            c,
+        );
         c = next_with(figures, last, c + 1, upto);
     }
-    added
 }
 
 // The next code from c on with this figure, or one that is not below upto.
@@ -287,7 +323,7 @@ fn has_figure(figures: &[u32], figure: u32, from: u32, upto: u32) -> bool
     has
 }
 
-// Round n for what is one move before the placement of code c, train by train.
+// Round n for what is one move of a train of weight w before the placement of code c, train by train.
 fn visit_before(
     table: &Table,
     ways: &Ways,
@@ -297,37 +333,78 @@ fn visit_before(
     marks: &mut [u32],
     m: u32,
     n: u32,
+    soon: Soon,
+    w: u8,
     c: u32,
-) -> bool
+)
     requires { ⌜ (m ≤ length (now figures)) × (m ≤ length (now settings)) × (c < m) ⌝ }
-    ensures { λ b. ⌜ ((r : Railway) → Behind r (now (behind .entry)) → Round r (now (table .entry)) (now (ways .entry)) m n (now (figures .entry)) (now (marks .entry)) → Visited r n (Comes r c (r .trains)) (now (figures .entry)) (now (settings .entry)) (now (figures .exit)) (now (settings .exit)) (now (marks .exit)) b) ⌝ }
+    ensures { λ u. ⌜ ((r : Railway) (d : Turned) → Behind r (now (behind .entry)) → Round r (now (table .entry)) (now (ways .entry)) m n soon d (now (figures .entry)) (now (marks .entry)) → Visited r n d (Comes r w c (r .trains)) (now (figures .entry)) (now (settings .entry)) (now (figures .exit)) (now (settings .exit)) (now (marks .exit))) ⌝ }
 {
     let q = moves::placement_of(table, c);
     let s = compiled::sections_in(table);
     let k = compiled::trains_in(table);
-    let mut added = false;
     let mut stride: u32 = 1;
     let mut t: u8 = 0;
     while t < k {
-        added = added
-            | visit_train(
-                table,
-                ways,
-                behind,
-                figures,
-                settings,
-                marks,
-                m,
-                n,
-                q,
-                c,
-                t,
-                stride,
-            );
+        visit_weighing(
+            table,
+            ways,
+            behind,
+            figures,
+            settings,
+            marks,
+            m,
+            n,
+            soon,
+            w,
+            q,
+            c,
+            t,
+            stride,
+        );
         stride = next_stride(stride, s, t);
         t += 1;
     }
-    added
+}
+
+// The same for train t, if that is its weight. Its stride is handed in.
+fn visit_weighing(
+    table: &Table,
+    ways: &Ways,
+    behind: &Ways,
+    figures: &mut [u32],
+    settings: &mut [u32],
+    marks: &mut [u32],
+    m: u32,
+    n: u32,
+    soon: Soon,
+    w: u8,
+    q: Placement,
+    c: u32,
+    t: u8,
+    stride: u32,
+)
+    requires { ⌜ (m ≤ length (now figures)) × (m ≤ length (now settings)) ⌝ }
+    ensures { λ u. ⌜ ((r : Railway) (d : Turned) → Behind r (now (behind .entry)) → Round r (now (table .entry)) (now (ways .entry)) m n soon d (now (figures .entry)) (now (marks .entry)) → On r c (now (table .entry)) q → c < placements r → t < r .trains → stride ≡ strideOf (r .sections) t → Visited r n d (ByWeight r w c t) (now (figures .entry)) (now (settings .entry)) (now (figures .exit)) (now (settings .exit)) (now (marks .exit))) ⌝ }
+{
+    if compiled::weight_in(table, t) != w {
+        return;
+    }
+    visit_train(
+        table,
+        ways,
+        behind,
+        figures,
+        settings,
+        marks,
+        m,
+        n,
+        soon,
+        q,
+        c,
+        t,
+        stride,
+    );
 }
 
 // The stride of the train behind train t, from that of train t, among s sections.
@@ -351,28 +428,40 @@ fn visit_train(
     marks: &mut [u32],
     m: u32,
     n: u32,
+    soon: Soon,
     q: Placement,
     c: u32,
     t: u8,
     stride: u32,
-) -> bool
+)
     requires { ⌜ (m ≤ length (now figures)) × (m ≤ length (now settings)) ⌝ }
-    ensures { λ b. ⌜ ((r : Railway) → Behind r (now (behind .entry)) → Round r (now (table .entry)) (now (ways .entry)) m n (now (figures .entry)) (now (marks .entry)) → On r c (now (table .entry)) q → c < placements r → t < r .trains → stride ≡ strideOf (r .sections) t → Visited r n (By r c t) (now (figures .entry)) (now (settings .entry)) (now (figures .exit)) (now (settings .exit)) (now (marks .exit)) b) ⌝ }
+    ensures { λ u. ⌜ ((r : Railway) (d : Turned) → Behind r (now (behind .entry)) → Round r (now (table .entry)) (now (ways .entry)) m n soon d (now (figures .entry)) (now (marks .entry)) → On r c (now (table .entry)) q → c < placements r → t < r .trains → stride ≡ strideOf (r .sections) t → Visited r n d (By r c t) (now (figures .entry)) (now (settings .entry)) (now (figures .exit)) (now (settings .exit)) (now (marks .exit))) ⌝ }
 {
     let x = placement::section_at(q, t);
     let e = predecessors::end_behind(table, t, x);
-    let mut added = false;
     let mut j: u8 = 0;
     while j < MOST_WAYS {
         let y = routes::way_to(behind, e, j);
         if y == NO_SECTION {
-            return added;
+            return;
         }
         let p = moves::code_put(c, stride, x, y);
-        added = added | visit_put(table, ways, figures, settings, marks, m, n, q, t, y, p);
+        visit_put(
+            table,
+            ways,
+            figures,
+            settings,
+            marks,
+            m,
+            n,
+            soon,
+            q,
+            t,
+            y,
+            p,
+        );
         j += 1;
     }
-    added
 }
 
 // Round n for train t on section y and the others as in q, if that placement has no figure yet; p is its code.
@@ -384,16 +473,17 @@ fn visit_put(
     marks: &mut [u32],
     m: u32,
     n: u32,
+    soon: Soon,
     q: Placement,
     t: u8,
     y: u8,
     p: u32,
-) -> bool
+)
     requires { ⌜ (m ≤ length (now figures)) × (m ≤ length (now settings)) ⌝ }
-    ensures { λ b. ⌜ ((r : Railway) (c : ℕ) → Round r (now (table .entry)) (now (ways .entry)) m n (now (figures .entry)) (now (marks .entry)) → On r c (now (table .entry)) q → t < r .trains → y < r .sections → p ≡ codeWith r c t y → Visited r n (One p) (now (figures .entry)) (now (settings .entry)) (now (figures .exit)) (now (settings .exit)) (now (marks .exit)) b) ⌝ }
+    ensures { λ u. ⌜ ((r : Railway) (c : ℕ) (d : Turned) → Round r (now (table .entry)) (now (ways .entry)) m n soon d (now (figures .entry)) (now (marks .entry)) → On r c (now (table .entry)) q → t < r .trains → y < r .sections → p ≡ codeWith r c t y → Visited r n d (One p) (now (figures .entry)) (now (settings .entry)) (now (figures .exit)) (now (settings .exit)) (now (marks .exit))) ⌝ }
 {
     if waits(figures, m, p) {
-        return visit(
+        visit(
             table,
             ways,
             figures,
@@ -402,9 +492,10 @@ fn visit_put(
             moves::put_on(q, t, y),
             p,
             n,
+            soon,
         );
+        return;
     }
-    false
 }
 
 // Whether p is a code that has no figure yet.
@@ -419,7 +510,7 @@ fn waits(figures: &[u32], m: u32, p: u32) -> bool
     figures[at] == NO_FIGURE
 }
 
-// Round n at one placement without a figure. Whether it got one; its stretch is then marked.
+// Round n at one placement without a figure: if it gets one, that is marked for its stretch.
 fn visit(
     table: &Table,
     ways: &Ways,
@@ -429,19 +520,19 @@ fn visit(
     q: Placement,
     p: u32,
     n: u32,
-) -> bool
+    soon: Soon,
+)
     requires { ⌜ (p < length (now figures)) × (p < length (now settings)) ⌝ }
-    ensures { λ b. ⌜ ((r : Railway) (m : ℕ) → Round r (now (table .entry)) (now (ways .entry)) m n (now (figures .entry)) (now (marks .entry)) → On r p (now (table .entry)) q → p < placements r → figureIn (now (figures .entry)) p ≡ none → Visited r n (One p) (now (figures .entry)) (now (settings .entry)) (now (figures .exit)) (now (settings .exit)) (now (marks .exit)) b) ⌝ }
+    ensures { λ u. ⌜ ((r : Railway) (m : ℕ) (d : Turned) → Round r (now (table .entry)) (now (ways .entry)) m n soon d (now (figures .entry)) (now (marks .entry)) → On r p (now (table .entry)) q → p < placements r → figureIn (now (figures .entry)) p ≡ none → Visited r n d (One p) (now (figures .entry)) (now (settings .entry)) (now (figures .exit)) (now (settings .exit)) (now (marks .exit))) ⌝ }
 {
     let found = settings::find_in(table, ways, figures, q, p, n);
     let Found::Entry(v) = found else {
-        return false;
+        return;
     };
     let at = p as usize;
     figures[at] = n;
     settings[at] = v;
-    mark(marks, p, n);
-    true
+    marks::gain(marks, p, n, soon);
 }
 
 // The start's figure, as the tables have it.

@@ -10,7 +10,7 @@ use Rattle.railway.specs.declared.Railway.{Railway}
 use Rattle.railway.specs.declared.CaseAnswer.{CaseAnswer}
 use Rattle.railway.specs.declared.CaseAnswer.the-variants.{Accepted, Refused as CaseRefused}
 use Rattle.railway.specs.declared.Refusal.{Refusal}
-use Rattle.railway.specs.declared.Refusal.the-variants.{Length, Form, Count, Unknown, Join, Loose, Chain, Double, Place, Space, PlanForm, PlanFault}
+use Rattle.railway.specs.declared.Refusal.the-variants.{Length, Form, Count, Weight, Unknown, Join, Loose, Chain, Double, Place, Space, PlanForm, PlanFault}
 use Rattle.railway.specs.Refusals.{number, numberOf}
 use Rattle.tables.specs.Tables.{caseRefusal}
 use Rattle.plan.specs.declared.PlanPlace.{PlanPlace}
@@ -31,6 +31,7 @@ between : (f : Refusal) → (1 ≤ number f) × (number f ≤ 253)
 between Length = (omega arith, omega arith)
 between Form = (omega arith, omega arith)
 between Count = (omega arith, omega arith)
+between Weight = (omega arith, omega arith)
 between Unknown = (omega arith, omega arith)
 between Join = (omega arith, omega arith)
 between Loose = (omega arith, omega arith)

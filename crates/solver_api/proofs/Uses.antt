@@ -19,8 +19,8 @@ use Rattle.railway.specs.declared.Refusal.{Refusal}
 use Rattle.railway.specs.declared.Refusal.the-variants.{Form, Space, PlanForm, PlanFault}
 use Rattle.railway.specs.Ends.{endAt}
 use Rattle.railway.specs.Refusals.{numberOf, numberGiven, first}
-use Rattle.railway.specs.Record.{isClosed, joinedBy, joined, hasSignal, legsOf, trainOf, withJoin, withSignal, withLegs, withTrain}
-use Rattle.railway.specs.Rows.{unknownRow, joinRow, looseRow, longer, chainRow, placeRow}
+use Rattle.railway.specs.Record.{isClosed, joinedBy, joined, hasSignal, legsOf, trainOf, weightOf, withJoin, withSignal, withLegs, withTrain}
+use Rattle.railway.specs.Rows.{weightRow, unknownRow, joinRow, looseRow, longer, chainRow, placeRow}
 use Rattle.railway.specs.Yards.{yardA, upTwoOne}
 use Rattle.casefile.specs.Given.{refused, AcceptedWith, RefusedWith}
 use Rattle.casefile.specs.Reading.{headerAt, walk, read, caseAnswer}
@@ -89,7 +89,7 @@ planned = bytes planA ++ (7 ∷ 7 ∷ 7 ∷ [])
 emits-so : (emitLines yardA figsA setsA Top forty ≡ record { answer = Line 37 (From 8); buffer = planned })
     × (emitLines yardA figsA setsA (From 8) forty ≡ record { answer = End; buffer = forty })
     × (emitLines upTwoOne (N ∷ N ∷ []) (0 ∷ 0 ∷ []) Top forty ≡ record { answer = NoPlan; buffer = forty })
-unfolding emitLines runFrom emitLine lineFor bytes caseRefusal tablesShort first unknownRow joinRow looseRow chainRow longer placeRow endAt joinedBy joined hasSignal legsOf trainOf withJoin withSignal withLegs withTrain lowest allBelow anyBelow sumBelow whichBelow listBelow any all spell line digits codeOf sectionsIn startCode isClosed
+unfolding emitLines runFrom emitLine lineFor bytes caseRefusal tablesShort first weightRow weightOf unknownRow joinRow looseRow chainRow longer placeRow endAt joinedBy joined hasSignal legsOf trainOf withJoin withSignal withLegs withTrain lowest allBelow anyBelow sumBelow whichBelow listBelow any all spell line digits codeOf sectionsIn startCode isClosed
 emits-so = (refl, refl, refl)
 
 -- tables lent, longer than needed and too short; fresh ones; and what comes with Yard A's plan, and bytes behind it that are no line
@@ -112,7 +112,7 @@ abbrev handed : List ℕ
 handed = bytes planA ++ bytes "3\t3"
 
 cases-so : (caseRefusal yardA fives (replicate 12 5) ≡ none) × (caseRefusal yardA short fives ≡ some Space)
-unfolding caseRefusal tablesShort first unknownRow joinRow looseRow chainRow longer placeRow endAt joinedBy joined hasSignal legsOf trainOf withJoin withSignal withLegs withTrain anyBelow listBelow any all isClosed
+unfolding caseRefusal tablesShort first weightRow weightOf unknownRow joinRow looseRow chainRow longer placeRow endAt joinedBy joined hasSignal legsOf trainOf withJoin withSignal withLegs withTrain anyBelow listBelow any all isClosed
 cases-so = (refl, refl)
 
 fresh-so : freshened yardA fives (replicate 12 5) none ≡ made
@@ -120,13 +120,13 @@ unfolding withJoin withSignal withLegs withTrain
 fresh-so = refl
 
 takes-so : takeFront yardA none-taken handed ≡ left (Took 37) all-taken
-unfolding takeFront frontOf linesOf takeLine bytes caseRefusal tablesShort first unknownRow joinRow looseRow chainRow longer placeRow endAt joinedBy joined hasSignal legsOf trainOf withJoin withSignal withLegs withTrain anyBelow sumBelow whichBelow listBelow fromBits any all readLine guess fields valueOf sameText spell line digits fits entryFrom codeOf isClosed
+unfolding takeFront frontOf linesOf takeLine bytes caseRefusal tablesShort first weightRow weightOf unknownRow joinRow looseRow chainRow longer placeRow endAt joinedBy joined hasSignal legsOf trainOf withJoin withSignal withLegs withTrain anyBelow sumBelow whichBelow listBelow fromBits any all readLine guess fields valueOf sameText spell line digits fits entryFrom codeOf isClosed
 takes-so = refl
 
 tests-so : (testPlan yardA all-taken .answer ≡ Pass)
     × (testPlan yardA none-taken .answer ≡ Refused PlanForm)
     × (testPlan yardA (record { state = Begun 1 8; figs = figsA; sets = setsA }) .answer ≡ Refused PlanFault)
-unfolding testPlan caseRefusal tablesShort first unknownRow joinRow looseRow chainRow longer placeRow endAt joinedBy joined hasSignal legsOf trainOf withJoin withSignal withLegs withTrain allBelow anyBelow sumBelow whichBelow listBelow fromBits any all codeOf testHolds placementPasses listedSetting keepsTest sectionsIn standsOn startCode atHome shared headsFor mayMove free held signalOpen passes follow occupied moveOf entered isClosed
+unfolding testPlan caseRefusal tablesShort first weightRow weightOf unknownRow joinRow looseRow chainRow longer placeRow endAt joinedBy joined hasSignal legsOf trainOf withJoin withSignal withLegs withTrain allBelow anyBelow sumBelow whichBelow listBelow fromBits any all codeOf testHolds placementPasses listedSetting keepsTest sectionsIn standsOn startCode atHome shared headsFor mayMove free held signalOpen passes follow occupied moveOf entered isClosed
 tests-so = (refl, refl, refl)
 
 -- THE SOLVER: in Yard A the start's figure is 2 and its entry lets train 2 over the point at plus, and what stands past the last code stays; a table that is

@@ -1,11 +1,12 @@
-// What the solver answers and leaves in the tables: document 01's yards, then other accepted cases, then one that is refused. Standard input is
-// records (crate framed), each a case text. For each: the number that the exported call answers, and the first code's entries; what the exported
-// calls for a plan answer, with bytes, places and states that they leave; the answer, then by rising code the figure (`none` for no figure) and the
-// setting; then what comes of tables just long enough and one entry shorter, and of records that are refused. Every entry that the solver is lent
-// holds a mark before the call.
+// What the solver answers and leaves in the tables: document 01's yards, then other accepted cases, then two with weights, in the second of which a dear
+// train's short way loses against a cheap one's long way, then two that are refused. Standard input is records (crate framed), each a case text. For
+// each: the number that the exported call answers, and the first code's entries; what the exported calls for a plan answer, with bytes, places and
+// states that they leave; the answer, then by rising code the figure (`none` for no figure) and the setting; then what comes of tables just long
+// enough and one entry shorter, and of records that are refused. Every entry that the solver is lent holds a mark before the call.
 use libc::STDOUT_FILENO;
 use railway::CaseAnswer;
 use railway::Railway;
+use railway::Train;
 use tables::ENTRIES;
 use tables::NO_FIGURE;
 use tables::SolverAnswer;
@@ -194,7 +195,7 @@ fn just_long_enough(r: Railway, n: usize) {
     }
 }
 
-// The empty record, and the railway with its second train where the first is.
+// The empty record, the railway with its second train where the first is, and with weight 0 for its first.
 fn refused_records(r: Railway) {
     io::write_all(STDOUT_FILENO, b"empty record\t");
     lent(Railway::empty(), ENTRIES, ENTRIES);
@@ -202,6 +203,21 @@ fn refused_records(r: Railway) {
         let first = r.train_of(0);
         io::write_all(STDOUT_FILENO, b"two trains in one place\t");
         lent(r.with_train(1, first), ENTRIES, ENTRIES);
+    }
+    io::write_all(STDOUT_FILENO, b"weight 0\t");
+    lent(r.with_train(0, weightless(r.train_of(0))), ENTRIES, ENTRIES);
+}
+
+// The train with weight 0.
+fn weightless(train: Train) -> Train {
+    let heading = train.heading;
+    let start = train.start;
+    let destination = train.destination;
+    Train {
+        heading: heading,
+        start: start,
+        destination: destination,
+        weight: 0,
     }
 }
 

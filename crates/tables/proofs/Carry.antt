@@ -4,19 +4,21 @@ use mathlib.Core.Path.{_≡_, refl, sym, _∙_, ap, fun-ext}
 use mathlib.Core.Logic.{inl, inr}
 use mathlib.Core.Bool.{Bool}
 use mathlib.Core.Option.{Option, none, some, Option·map}
-use Prim.Native.Nat.{ℕ, zero, suc, _^_, _<_}
+use Prim.Native.Nat.{ℕ, zero, suc, _^_, _≤_, _<_}
 use Rattle.laws.specs.Below.{lowest}
 use Rattle.laws.specs.Bits.{bit}
+use native.Mathlib.Omega.{arith}
 use Rattle.laws.proofs.Bools.{bool?, clash}
 use Rattle.railway.specs.declared.Railway.{Railway}
+use Rattle.railway.specs.Record.{weightOf}
 use Rattle.game.specs.Claim.{Keeps}
 use Rattle.game.specs.Local.{keepsTest}
 use Rattle.game.specs.Placement.{placements}
 use Rattle.game.specs.Setting.{Setting}
 use Rattle.game.specs.Moves.{gameOf}
-use Rattle.game.proofs.Turns.{keeps-test, test-keeps, keeps-map}
+use Rattle.game.proofs.Turns.{may-train, keeps-test, test-keeps, keeps-map}
 use Rattle.game.proofs.Accepted.{Facts}
-use Rattle.game.proofs.Moves.{inside}
+use Rattle.game.proofs.Moves.{inside, costs}
 use Rattle.tables.specs.Entries.{settingAt, entryFrom}
 use Rattle.tables.specs.Tables.{IsPlanEntry}
 use Rattle.tables.specs.Find.{tryOpen, foundBy, find}
@@ -29,7 +31,7 @@ Carries r F G n = (q j : ℕ) → q < placements r → j < n → F q ≡ some j 
 
 module _ (r : Railway) (ok : Facts r) (F G : ℕ → Option ℕ) (p : ℕ) (l : p < placements r) where
   pub keeps-carry : (n : ℕ) → Carries r F G n → (s : Setting) → Keeps (gameOf r) F p s n → Keeps (gameOf r) G p s n
-  keeps-carry n c s = keeps-map (gameOf r) F G p s n n (λ t q j m e f b. (c q j (inside r ok p s t q l m e) b f, b))
+  keeps-carry n c s = keeps-map (gameOf r) F G p s n n (λ t q j m e f b. (c q j (inside r ok p s t q l m e) (let w : 1 ≤ weightOf r t = costs r ok t (may-train (gameOf r) p s t m) in omega arith) f, b))
 
 pub entry-carry : (r : Railway) → Facts r → (F G : ℕ → Option ℕ) (p : ℕ) → p < placements r → (f : Option ℕ) (v : ℕ)
     → ((n : ℕ) → f ≡ some n → Carries r F G n) → ((n : ℕ) → f ≡ some n → Carries r G F n) → IsPlanEntry r F p f v → IsPlanEntry r G p f v

@@ -7,7 +7,7 @@ use mathlib.Core.Logic.{inl, inr}
 use mathlib.Core.Bool.{Bool, true, false, cond, not, _&&_}
 use mathlib.Core.List.{List}
 use mathlib.Core.Option.{Option, none, some}
-use Prim.Native.Nat.{ℕ, zero, suc, _≤_, _<_}
+use Prim.Native.Nat.{ℕ, zero, suc, _+_, _≤_, _<_}
 use native.Mathlib.Omega.{arith}
 use lib.ListN.{getD}
 use lib.Dec.{eqb, leb}
@@ -16,6 +16,7 @@ use Rattle.laws.specs.Below.{allBelow}
 use Rattle.laws.proofs.Bools.{bool?, lt?, clash, some-none, and-true}
 use Rattle.laws.proofs.Below.{all-at}
 use Rattle.railway.specs.declared.Railway.{Railway}
+use Rattle.railway.specs.Record.{weightOf}
 use Rattle.railway.specs.Rows.{recordRefusal}
 use Rattle.game.specs.Game.{home, over}
 use Rattle.game.specs.Claim.{Keeps}
@@ -23,9 +24,9 @@ use Rattle.game.specs.Local.{Solved}
 use Rattle.game.specs.Placement.{placements, atHome, shared}
 use Rattle.game.specs.Setting.{Setting}
 use Rattle.game.specs.Moves.{gameOf}
-use Rattle.game.proofs.Turns.{keeps-map}
+use Rattle.game.proofs.Turns.{may-train, keeps-map}
 use Rattle.game.proofs.Accepted.{Facts, facts}
-use Rattle.game.proofs.Moves.{inside}
+use Rattle.game.proofs.Moves.{inside, costs, most}
 use Rattle.game.proofs.Whole.{whole}
 use Rattle.tables.specs.Entries.{settingAt}
 use Rattle.tables.specs.Tables.{noFigure, figureEntry, figureIn, settingIn, IsPlanEntry, Filled}
@@ -42,9 +43,13 @@ abbrev pub isSome : ℕ → Option ℕ → Bool
 isSome v none = false
 isSome v (some w) = eqb w v
 
+-- no figure, with the weight of a move, is larger
+abbrev pub beyond : ℕ
+beyond = noFigure + 255
+
 -- figure and entry at a placement that is neither home nor lost
 abbrev pub playedAt : Railway → (ℕ → Option ℕ) → ℕ → Option ℕ → ℕ → Bool
-playedAt r F p none v = isNone (find r F p noFigure) && eqb v 0
+playedAt r F p none v = isNone (find r F p beyond) && eqb v 0
 playedAt r F p (some zero) v = false
 playedAt r F p (some (suc j)) v = isSome v (find r F p (suc j)) && isNone (find r F p j)
 
@@ -70,11 +75,11 @@ module _ (r : Railway) (F : ℕ → Option ℕ) (p : ℕ) where
   data Right : Option ℕ → ℕ → Type 0 where
     is-lost : shared r p ≡ true → Right none 0
     is-home : shared r p ≡ false → atHome r p ≡ true → Right (some 0) 0
-    no-figure : shared r p ≡ false → atHome r p ≡ false → find r F p noFigure ≡ none → Right none 0
+    no-figure : shared r p ≡ false → atHome r p ≡ false → find r F p beyond ≡ none → Right none 0
     has-figure : (j v : ℕ) → shared r p ≡ false → atHome r p ≡ false → find r F p (suc j) ≡ some v → find r F p j ≡ none → Right (some (suc j)) v
 
   played : (f : Option ℕ) (v : ℕ) → shared r p ≡ false → atHome r p ≡ false → playedAt r F p f v ≡ true → Right f v
-  played none v s h e = let b = and-true (isNone (find r F p noFigure)) (eqb v 0) e in rw (eqb-true v 0 (b .1)) (no-figure s h (none-of (find r F p noFigure) (b .0)))
+  played none v s h e = let b = and-true (isNone (find r F p beyond)) (eqb v 0) e in rw (eqb-true v 0 (b .1)) (no-figure s h (none-of (find r F p beyond) (b .0)))
   played (some zero) v s h e = clash e refl
   played (some (suc j)) v s h e =
       let b = and-true (isSome v (find r F p (suc j))) (isNone (find r F p j)) e in
@@ -115,8 +120,8 @@ module _ (r : Railway) (accepted : recordRefusal r ≡ none) (figs sets : List �
       (leb-true (getD figs p noFigure) noFigure (b .0), right r F p (F p) (getD sets p 0) (b .1))
 
   -- a setting that keeps some number keeps a larger one too, and any number that no figure reaches
-  keeps-at : (p : ℕ) (s : Setting) (n m : ℕ) → p < placements r → ((j : ℕ) → j < noFigure → j < n → j < m) → Keeps (gameOf r) F p s n → Keeps (gameOf r) F p s m
-  keeps-at p s n m l up = keeps-map (gameOf r) F F p s n m (λ t q j a e h b. let lq : q < placements r = inside r ok p s t q l a e in (h, up j (figure-small (getD figs q noFigure) j (at q lq .0) h) b))
+  keeps-at : (p : ℕ) (s : Setting) (n m : ℕ) → p < placements r → ((j w : ℕ) → j < noFigure → w ≤ 255 → 1 ≤ w → j + w ≤ n → j + w ≤ m) → Keeps (gameOf r) F p s n → Keeps (gameOf r) F p s m
+  keeps-at p s n m l up = keeps-map (gameOf r) F F p s n m (λ t q j a e h b. let lq : q < placements r = inside r ok p s t q l a e in (h, up j (weightOf r t) (figure-small (getD figs q noFigure) j (at q lq .0) h) (most r ok t (may-train (gameOf r) p s t a)) (costs r ok t (may-train (gameOf r) p s t a)) b))
 
   module _ (p : ℕ) (l : p < placements r) where
     lost-none : (f : Option ℕ) (v : ℕ) → Right r F p f v → shared r p ≡ true → f ≡ none
@@ -138,14 +143,14 @@ module _ (r : Railway) (accepted : recordRefusal r ≡ none) (figs sets : List �
 
     least : (f : Option ℕ) (v : ℕ) (s : Setting) (n : ℕ) → Right r F p f v → over (gameOf r) p ≡ false → Keeps (gameOf r) F p s n → (j : ℕ) × (f ≡ some j) × (j ≤ n)
     least none v s n (is-lost e) o k = clash (rw e) o
-    least none v s n (no-figure e h x) o k = absurd (find-none r F p noFigure ok x s (keeps-at p s n noFigure l (λ j a b. a) k))
+    least none v s n (no-figure e h x) o k = absurd (find-none r F p beyond ok x s (keeps-at p s n beyond l (λ j w a b c d. omega arith) k))
     least (some f) v s n (is-home e h) o k = (0, refl, omega arith)
     least (some f) v s n (has-figure j w e h x y) o k = (
       suc j,
       refl,
       elim (lt? j n) [
         | inl b ↦ b
-        | inr b ↦ absurd (find-none r F p j ok y s (keeps-at p s n j l (λ i a c. omega arith) k))
+        | inr b ↦ absurd (find-none r F p j ok y s (keeps-at p s n j l (λ i w a a′ c d. omega arith) k))
       ],
     )
 
@@ -168,6 +173,6 @@ module _ (r : Railway) (accepted : recordRefusal r ≡ none) (figs sets : List �
   pub certify : Filled r figs sets
   certify =
       record {
-        figures = whole (gameOf r) (figureIn figs) (settingIn r sets) (inside r ok) certified-solved .figures;
+        figures = whole (gameOf r) (figureIn figs) (settingIn r sets) (costs r ok) (inside r ok) certified-solved .figures;
         settings = λ p l. entry p l (F p) (getD sets p 0) (at p l .1);
       }

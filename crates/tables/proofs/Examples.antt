@@ -1,5 +1,5 @@
 -- Small values of the definitions, by computation: which refusal comes first, the bits of an entry, also of several points, figures past
--- the end of a table, the plan's order key by key, what the search finds where trains can get into each other's way.
+-- the end of a table, the plan's order key by key, what the search finds where trains can get into each other's way, and where they have weights.
 -- Assumes nothing.
 use mathlib.Core.Path.{_≡_, refl}
 use mathlib.Core.Bool.{Bool, true, false}
@@ -16,15 +16,15 @@ use Rattle.railway.specs.declared.Railway.{Railway}
 use Rattle.railway.specs.declared.Refusal.the-variants.{Space}
 use Rattle.railway.specs.Ends.{endAt}
 use Rattle.railway.specs.Refusals.{first, numberOf}
-use Rattle.railway.specs.Record.{isClosed, joinedBy, joined, hasSignal, legsOf, trainOf, withJoin, withSignal, withLegs, withTrain}
+use Rattle.railway.specs.Record.{isClosed, joinedBy, joined, hasSignal, legsOf, trainOf, weightOf, withJoin, withSignal, withLegs, withTrain}
 use Rattle.railway.specs.Passing.{follow, passes, entered}
-use Rattle.railway.specs.Rows.{unknownRow, joinRow, looseRow, longer, chainRow, placeRow}
+use Rattle.railway.specs.Rows.{weightRow, unknownRow, joinRow, looseRow, longer, chainRow, placeRow}
 use Rattle.game.specs.Game.{Outcome, lost, derailment, at as reaches}
 use Rattle.game.specs.Local.{keepsTest}
 use Rattle.game.specs.Placement.{codeOf, sectionsIn, standsOn}
 use Rattle.game.specs.Setting.{Setting, headsFor, held, free, signalOpen, mayMove}
 use Rattle.game.specs.Moves.{occupied, moveOf}
-use Rattle.railway.specs.Yards.{yardH, lineP, lineJ, lineG, lineT, sec, port, yardA, headOn}
+use Rattle.railway.specs.Yards.{yardH, lineP, lineJ, lineG, lineT, lineTW, sec, port, yardA, headOn}
 use Rattle.tables.specs.declared.SolverAnswer.the-variants.{Refused, Unsolvable, Figure}
 use Rattle.tables.specs.Entries.{settingAt, entryFrom, entryOf}
 use Rattle.tables.specs.Tables.{noFigure, figureIn, tablesShort, caseRefusal, openSignals, lowestOpen, pointBits, noLater}
@@ -51,7 +51,7 @@ refusals :
     × (numberGiven Unsolvable ≡ none)
     × (figureGiven (Figure 2) ≡ some 2)
     × (figureGiven Unsolvable ≡ none)
-unfolding caseRefusal tablesShort first unknownRow joinRow looseRow chainRow longer placeRow endAt joinedBy joined hasSignal legsOf trainOf withJoin withSignal withLegs withTrain anyBelow isClosed
+unfolding caseRefusal tablesShort first weightRow weightOf unknownRow joinRow looseRow chainRow longer placeRow endAt joinedBy joined hasSignal legsOf trainOf withJoin withSignal withLegs withTrain anyBelow isClosed
 refusals = (refl, refl, refl, refl, refl, refl, refl, refl, refl, refl)
 
 -- ENTRIES AND FIGURES. In Yard A's placement of code 1 train 1 is held and train 2 parked, in that of code 7 train 2 is free; head on, in
@@ -155,8 +155,11 @@ several-points :
     × (moved 6 0 ≡ reaches 44)
     × (moved 3 1 ≡ reaches 14)
     × (moved 4 1 ≡ lost derailment)
-unfolding settingAt entryFrom signalOpen held headsFor standsOn sectionsIn codeOf moveOf passes follow occupied entered isClosed caseRefusal tablesShort first unknownRow joinRow looseRow chainRow longer placeRow endAt joinedBy joined hasSignal legsOf trainOf withJoin withSignal withLegs withTrain anyBelow sumBelow listBelow fromBits
+unfolding settingAt entryFrom signalOpen held headsFor standsOn sectionsIn codeOf moveOf passes follow occupied entered isClosed caseRefusal tablesShort first weightRow weightOf unknownRow joinRow looseRow chainRow longer placeRow endAt joinedBy joined hasSignal legsOf trainOf withJoin withSignal withLegs withTrain anyBelow sumBelow listBelow fromBits
 several-points = (refl, refl, refl, refl, refl, refl, refl, refl, refl, refl, refl, refl, refl, refl, refl)
+
+abbrev N : ℕ
+N = noFigure
 
 -- POINTS JOINED TO POINTS. A single line with a loop: sections 1 and 2 lead to point 1, which is joined to point 2; from there the line goes to
 -- point 3 and on to section 4, and the loop by section 3. Train 1 is to go up from 1 to 4 and train 2 down from 4 to 2; signals at both ends of 3 hold
@@ -175,9 +178,6 @@ loopYard =
     (lineJ (sec 2 Up) (port 1 Minus)
     (lineJ (sec 1 Up) (port 1 Plus)
     (lineP 3 Down (lineP 2 Up (lineP 1 Down (yardH 4 3 2))))))))))))))
-
-abbrev N : ℕ
-N = noFigure
 
 abbrev pub figsLoop : List ℕ
 figsLoop = N ∷ N ∷ N ∷ N ∷ 1 ∷ N ∷ 1 ∷ 0 ∷ 2 ∷ 2 ∷ N ∷ 1 ∷ 3 ∷ 3 ∷ 2 ∷ N ∷ []
@@ -198,5 +198,30 @@ together :
     -- together, they want point 3 at plus too: then train 2 goes into the loop
     × (find loopYard (figureIn figsLoop) 12 3 ≡ some 7)
     × (find loopYard (figureIn figsLoop) 12 2 ≡ none)
-unfolding find firstFound tryOpen keepsTest settingAt entryFrom mayMove free held signalOpen headsFor standsOn sectionsIn codeOf moveOf passes follow occupied entered isClosed caseRefusal tablesShort first unknownRow joinRow looseRow chainRow longer placeRow endAt joinedBy joined hasSignal legsOf trainOf withJoin withSignal withLegs withTrain allBelow anyBelow sumBelow lowest fromBits
+unfolding find firstFound tryOpen keepsTest settingAt entryFrom mayMove free held signalOpen headsFor standsOn sectionsIn codeOf moveOf passes follow occupied entered isClosed caseRefusal tablesShort first weightRow weightOf unknownRow joinRow looseRow chainRow longer placeRow endAt joinedBy joined hasSignal legsOf trainOf withJoin withSignal withLegs withTrain allBelow anyBelow sumBelow lowest fromBits
 together = (refl, refl, refl, refl, refl, refl)
+
+-- WEIGHTS. Yard A with 5 for train 1 and 2 for train 2: the figures are 0, 5 and 7, and the settings are those of Yard A. WeighedYards has the proof that these are
+-- its tables.
+abbrev pub weighed : Railway
+weighed = lineTW 2 Down 3 1 2 (lineTW 1 Up 2 3 5 yardA)
+
+abbrev pub figsW : List ℕ
+figsW = N ∷ 5 ∷ 0 ∷ N ∷ N ∷ N ∷ N ∷ 7 ∷ N ∷ []
+
+abbrev pub setsW : List ℕ
+setsW = 0 ∷ 65536 ∷ 0 ∷ 0 ∷ 0 ∷ 0 ∷ 0 ∷ 1 ∷ 0 ∷ []
+
+weights :
+    -- from (2, 3) train 2 comes to 5 in section 1, and 2 more make 7; from (2, 1) train 1 comes to 0 in section 3, and 5 more make 5
+    (endsGood weighed (figureIn figsW) 7 7 1 0 ≡ true)
+    × (endsGood weighed (figureIn figsW) 7 6 1 0 ≡ false)
+    × (endsGood weighed (figureIn figsW) 1 5 0 2 ≡ true)
+    × (endsGood weighed (figureIn figsW) 1 4 0 2 ≡ false)
+    -- and so a setting is found, and is not
+    × (find weighed (figureIn figsW) 7 7 ≡ some 1)
+    × (find weighed (figureIn figsW) 7 6 ≡ none)
+    × (find weighed (figureIn figsW) 1 5 ≡ some 65536)
+    × (find weighed (figureIn figsW) 1 4 ≡ none)
+unfolding find firstFound tryOpen keepsTest settingAt entryFrom mayMove free held signalOpen headsFor standsOn sectionsIn codeOf moveOf passes follow occupied entered isClosed weightOf endAt joinedBy joined hasSignal legsOf trainOf withJoin withSignal withLegs withTrain allBelow anyBelow sumBelow lowest fromBits
+weights = (refl, refl, refl, refl, refl, refl, refl, refl)

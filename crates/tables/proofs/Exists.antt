@@ -1,12 +1,12 @@
 -- The promise can be kept: in every accepted case there are the figures and the plan's entries, and tables long enough can be filled with
 -- them. Tables made round by round, by the search, agree with every single turn and so have the figures; these are below the number for
--- none, for there are no more rounds than placements. What the search finds is the plan's entry. Assumes nothing.
+-- none, for no more rounds are needed than 255 for each placement. What the search finds is the plan's entry. Assumes nothing.
 use mathlib.Core.Path.{_≡_, refl, sym, _∙_, ap}
 use mathlib.Core.Logic.{inl, inr}
 use mathlib.Core.Bool.{false}
 use mathlib.Core.List.{List}
 use mathlib.Core.Option.{Option, none, some}
-use Prim.Native.Nat.{ℕ, zero, suc, _^_, _≤_, _<_}
+use Prim.Native.Nat.{ℕ, zero, suc, _*_, _^_, _≤_, _<_}
 use native.Mathlib.Omega.{arith}
 use native.Mathlib.Nat.{pow-le-pow-left, pow-le-pow-right}
 use lib.ListN.{length, getD}
@@ -15,7 +15,7 @@ use borrow.Author.Tests.{ne-eqb}
 use Rattle.laws.proofs.Bools.{option?, lt?, some-none, not-true}
 use Rattle.laws.proofs.Below.{overwritten, overwritten-length, overwritten-below, overwritten-past}
 use Rattle.railway.specs.declared.Railway.{Railway}
-use Rattle.railway.specs.Bounds.{mostSections, mostTrains}
+use Rattle.railway.specs.Bounds.{mostSections, mostTrains, mostWeight}
 use Rattle.railway.specs.Rows.{recordRefusal}
 use Rattle.game.specs.Game.{home, IsFigure}
 use Rattle.game.specs.Local.{Solved}
@@ -23,7 +23,7 @@ use Rattle.game.specs.Placement.{placements, shared}
 use Rattle.game.specs.Moves.{gameOf}
 use Rattle.game.proofs.Turns.{no-keeps-zero}
 use Rattle.game.proofs.Accepted.{Facts, facts}
-use Rattle.game.proofs.Moves.{inside}
+use Rattle.game.proofs.Moves.{inside, costs, most}
 use Rattle.game.proofs.Figures.{figure-one}
 use Rattle.game.proofs.Whole.{whole}
 use Rattle.game.proofs.Settle.{Searches, figures, settings, rounds, settled, range, rounds-solved}
@@ -41,6 +41,7 @@ pub record Solution (r : Railway) : Type 0 where
   pub entry : ℕ → ℕ
   pub figures : (p : ℕ) → p < placements r → IsFigure (gameOf r) p (figure p)
   pub small : (p j : ℕ) → p < placements r → figure p ≡ some j → j < noFigure
+  pub most : (p j : ℕ) → p < placements r → figure p ≡ some j → j ≤ mostWeight * placements r
   pub entries : (p : ℕ) → p < placements r → IsPlanEntry r figure p (figure p) (entry p)
 
 -- EVERY ACCEPTED CASE HAS ONE
@@ -52,19 +53,22 @@ module _ (r : Railway) (accepted : recordRefusal r ≡ none) where
   searches = record { sound = λ F p n v l. find-sound r F p n v; complete = λ F p n s l. find-complete r F p n ok s }
 
   abbrev G : ℕ → Option ℕ
-  G = figures (gameOf r) (find r)
+  G = figures (gameOf r) 254 (find r)
 
   abbrev W : ℕ → ℕ
-  W = settings (gameOf r) (find r)
+  W = settings (gameOf r) 254 (find r)
 
   agrees : Solved (gameOf r) G (λ p. settingAt r p (W p))
-  agrees = rounds-solved (gameOf r) (settingAt r) (find r) searches
+  agrees = rounds-solved (gameOf r) (costs r ok) 254 (most r ok) (settingAt r) (find r) searches
 
   pub few-placements : placements r ≤ mostSections ^ mostTrains
   few-placements = omega (arith, pow-le-pow-left (ok .few-sections) (r .trains), pow-le-pow-right {n = mostSections} (omega arith) {i = r .trains} {j = mostTrains} (ok .few-trains))
 
+  most-figure : (p j : ℕ) → G p ≡ some j → j ≤ mostWeight * placements r
+  most-figure p j e = omega (arith, range (gameOf r) (costs r ok) 254 (most r ok) (settingAt r) (find r) searches (rounds (gameOf r) 254 (find r)) p j e, settled (gameOf r) (costs r ok) 254 (most r ok) (settingAt r) (find r) searches .1)
+
   small-figure : (p j : ℕ) → G p ≡ some j → j < noFigure
-  small-figure p j e = omega (arith, range (gameOf r) (settingAt r) (find r) searches (rounds (gameOf r) (find r)) p j e, settled (gameOf r) (settingAt r) (find r) searches .1, few-placements)
+  small-figure p j e = omega (arith, most-figure p j e, few-placements)
 
   entry-found : (p n v : ℕ) → G p ≡ some n → find r G p n ≡ some v → W p ≡ v
   entry-found p n v e f = rw (e, f)
@@ -73,7 +77,7 @@ module _ (r : Railway) (accepted : recordRefusal r ≡ none) where
   plan-at p l none e = rw e
   plan-at p l (some zero) e = rw e (elim (option? (find r G p 0)) [
     | inl x ↦ rw x
-    | inr x ↦ absurd (no-keeps-zero (gameOf r) G p (settingAt r p (x .0)) (find-sound r G p 0 (x .0) (x .1)))
+    | inr x ↦ absurd (no-keeps-zero (gameOf r) G (costs r ok) p (settingAt r p (x .0)) (find-sound r G p 0 (x .0) (x .1)))
   ])
   plan-at p l (some (suc n)) e =
       let away : home (gameOf r) p ≡ false = not-true (home (gameOf r) p) (λ y. let z : _≡_ {A = Option ℕ} (some (suc n)) (some 0) = sym e ∙ agrees .home-zero p l y in let w : suc n ≡ 0 = cc in omega arith) in
@@ -88,8 +92,9 @@ module _ (r : Railway) (accepted : recordRefusal r ≡ none) where
       record {
         figure = G;
         entry = W;
-        figures = whole (gameOf r) G (λ p. settingAt r p (W p)) (inside r ok) agrees .figures;
+        figures = whole (gameOf r) G (λ p. settingAt r p (W p)) (costs r ok) (inside r ok) agrees .figures;
         small = λ p j l. small-figure p j;
+        most = λ p j l. most-figure p j;
         entries = λ p l. plan-at p l (G p) refl;
       }
 

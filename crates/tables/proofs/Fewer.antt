@@ -50,7 +50,7 @@ module _ (r : Railway) (ok : Facts r) (p : ℕ) (F : ℕ → Option ℕ) (n : �
   keeps-fewer s o same fewer t m k =
       record {
         one-may = (t, m);
-        all-below = λ u mu. rw (move-same r ok s o same p u) (k .all-below u (more-may r p s o fewer u mu));
+        all-within = λ u mu. rw (move-same r ok s o same p u) (k .all-within u (more-may r p s o fewer u mu));
       }
 
   -- OF A WHOLE SETTING THAT KEEPS THE FIGURE: the same points with no signal open, and with one

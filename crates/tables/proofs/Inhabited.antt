@@ -32,17 +32,16 @@ module _ (r : Railway) (n : ℕ) (figs sets : List ℕ) where
   record At (p : ℕ) : Type 0 where
     f′ : ℕ
     v′ : ℕ
-    gained : Bool
-    step : Step r (figureIn figs) n p (getD figs p noFigure) (getD sets p 0) f′ v′ gained
+    step : Step r (figureIn figs) n p (getD figs p noFigure) (getD sets p 0) f′ v′
 
   at : (p : ℕ) → At p
   at p = elim (bool? (over (gameOf r) p)) [
-    | inl o ↦ record { f′ = getD figs p noFigure; v′ = getD sets p 0; gained = false; step = stays refl refl (λ e going. clash o going) }
+    | inl o ↦ record { f′ = getD figs p noFigure; v′ = getD sets p 0; step = stays refl refl (λ e going. clash o going) }
     | inr o ↦ elim (option? (figureIn figs p)) [
-      | inr x ↦ record { f′ = getD figs p noFigure; v′ = getD sets p 0; gained = false; step = stays refl refl (λ e going. some-none (x .1) e) }
+      | inr x ↦ record { f′ = getD figs p noFigure; v′ = getD sets p 0; step = stays refl refl (λ e going. some-none (x .1) e) }
       | inl x ↦ elim (option? (find r (figureIn figs) p n)) [
-        | inl y ↦ record { f′ = getD figs p noFigure; v′ = getD sets p 0; gained = false; step = stays refl refl (λ e going. y) }
-        | inr y ↦ record { f′ = n; v′ = y .0; gained = true; step = gains x o refl (y .1) }
+        | inl y ↦ record { f′ = getD figs p noFigure; v′ = getD sets p 0; step = stays refl refl (λ e going. y) }
+        | inr y ↦ record { f′ = n; v′ = y .0; step = gains x o refl (y .1) }
       ]
     ]
   ]
@@ -55,10 +54,10 @@ module _ (r : Railway) (n : ℕ) (figs sets : List ℕ) where
 
   pub stepped-exists : Stepped r n figs sets next-figs next-sets
   unfolding next-figs next-sets
-  stepped-exists p l = (at p .gained, rw (list-get (λ p. at p .f′) (placements r) p noFigure l, list-get (λ p. at p .v′) (placements r) p 0 l) (at p .step))
+  stepped-exists p l = rw (list-get (λ p. at p .f′) (placements r) p noFigure l, list-get (λ p. at p .v′) (placements r) p 0 l) (at p .step)
 
 -- one section, one train at home: round 1 leaves the tables as they are
 pub quiet-exists : Stepped yardOne 1 (0 ∷ []) (0 ∷ []) (0 ∷ []) (0 ∷ [])
 unfolding withTrain
-quiet-exists zero l = (false, stays refl refl (λ e going. some-none refl e))
+quiet-exists zero l = stays refl refl (λ e going. some-none refl e)
 quiet-exists (suc p) l = absurd (omega arith)

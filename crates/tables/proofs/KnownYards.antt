@@ -15,9 +15,9 @@ use Rattle.laws.proofs.Bools.{clash, and-true}
 use Rattle.railway.specs.declared.Railway.{Railway}
 use Rattle.railway.specs.Ends.{endAt}
 use Rattle.railway.specs.Refusals.{first}
-use Rattle.railway.specs.Record.{isClosed, joinedBy, joined, hasSignal, legsOf, trainOf, withJoin, withSignal, withLegs, withTrain}
+use Rattle.railway.specs.Record.{isClosed, joinedBy, joined, hasSignal, legsOf, trainOf, weightOf, withJoin, withSignal, withLegs, withTrain}
 use Rattle.railway.specs.Passing.{follow, passes, entered}
-use Rattle.railway.specs.Rows.{unknownRow, joinRow, looseRow, longer, chainRow, placeRow, recordRefusal}
+use Rattle.railway.specs.Rows.{weightRow, unknownRow, joinRow, looseRow, longer, chainRow, placeRow, recordRefusal}
 use Rattle.game.specs.Local.{keepsTest}
 use Rattle.game.specs.Placement.{codeOf, sectionsIn, placements, standsOn, startCode, atHome, shared}
 use Rattle.game.specs.Setting.{headsFor, held, mayMove, free, signalOpen}
@@ -59,7 +59,7 @@ sure : Sure yardA figsA setsA
     × Sure upTwoOne (0 ∷ N ∷ []) zeros
     × Sure upTwoOneHeld (0 ∷ N ∷ []) zeros
     × Sure headOn (N ∷ 0 ∷ N ∷ N ∷ []) zeros
-unfolding recordRefusal first unknownRow joinRow looseRow chainRow longer placeRow endAt joinedBy joined hasSignal legsOf trainOf withJoin withSignal withLegs withTrain allBelow anyBelow sumBelow lowest fromBits certified keepsTest sectionsIn standsOn codeOf atHome shared headsFor mayMove free held signalOpen passes follow occupied moveOf entered isClosed settingAt entryFrom tryOpen firstFound find
+unfolding recordRefusal first weightRow weightOf unknownRow joinRow looseRow chainRow longer placeRow endAt joinedBy joined hasSignal legsOf trainOf withJoin withSignal withLegs withTrain allBelow anyBelow sumBelow lowest fromBits certified keepsTest sectionsIn standsOn codeOf atHome shared headsFor mayMove free held signalOpen passes follow occupied moveOf entered isClosed settingAt entryFrom tryOpen firstFound find
 sure = (
   record { accepted = refl; passes = refl },
   record { accepted = refl; passes = refl },

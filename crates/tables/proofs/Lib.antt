@@ -7,11 +7,13 @@ pub mod Best
 pub mod Plays
 pub mod Carry
 pub mod Unique
+pub mod ByTurns
 pub mod Moving
 pub mod Exact
 pub mod Certify
 pub mod KnownYards
 pub mod LoopYard
+pub mod WeighedYards
 pub mod Refusals
 pub mod Examples
 pub mod Exists

@@ -8,9 +8,9 @@ use Rattle.laws.specs.Below.{allBelow, anyBelow, sumBelow, listBelow, lowest}
 use Rattle.laws.specs.Bits.{fromBits}
 use Rattle.railway.specs.Ends.{endAt}
 use Rattle.railway.specs.Refusals.{first}
-use Rattle.railway.specs.Record.{isClosed, joinedBy, joined, hasSignal, legsOf, trainOf, withJoin, withSignal, withLegs, withTrain}
+use Rattle.railway.specs.Record.{isClosed, joinedBy, joined, hasSignal, legsOf, trainOf, weightOf, withJoin, withSignal, withLegs, withTrain}
 use Rattle.railway.specs.Passing.{follow, passes, entered}
-use Rattle.railway.specs.Rows.{unknownRow, joinRow, looseRow, longer, chainRow, placeRow, recordRefusal}
+use Rattle.railway.specs.Rows.{weightRow, unknownRow, joinRow, looseRow, longer, chainRow, placeRow, recordRefusal}
 use Rattle.game.specs.Game.{IsFigure}
 use Rattle.game.specs.Local.{keepsTest}
 use Rattle.game.specs.Placement.{codeOf, sectionsIn, standsOn, startCode, atHome, shared}
@@ -23,7 +23,7 @@ use Rattle.tables.proofs.Examples.{loopYard, figsLoop, setsLoop}
 use Rattle.tables.proofs.Certify.{certified, certify}
 
 computed : (recordRefusal loopYard ≡ none) × (certified loopYard figsLoop setsLoop ≡ true) × (startCode loopYard ≡ 12)
-unfolding certified find firstFound tryOpen keepsTest settingAt entryFrom mayMove free held signalOpen headsFor standsOn sectionsIn startCode codeOf atHome shared moveOf passes follow occupied entered isClosed recordRefusal first unknownRow joinRow looseRow chainRow longer placeRow endAt joinedBy joined hasSignal legsOf trainOf withJoin withSignal withLegs withTrain allBelow anyBelow sumBelow listBelow lowest fromBits
+unfolding certified find firstFound tryOpen keepsTest settingAt entryFrom mayMove free held signalOpen headsFor standsOn sectionsIn startCode codeOf atHome shared moveOf passes follow occupied entered isClosed recordRefusal first weightRow weightOf unknownRow joinRow looseRow chainRow longer placeRow endAt joinedBy joined hasSignal legsOf trainOf withJoin withSignal withLegs withTrain allBelow anyBelow sumBelow listBelow lowest fromBits
 computed = (refl, refl, refl)
 
 pub loop-accepted : recordRefusal loopYard ≡ none

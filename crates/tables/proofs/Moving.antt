@@ -14,14 +14,15 @@ use Rattle.laws.specs.Bits.{bit}
 use Rattle.laws.proofs.Bools.{clash, and-both}
 use Rattle.laws.proofs.Below.{any-at, any-of}
 use Rattle.railway.specs.declared.Railway.{Railway}
+use Rattle.railway.specs.Record.{weightOf}
 use Rattle.railway.specs.Passing.{entered}
 use Rattle.game.specs.Game.{Outcome, may}
 use Rattle.game.specs.Claim.{figureOf, Keeps}
-use Rattle.game.specs.Local.{isBelow}
+use Rattle.game.specs.Local.{isWithin}
 use Rattle.game.specs.Placement.{shared}
 use Rattle.game.specs.Setting.{Setting, headsFor, mayMove}
 use Rattle.game.specs.Moves.{enters, moveOf, gameOf}
-use Rattle.game.proofs.Turns.{below-is, is-below, may-train, may-allowed, keeps-test, test-keeps}
+use Rattle.game.proofs.Turns.{within-is, is-within, may-train, may-allowed, keeps-test, test-keeps}
 use Rattle.game.proofs.Accepted.{Facts}
 use Rattle.game.proofs.Agreeing.{move-same}
 use Rattle.tables.specs.Entries.{settingAt, entryFrom}
@@ -44,14 +45,14 @@ module _ (r : Railway) (ok : Facts r) (p : ℕ) (apart : shared r p ≡ false) (
 
   module _ (F : ℕ → Option ℕ) (n : ℕ) where
     -- WHERE A MOVE ENDS
-    enters-good : (t : ℕ) (o : Option ℕ) → isBelow n (figureOf F (enters r p t o)) ≡ isGood (endsGood r F p n t) o
+    enters-good : (t : ℕ) (o : Option ℕ) → isWithin n (weightOf r t) (figureOf F (enters r p t o)) ≡ isGood (endsGood r F p n t) o
     enters-good t none = refl
     enters-good t (some x) = refl
 
-    pub good-is : (plus : ℕ → Bool) (t : ℕ) → isBelow n (figureOf F (moveOf r p (settingAt r p (entryFrom r plus opens)) t)) ≡ isGood (endsGood r F p n t) (entered r plus (headsFor r p t))
+    pub good-is : (plus : ℕ → Bool) (t : ℕ) → isWithin n (weightOf r t) (figureOf F (moveOf r p (settingAt r p (entryFrom r plus opens)) t)) ≡ isGood (endsGood r F p n t) (entered r plus (headsFor r p t))
     unfolding moveOf
     good-is plus t =
-        ap (λ (o : Outcome). isBelow n (figureOf F o)) (move-same r ok (setting plus) (record { plus = plus; isOpen = λ i. false }) (setting-plus r (ok .few-points) plus opens p) p t)
+        ap (λ (o : Outcome). isWithin n (weightOf r t) (figureOf F o)) (move-same r ok (setting plus) (record { plus = plus; isOpen = λ i. false }) (setting-plus r (ok .few-points) plus opens p) p t)
         ∙ enters-good t (entered r plus (headsFor r p t))
 
     -- POINTS THAT KEEP THE FIGURE, exactly
@@ -60,7 +61,7 @@ module _ (r : Railway) (ok : Facts r) (p : ℕ) (apart : shared r p ≡ false) (
         let m = moving-of plus (k .one-may .0) (k .one-may .1) in
         record {
           some-moves = any-of (moving r p opens) (r .trains) (k .one-may .0) (m .0) (m .1);
-          each-good = λ t l e. sym (good-is plus t) ∙ below-is n (figureOf F (moveOf r p (setting plus) t)) (k .all-below t (of-moving plus t l e));
+          each-good = λ t l e. sym (good-is plus t) ∙ within-is n (weightOf r t) (figureOf F (moveOf r p (setting plus) t)) (k .all-within t (of-moving plus t l e));
         }
 
     pub moves-keep : (plus : ℕ → Bool) → GoodMoves r F p n opens plus → Keeps (gameOf r) F p (settingAt r p (entryFrom r plus opens)) n
@@ -68,7 +69,7 @@ module _ (r : Railway) (ok : Facts r) (p : ℕ) (apart : shared r p ≡ false) (
         let w = any-at (moving r p opens) (r .trains) (g .some-moves) in
         record {
           one-may = (w .0, of-moving plus (w .0) (w .1) (w .2));
-          all-below = λ t m. let a = moving-of plus t m in is-below n (figureOf F (moveOf r p (setting plus) t)) (good-is plus t ∙ g .each-good t (a .0) (a .1));
+          all-within = λ t m. let a = moving-of plus t m in is-within n (weightOf r t) (figureOf F (moveOf r p (setting plus) t)) (good-is plus t ∙ g .each-good t (a .0) (a .1));
         }
 
     bits-move : (b : ℕ) → bitsKeep r F p n opens b ≡ true → GoodMoves r F p n opens (bit b)

@@ -15,7 +15,7 @@ use Rattle.game.specs.Local.{Solved}
 use Rattle.game.specs.Placement.{placements, shared}
 use Rattle.game.specs.Moves.{gameOf}
 use Rattle.game.proofs.Accepted.{facts}
-use Rattle.game.proofs.Moves.{inside}
+use Rattle.game.proofs.Moves.{inside, costs}
 use Rattle.game.proofs.Figures.{lost-unforced, figures-solved}
 use Rattle.game.proofs.Whole.{whole}
 use Rattle.tables.specs.Tables.{figureIn, settingIn, IsPlanEntry, Filled}
@@ -29,11 +29,11 @@ module _ (r : Railway) (accepted : recordRefusal r ≡ none) (figs sets : List �
   keeping p n l e = (let x : IsPlanEntry r (figureIn figs) p (some (suc n)) (getD sets p 0) = rw e at (filled .settings p l) in x) .0 .keeps
 
   pub filled-solved : Solved (gameOf r) (figureIn figs) (settingIn r sets)
-  filled-solved = figures-solved (gameOf r) (figureIn figs) (settingIn r sets) (inside r (facts r accepted)) (filled .figures) keeping
+  filled-solved = figures-solved (gameOf r) (figureIn figs) (settingIn r sets) (costs r (facts r accepted)) (inside r (facts r accepted)) (filled .figures) keeping
 
   -- THE TABLES ARE RIGHT for whole plays
   pub filled-whole : Whole (gameOf r) (figureIn figs) (settingIn r sets)
-  filled-whole = whole (gameOf r) (figureIn figs) (settingIn r sets) (inside r (facts r accepted)) filled-solved
+  filled-whole = whole (gameOf r) (figureIn figs) (settingIn r sets) (costs r (facts r accepted)) (inside r (facts r accepted)) filled-solved
 
   pub filled-apart : (p n : ℕ) → p < placements r → figureIn figs p ≡ some n → shared r p ≡ false
   filled-apart p n l e = figure-apart r p n (rw e at (filled .figures p l))

@@ -8,20 +8,21 @@ use lib.Dec.{eqb}
 use Rattle.laws.specs.Below.{anyBelow, lowest, orElse}
 use Rattle.laws.specs.Bits.{bit}
 use Rattle.railway.specs.declared.Railway.{Railway}
+use Rattle.railway.specs.Record.{weightOf}
 use Rattle.railway.specs.Passing.{entered}
 use Rattle.game.specs.Setting.{headsFor, held, free}
 use Rattle.game.specs.Moves.{enters, gameOf}
 use Rattle.game.specs.Claim.{figureOf}
-use Rattle.game.specs.Local.{isBelow, keepsTest}
+use Rattle.game.specs.Local.{isWithin, keepsTest}
 use Rattle.tables.specs.Entries.{settingAt, entryFrom}
 
 -- Entry v keeps figure n at placement p.
 abbrev pub entryKeeps : Railway → (ℕ → Option ℕ) → ℕ → ℕ → ℕ → Bool
 entryKeeps r F p n v = keepsTest (gameOf r) F p (settingAt r p v) n
 
--- WHAT DECIDES that. Entering section x ends train t's move in a figure below n.
+-- WHAT DECIDES that. Entering section x ends train t's move in a figure that is smaller than n by at least its weight.
 abbrev pub endsGood : Railway → (ℕ → Option ℕ) → ℕ → ℕ → ℕ → ℕ → Bool
-endsGood r F p n t x = isBelow n (figureOf F (enters r p t (some x)))
+endsGood r F p n t x = isWithin n (weightOf r t) (figureOf F (enters r p t (some x)))
 
 -- Train t may move with these trains open: it is free, or held and open.
 abbrev pub moving : Railway → ℕ → (ℕ → Bool) → ℕ → Bool
@@ -32,7 +33,7 @@ abbrev pub isGood : (ℕ → Bool) → Option ℕ → Bool
 isGood good none = false
 isGood good (some x) = good x
 
--- With these points at plus and these trains open some train may move, and each that may enters a section that ends its move below n.
+-- With these points at plus and these trains open some train may move, and each that may enters a section that ends its move in such a figure.
 pub record GoodMoves (r : Railway) (F : ℕ → Option ℕ) (p n : ℕ) (opens plus : ℕ → Bool) : Type 0 where
   pub some-moves : anyBelow (moving r p opens) (r .trains) ≡ true
   pub each-good : (t : ℕ) → t < r .trains → moving r p opens t ≡ true → isGood (endsGood r F p n t) (entered r plus (headsFor r p t)) ≡ true

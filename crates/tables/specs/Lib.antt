@@ -2,6 +2,7 @@ pub mod Entries
 pub mod Tables
 pub mod Solver
 pub mod Choice
+pub mod ByTurns
 pub mod KnownYards
 pub mod Find
 pub mod Rounds

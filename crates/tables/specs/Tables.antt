@@ -1,4 +1,5 @@
--- The two tables: figures, and the plan's setting by its rule over all whole settings (document 01, "The two tables and the plan"); row 9 for tables.
+-- The two tables: figures, and the plan's setting by its rule over all whole settings (document 01, "The two tables and the plan"; figures are
+-- totals of weights, document 02, Q-12); row 9 for tables.
 -- Assumes nothing.
 use mathlib.Core.Path.{_≡_}
 use mathlib.Core.Logic.{_↔_}

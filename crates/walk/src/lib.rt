@@ -250,8 +250,15 @@ fn take_closed(text: &[u8], c: Cursor, d: Draft) -> Lines
 fn take_train(text: &[u8], c: Cursor, n: u64, d: Draft) -> Lines
     ensures { λ r. ⌜ linesGot r ≡ lineInto (now (text .entry)) Kind.T n (c .at) d ⌝ }
 {
-    let TrainRead::TrainIs(heading, start, destination, next) = lines::train_line(text, c, n) else {
+    let TrainRead::TrainIs(heading, start, destination, weight, next) = lines::train_line(
+        text,
+        c,
+        n,
+    ) else {
         return drafts::not_in_form(d);
     };
-    drafts::in_form(drafts::put_train(d, n, heading, start, destination), next)
+    drafts::in_form(
+        drafts::put_train(d, n, heading, start, destination, weight),
+        next,
+    )
 }

@@ -49,10 +49,15 @@ fn port(n: u8, l: Leg) -> End {
 }
 
 fn train(heading: Side, from: u8, to: u8) -> Train {
+    weighing(heading, from, to, 1)
+}
+
+fn weighing(heading: Side, from: u8, to: u8, weight: u8) -> Train {
     Train {
         heading: heading,
         start: SectionNo(from),
         destination: SectionNo(to),
+        weight: weight,
     }
 }
 
@@ -91,6 +96,13 @@ fn crossover() -> Railway {
         .with_join(port(0, Leg::Plus), down(1))
         .with_join(port(0, Leg::Stem), up(0))
         .with_train(0, train(Side::Up, 0, 3))
+}
+
+// Two sections and two trains: the first has this weight, the second 1.
+fn weighed(weight: u8) -> Railway {
+    counts(2, 0, 2)
+        .with_train(0, weighing(Side::Up, 0, 1, weight))
+        .with_train(1, train(Side::Down, 1, 0))
 }
 
 // Two points that lead to each other.
@@ -139,6 +151,10 @@ fn main() {
     crossed();
     in_sixty(b"one section", counts(1, 0, 1));
     in_sixty(b"twelve sections", long_line());
+    in_sixty(b"weights 7 and 1", weighed(7));
+    in_sixty(b"weights 255 and 1", weighed(255));
+    in_sixty(b"weights 1 and 1", weighed(1));
+    in_sixty(b"weights 0 and 1", weighed(0));
     in_sixty(b"nothing", Railway::empty());
     in_sixty(b"a round", round());
     in_sixty(b"a loose port, and little room", counts(3, 16, 1));

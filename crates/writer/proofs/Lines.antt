@@ -6,8 +6,8 @@ use mathlib.Core.Path.{_≡_}
 use mathlib.Core.Bool.{Bool, true, false}
 use mathlib.Core.List.{List, [], _∷_, _++_}
 use native.Mathlib.Numerals.{add-one}
-use borrow.Author.Tests.{lt-ltb, le-ltb}
-use Rattle.text.specs.Text.{byte, tab, lineEnd, decimal}
+use borrow.Author.Tests.{lt-ltb, le-ltb, eq-eqb, ne-eqb}
+use Rattle.text.specs.Text.{byte, tab, lineEnd, decimal, line}
 use Rattle.text.specs.Appending.{Appended}
 use Rattle.text.proofs.Appending.{append-none, append-then, line-more, line-last}
 use Rattle.railway.specs.declared.Side.{Side}
@@ -22,9 +22,9 @@ use Rattle.railway.specs.declared.Train.{Train}
 use Rattle.railway.specs.declared.Railway.{Railway}
 use Rattle.railway.specs.Ends.{endIndex, endAt}
 use Rattle.railway.specs.Record.{joined, hasSignal, isClosed, legsOf, trainOf}
-use Rattle.casefile.specs.Form.{sideByte, legByte, endField, pointLine, trainLine}
+use Rattle.casefile.specs.Form.{sideByte, legByte, endField, weightField, pointLine, trainLine}
 use Rattle.casefile.specs.Recording.{fieldOf}
-use Rattle.casefile.specs.Writing.{lineOfTrain}
+use Rattle.casefile.specs.Writing.{writtenWeight, lineOfTrain}
 use Rattle.writer.specs.declared.Part.{Part}
 use Rattle.writer.specs.declared.Part.the-variants.{Points, Joins, Signals, Closed, Trains}
 use Rattle.writer.specs.Pieces.{headerText, joinPiece, signalPiece, closedPiece, pieceOf}
@@ -56,16 +56,27 @@ module _ {o o₁ o₂ : List ℕ} {a a₁ a₂ : ℕ} where
 
   pub train-line : {o₃ o₄ o₅ : List ℕ} {a₃ a₄ a₅ : ℕ} (i : ℕ) (t : Train) (b : ℕ) → b ≡ sideByte (t .heading) → Appended o a (byte "T" ∷ tab ∷ []) o₁ a₁
       → Appended o₁ a₁ (decimal (i + 1) ++ (tab ∷ [])) o₂ a₂ → Appended o₂ a₂ (b ∷ tab ∷ []) o₃ a₃
-      → Appended o₃ a₃ (decimal (t .start .0 + 1) ++ (tab ∷ [])) o₄ a₄ → Appended o₄ a₄ (decimal (t .destination .0 + 1) ++ (lineEnd ∷ [])) o₅ a₅
+      → Appended o₃ a₃ (decimal (t .start .0 + 1) ++ (tab ∷ [])) o₄ a₄
+      → Appended o₄ a₄ (line (decimal (suc (t .destination .0)) ∷ weightField (writtenWeight (t .weight)))) o₅ a₅
       → Appended o a (trainLine (suc i) (lineOfTrain t)) o₅ a₅
   train-line i t b is h x y z w =
       let from = decimal (t .start .0 + 1) in
-      let to = decimal (t .destination .0 + 1) in
-      rw (← is, ← add-one i, ← add-one (t .start .0), ← add-one (t .destination .0))
-      (line-more (byte "T" ∷ []) (decimal (i + 1)) ((b ∷ []) ∷ from ∷ to ∷ []) h
-      (line-more (decimal (i + 1)) (b ∷ []) (from ∷ to ∷ []) x
-      (line-more (b ∷ []) from (to ∷ []) y
-      (line-more from to [] z (line-last to w)))))
+      let to = decimal (suc (t .destination .0)) in
+      let weight = weightField (writtenWeight (t .weight)) in
+      rw (← is, ← add-one i, ← add-one (t .start .0))
+      (line-more (byte "T" ∷ []) (decimal (i + 1)) ((b ∷ []) ∷ from ∷ to ∷ weight) h
+      (line-more (decimal (i + 1)) (b ∷ []) (from ∷ to ∷ weight) x
+      (line-more (b ∷ []) from (to ∷ weight) y
+      (line-more from to weight z w))))
+
+-- THE END OF A T LINE, with and without a weight
+module _ {o o₁ : List ℕ} {a a₁ : ℕ} (to weight : ℕ) where
+  pub weight-omitted : weight ≡ 1 → Appended o a (decimal (to + 1) ++ (lineEnd ∷ [])) o₁ a₁ → Appended o a (line (decimal (suc to) ∷ weightField (writtenWeight weight))) o₁ a₁
+  weight-omitted e p = rw (eq-eqb weight 1 e, ← add-one to) (line-last (decimal (to + 1)) p)
+
+  pub weight-put : {o₂ : List ℕ} {a₂ : ℕ} → (weight ≡ 1 → ⊥) → Appended o a (decimal (to + 1) ++ (tab ∷ [])) o₁ a₁ → Appended o₁ a₁ (decimal weight ++ (lineEnd ∷ [])) o₂ a₂
+      → Appended o a (line (decimal (suc to) ∷ weightField (writtenWeight weight))) o₂ a₂
+  weight-put n p q = rw (ne-eqb weight 1 n, ← add-one to) (line-more (decimal (to + 1)) (decimal weight) [] p (line-last (decimal weight) q))
 
 -- AN END among the J lines
 pub join-none : (i : ℕ) (j : Joined) {o : List ℕ} {a : ℕ} → j ≡ Nothing → Appended o a (joinPiece i j) o a

@@ -11,16 +11,17 @@ use lib.ListN.{length, take, drop, replicate, length-replicate}
 use Rattle.text.specs.Text.{bytes}
 use Rattle.railway.specs.declared.Leg.the-variants.{Minus}
 use Rattle.railway.specs.declared.Joined.the-variants.{With}
+use Rattle.railway.specs.declared.Train.{Train}
 use Rattle.railway.specs.declared.Railway.{Railway}
 use Rattle.railway.specs.Ends.{endAt}
-use Rattle.railway.specs.Record.{joinedBy, linkAt, flagAt, closedAt, withJoin, withSignal, withClosed, withLegs, withTrain}
+use Rattle.railway.specs.Record.{joinedBy, linkAt, flagAt, closedAt, trainOf, withJoin, withSignal, withClosed, withLegs, withTrain}
 use Rattle.railway.specs.Yards.{port, yardA}
 use Rattle.casefile.specs.declared.Written.{Written}
 use Rattle.casefile.specs.Form.{Description}
 use Rattle.casefile.specs.Writing.{writtenText, writtenNumber, writtenCount, WriterPost}
 use Rattle.casefile.specs.YardTexts.{textA}
 use Rattle.casefile.proofs.RoundTrip.{same-text}
-use Rattle.casefile.proofs.Uses.{says-a-only, written-a, shut, written-shut, crossing, written-crossing}
+use Rattle.casefile.proofs.Uses.{says-a-only, written-a, shut, written-shut, crossing, written-crossing, weighing, written-seven, written-one}
 use Rattle.writer.specs.Claims.{ReadBack}
 use Rattle.writer.proofs.Claims.{room-enough, bytes-read-back, refused-keeps}
 
@@ -81,6 +82,26 @@ unfolding joinedBy endAt withJoin withLegs withTrain
 inner-read w after p =
     let b = bytes-read-back crossing (replicate 4096 7) w after p 70 (crossing-written w after p) in
     sym (b .same .joins 98 (omega arith))
+
+-- WEIGHTS. Of a yard whose train has weight 7 20 bytes are written, two more than with weight 1; what is read back of them has 7.
+pub seven-written : (w : Written) (after : List ℕ) → WriterPost (weighing 7) (replicate 4096 7) w after → writtenCount w ≡ some 20
+unfolding bytes
+seven-written w after p =
+    let l = length-replicate {A = ℕ} 4096 7 in
+    room-enough (weighing 7) (replicate 4096 7) w after p (written-seven .1) (omega (arith, l)) ∙ ap (λ (s : List ℕ). some (length s)) (written-seven .0)
+
+one-omitted : (w : Written) (after : List ℕ) → WriterPost (weighing 1) (replicate 4096 7) w after → writtenCount w ≡ some 18
+unfolding bytes
+one-omitted w after p =
+    let l = length-replicate {A = ℕ} 4096 7 in
+    room-enough (weighing 1) (replicate 4096 7) w after p (written-one .1) (omega (arith, l)) ∙ ap (λ (s : List ℕ). some (length s)) (written-one .0)
+
+seven-read : (w : Written) (after : List ℕ) (p : WriterPost (weighing 7) (replicate 4096 7) w after)
+    → let b = bytes-read-back (weighing 7) (replicate 4096 7) w after p 20 (seven-written w after p) in trainOf (b .railway) 0 .weight ≡ 7
+unfolding trainOf withTrain
+seven-read w after p =
+    let b = bytes-read-back (weighing 7) (replicate 4096 7) w after p 20 (seven-written w after p) in
+    sym (ap (λ (t : Train). t .weight) (b .same .roster 0 (omega arith)))
 
 -- Never are more bytes answered than a case text may have, or than the buffer has.
 no-more : (r : Railway) (buffer : List ℕ) (w : Written) (after : List ℕ) → WriterPost r buffer w after → (n : ℕ) → writtenCount w ≡ some n

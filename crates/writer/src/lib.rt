@@ -4,10 +4,11 @@ ghost use mathlib.Core.Path.{_≡_};
 ghost use mathlib.Core.List.{[], _∷_, _++_};
 ghost use Prim.Native.Nat.{suc};
 ghost use Rattle.laws.specs.Below.{gatherBelow};
+ghost use Rattle.text.specs.Text.{decimal, line};
 ghost use Rattle.text.specs.Appending.{Appended};
-ghost use Rattle.casefile.specs.Form.{sideByte, legByte, endField, pointLine, trainLine};
+ghost use Rattle.casefile.specs.Form.{sideByte, legByte, endField, weightField, pointLine, trainLine};
 ghost use Rattle.casefile.specs.Recording.{fieldOf};
-ghost use Rattle.casefile.specs.Writing.{lineOfTrain, writtenText, WriterPost};
+ghost use Rattle.casefile.specs.Writing.{writtenWeight, lineOfTrain, writtenText, WriterPost};
 ghost use Rattle.writer.specs.Pieces.{headerText, joinPiece, signalPiece, closedPiece, pieceOf};
 use casefile::Written;
 use railway::CaseAnswer;
@@ -157,7 +158,19 @@ fn put_train(out: &mut [u8], at: usize, i: u8, t: Train) -> usize
     let b = append::number(out, a, i as u32 + 1, TAB);
     let c = append::two(out, b, side_byte(heading), TAB);
     let d = append::number(out, c, t.start.0 as u32 + 1, TAB);
-    append::number(out, d, t.destination.0 as u32 + 1, LINE_END)
+    put_to(out, d, t.destination.0, t.weight)
+}
+
+// The end of a T line: the destination, which counts from 0 here, and the weight if it is not 1.
+fn put_to(out: &mut [u8], at: usize, to: u8, weight: u8) -> usize
+    ensures { λ x. ⌜ Appended (now (out .entry)) at (line (decimal (suc to) ∷ weightField (writtenWeight weight))) (now (out .exit)) x ⌝ }
+{
+    if weight == 1 {
+        append::number(out, at, to as u32 + 1, LINE_END)
+    } else {
+        let a = append::number(out, at, to as u32 + 1, TAB);
+        append::number(out, a, weight as u32, LINE_END)
+    }
 }
 
 // An end, and a byte behind it.

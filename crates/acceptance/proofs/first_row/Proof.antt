@@ -3,16 +3,18 @@
 use borrow.Author.Needs.{needs}
 use mathlib.Core.Path.{_≡_, refl, sym, _∙_}
 use mathlib.Core.List.{List}
+use Prim.Native.Nat.{_≤_}
+use Rattle.railway.specs.Bounds.{mostTrains}
 use Rattle.railway.specs.Refusals.{Row}
 use Rattle.railway.specs.Rows.{rowsBy, countRow, looseRow, chainRow, placeRow}
-use Rattle.railway.proofs.Arrays.{own-links, own-closed}
-use Rattle.acceptance.proofs.Testing.{passed, given-by, all-passed, Asked, none-asked, judged, few-counted}
+use Rattle.railway.proofs.Arrays.{own-links, own-closed, roster-length}
+use Rattle.acceptance.proofs.Testing.{passed, given-by, all-passed, Asked, none-asked, judged, few-counted, own-roster}
 use Rattle.acceptance.proofs.first_row.Statement.{statement}
 use Rattle.acceptance.proofs.first_row.Tie as tie
 
 -- the rows, and how many of them have been asked behind each test
 abbrev rows0 : tie.Start → List Row
-rows0 s = let a = s .args in rowsBy (countRow (a .r)) (a .unknown) (a .wrong) (looseRow (a .r)) (chainRow (a .r)) (a .double) (placeRow (a .r))
+rows0 s = let a = s .args in rowsBy (countRow (a .r)) (a .weight) (a .unknown) (a .wrong) (looseRow (a .r)) (chainRow (a .r)) (a .double) (placeRow (a .r))
 
 abbrev rows1 : tie.Else1 → List Row
 rows1 e = rows0 (e .before .before)
@@ -26,35 +28,38 @@ asked2 e = passed (asked1 (e .before)) (e .if2 .left)
 asked3 : (e : tie.Else3) → Asked (rows1 (e .before .before)) 3
 asked3 e = passed (asked2 (e .before)) (e .if3 .left)
 
+asked4 : (e : tie.Else4) → Asked (rows1 (e .before .before .before)) 4
+asked4 e = passed (asked3 (e .before)) (e .if4 .left)
+
 -- row 6, by the record's own links
-abbrev third : tie.After-loose-ports → tie.Else3
-third e = e .before .before .before
+abbrev fourth : tie.After-loose-ports → tie.Else4
+fourth e = e .before .before .before
 
-abbrev start3 : tie.Else3 → tie.Start
-start3 e = e .before .before .before .before
+abbrev start4 : tie.Else4 → tie.Start
+start4 e = e .before .before .before .before .before
 
-loose-is : (e : tie.After-loose-ports) → e .loose-ports .result ≡ looseRow (start3 (third e) .args .r)
+loose-is : (e : tie.After-loose-ports) → e .loose-ports .result ≡ looseRow (start4 (fourth e) .args .r)
 loose-is e =
-    let s = start3 (third e) in
+    let s = start4 (fourth e) in
     e .loose-ports .ensures (s .args .r) (own-links (s .args .r) _ (s .good .0)) refl
 
-asked4 : (e : tie.Else4) → Asked (rows0 (start3 (third (e .before)))) 4
-asked4 e = passed (asked3 (third (e .before))) (sym (loose-is (e .before)) ∙ e .if4 .left)
+asked5 : (e : tie.Else5) → Asked (rows0 (start4 (fourth (e .before)))) 5
+asked5 e = passed (asked4 (fourth (e .before))) (sym (loose-is (e .before)) ∙ e .if5 .left)
 
 -- row 13, by the same
-abbrev fourth : tie.After-chained → tie.Else4
-fourth e = e .before .before
+abbrev fifth : tie.After-chained → tie.Else5
+fifth e = e .before .before
 
-chained-is : (e : tie.After-chained) → e .chained .result ≡ chainRow (start3 (third (fourth e .before)) .args .r)
+chained-is : (e : tie.After-chained) → e .chained .result ≡ chainRow (start4 (fourth (fifth e .before)) .args .r)
 chained-is e =
-    let s = start3 (third (fourth e .before)) in
+    let s = start4 (fourth (fifth e .before)) in
     e .chained .ensures (s .args .r) (own-links (s .args .r) _ (s .good .0)) refl
 
-asked5 : (e : tie.Else5) → Asked (rows0 (start3 (third (fourth (e .before) .before)))) 5
-asked5 e = passed (asked4 (fourth (e .before))) (sym (chained-is (e .before)) ∙ e .if5 .left)
+asked6 : (e : tie.Else6) → Asked (rows0 (start4 (fourth (fifth (e .before) .before)))) 6
+asked6 e = passed (asked5 (fifth (e .before))) (sym (chained-is (e .before)) ∙ e .if6 .left)
 
-asked6 : (e : tie.Else6) → Asked (rows0 (start3 (third (fourth (e .before .before) .before)))) 6
-asked6 e = passed (asked5 (e .before)) (e .if6 .left)
+asked7 : (e : tie.Else7) → Asked (rows0 (start4 (fourth (fifth (e .before .before) .before)))) 7
+asked7 e = passed (asked6 (e .before)) (e .if7 .left)
 
 counts-outside-requires : tie.Need-counts-outside-requires
 counts-outside-requires c κs = search needs
@@ -68,44 +73,50 @@ returns-2 c = judged (given-by (asked1 (c .before)) (c .if2 .taken))
 returns-3 : tie.Need-returns-3
 returns-3 c = judged (given-by (asked2 (c .before)) (c .if3 .taken))
 
+returns-4 : tie.Need-returns-4
+returns-4 c = judged (given-by (asked3 (c .before)) (c .if4 .taken))
+
 loose-ports-requires : tie.Need-loose-ports-requires
 loose-ports-requires c κs = search needs
 
-returns-4 : tie.Need-returns-4
-returns-4 c = judged (given-by (asked3 (third (c .before))) (sym (loose-is (c .before)) ∙ c .if4 .taken))
+returns-5 : tie.Need-returns-5
+returns-5 c = judged (given-by (asked4 (fourth (c .before))) (sym (loose-is (c .before)) ∙ c .if5 .taken))
 
 chained-requires : tie.Need-chained-requires
 chained-requires c κs = search needs
 
-returns-5 : tie.Need-returns-5
-returns-5 c = judged (given-by (asked4 (fourth (c .before))) (sym (chained-is (c .before)) ∙ c .if5 .taken))
-
 returns-6 : tie.Need-returns-6
-returns-6 c = judged (given-by (asked5 (c .before)) (c .if6 .taken))
+returns-6 c = judged (given-by (asked5 (fifth (c .before))) (sym (chained-is (c .before)) ∙ c .if6 .taken))
+
+returns-7 : tie.Need-returns-7
+returns-7 c = judged (given-by (asked6 (c .before)) (c .if7 .taken))
 
 -- row 8, by its trains and closed sections; there are few trains
-abbrev sixth : tie.After-closed2 → tie.Else6
-sixth e = e .before .before .before
+abbrev seventh : tie.After-closed2 → tie.Else7
+seventh e = e .before .before .before
 
-abbrev first-else : tie.Else6 → tie.Else1
-first-else e = third (fourth (e .before .before) .before) .before .before
+abbrev first-else : tie.Else7 → tie.Else1
+first-else e = fourth (fifth (e .before .before) .before) .before .before .before
 
-misplaced-requires : tie.Need-misplaced-requires
-misplaced-requires c κs =
-    let e = first-else (sixth c) in
+few-trains : (e : tie.Else1) → e .before .before .args .r .trains ≤ mostTrains
+few-trains e =
     let r = e .before .before .args .r in
     few-counted (r .sections) (r .points) (r .trains) _ (e .before .counts-outside .ensures) (e .if1 .left) .2
 
-misplaced-is : (e : tie.After-misplaced) → e .misplaced .result ≡ placeRow (first-else (sixth (e .before)) .before .before .args .r)
-misplaced-is e =
-    let s = first-else (sixth (e .before)) .before .before in
-    e .misplaced .ensures (s .args .r) (record { are = refl; count = refl }) (own-closed (s .args .r) _ (s .good .0))
+misplaced-requires : tie.Need-misplaced-requires
+misplaced-requires c κs = few-trains (first-else (seventh c))
 
-returns-7 : tie.Need-returns-7
-returns-7 c = judged (given-by (asked6 (sixth (c .before .before))) (sym (misplaced-is (c .before)) ∙ c .if7 .taken))
+misplaced-is : (e : tie.After-misplaced) → e .misplaced .result ≡ placeRow (first-else (seventh (e .before)) .before .before .args .r)
+misplaced-is e =
+    let d = first-else (seventh (e .before)) in
+    let s = d .before .before in
+    e .misplaced .ensures (s .args .r) (own-roster (s .args .r) (roster-length (s .args .r) _ (s .good .0)) (few-trains d)) (own-closed (s .args .r) _ (s .good .0))
 
 returns-8 : tie.Need-returns-8
-returns-8 c = judged (all-passed (passed (asked6 (sixth (c .before .before))) (sym (misplaced-is (c .before)) ∙ c .if7 .left)))
+returns-8 c = judged (given-by (asked7 (seventh (c .before .before))) (sym (misplaced-is (c .before)) ∙ c .if8 .taken))
+
+returns-9 : tie.Need-returns-9
+returns-9 c = judged (all-passed (passed (asked7 (seventh (c .before .before))) (sym (misplaced-is (c .before)) ∙ c .if8 .left)))
 
 pub first-row-spec : {M : Type 1} → statement M
 first-row-spec =
@@ -115,11 +126,12 @@ first-row-spec =
     returns
     returns-2
     returns-3
-    loose-ports-requires
     returns-4
-    chained-requires
+    loose-ports-requires
     returns-5
+    chained-requires
     returns-6
-    misplaced-requires
     returns-7
-    returns-8)
+    misplaced-requires
+    returns-8
+    returns-9)

@@ -51,7 +51,7 @@ loop-again : tie.Need-loop-again Inv-loop μ-loop
 loop-again c =
     let i = c .before .before in
     let l = i .before in
-    (omega arith, λ r k h e. noted-next (sharesWith r _) _ _ (l .loop .inv .1 r k h e) _ (shares-at r _ k h _ _ _ e (i .loop-test .taken) (c .shares .ensures)))
+    (omega arith, λ r k h e. noted-next (sharesWith r _) _ _ (l .loop .inv .1 r k h e) _ (shares-at r _ k h _ _ _ _ e (i .loop-test .taken) (c .shares .ensures)))
 
 returns : tie.Need-returns Inv-loop μ-loop
 returns c = λ r k h e. let l = c .before in noted-all (sharesWith r _) _ _ (l .loop .inv .1 r k h e) _ (l .loop .inv .0) (c .loop-test .left)

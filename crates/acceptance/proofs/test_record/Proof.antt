@@ -1,29 +1,39 @@
--- `acceptance::test_record` meets its contract: a count outside its bounds comes before all else; then rows 4 and 5 are found on the record's own links,
+-- `acceptance::test_record` meets its contract: a count outside its bounds comes before all else; then rows 16, 4 and 5 are found on the record's own links,
 -- signals, closed sections, trains and legs, and row 7 applies to none.
 -- Assumes nothing.
 use borrow.Author.Needs.{needs}
 use native.Mathlib.Omega.{arith}
 use mathlib.Core.Path.{refl}
-use Rattle.railway.proofs.Arrays.{own-links, own-signals, own-closed}
-use Rattle.acceptance.specs.Answers.{Looked}
+use Rattle.railway.proofs.Arrays.{own-links, own-signals, own-closed, roster-length}
+use Rattle.acceptance.specs.Answers.{Looked, RosterOf}
 use Rattle.railway.specs.Bounds.{mostSections, mostPoints, mostTrains, allEnds}
 use Prim.Native.Nat.{_≤_}
-use Rattle.acceptance.proofs.Testing.{tested, count-given, few-counted}
+use Rattle.acceptance.proofs.Testing.{tested, count-given, few-counted, own-roster}
 use Rattle.acceptance.proofs.test_record.Statement.{statement}
 use Rattle.acceptance.proofs.test_record.Tie as tie
 
 -- where the counts are within their bounds
+abbrev counted : tie.After-wrong-weights → tie.Else1
+counted e = e .before .before .before .before .before .before
+
 abbrev begun : tie.After-sides-of → tie.Else1
-begun e = e .before .before .before .before .before .before
+begun e = counted (e .before)
 
 few : (e : tie.Else1) → (e .before .before .args .r .sections ≤ mostSections) × (e .before .before .args .r .points ≤ mostPoints) × (e .before .before .args .r .trains ≤ mostTrains)
 few e = few-counted _ _ _ _ (e .before .counts-outside .ensures) (e .if1 .left)
+
+-- the record's trains
+trains : (e : tie.Else1) → let r = e .before .before .args .r in RosterOf r (r .roster) (r .trains)
+trains e = let s = e .before .before in own-roster (s .args .r) (roster-length (s .args .r) _ (s .good .0)) (few e .2)
 
 counts-outside-requires : tie.Need-counts-outside-requires
 counts-outside-requires c κs = search needs
 
 returns : tie.Need-returns
 returns c = count-given (c .before .before .args .r) _ (c .before .counts-outside .ensures) (c .if1 .taken)
+
+wrong-weights-requires : tie.Need-wrong-weights-requires
+wrong-weights-requires c κs = few (c .before .before .before .before .before) .2
 
 sides-of-requires : tie.Need-sides-of-requires
 sides-of-requires c κs = search needs
@@ -73,9 +83,10 @@ returns-2 c =
     let x = f .before in
     let u = x .before .before .before in
     let l = looked x in
-    let s = begun (sided l) .before .before in
+    let b = begun (sided l) in
+    let s = b .before .before in
     let r = s .args .r in
-    tested r _ _ _ _ _ _ _ (c .first-row .ensures) (found l) (u .unknown-signals .ensures r (own-signals r _ (s .good .0)) refl) (x .unknown-closed .ensures r (own-closed r _ (s .good .0)) refl) (f .unknown-trains .ensures r (record { are = refl; count = refl }) refl)
+    tested r _ _ _ _ _ _ _ _ (c .first-row .ensures) (sided l .before .wrong-weights .ensures r (trains b)) (found l) (u .unknown-signals .ensures r (own-signals r _ (s .good .0)) refl) (x .unknown-closed .ensures r (own-closed r _ (s .good .0)) refl) (f .unknown-trains .ensures r (trains b) refl)
 
 pub test-record-spec : {M : Type 1} → statement M
 test-record-spec =
@@ -83,6 +94,7 @@ test-record-spec =
     (tie.spec
     counts-outside-requires
     returns
+    wrong-weights-requires
     sides-of-requires
     mul-ends
     mul-ports

@@ -71,7 +71,7 @@ loop-again c =
     let l = i .before in
     let s = tested (l .before) .before in
     let r = s .args .r in
-    (omega arith, c .fill-stands .ensures r (own-signals r _ (s .good .0)) (l .before .trains-of .ensures .each (l .loop .t) (i .loop-test .taken)) (l .loop .inv .1))
+    (omega arith, c .fill-stands .ensures r (own-signals r _ (s .good .0)) (l .before .trains-of .ensures .each (l .loop .t) _ (i .loop-test .taken)) (l .loop .inv .1))
 
 loop2-holds : tie.Need-loop2-holds Inv-loop μ-loop Inv-loop2 μ-loop2
 loop2-holds c = let l = c .before in (omega arith, filled-stands (tested (l .before) .before .args .r) _ _ (l .loop .inv .0) (c .loop-test .left) (l .loop .inv .1))

@@ -1,7 +1,7 @@
 -- `compiled::roster_in` meets its contract: the table has it there; past the table stands no train.
 -- Assumes nothing.
 use borrow.Author.Needs.{needs}
-use Rattle.compiled.proofs.Table.{roster-there, no-heading, no-section}
+use Rattle.compiled.proofs.Table.{roster-there, no-heading, no-section, no-weight}
 use Rattle.compiled.proofs.roster_in.Statement.{statement}
 use Rattle.compiled.proofs.roster_in.Tie as tie
 
@@ -24,8 +24,11 @@ returns-2 : tie.Need-returns-2
 returns-2 c = λ r h. no-heading r _ _ _ h (c .before .if1 .left) (c .if2 .taken)
 
 returns-3 : tie.Need-returns-3
-returns-3 c = λ r h. no-section r _ _ _ h (c .before .if1 .left) (c .if2 .left)
+returns-3 c = λ r h. no-weight r _ _ _ h (c .before .before .if1 .left) (c .if3 .taken)
+
+returns-4 : tie.Need-returns-4
+returns-4 c = λ r h. no-section r _ _ _ h (c .before .before .if1 .left) (c .before .before .before .pre) (c .before .if2 .left) (c .if3 .left)
 
 pub roster-in-spec : {M : Type 1} → statement M
 roster-in-spec =
-    tie.close (tie.spec mul-at add-at add-at-2 element-copy-out-result returns returns-2 returns-3)
+    tie.close (tie.spec mul-at add-at add-at-2 element-copy-out-result returns returns-2 returns-3 returns-4)

@@ -1,12 +1,19 @@
--- `drafts::put_train` meets its contract: its number, start and destination are all there, or that is noted.
+-- `drafts::put_train` meets its contract: a weight that no train may have is noted; then its number, start and destination are all there, or that is noted.
 -- Assumes nothing.
 use borrow.Author.Needs.{needs}
 use native.Mathlib.Omega.{arith}
 use mathlib.Core.Path.{_≡_, _∙_}
 use mathlib.Core.Bool.{true}
+use Rattle.lines.specs.Answers.{trainNamed}
 use Rattle.drafts.proofs.Parts.{train-in, train-not, all-three}
 use Rattle.drafts.proofs.put_train.Statement.{statement}
 use Rattle.drafts.proofs.put_train.Tie as tie
+
+said-requires : tie.Need-said-requires
+said-requires c κs = search needs
+
+weighed-requires : tie.Need-weighed-requires
+weighed-requires c κs = search needs
 
 within-requires : tie.Need-within-requires
 within-requires c κs = search needs
@@ -39,6 +46,9 @@ sub-to c = let k = c .before .within3 .ensures .small (there c .2) in omega arit
 cast-to : tie.Need-cast-to
 cast-to c = let k = c .before .within3 .ensures .small (there c .2) in omega arith
 
+cast-byte : tie.Need-cast-byte
+cast-byte c = search needs
+
 with-train-requires : tie.Need-with-train-requires
 with-train-requires c κs = search needs
 
@@ -47,8 +57,10 @@ returns c =
     let w3 = c .before .before in
     let w2 = w3 .before in
     let w1 = w2 .before in
-    let a = w1 .before .before .args in
-    train-in (a .d) (a .n) (record { heading = a .heading; start = a .start; destination = a .destination }) _ _ _ (w1 .within .ensures .is) (w2 .within2 .ensures .is) (w3 .within3 .ensures .is) (c .before .if1 .taken) _ (c .with-train .ensures)
+    let v = w1 .before .before in
+    let s = v .before in
+    let a = s .before .args in
+    train-in (a .d) (a .n) (trainNamed (a .heading) (a .start) (a .destination) (a .weight)) _ (s .said .ensures) _ (v .weighed .ensures) _ _ _ (w1 .within .ensures .is) (w2 .within2 .ensures .is) (w3 .within3 .ensures .is) (c .before .if1 .taken) _ (c .with-train .ensures)
 
 noted-requires : tie.Need-noted-requires
 noted-requires c κs = search needs
@@ -58,8 +70,28 @@ returns-2 c =
     let w3 = c .before .before in
     let w2 = w3 .before in
     let w1 = w2 .before in
-    let a = w1 .before .before .args in
-    c .noted .ensures ∙ train-not (a .d) (a .n) (record { heading = a .heading; start = a .start; destination = a .destination }) _ _ _ (w1 .within .ensures .is) (w2 .within2 .ensures .is) (w3 .within3 .ensures .is) (c .before .if1 .left)
+    let v = w1 .before .before in
+    let s = v .before in
+    let a = s .before .args in
+    c .noted .ensures ∙ train-not (a .d) (a .n) (trainNamed (a .heading) (a .start) (a .destination) (a .weight)) _ (s .said .ensures) _ (v .weighed .ensures) _ _ _ (w1 .within .ensures .is) (w2 .within2 .ensures .is) (w3 .within3 .ensures .is) (c .before .if1 .left)
 
 pub put-train-spec : {M : Type 1} → statement M
-put-train-spec = tie.close (tie.spec within-requires within-requires-2 within-requires-3 sub-t cast-t sub-from cast-from sub-to cast-to with-train-requires returns noted-requires returns-2)
+put-train-spec =
+    tie.close
+    (tie.spec
+    said-requires
+    weighed-requires
+    within-requires
+    within-requires-2
+    within-requires-3
+    sub-t
+    cast-t
+    sub-from
+    cast-from
+    sub-to
+    cast-to
+    cast-byte
+    with-train-requires
+    returns
+    noted-requires
+    returns-2)

@@ -7,8 +7,8 @@ use mathlib.Core.Path.{refl, sym, _∙_, ap}
 use Rattle.text.specs.Answers.{numberGot}
 use Rattle.casefile.specs.Form.{TrainLine}
 use Rattle.casefile.specs.Reading.{trainLineAt}
-use Rattle.lines.specs.Answers.{sideGot}
-use Rattle.text.proofs.Chain.{byte-fails, byte-goes}
+use Rattle.lines.specs.Answers.{sideGot, weightGot}
+use Rattle.text.proofs.Chain.{fails, goes, byte-fails, byte-goes}
 use Rattle.lines.proofs.Chain.{Left, whole, onward, tab-fails, tab-goes, number-due, number-other}
 use Rattle.lines.proofs.train_line.Statement.{statement}
 use Rattle.lines.proofs.train_line.Tie as tie
@@ -36,9 +36,13 @@ abbrev past-destination : tie.After-destination → Left TrainLine
 unfolding trainLineAt
 past-destination k = onward (past-start (k .before .before .before .before)) (tab-goes _ _ _ _ (sym (k .before .before .tab-number3 .ensures) ∙ ap numberGot (k .destination .given .1)) refl)
 
-abbrev past-end : tie.After-c6 → Left TrainLine
+abbrev past-weight : tie.After-weight → Left TrainLine
 unfolding trainLineAt
-past-end k = onward (past-destination (k .before .before .before .before)) (byte-goes _ 10 _ (omega arith) _ (k .before .before .byte-at2 .ensures) _ (k .c6 .given .1) _ refl)
+past-weight k = onward (past-destination (k .before .before .before .before)) (goes _ (sym (k .before .before .weight-field .ensures) ∙ ap weightGot (k .weight .given .1)) refl)
+
+abbrev past-end : tie.After-c7 → Left TrainLine
+unfolding trainLineAt
+past-end k = onward (past-weight (k .before .before .before .before)) (byte-goes _ 10 _ (omega arith) _ (k .before .before .byte-at2 .ensures) _ (k .c7 .given .1) _ refl)
 
 byte-at-requires : tie.Need-byte-at-requires
 byte-at-requires c κs = search needs
@@ -105,26 +109,39 @@ returns-5 : tie.Need-returns-5
 unfolding trainLineAt
 returns-5 c = tab-fails _ _ _ _ (sym (c .before .before .tab-number3 .ensures) ∙ ap numberGot (c .enum-told5 .given .1)) ∙ past-start (c .before .before .before .before) .gives
 
-byte-at-requires-2 : tie.Need-byte-at-requires-2
-byte-at-requires-2 c κs = search needs
+weight-field-requires : tie.Need-weight-field-requires
+weight-field-requires c κs = search needs
 
-enum-known-c6 : tie.Need-enum-known-c6
-enum-known-c6 c = search needs
+enum-known-weight : tie.Need-enum-known-weight
+enum-known-weight c = search needs
 
 enum-told-6 : tie.Need-enum-told-6
 enum-told-6 c = search needs
 
 returns-6 : tie.Need-returns-6
 unfolding trainLineAt
-returns-6 c = byte-fails _ 10 _ (omega arith) _ (c .before .before .byte-at2 .ensures) (c .enum-told6 .given .1) _ ∙ past-destination (c .before .before .before .before) .gives
+returns-6 c = fails _ (sym (c .before .before .weight-field .ensures) ∙ ap weightGot (c .enum-told6 .given .1)) ∙ past-destination (c .before .before .before .before) .gives
+
+byte-at-requires-2 : tie.Need-byte-at-requires-2
+byte-at-requires-2 c κs = search needs
+
+enum-known-c7 : tie.Need-enum-known-c7
+enum-known-c7 c = search needs
+
+enum-told-7 : tie.Need-enum-told-7
+enum-told-7 c = search needs
 
 returns-7 : tie.Need-returns-7
 unfolding trainLineAt
-returns-7 c = number-due _ _ (c .if1 .taken) ∙ past-end (c .before .before) .gives
+returns-7 c = byte-fails _ 10 _ (omega arith) _ (c .before .before .byte-at2 .ensures) (c .enum-told7 .given .1) _ ∙ past-weight (c .before .before .before .before) .gives
 
 returns-8 : tie.Need-returns-8
 unfolding trainLineAt
-returns-8 c = number-other _ _ _ (c .if1 .left) ∙ past-end (c .before .before) .gives
+returns-8 c = number-due _ _ (c .if1 .taken) ∙ past-end (c .before .before) .gives
+
+returns-9 : tie.Need-returns-9
+unfolding trainLineAt
+returns-9 c = number-other _ _ _ (c .if1 .left) ∙ past-end (c .before .before) .gives
 
 pub train-line-spec : {M : Type 1} → statement M
 train-line-spec =
@@ -150,9 +167,13 @@ train-line-spec =
     enum-known-destination
     enum-told-5
     returns-5
-    byte-at-requires-2
-    enum-known-c6
+    weight-field-requires
+    enum-known-weight
     enum-told-6
     returns-6
+    byte-at-requires-2
+    enum-known-c7
+    enum-told-7
     returns-7
-    returns-8)
+    returns-8
+    returns-9)

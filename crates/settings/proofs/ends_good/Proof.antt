@@ -1,6 +1,5 @@
--- `settings::ends_good` meets its contract: the figure at the code that the move would lead to, and then the other trains.
+-- `settings::ends_good` meets its contract: the figure at the code that the move would lead to, with the train's weight, and then the other trains.
 -- Assumes nothing.
-use native.Mathlib.Omega.{arith}
 use borrow.Author.Needs.{needs}
 use Rattle.settings.proofs.Stepping.{ends-not, ends-unless}
 use Rattle.settings.proofs.ends_good.Statement.{statement}
@@ -21,16 +20,11 @@ code-put-requires c κs = search needs
 entry-at-requires : tie.Need-entry-at-requires
 entry-at-requires c κs = search needs
 
-returns : tie.Need-returns
-returns c =
-    let e = c .before in
-    let u = e .before in
-    let x = u .before in
-    let w = x .before in
-    let s = w .before in
-    let a = s .before .before .args in
-    λ r p on code l inside.
-    ends-not r p _ _ on (a .figures .now) (a .n) (a .t) (a .y) l inside _ _ _ _ _ code (s .sections-in .ensures r (on .compiled)) (w .power .ensures) (x .section-at .ensures) (u .code-put .ensures) _ (e .entry-at .ensures) (c .if1 .taken)
+weight-in-requires : tie.Need-weight-in-requires
+weight-in-requires c κs = search needs
+
+is-within-requires : tie.Need-is-within-requires
+is-within-requires c κs = search needs
 
 trains-in-requires : tie.Need-trains-in-requires
 trains-in-requires c κs = search needs
@@ -38,20 +32,34 @@ trains-in-requires c κs = search needs
 other-in-requires : tie.Need-other-in-requires
 other-in-requires c κs = search needs
 
-returns-2 : tie.Need-returns-2
-returns-2 c =
+returns : tie.Need-returns
+returns c =
     let o = c .before in
-    let i = o .before in
-    let e = i .before in
+    let i = o .before .before in
+    let h = i .before in
+    let e = h .before in
     let u = e .before in
     let x = u .before in
     let w = x .before in
     let s = w .before in
-    let st = s .before .before in
-    let a = st .args in
+    let a = s .before .before .args in
     λ r p on code l inside.
     ends-unless r p _ _ on (a .figures .now) (a .n) (a .t) (a .y) l inside _ _ _ _ _ code (s .sections-in .ensures r (on .compiled)) (w .power .ensures) (x .section-at .ensures) (u .code-put .ensures) _ (e .entry-at .ensures)
-    (omega (arith, st .fits .n)) (i .if1 .left) _ _ (o .trains-in .ensures r (on .compiled)) (c .other-in .ensures)
+    _ (h .weight-in .ensures r (on .compiled)) _ (i .is-within .ensures) (o .before .if1 .taken) _ _ (o .trains-in .ensures r (on .compiled)) (c .other-in .ensures)
+
+returns-2 : tie.Need-returns-2
+returns-2 c =
+    let i = c .before in
+    let h = i .before in
+    let e = h .before in
+    let u = e .before in
+    let x = u .before in
+    let w = x .before in
+    let s = w .before in
+    let a = s .before .before .args in
+    λ r p on code l inside.
+    ends-not r p _ _ on (a .figures .now) (a .n) (a .t) (a .y) l inside _ _ _ _ _ code (s .sections-in .ensures r (on .compiled)) (w .power .ensures) (x .section-at .ensures) (u .code-put .ensures) _ (e .entry-at .ensures)
+    _ (h .weight-in .ensures r (on .compiled)) _ (i .is-within .ensures) (c .if1 .left)
 
 pub ends-good-spec : {M : Type 1} → statement M
 ends-good-spec =
@@ -62,7 +70,9 @@ ends-good-spec =
     section-at-requires
     code-put-requires
     entry-at-requires
-    returns
+    weight-in-requires
+    is-within-requires
     trains-in-requires
     other-in-requires
+    returns
     returns-2)

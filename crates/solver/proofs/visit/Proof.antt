@@ -24,8 +24,8 @@ returns : tie.Need-returns
 returns c =
     let f = c .before .before in
     let a = f .before .before .before .before .before in
-    λ r m o on l empty.
-    visit-rests r (a .args .table .now) (a .args .ways .now) m (a .args .n) (a .args .p) (a .args .figures .now) (a .args .settings .now) (a .args .marks .now) o l empty _
+    λ r m d o on l empty.
+    visit-rests r (a .args .table .now) (a .args .ways .now) m (a .args .n) (a .args .soon) d (a .args .p) (a .args .figures .now) (a .args .settings .now) (a .args .marks .now) o l empty _
     (f .find-in .ensures r _ on (o .laid) (sym (code-back r _ (o .compiled) _ _ on l))) (ap entryFound (c .enum-told .given .1))
 
 mul-figures : tie.Need-mul-figures
@@ -40,8 +40,8 @@ mul-settings c = search needs
 slice-write-settings : tie.Need-slice-write-settings
 slice-write-settings c = search needs
 
-mark-requires : tie.Need-mark-requires
-mark-requires c κs = search needs
+gain-requires : tie.Need-gain-requires
+gain-requires c κs = search needs
 
 same-length-2 : tie.Need-same-length-2
 same-length-2 c = search needs
@@ -58,9 +58,9 @@ returns-2 c =
     let w = k .before .before .before in
     let f = w .before .before in
     let a = f .before .before .before .before .before in
-    λ r m o on l empty.
-    visit-gains r (a .args .table .now) (a .args .ways .now) m (a .args .n) (a .args .p) (a .args .figures .now) (a .args .settings .now) (a .args .marks .now) o l empty _
-    (f .find-in .ensures r _ on (o .laid) (sym (code-back r _ (o .compiled) _ _ on l))) (a .pre .0) (a .pre .1) _ (k .mark .kept .0) (k .mark .ensures .0) (k .mark .ensures .1) _
+    λ r m d o on l empty.
+    visit-gains r (a .args .table .now) (a .args .ways .now) m (a .args .n) (a .args .soon) d (a .args .p) (a .args .figures .now) (a .args .settings .now) (a .args .marks .now) o l empty _
+    (f .find-in .ensures r _ on (o .laid) (sym (code-back r _ (o .compiled) _ _ on l))) (a .pre .0) (a .pre .1) _ (k .gain .ensures) _
     (ap entryFound (w .found .given .1))
 
 pub visit-spec : {M : Type 1} → statement M
@@ -76,7 +76,7 @@ visit-spec =
     slice-write-figures
     mul-settings
     slice-write-settings
-    mark-requires
+    gain-requires
     same-length-2
     same-length-3
     same-length-4

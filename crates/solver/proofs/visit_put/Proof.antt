@@ -30,24 +30,24 @@ same-length-3 : tie.Need-same-length-3
 same-length-3 c = search needs
 
 returns : tie.Need-returns
-returns c =
-    let v = c .before .before .before .before .before .before in
+returns p =
+    let v = p .before .before .before .before .before .before in
     let i = v .before .before .before .before .before in
     let w = i .before in
     let a = w .before .before .before .before .before in
-    λ r d o on lt there put.
-    one-visit r (a .args .table .now) (a .args .ways .now) (a .args .m) (a .args .n) d (a .args .t) (a .args .y) (a .args .p) (a .args .figures .now) (a .args .settings .now) (a .args .marks .now) o there put (a .args .q) _ on lt _ (w .waits .ensures) (i .if1 .taken)
-    (v .before .put-on .ensures) _ _ _ _ (v .visit .ensures)
+    λ r c d o on lt there put.
+    one-visit r (a .args .table .now) (a .args .ways .now) (a .args .m) (a .args .n) (a .args .soon) d c (a .args .t) (a .args .y) (a .args .p) (a .args .figures .now) (a .args .settings .now) (a .args .marks .now) o there put (a .args .q) _ on lt _ (w .waits .ensures) (i .if1 .taken)
+    (v .before .put-on .ensures) _ _ _ (v .visit .ensures)
 
 same-length-4 : tie.Need-same-length-4
 same-length-4 c = search needs
 
 returns-2 : tie.Need-returns-2
-returns-2 c =
-    let w = c .before in
+returns-2 p =
+    let w = p .before in
     let a = w .before .before .before .before .before in
-    λ r d o on lt there put.
-    no-visit r (a .args .table .now) (a .args .ways .now) (a .args .m) (a .args .n) d (a .args .t) (a .args .y) (a .args .p) (a .args .figures .now) (a .args .settings .now) (a .args .marks .now) o there put _ (w .waits .ensures) (c .if1 .left)
+    λ r c d o on lt there put.
+    no-visit r (a .args .table .now) (a .args .ways .now) (a .args .m) (a .args .n) (a .args .soon) d c (a .args .t) (a .args .y) (a .args .p) (a .args .figures .now) (a .args .settings .now) (a .args .marks .now) o there put _ (w .waits .ensures) (p .if1 .left)
 
 pub visit-put-spec : {M : Type 1} → statement M
 visit-put-spec =

@@ -16,11 +16,11 @@ use Rattle.solver.proofs.visit_train.Statement.{statement}
 use Rattle.solver.proofs.visit_train.Tie as tie
 
 abbrev Inv-loop : tie.InvT-loop
-Inv-loop table ways behind figures₀ settings₀ marks₀ m n q c t stride x e added₀ j₀ figures settings marks added j =
-    VisitedTo (λ r. Standing r table behind q c t stride) table ways m n (λ r i. BackBy r c t x i) figures₀ settings₀ marks₀ figures settings marks added j
+Inv-loop table ways behind figures₀ settings₀ marks₀ m n soon q c t stride x e j₀ figures settings marks j =
+    VisitedTo (λ r. Standing r table behind q c t stride) table ways m n soon (λ r i. BackBy r c t x i) figures₀ settings₀ marks₀ figures settings marks j
 
 abbrev μ-loop : tie.MeasureT-loop
-μ-loop table ways behind figures₀ settings₀ marks₀ m n q c t stride x e added₀ j₀ figures settings marks added j =
+μ-loop table ways behind figures₀ settings₀ marks₀ m n soon q c t stride x e j₀ figures settings marks j =
     mostWays - j
 
 section-at-requires : tie.Need-section-at-requires Inv-loop μ-loop
@@ -41,7 +41,7 @@ given b r h on lc lt w = record { laid = h; on = on; code = lc; train = lt; stri
 loop-holds : tie.Need-loop-holds Inv-loop μ-loop
 loop-holds c =
     let a = start c .args in
-    visited-to-start (λ r. Standing r (a .table .now) (a .behind .now) (a .q) (a .c) (a .t) (a .stride)) (a .table .now) (a .ways .now) (a .m) (a .n) (λ r i. BackBy r (a .c) (a .t) _ i) (a .figures .now) (a .settings .now) (a .marks .now) 0
+    visited-to-start (λ r. Standing r (a .table .now) (a .behind .now) (a .q) (a .c) (a .t) (a .stride)) (a .table .now) (a .ways .now) (a .m) (a .n) (a .soon) (λ r i. BackBy r (a .c) (a .t) _ i) (a .figures .now) (a .settings .now) (a .marks .now) 0
     (λ r u k. no-way (a .table .now) (a .behind .now) (a .q) (a .c) (a .t) (a .stride) _ _ (c .before .section-at .ensures) (c .end-behind .ensures) r u k)
 
 way-to-requires : tie.Need-way-to-requires Inv-loop μ-loop
@@ -63,11 +63,11 @@ returns c =
     let b = l .before in
     let a = start b .args in
     let here = b .before .section-at .ensures in
-    λ r h o on lc lt stride.
-    visited-to-end (λ r. Standing r (a .table .now) (a .behind .now) (a .q) (a .c) (a .t) (a .stride)) (a .table .now) (a .ways .now) (a .m) (a .n) (λ r i. BackBy r (a .c) (a .t) _ i) (a .figures .now) (a .settings .now) (a .marks .now) _ _ _ _ _ (l .loop .inv)
+    λ r d h o on lc lt stride.
+    visited-to-end (λ r. Standing r (a .table .now) (a .behind .now) (a .q) (a .c) (a .t) (a .stride)) (a .table .now) (a .ways .now) (a .m) (a .n) (a .soon) (λ r i. BackBy r (a .c) (a .t) _ i) (a .figures .now) (a .settings .now) (a .marks .now) _ _ _ _ (l .loop .inv)
     (λ r. By r (a .c) (a .t))
-    (λ r g o u lu k. way-last (a .table .now) (a .behind .now) (a .q) (a .c) (a .t) (a .stride) _ _ here (b .end-behind .ensures) _ _ (w .way-to .ensures .0) r g (c .if1 .taken) u (by-ways (a .table .now) (a .behind .now) (a .q) (a .c) (a .t) (a .stride) _ _ here (b .end-behind .ensures) r g u lu k))
-    r (given b r h on lc lt stride) o
+    (λ r d g o u lu k. way-last (a .table .now) (a .behind .now) (a .q) (a .c) (a .t) (a .stride) _ _ here (b .end-behind .ensures) _ _ (w .way-to .ensures .0) r g (c .if1 .taken) u (by-ways (a .table .now) (a .behind .now) (a .q) (a .c) (a .t) (a .stride) _ _ here (b .end-behind .ensures) r g u lu k))
+    r d (given b r h on lc lt stride) o
 
 code-put-requires : tie.Need-code-put-requires Inv-loop μ-loop
 code-put-requires c κs = search needs
@@ -94,12 +94,12 @@ loop-again c =
     let b = l .before in
     let a = start b .args in
     let here = b .before .section-at .ensures in
-    visited-to-next (λ r. Standing r (a .table .now) (a .behind .now) (a .q) (a .c) (a .t) (a .stride)) (a .table .now) (a .ways .now) (a .m) (a .n) (λ r i. BackBy r (a .c) (a .t) _ i) (a .figures .now) (a .settings .now) (a .marks .now) (l .loop .figures) (l .loop .settings) (l .loop .marks) (l .loop .added) (l .loop .j) (l .loop .inv)
-    (λ r. One (p .code-put .result)) (l .loop .j + 1) _ _ _ (v .visit-put .result) (v .visit-put .kept .1 .1 .0) (v .visit-put .kept .1 .1 .1 .0) (v .visit-put .kept .1 .1 .1 .1 .0)
-    (λ r g o.
+    visited-to-next (λ r. Standing r (a .table .now) (a .behind .now) (a .q) (a .c) (a .t) (a .stride)) (a .table .now) (a .ways .now) (a .m) (a .n) (a .soon) (λ r i. BackBy r (a .c) (a .t) _ i) (a .figures .now) (a .settings .now) (a .marks .now) (l .loop .figures) (l .loop .settings) (l .loop .marks) (l .loop .j) (l .loop .inv)
+    (λ r. One (p .code-put .result)) (l .loop .j + 1) _ _ _ (v .visit-put .kept .1 .1 .0) (v .visit-put .kept .1 .1 .1 .0) (v .visit-put .kept .1 .1 .1 .1 .0)
+    (λ r d g o.
     let put = way-put (a .table .now) (a .behind .now) (a .q) (a .c) (a .t) (a .stride) _ _ here (b .end-behind .ensures) _ _ (w .way-to .ensures .0) r g (i .if1 .left) _ (p .code-put .ensures) in
-    v .visit-put .ensures r (a .c) o (g .on) (g .train) (put .0) (put .1))
-    (λ r g s o u lu k.
+    v .visit-put .ensures r (a .c) d o (g .on) (g .train) (put .0) (put .1))
+    (λ r d g s o u lu k.
     let put = way-put (a .table .now) (a .behind .now) (a .q) (a .c) (a .t) (a .stride) _ _ here (b .end-behind .ensures) _ _ (w .way-to .ensures .0) r g (i .if1 .left) _ (p .code-put .ensures) in
     way-next (a .table .now) (a .behind .now) (a .q) (a .c) (a .t) (a .stride) _ _ here (b .end-behind .ensures) _ _ (w .way-to .ensures .0) r g u k _ (put .1))
 
@@ -118,11 +118,11 @@ returns-2 c =
     let b = l .before in
     let a = start b .args in
     let here = b .before .section-at .ensures in
-    λ r h o on lc lt stride.
-    visited-to-end (λ r. Standing r (a .table .now) (a .behind .now) (a .q) (a .c) (a .t) (a .stride)) (a .table .now) (a .ways .now) (a .m) (a .n) (λ r i. BackBy r (a .c) (a .t) _ i) (a .figures .now) (a .settings .now) (a .marks .now) _ _ _ _ _ (l .loop .inv)
+    λ r d h o on lc lt stride.
+    visited-to-end (λ r. Standing r (a .table .now) (a .behind .now) (a .q) (a .c) (a .t) (a .stride)) (a .table .now) (a .ways .now) (a .m) (a .n) (a .soon) (λ r i. BackBy r (a .c) (a .t) _ i) (a .figures .now) (a .settings .now) (a .marks .now) _ _ _ _ (l .loop .inv)
     (λ r. By r (a .c) (a .t))
-    (λ r g o u lu k. all-ways (a .table .now) (a .behind .now) (a .q) (a .c) (a .t) (a .stride) _ _ here (b .end-behind .ensures) _ (c .loop-test .left) r u (by-ways (a .table .now) (a .behind .now) (a .q) (a .c) (a .t) (a .stride) _ _ here (b .end-behind .ensures) r g u lu k))
-    r (given b r h on lc lt stride) o
+    (λ r d g o u lu k. all-ways (a .table .now) (a .behind .now) (a .q) (a .c) (a .t) (a .stride) _ _ here (b .end-behind .ensures) _ (c .loop-test .left) r u (by-ways (a .table .now) (a .behind .now) (a .q) (a .c) (a .t) (a .stride) _ _ here (b .end-behind .ensures) r g u lu k))
+    r d (given b r h on lc lt stride) o
 
 pub visit-train-spec : {M : Type 1} → statement M
 visit-train-spec =

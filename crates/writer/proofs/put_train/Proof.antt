@@ -29,28 +29,22 @@ add-number-2 c = search needs
 number-requires-2 : tie.Need-number-requires-2
 number-requires-2 c κs = search needs
 
-cast-number-2 : tie.Need-cast-number-2
-cast-number-2 c = search needs
-
-add-number-3 : tie.Need-add-number-3
-add-number-3 c = search needs
-
-number-requires-3 : tie.Need-number-requires-3
-number-requires-3 c κs = search needs
+put-to-requires : tie.Need-put-to-requires
+put-to-requires c κs = search needs
 
 same-length : tie.Need-same-length
 same-length c = search needs
 
 returns : tie.Need-returns
 returns c =
-    let destination = c .before .before in
-    let start = destination .before .before .before .before .before in
+    let end = c .before .before in
+    let start = end .before .before .before .before in
     let heading = start .before .before .before .before .before in
     let side = heading .before in
     let number = side .before .before .before .before in
     let letter = number .before .before .before .before in
     let a = letter .before .before .before .args in
-    train-line (a .i) (a .t) _ (side .side-byte .ensures) (letter .two .ensures) (number .number .ensures) (heading .two2 .ensures) (start .number2 .ensures) (destination .number3 .ensures)
+    train-line (a .i) (a .t) _ (side .side-byte .ensures) (letter .two .ensures) (number .number .ensures) (heading .two2 .ensures) (start .number2 .ensures) (end .put-to .ensures)
 
 pub put-train-spec : {M : Type 1} → statement M
 put-train-spec =
@@ -64,8 +58,6 @@ put-train-spec =
     cast-number
     add-number-2
     number-requires-2
-    cast-number-2
-    add-number-3
-    number-requires-3
+    put-to-requires
     same-length
     returns)

@@ -9,7 +9,7 @@ no-train-requires : tie.Need-no-train-requires
 no-train-requires c κs = search needs
 
 returns : tie.Need-returns
-returns c = (rw (c .no-train .ensures), ((refl, refl), (refl, ((refl, refl), (refl, refl, refl)))))
+returns c = (rw (c .no-train .ensures), ((refl, refl), (refl, ((refl, refl, refl, refl), (refl, refl, refl)))))
 
 pub empty-spec : {M : Type 1} → statement M
 empty-spec = tie.close (tie.spec no-train-requires returns)

@@ -24,7 +24,9 @@ no-train-requires-2 : tie.Need-no-train-requires-2
 no-train-requires-2 c κs = search needs
 
 returns-2 : tie.Need-returns-2
-returns-2 c = roster-there (c .before .before .before .args .t1) _ (c .before .before .if1 .left)
+returns-2 c =
+    let b = c .before .before .before in
+    roster-there (b .args .t1) _ _ (c .before .before .if1 .left) (omega (arith, c .before .if2 .taken, roster-length (b .args .t1) _ (b .good .0)))
 
 returns-3 : tie.Need-returns-3
 returns-3 c = let b = c .before .before .before in c .no-train2 .ensures ∙ roster-past (b .args .t1) _ (omega (arith, roster-length (b .args .t1) _ (b .good .0)))

@@ -1,0 +1,59 @@
+-- `dues::due_behind` meets its contract: no figure is large enough, the very next round, or the least figure that is large enough and the weight.
+-- Assumes nothing.
+use borrow.Author.Needs.{needs}
+use Rattle.dues.proofs.Laws.{due-none, due-after, due-least}
+use Rattle.dues.proofs.due_behind.Statement.{statement}
+use Rattle.dues.proofs.due_behind.Tie as tie
+
+weight-in-requires : tie.Need-weight-in-requires
+weight-in-requires c κs = search needs
+
+cast-w : tie.Need-cast-w
+cast-w c = search needs
+
+least-ahead-requires : tie.Need-least-ahead-requires
+least-ahead-requires c κs = search needs
+
+after-requires : tie.Need-after-requires
+after-requires c κs = search needs
+
+least-from-requires : tie.Need-least-from-requires
+least-from-requires c κs = search needs
+
+with-weight-requires : tie.Need-with-weight-requires
+with-weight-requires c κs = search needs
+
+returns : tie.Need-returns
+returns c =
+    let f = c .before in
+    let w = f .before in
+    let a = w .before .before .args in
+    λ r h. rw (← (w .weight-in .ensures r h)) (due-none (a .figures .now) (a .most) (a .n) _ (a .from) (a .upto) _ _ (f .least-ahead .ensures) (c .if1 .taken))
+
+returns-2 : tie.Need-returns-2
+returns-2 c =
+    let w = c .before .before .before .before in
+    let a = w .before .before .args in
+    λ r h. due-after (a .figures .now) (a .most) (a .n) _ (a .from) (a .upto) _ (c .after .ensures)
+
+returns-3 : tie.Need-returns-3
+returns-3 c =
+    let l = c .before in
+    let f = l .before .before .before in
+    let w = f .before in
+    let a = w .before .before .args in
+    λ r h. rw (← (w .weight-in .ensures r h)) (due-least (a .figures .now) (a .most) (a .n) _ (a .from) (a .upto) _ _ _ (f .least-ahead .ensures) (l .least-from .ensures) (c .with-weight .ensures))
+
+pub due-behind-spec : {M : Type 1} → statement M
+due-behind-spec =
+    tie.close
+    (tie.spec
+    weight-in-requires
+    cast-w
+    least-ahead-requires
+    returns
+    after-requires
+    returns-2
+    least-from-requires
+    with-weight-requires
+    returns-3)

@@ -1,0 +1,67 @@
+-- `dues::least_within` meets its contract. The loop's invariant: so it is of the codes before q.
+-- Assumes nothing.
+use borrow.Author.Needs.{needs}
+use native.Mathlib.Omega.{arith}
+use Prim.Native.Nat.{_-_, _≤_}
+use Rattle.dues.specs.Dues.{LeastFrom}
+use Rattle.dues.proofs.Laws.{entries-next}
+use Rattle.dues.proofs.least_within.Statement.{statement}
+use Rattle.dues.proofs.least_within.Tie as tie
+
+abbrev Inv-loop : tie.InvT-loop
+Inv-loop figures lo from upto least₀ q₀ least q = LeastFrom figures lo from q least
+
+abbrev μ-loop : tie.MeasureT-loop
+μ-loop figures lo from upto least₀ q₀ least q = upto - q
+
+loop-holds : tie.Need-loop-holds Inv-loop μ-loop
+loop-holds c = λ x a b h. absurd (omega arith)
+
+cast-at : tie.Need-cast-at Inv-loop μ-loop
+cast-at c = search needs
+
+mul-from-on : tie.Need-mul-from-on Inv-loop μ-loop
+mul-from-on c = search needs
+
+shared-slice-read-from-on : tie.Need-shared-slice-read-from-on Inv-loop μ-loop
+shared-slice-read-from-on c = search needs
+
+from-on-requires : tie.Need-from-on-requires Inv-loop μ-loop
+from-on-requires c κs = search needs
+
+smaller-requires : tie.Need-smaller-requires Inv-loop μ-loop
+smaller-requires c κs = search needs
+
+add-q : tie.Need-add-q Inv-loop μ-loop
+add-q c = search needs
+
+loop-less : tie.Need-loop-less Inv-loop μ-loop
+loop-less c = omega (arith, c .before .before .before .loop-test .taken)
+
+loop-again : tie.Need-loop-again Inv-loop μ-loop
+loop-again c =
+    let f = c .before in
+    let i = f .before .before in
+    let l = i .before in
+    let s = l .before .before in
+    entries-next (s .args .figures .now) _ _ _ (s .args .upto) _ _ (l .loop .inv) (i .loop-test .taken) (s .pre) (c .smaller .ensures .0) (λ h. omega (arith, c .smaller .ensures .1, f .from-on .ensures h))
+
+returns : tie.Need-returns Inv-loop μ-loop
+returns c = let l = c .before in λ x a b h. l .loop .inv x a (omega (arith, c .loop-test .left)) h
+
+pub least-within-spec : {M : Type 1} → statement M
+least-within-spec =
+    tie.close
+    (tie.spec
+    Inv-loop
+    μ-loop
+    loop-holds
+    cast-at
+    mul-from-on
+    shared-slice-read-from-on
+    from-on-requires
+    smaller-requires
+    add-q
+    loop-less
+    loop-again
+    returns)
