@@ -1,4 +1,6 @@
 pub mod Running
 pub mod Checks
 pub mod Moving
+pub mod Searches
+pub mod SearchUses
 pub mod Uses

@@ -1,3 +1,4 @@
 pub mod Running
 pub mod Checks
 pub mod Moving
+pub mod Searches

@@ -7,7 +7,7 @@ use lib.ListN.{length}
 use Rattle.casefile.specs.Rows.{mostBytes}
 use Rattle.planwriter.specs.Written.{CaseOutput}
 
--- There is a case text, no longer than is read, and so many bytes are all that the program writes for it.
+-- There is a case text, no longer than is read, and so many bytes are all that program signalplan writes for it.
 pub record Planned (n : ℕ) : Type 0 where
   pub case : List ℕ
   pub short : length case ≤ suc mostBytes

@@ -1,7 +1,7 @@
 // What program signalplan does, for it and for the program that runs it on another input: a case text on standard input; its plan on standard output, or
 // `none`, or `refused`, a tab and the number.
 ghost use mathlib.Core.Path.{_≡_};
-ghost use Prim.Native.Nat.{suc};
+ghost use Prim.Native.Nat.{suc, _≤_};
 ghost use lib.ListN.{length};
 ghost use Rattle.casefile.specs.Rows.{mostBytes};
 ghost use Rattle.answerlines.specs.Lines.{FrontIs};
@@ -35,10 +35,9 @@ fn plan_input(case: &mut [u8], text: &mut [u8]) -> usize
     n
 }
 
-// With room for every text none is refused.
-fn whole_text(case: &[u8], text: &mut [u8]) -> usize
-    requires { ⌜ length (now text) ≡ textBytes ⌝ }
-    ensures { λ n. ⌜ FrontIs (CaseOutput (now (case .entry))) n (now (text .exit)) ⌝ }
+// A case text's whole text, and how many bytes it has: with room for every text none is refused. With less it may be that none is put, and 0 is answered.
+pub fn whole_text(case: &[u8], text: &mut [u8]) -> usize
+    ensures { λ n. ⌜ (textBytes ≤ length (now (text .entry)) → FrontIs (CaseOutput (now (case .entry))) n (now (text .exit))) ⌝ }
 {
     match planwriter::case_text(case, text) {
         Written::Bytes(n) => n,

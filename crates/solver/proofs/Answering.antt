@@ -2,7 +2,7 @@
 use mathlib.Core.Path.{_≡_, refl, sym, _∙_, ap}
 use mathlib.Core.List.{List}
 use mathlib.Core.Option.{none, some}
-use Prim.Native.Nat.{ℕ, _+_, _≤_, _<_}
+use Prim.Native.Nat.{ℕ, _≤_}
 use native.Mathlib.Omega.{arith}
 use lib.ListN.{length, getD}
 use Rattle.railway.specs.declared.Railway.{Railway}
@@ -21,7 +21,7 @@ use Rattle.compiled.specs.declared.Compilation.{Compilation}
 use Rattle.compiled.specs.Table.{Compiled}
 use Rattle.cases.specs.Cases.{CasePost}
 use Rattle.cases.proofs.Opened.{opened-refused, opened-none, opened-table}
-use Rattle.solver.proofs.Entries.{entry-some, entry-none}
+use Rattle.rounds.proofs.Entries.{entry-some, entry-none}
 
 -- THE START'S FIGURE
 module _ (r : Railway) (figs : List ℕ) (at f : ℕ) (start : at ≡ startCode r) (entry : f ≡ getD figs at noFigure) where

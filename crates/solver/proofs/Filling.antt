@@ -1,47 +1,31 @@
 -- Round after round. Each leaves the tables of its number, and goes on to the next round that is due: so the tables of all rounds before that are the same.
 -- Behind the round of the largest weight for each placement every figure has come, and the tables are filled. Assumes nothing.
-use mathlib.Core.Path.{_≡_, refl, sym, _∙_, ap}
-use mathlib.Core.Logic.{inl, inr}
+use mathlib.Core.Path.{_≡_, refl, _∙_}
 use mathlib.Core.List.{List}
-use mathlib.Core.Option.{none, some}
-use Prim.Native.Nat.{ℕ, suc, _+_, _-_, _*_, _≤_, _<_}
+use Prim.Native.Nat.{ℕ, suc, _-_, _*_, _≤_, _<_}
 use native.Mathlib.Omega.{arith}
-use lib.ListN.{length, getD, replicate, length-replicate, getD-replicate, List·getD-eq-default}
-use Rattle.laws.proofs.Bools.{lt?}
+use lib.ListN.{length, replicate, length-replicate}
 use Rattle.railway.specs.declared.Railway.{Railway}
-use Rattle.railway.specs.Bounds.{mostTrains, mostWeight}
+use Rattle.railway.specs.Bounds.{mostWeight}
 use Rattle.railway.specs.Record.{isClosed}
-use Rattle.railway.specs.Rows.{recordRefusal}
 use Rattle.game.specs.Placement.{placements}
-use Rattle.tables.specs.Tables.{figureIn}
 use Rattle.tables.specs.Solver.{Kept, SolverTables}
-use Rattle.tables.specs.Rounds.{RoundTables}
-use Rattle.tables.proofs.Exists.{few-placements, solution}
-use Rattle.tables.proofs.Rounds.{of-up-to}
+use Rattle.tables.specs.Rounds.{RoundTables, mostFigure}
 use Rattle.tables.proofs.Steps.{accepted-go}
 use Rattle.routes.specs.Routes.{Laid}
 use Rattle.compiled.specs.Table.{Compiled}
 use Rattle.predecessors.specs.Behind.{Behind}
-use Rattle.marks.specs.Marks.{stretchOf, stretches, dueAt, Room}
-use Rattle.solver.specs.Rounds.{After, RoundPost}
-use Rattle.solver.specs.Visits.{Marked}
-
--- the marks of the largest table
-abbrev pub markCount : ℕ
-markCount = (mostTrains + 1) * stretches
-
-kept-on : (r : Railway) (a b c : List ℕ) → Kept r a b → Kept r b c → Kept r a c
-kept-on r a b c x y = record { as-long = y .as-long ∙ x .as-long; past = λ p l. y .past p l ∙ x .past p l }
-
-kept-self : (r : Railway) (a : List ℕ) → Kept r a a
-kept-self r a = record { as-long = refl; past = λ p l. refl }
+use Rattle.rounds.specs.Rounds.{After, RoundPost}
+use Rattle.rounds.specs.Visits.{MarkedFor}
+use Rattle.rounds.proofs.Beginning.{markCount, first-marked}
+use Rattle.rounds.proofs.Clearing.{kept-self, kept-on}
 
 -- round n is the next
 pub record Played (r : Railway) (n : ℕ) (figs₀ sets₀ figs sets marks : List ℕ) : Type 0 where
   pub tables : RoundTables r (n - 1) figs sets
   pub kept-figs : Kept r figs₀ figs
   pub kept-sets : Kept r sets₀ sets
-  pub marked : Marked r n (record { train = 0; code = 0 }) figs marks
+  pub marked : MarkedFor r n figs marks
 
 pub record Filling (table ways behind : List ℕ) (m : ℕ) (figs₀ sets₀ figs sets marks : List ℕ) (n : ℕ) : Type 0 where
   pub some-round : 1 ≤ n
@@ -51,35 +35,19 @@ pub record Filling (table ways behind : List ℕ) (m : ℕ) (figs₀ sets₀ fig
   pub played : (r : Railway) → Compiled r table → Laid r (isClosed r) ways → Behind r behind → m ≡ placements r → Played r n figs₀ sets₀ figs sets marks
 
 -- what a round promises of every railway of these tables
-abbrev pub Rounds : List ℕ → List ℕ → List ℕ → ℕ → ℕ → List ℕ → List ℕ → List ℕ → List ℕ → List ℕ → List ℕ → ℕ → Type 0
-Rounds table ways behind m n figs sets marks figs′ sets′ marks′ e =
-    (r : Railway) (k : ℕ) → Compiled r table → Laid r (isClosed r) ways → Behind r behind → m ≡ placements r → n ≡ suc k → RoundTables r k figs sets → Marked r n (record { train = 0; code = 0 }) figs marks
-    → RoundPost r n figs sets figs′ sets′ e × Marked r e (record { train = 0; code = 0 }) figs′ marks′
+abbrev pub Rounds : List ℕ → List ℕ → List ℕ → ℕ → List ℕ → List ℕ → List ℕ → List ℕ → List ℕ → List ℕ → ℕ → Type 0
+Rounds table ways behind n figs sets marks figs′ sets′ marks′ e =
+    (r : Railway) (k : ℕ) → Compiled r table → Laid r (isClosed r) ways → Behind r behind → placements r ≤ length figs → placements r ≤ length sets → n ≤ mostFigure → n ≡ suc k → RoundTables r k figs sets
+    → MarkedFor r n figs marks → RoundPost r n figs sets figs′ sets′ e × MarkedFor r e figs′ marks′
 
 -- what stands before the rounds
-abbrev pub Clears : List ℕ → ℕ → List ℕ → List ℕ → List ℕ → List ℕ → Type 0
-Clears table m figs sets figs′ sets′ = (r : Railway) → Compiled r table → m ≡ placements r → After r 0 figs sets figs′ sets′
+abbrev pub Clears : List ℕ → List ℕ → List ℕ → List ℕ → List ℕ → Type 0
+Clears table figs sets figs′ sets′ = (r : Railway) → Compiled r table → placements r ≤ length figs → placements r ≤ length sets → After r 0 figs sets figs′ sets′
 
-zeros : (n i : ℕ) → getD {A = ℕ} (replicate n 0) i 0 ≡ 0
-zeros n i = elim (lt? i n) [ inl l ↦ getD-replicate n i 0 0 l | inr l ↦ List·getD-eq-default (replicate n 0) 0 (omega (arith, length-replicate {A = ℕ} n 0)) ]
+module _ (table ways behind : List ℕ) (m : ℕ) (figs sets figs₀ sets₀ : List ℕ) (clears : Clears table figs sets figs₀ sets₀) (long : (m ≤ length figs) × (m ≤ length sets)) where
+  cleared : (r : Railway) → Compiled r table → m ≡ placements r → After r 0 figs sets figs₀ sets₀
+  cleared r h e = clears r h (rw (← e) (long .0)) (rw (← e) (long .1))
 
--- before the first round no figure is above 0, and every stretch is due
-first-marked : (r : Railway) (figs sets : List ℕ) → recordRefusal r ≡ none → RoundTables r 0 figs sets → Marked r 1 (record { train = 0; code = 0 }) figs (replicate markCount 0)
-first-marked r figs sets accepted t =
-    record {
-      room = record { enough = length-replicate {A = ℕ} markCount 0 };
-      few = few-placements r accepted;
-      most = λ q j l e. omega (arith, none-yet q j l e);
-      due = λ q j t l lt first e h. blank (replicate markCount 0) markCount refl t q _;
-    }
-  where
-    none-yet : (q j : ℕ) → q < placements r → figureIn figs q ≡ some j → j ≤ 0
-    none-yet q j l e = let s = solution r accepted in of-up-to 0 (s .figure q) j (sym (t .figures q l (s .figure q) (s .figures q l)) ∙ e) .1
-
-    blank : (marks : List ℕ) (count : ℕ) → marks ≡ replicate count 0 → (t q k : ℕ) → dueAt marks t q ≤ k
-    blank marks count e t q k = let z : dueAt marks t q ≡ 0 = ap (λ (xs : List ℕ). dueAt xs t q) e ∙ zeros count (t * stretches + stretchOf q) in omega arith
-
-module _ (table ways behind : List ℕ) (m : ℕ) (figs sets figs₀ sets₀ : List ℕ) (cleared : Clears table m figs sets figs₀ sets₀) where
   pub filling-start : Filling table ways behind m figs₀ sets₀ figs₀ sets₀ (replicate markCount 0) 1
   filling-start =
       record {
@@ -109,9 +77,9 @@ module _ (table ways behind : List ℕ) (m : ℕ) (figs sets figs₀ sets₀ : L
           kept-sets = kept-on r sets sets₀ sets₁ (cleared r h e .kept-sets) (p .kept-sets);
         }
 
-    pub filling-next : (figs′ sets′ marks′ : List ℕ) (e : ℕ) → n < e → Rounds table ways behind m n figs₁ sets₁ marks₁ figs′ sets′ marks′ e → length figs′ ≡ length figs₁ → length sets′ ≡ length sets₁ → length marks′ ≡ length marks₁
+    pub filling-next : (figs′ sets′ marks′ : List ℕ) (e : ℕ) → n < e → n ≤ mostFigure → m ≤ length figs₁ → m ≤ length sets₁ → Rounds table ways behind n figs₁ sets₁ marks₁ figs′ sets′ marks′ e → length figs′ ≡ length figs₁ → length sets′ ≡ length sets₁ → length marks′ ≡ length marks₁
         → Filling table ways behind m figs₀ sets₀ figs′ sets′ marks′ e
-    filling-next figs′ sets′ marks′ e on round ef es em =
+    filling-next figs′ sets′ marks′ e on small lf ls round ef es em =
         record {
           some-round = omega arith;
           long-figs = ef ∙ x .long-figs;
@@ -119,7 +87,7 @@ module _ (table ways behind : List ℕ) (m : ℕ) (figs sets figs₀ sets₀ : L
           long-marks = em ∙ x .long-marks;
           played = λ r h w d eq.
               let p = x .played r h w d eq in
-              let y = round r (n - 1) h w d eq (omega (arith, x .some-round)) (p .tables) (p .marked) in
+              let y = round r (n - 1) h w d (rw (← eq) lf) (rw (← eq) ls) small (omega (arith, x .some-round)) (p .tables) (p .marked) in
               let post : RoundPost r n figs₁ sets₁ figs′ sets′ e = y .0 in
               record {
                 tables = accepted-go r (h .accepted) .quiet n (e - 1) figs′ sets′ (post .after .tables) (omega arith) (λ k due lk. omega (arith, post .quiet k due lk));

@@ -1,9 +1,2 @@
-pub mod Entries
-pub mod Clearing
-pub mod Gaining
-pub mod Visits
-pub mod Retracing
-pub mod Loops
-pub mod Turns
 pub mod Filling
 pub mod Answering

@@ -20,6 +20,9 @@ pub const END: u8 = 255;
 
 pub const NO_PLAN: u8 = 254;
 
+// A checker's state as three numbers.
+pub type Numbers = [u32; 3];
+
 // Fills both tables and answers 0, also where the start has no figure; or answers the refusal's number and leaves them as they were.
 #[no_mangle]
 pub extern "C" fn solve_case(text: &[u8], figures: &mut [u32], settings: &mut [u32]) -> u8
@@ -115,7 +118,7 @@ fn place_number(place: PlanPlace) -> u64
 #[no_mangle]
 pub extern "C" fn begin_check(
     text: &[u8],
-    state: &mut [u32; 3],
+    state: &mut Numbers,
     figures: &mut [u32],
     settings: &mut [u32],
 ) -> u8
@@ -129,7 +132,7 @@ pub extern "C" fn begin_check(
     }
 }
 
-fn begin_railway(r: Railway, state: &mut [u32; 3], figures: &mut [u32], settings: &mut [u32]) -> u8
+fn begin_railway(r: Railway, state: &mut Numbers, figures: &mut [u32], settings: &mut [u32]) -> u8
     ensures { λ n. ⌜ BegunRailway r (lent (now (state .entry)) (now (figures .entry)) (now (settings .entry))) n (lent (now (state .exit)) (now (figures .exit)) (now (settings .exit))) ⌝ }
 {
     let begun = Checker::fresh(r, figures, settings);
@@ -148,7 +151,7 @@ fn begin_railway(r: Railway, state: &mut [u32; 3], figures: &mut [u32], settings
 #[no_mangle]
 pub extern "C" fn take_plan_lines(
     text: &[u8],
-    state: &mut [u32; 3],
+    state: &mut Numbers,
     plan: &[u8],
     figures: &mut [u32],
     settings: &mut [u32],
@@ -168,7 +171,7 @@ pub extern "C" fn take_plan_lines(
 
 fn take_railway(
     r: Railway,
-    state: &mut [u32; 3],
+    state: &mut Numbers,
     plan: &[u8],
     figures: &mut [u32],
     settings: &mut [u32],
@@ -191,7 +194,7 @@ fn take_railway(
 
 // THE TEST of the lines taken: 0 where the plan passes.
 #[no_mangle]
-pub extern "C" fn test_plan(text: &[u8], state: &[u32; 3], figures: &[u32], settings: &[u32]) -> u8
+pub extern "C" fn test_plan(text: &[u8], state: &Numbers, figures: &[u32], settings: &[u32]) -> u8
     ensures { λ n. ⌜ TestedText (now (text .entry)) (lent (now (state .entry)) (now (figures .entry)) (now (settings .entry))) n ⌝ }
 {
     let read = reader::read_case(text);
@@ -202,7 +205,7 @@ pub extern "C" fn test_plan(text: &[u8], state: &[u32; 3], figures: &[u32], sett
     }
 }
 
-fn test_railway(r: Railway, state: &[u32; 3], figures: &[u32], settings: &[u32]) -> u8
+fn test_railway(r: Railway, state: &Numbers, figures: &[u32], settings: &[u32]) -> u8
     ensures { λ n. ⌜ TestedRailway r (lent (now (state .entry)) (now (figures .entry)) (now (settings .entry))) n ⌝ }
 {
     let checker = checker_of(*state);
@@ -215,7 +218,7 @@ fn test_railway(r: Railway, state: &[u32; 3], figures: &[u32], settings: &[u32])
 }
 
 // The checker that three numbers stand for.
-fn checker_of(numbers: [u32; 3]) -> Checker
+fn checker_of(numbers: Numbers) -> Checker
     ensures { λ c. ⌜ c .state ≡ stateOf numbers ⌝ }
 {
     if numbers[0] == 0 {
@@ -228,7 +231,7 @@ fn checker_of(numbers: [u32; 3]) -> Checker
     }
 }
 
-fn state_numbers(checker: Checker) -> [u32; 3]
+fn state_numbers(checker: Checker) -> Numbers
     ensures { λ ns. ⌜ ns ≡ stateNumbers (checker .state) ⌝ }
 {
     let state = checker.state;

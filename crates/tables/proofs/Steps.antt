@@ -140,6 +140,19 @@ module _ (r : Railway) (accepted : recordRefusal r ≡ none) where
       back n (figureIn figs) upto (x .0) (d .figure) (inside r ok p (settingAt r p v) (d .train) (x .0) l (d .moves) (x .1)) (omega (arith, d .makes)) (x .2) in
       record { train = d .train; moves = d .moves; figure = d .figure; ends = ap (figureOf (figureIn figs)) (x .1) ∙ b; makes = d .makes }
 
+  -- WHAT ROUND n + 1 BRINGS: its figure where a setting is found, and nowhere else
+  module _ (n : ℕ) (figs sets : List ℕ) (t : RoundTables r n figs sets) (p : ℕ) (l : p < placements r) where
+    seen-so-far : (q : ℕ) → q < placements r → figureIn figs q ≡ upTo n (G q)
+    seen-so-far q m = t .figures q m (G q) (has q m)
+
+    pub round-brings : (v : ℕ) → figureIn figs p ≡ none → over (gameOf r) p ≡ false → find r (figureIn figs) p (suc n) ≡ some v → IsFigure (gameOf r) p (some (suc n))
+    round-brings v e o f = rw (found n (figureIn figs) seen-so-far p l v e o f) at (has p l)
+
+    pub round-misses : (figureIn figs p ≡ none → over (gameOf r) p ≡ false → find r (figureIn figs) p (suc n) ≡ none) → IsFigure (gameOf r) p (some (suc n)) → ⊥
+    round-misses h i =
+        let g : G p ≡ some (suc n) = figure-one (gameOf r) p (G p) (some (suc n)) (has p l) i in
+        missed n (figureIn figs) seen-so-far p l (h (none-yet n (figureIn figs) seen-so-far p (suc n) l (omega arith) g)) g
+
   -- ROUND 0
   pub cleared-round : (figs sets : List ℕ) → Cleared r figs sets → RoundTables r 0 figs sets
   cleared-round figs sets c =

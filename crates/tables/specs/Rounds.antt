@@ -1,5 +1,5 @@
--- What a solver does round by round, for contracts: round n brings the figures n and no others. Nothing of document 01 rests on this file: the statement
--- at its end says that each round leaves `RoundTables`, and that these are the tables wanted once no figure is larger. Assumes nothing.
+-- How a search goes, round by round: round n brings the figures n and no others (document 02, Q-7: its opening, `Cleared`; the tables between, `RoundTables`; its end, `AllBelow`). Nothing
+-- of document 01 rests on this file: the statement at its end says that each round leaves `RoundTables`, and that these are the tables wanted once no figure is larger. Assumes nothing.
 use mathlib.Core.Path.{_≡_}
 use mathlib.Core.Logic.{_↔_}
 use mathlib.Core.Bool.{Bool, true, false, cond}
@@ -68,6 +68,12 @@ Quiet r figs n m = (k : ℕ) → Due r figs k → n < k → m < k
 -- No round behind n is due.
 abbrev pub NoneDue : Railway → List ℕ → ℕ → Type 0
 NoneDue r figs n = (k : ℕ) → Due r figs k → k ≤ n
+
+-- Some placement has figure n.
+pub record HasFigure (r : Railway) (n : ℕ) : Type 0 where
+  pub code : ℕ
+  pub there : code < placements r
+  pub is : IsFigure (gameOf r) code (some n)
 
 -- THE END. Every figure is below n.
 abbrev pub AllBelow : Railway → ℕ → Type 0

@@ -21,10 +21,17 @@ whole-text-requires : tie.Need-whole-text-requires
 whole-text-requires c κs = search needs
 
 slice-reshare-prefix-write-all : tie.Need-slice-reshare-prefix-write-all
-slice-reshare-prefix-write-all c = search needs
+slice-reshare-prefix-write-all c =
+    let t = c .before .before in
+    let st = t .before .before .before .before .before .before .before .before .before in
+    t .whole-text .ensures (omega (arith, st .pre .1)) .within
 
 slice-aggregate-write-all : tie.Need-slice-aggregate-write-all
-slice-aggregate-write-all c = let h = c .before .before .before .whole-text .ensures .within in simp length-take (omega (arith, h))
+slice-aggregate-write-all c =
+    let t = c .before .before .before in
+    let st = t .before .before .before .before .before .before .before .before .before in
+    let h = t .whole-text .ensures (omega (arith, st .pre .1)) .within in
+    simp length-take (omega (arith, h))
 
 write-all-requires : tie.Need-write-all-requires
 write-all-requires c κs = search needs
@@ -40,7 +47,7 @@ returns c =
     let t = c .before .before .before .before in
     let r = t .before .before .before .before .before in
     let st = r .before .before .before .before in
-    planned (now (st .args .case)) _ _ _ _ (st .pre .0) (r .read-full .kept .1 .0) (r .read-full .ensures .0) (t .whole-text .ensures)
+    planned (now (st .args .case)) _ _ _ _ (st .pre .0) (r .read-full .kept .1 .0) (r .read-full .ensures .0) (t .whole-text .ensures (omega (arith, st .pre .1)))
 
 pub plan-input-spec : {M : Type 1} → statement M
 plan-input-spec =

@@ -1,6 +1,5 @@
--- `plan_io::whole_text` meets its contract: there is room for every text, so one is put, whole.
+-- `plan_io::whole_text` meets its contract: where there is room for every text, one is put, whole.
 -- Assumes nothing.
-use native.Mathlib.Omega.{arith}
 use Rattle.answerlines.proofs.Puts.{puts-whole, puts-never}
 use borrow.Author.Needs.{needs}
 use Rattle.plan_io.proofs.whole_text.Statement.{statement}
@@ -19,15 +18,13 @@ same-length : tie.Need-same-length
 same-length c = search needs
 
 returns : tie.Need-returns
-returns c = puts-whole (c .before .before .before .before .before .case-text .ensures) _ (c .before .n .given .1)
+returns c room = puts-whole (c .before .before .before .before .before .case-text .ensures) _ (c .before .n .given .1)
 
 same-length-2 : tie.Need-same-length-2
 same-length-2 c = search needs
 
 returns-2 : tie.Need-returns-2
-returns-2 c =
-    let e = c .before .before .before .before in
-    puts-never (e .case-text .ensures) (omega (arith, e .before .before .before .before .pre)) _ (c .enum-told .given .1)
+returns-2 c room = puts-never (c .before .before .before .before .case-text .ensures) room _ (c .enum-told .given .1)
 
 pub whole-text-spec : {M : Type 1} → statement M
 whole-text-spec =

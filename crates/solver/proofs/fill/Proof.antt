@@ -14,8 +14,8 @@ Inv-loop table ways behind figures₀ settings₀ m marks₀ last n₀ figures s
 abbrev μ-loop : tie.MeasureT-loop
 μ-loop table ways behind figures₀ settings₀ m marks₀ last n₀ figures settings marks n = last + 1 - n
 
-clear-requires : tie.Need-clear-requires Inv-loop μ-loop
-clear-requires c κs = search needs
+begin-requires : tie.Need-begin-requires Inv-loop μ-loop
+begin-requires c κs = search needs
 
 cast-last : tie.Need-cast-last Inv-loop μ-loop
 cast-last c = search needs
@@ -27,44 +27,42 @@ loop-holds : tie.Need-loop-holds Inv-loop μ-loop
 loop-holds c =
     let k = c .before .before .before .before in
     let a = k .before .before .before .before .before in
-    filling-start (a .args .table .now) (a .args .ways .now) (a .args .behind .now) (a .args .m) (a .args .figures .now) (a .args .settings .now) _ _ (k .clear .ensures)
+    filling-start (a .args .table .now) (a .args .ways .now) (a .args .behind .now) (a .args .m) (a .args .figures .now) (a .args .settings .now) _ _ (k .begin .ensures) (a .pre .1)
 
-slice-aggregate-one-round : tie.Need-slice-aggregate-one-round Inv-loop μ-loop
-slice-aggregate-one-round c = sym (c .before .before .before .before .loop .inv .long-marks)
+slice-aggregate-round : tie.Need-slice-aggregate-round Inv-loop μ-loop
+slice-aggregate-round c = sym (c .before .before .before .before .loop .inv .long-marks)
 
-one-round-requires : tie.Need-one-round-requires Inv-loop μ-loop
-one-round-requires c κs =
-    let i = c .before .before .before in
-    let l = i .before in
-    let k = l .before .before .before .before .before in
-    let a = k .before .before .before .before .before in
-    (omega (arith, a .pre .1 .0, k .clear .kept .1 .0, l .loop .inv .long-figs), omega (arith, a .pre .1 .1, k .clear .kept .1 .1 .0, l .loop .inv .long-sets), omega (arith, i .loop-test .taken, a .pre .0))
+round-requires : tie.Need-round-requires Inv-loop μ-loop
+round-requires c κs = search needs
 
 loop-less : tie.Need-loop-less Inv-loop μ-loop
 loop-less c =
     let o = c .before .before .before .before .before in
-    omega (arith, o .before .before .before .before .loop-test .taken, o .one-round .ensures .0)
+    let i = o .before .before .before .before in
+    let a = i .before .before .before .before .before .before .before .before .before .before .before in
+    omega (arith, i .loop-test .taken, o .round .ensures .0 (omega (arith, i .loop-test .taken, a .pre .0)))
 
 loop-again : tie.Need-loop-again Inv-loop μ-loop
 loop-again c =
     let o = c .before .before .before .before .before in
-    let l = o .before .before .before .before .before in
+    let i = o .before .before .before .before in
+    let l = i .before in
     let k = l .before .before .before .before .before in
     let a = k .before .before .before .before .before in
-    filling-next (a .args .table .now) (a .args .ways .now) (a .args .behind .now) (a .args .m) (a .args .figures .now) (a .args .settings .now) _ _ (k .clear .ensures) (l .loop .figures) (l .loop .settings) (l .loop .marks) (l .loop .n) (l .loop .inv) _ _ _ _ (o .one-round .ensures .0) (o .one-round .ensures .1) (o .one-round .kept .1 .1 .1 .0) (o .one-round .kept .1 .1 .1 .1 .0) (o .one-round .kept .1 .1 .1 .1 .1 .0)
+    filling-next (a .args .table .now) (a .args .ways .now) (a .args .behind .now) (a .args .m) (a .args .figures .now) (a .args .settings .now) _ _ (k .begin .ensures) (a .pre .1) (l .loop .figures) (l .loop .settings) (l .loop .marks) (l .loop .n) (l .loop .inv) _ _ _ _ (o .round .ensures .0 (omega (arith, i .loop-test .taken, a .pre .0))) (omega (arith, i .loop-test .taken, a .pre .0)) (omega (arith, a .pre .1 .0, k .begin .kept .1 .0, l .loop .inv .long-figs)) (omega (arith, a .pre .1 .1, k .begin .kept .1 .1 .0, l .loop .inv .long-sets)) (o .round .ensures .1) (o .round .kept .1 .1 .1 .0) (o .round .kept .1 .1 .1 .1 .0) (o .round .kept .1 .1 .1 .1 .1 .0)
 
 same-length : tie.Need-same-length Inv-loop μ-loop
-same-length c = let l = c .before in l .loop .inv .long-figs ∙ l .before .before .before .before .before .clear .kept .1 .0
+same-length c = let l = c .before in l .loop .inv .long-figs ∙ l .before .before .before .before .before .begin .kept .1 .0
 
 same-length-2 : tie.Need-same-length-2 Inv-loop μ-loop
-same-length-2 c = let l = c .before in l .loop .inv .long-sets ∙ l .before .before .before .before .before .clear .kept .1 .1 .0
+same-length-2 c = let l = c .before in l .loop .inv .long-sets ∙ l .before .before .before .before .before .begin .kept .1 .1 .0
 
 returns : tie.Need-returns Inv-loop μ-loop
 returns c =
     let l = c .before in
     let k = l .before .before .before .before .before in
     let a = k .before .before .before .before .before in
-    filling-over (a .args .table .now) (a .args .ways .now) (a .args .behind .now) (a .args .m) (a .args .figures .now) (a .args .settings .now) _ _ (k .clear .ensures) (l .loop .figures) (l .loop .settings) (l .loop .marks) (l .loop .n) (l .loop .inv) (c .loop-test .left)
+    filling-over (a .args .table .now) (a .args .ways .now) (a .args .behind .now) (a .args .m) (a .args .figures .now) (a .args .settings .now) _ _ (k .begin .ensures) (a .pre .1) (l .loop .figures) (l .loop .settings) (l .loop .marks) (l .loop .n) (l .loop .inv) (c .loop-test .left)
 
 pub fill-spec : {M : Type 1} → statement M
 fill-spec =
@@ -72,12 +70,12 @@ fill-spec =
     (tie.spec
     Inv-loop
     μ-loop
-    clear-requires
+    begin-requires
     cast-last
     mul-last
     loop-holds
-    slice-aggregate-one-round
-    one-round-requires
+    slice-aggregate-round
+    round-requires
     loop-less
     loop-again
     same-length

@@ -1,0 +1,5 @@
+pub mod Telling
+pub mod Finding
+pub mod Putting
+pub mod Ranges
+pub mod Answering

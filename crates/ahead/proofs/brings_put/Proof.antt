@@ -1,0 +1,72 @@
+-- `ahead::brings_put` meets its contract: the placement is no code, has a figure, finds nothing, or gains.
+-- Assumes nothing.
+use borrow.Author.Needs.{needs}
+use mathlib.Core.Path.{ap}
+use Rattle.settings.specs.Answers.{entryFound}
+use Rattle.ahead.proofs.Putting.{put-outside, put-figured, put-nothing, put-gains}
+use Rattle.ahead.proofs.brings_put.Statement.{statement}
+use Rattle.ahead.proofs.brings_put.Tie as tie
+
+returns : tie.Need-returns
+returns p =
+    let a = p .before .before .args in
+    λ r c behind o on lt there put.
+    put-outside r (a .table .now) (a .ways .now) behind (a .m) (a .n) (a .figures .now) o c (a .t) (a .y) (a .p) there put (p .if1 .taken)
+
+entry-at-requires : tie.Need-entry-at-requires
+entry-at-requires c κs = search needs
+
+returns-2 : tie.Need-returns-2
+returns-2 p =
+    let e = p .before in
+    let a = e .before .before .before .args in
+    λ r c behind o on lt there put.
+    put-figured r (a .table .now) (a .ways .now) behind (a .m) (a .n) (a .figures .now) o c (a .t) (a .y) (a .p) there put _ (e .entry-at .ensures) (p .if2 .taken)
+
+put-on-requires : tie.Need-put-on-requires
+put-on-requires c κs = search needs
+
+find-in-requires : tie.Need-find-in-requires
+find-in-requires c κs = search needs
+
+enum-told : tie.Need-enum-told
+enum-told c = search needs
+
+enum-known-found : tie.Need-enum-known-found
+enum-known-found c = search needs
+
+returns-3 : tie.Need-returns-3
+returns-3 p =
+    let f = p .before .before in
+    let u = f .before in
+    let i = u .before in
+    let e = i .before in
+    let a = e .before .before .before .args in
+    λ r c behind o on lt there put.
+    put-nothing r (a .table .now) (a .ways .now) behind (a .m) (a .n) (a .figures .now) o c (a .t) (a .y) (a .p) there put (a .q) _ on lt (u .put-on .ensures) (f .find-in .result) (f .find-in .ensures) (ap entryFound (p .enum-told .given .1))
+
+returns-4 : tie.Need-returns-4
+returns-4 p =
+    let w = p .before in
+    let f = w .before .before in
+    let u = f .before in
+    let i = u .before in
+    let e = i .before in
+    let a = e .before .before .before .args in
+    λ r c behind o on lt there put.
+    put-gains r (a .table .now) (a .ways .now) behind (a .m) (a .n) (a .figures .now) o c (a .t) (a .y) (a .p) there put (a .q) _ on lt (u .put-on .ensures) (f .find-in .result) (f .find-in .ensures) _ (e .entry-at .ensures) (i .if2 .left) _
+    (ap entryFound (w .found .given .1))
+
+pub brings-put-spec : {M : Type 1} → statement M
+brings-put-spec =
+    tie.close
+    (tie.spec
+    returns
+    entry-at-requires
+    returns-2
+    put-on-requires
+    find-in-requires
+    enum-told
+    enum-known-found
+    returns-3
+    returns-4)

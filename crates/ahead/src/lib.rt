@@ -1,0 +1,250 @@
+// Looking ahead: whether a round brings anything, told without writing anything. What can gain in a round is one move before its frontier, as in `rounds`; the first placement
+// there that would gain settles it. So whoever shows a search round by round knows in time whether more is to come.
+ghost use mathlib.Core.Path.{_≡_};
+ghost use mathlib.Core.Bool.{true};
+ghost use mathlib.Core.Logic.{_↔_};
+ghost use mathlib.Core.List.{List};
+ghost use Prim.Native.Nat.{ℕ, suc, _≤_, _<_};
+ghost use Rattle.railway.specs.declared.Railway.{Railway};
+ghost use Rattle.railway.specs.Record.{isClosed};
+ghost use Rattle.game.specs.Placement.{placements};
+ghost use Rattle.game.specs.Moves.{codeWith};
+ghost use Rattle.tables.specs.Tables.{noFigure};
+ghost use Rattle.tables.specs.Rounds.{RoundTables, HasFigure};
+ghost use Rattle.routes.specs.Routes.{Laid};
+ghost use Rattle.compiled.specs.Table.{Compiled};
+ghost use Rattle.moves.specs.Steps.{On};
+ghost use Rattle.predecessors.specs.Behind.{Behind};
+ghost use Rattle.marks.specs.Marks.{stretchOf};
+ghost use Rattle.rounds.specs.Visits.{MarkedFor, One, By, Comes, Ahead, Apart};
+ghost use Rattle.ahead.specs.Bringing.{Looking, Told, Stands, StandsIn};
+use compiled::Table;
+use marks::STRETCH;
+use placement::Placement;
+use routes::MOST_WAYS;
+use routes::NO_SECTION;
+use routes::Ways;
+use settings::Found;
+use tables::NO_FIGURE;
+
+// Whether some placement has figure n, if the tables are those of the round before and the marks are right for round n.
+pub fn brings(
+    table: &Table,
+    ways: &Ways,
+    behind: &Ways,
+    figures: &[u32],
+    marks: &[u32],
+    n: u32,
+) -> bool
+    ensures { λ b. ⌜ ((r : Railway) (k : ℕ) (sets : List ℕ) → Compiled r (now (table .entry)) → Laid r (isClosed r) (now (ways .entry)) → Behind r (now (behind .entry)) → n ≡ suc k → RoundTables r k (now (figures .entry)) sets → MarkedFor r n (now (figures .entry)) (now (marks .entry)) → (b ≡ true) ↔ HasFigure r n) ⌝ }
+{
+    let m = moves::placements(table);
+    let k = compiled::trains_in(table);
+    let mut t: u8 = 0;
+    while t < k {
+        if brings_by(table, ways, behind, figures, marks, m, n, t) {
+            return true;
+        }
+        t += 1;
+    }
+    false
+}
+
+// Whether figure n stands in the table, if the marks are right for some round. Where the marks of a stretch say that its figures are smaller it is not looked for.
+pub fn came(table: &Table, figures: &[u32], marks: &[u32], n: u32) -> bool
+    ensures { λ b. ⌜ ((r : Railway) (d : ℕ) → Compiled r (now (table .entry)) → n < noFigure → MarkedFor r d (now (figures .entry)) (now (marks .entry)) → (b ≡ true) ↔ Stands r n (now (figures .entry))) ⌝ }
+{
+    let m = moves::placements(table);
+    let mut c: u32 = 0;
+    while c < m {
+        let upto = stretch_end(c, m);
+        if n <= marks::most_at(marks, c) {
+            if stands_in(figures, n, c, upto) {
+                return true;
+            }
+        }
+        c = upto;
+    }
+    false
+}
+
+// Whether an entry of a range of codes is n.
+fn stands_in(figures: &[u32], n: u32, from: u32, upto: u32) -> bool
+    ensures { λ b. ⌜ StandsIn (now (figures .entry)) n from upto b ⌝ }
+{
+    let mut c = from;
+    while c < upto {
+        if tables::entry_at(figures, c, NO_FIGURE) == n {
+            return true;
+        }
+        c += 1;
+    }
+    false
+}
+
+// Whether a placement gains that is one move before the frontier, by the weight of train t. If a lower train has that weight too, it was asked there.
+fn brings_by(
+    table: &Table,
+    ways: &Ways,
+    behind: &Ways,
+    figures: &[u32],
+    marks: &[u32],
+    m: u32,
+    n: u32,
+    t: u8,
+) -> bool
+    ensures { λ b. ⌜ ((r : Railway) → Looking r (now (table .entry)) (now (ways .entry)) (now (behind .entry)) m (now (figures .entry)) → MarkedFor r n (now (figures .entry)) (now (marks .entry)) → t < r .trains → Told r n (now (figures .entry)) (Apart r n (now (figures .entry)) 0 m t) b) ⌝ }
+{
+    if dues::shares_weight(table, t) {
+        return false;
+    }
+    let w = compiled::weight_in(table, t);
+    let mut c: u32 = 0;
+    while c < m {
+        let upto = stretch_end(c, m);
+        if marks::due_at(marks, t, c) <= n {
+            if brings_in(table, ways, behind, figures, m, n, w, c, upto) {
+                return true;
+            }
+        }
+        c = upto;
+    }
+    false
+}
+
+// Where the codes of c's stretch end, of those below m.
+fn stretch_end(c: u32, m: u32) -> u32
+    requires { ⌜ c < m ⌝ }
+    ensures { λ e. ⌜ (c < e) × (e ≤ m) × ((q : ℕ) → c ≤ q → q < e → stretchOf q ≡ stretchOf c) ⌝ }
+{
+    let first = c - c % STRETCH;
+    if m - first <= STRETCH {
+        return m;
+    }
+    first + STRETCH
+}
+
+// Whether a placement gains that is one move of a train of weight w before one with its code in a range, whose figure makes n with w.
+fn brings_in(
+    table: &Table,
+    ways: &Ways,
+    behind: &Ways,
+    figures: &[u32],
+    m: u32,
+    n: u32,
+    w: u8,
+    from: u32,
+    upto: u32,
+) -> bool
+    ensures { λ b. ⌜ ((r : Railway) → Looking r (now (table .entry)) (now (ways .entry)) (now (behind .entry)) m (now (figures .entry)) → upto ≤ m → Told r n (now (figures .entry)) (Ahead r n w (now (figures .entry)) from upto) b) ⌝ }
+{
+    if n < (w as u32) {
+        return false;
+    }
+    let last = n - (w as u32);
+    let mut c = from;
+    while c < upto {
+        if tables::entry_at(figures, c, NO_FIGURE) == last {
+            if brings_before(table, ways, behind, figures, m, n, w, c) {
+                return true;
+            }
+        }
+        c += 1;
+    }
+    false
+}
+
+// Whether a placement gains that is one move of a train of weight w before the placement of code c.
+fn brings_before(
+    table: &Table,
+    ways: &Ways,
+    behind: &Ways,
+    figures: &[u32],
+    m: u32,
+    n: u32,
+    w: u8,
+    c: u32,
+) -> bool
+    ensures { λ b. ⌜ ((r : Railway) → Looking r (now (table .entry)) (now (ways .entry)) (now (behind .entry)) m (now (figures .entry)) → c < placements r → Told r n (now (figures .entry)) (Comes r w c (r .trains)) b) ⌝ }
+{
+    let q = moves::placement_of(table, c);
+    let k = compiled::trains_in(table);
+    let mut t: u8 = 0;
+    while t < k {
+        if compiled::weight_in(table, t) == w {
+            if brings_train(table, ways, behind, figures, m, n, q, c, t) {
+                return true;
+            }
+        }
+        t += 1;
+    }
+    false
+}
+
+// Whether a placement gains that is one move of train t before the placement of code c.
+fn brings_train(
+    table: &Table,
+    ways: &Ways,
+    behind: &Ways,
+    figures: &[u32],
+    m: u32,
+    n: u32,
+    q: Placement,
+    c: u32,
+    t: u8,
+) -> bool
+    ensures { λ b. ⌜ ((r : Railway) → Looking r (now (table .entry)) (now (ways .entry)) (now (behind .entry)) m (now (figures .entry)) → On r c (now (table .entry)) q → c < placements r → t < r .trains → Told r n (now (figures .entry)) (By r c t) b) ⌝ }
+{
+    let x = placement::section_at(q, t);
+    let e = predecessors::end_behind(table, t, x);
+    let stride = moves::power(compiled::sections_in(table), t);
+    let mut j: u8 = 0;
+    while j < MOST_WAYS {
+        let y = routes::way_to(behind, e, j);
+        if y == NO_SECTION {
+            return false;
+        }
+        if brings_put(
+            table,
+            ways,
+            figures,
+            m,
+            n,
+            q,
+            t,
+            y,
+            moves::code_put(c, stride, x, y),
+        ) {
+            return true;
+        }
+        j += 1;
+    }
+    false
+}
+
+// Whether the placement gains that has train t on section y and the others as in q; p is its code. One with a figure does not.
+fn brings_put(
+    table: &Table,
+    ways: &Ways,
+    figures: &[u32],
+    m: u32,
+    n: u32,
+    q: Placement,
+    t: u8,
+    y: u8,
+    p: u32,
+) -> bool
+    ensures { λ b. ⌜ ((r : Railway) (c : ℕ) (behind : List ℕ) → Looking r (now (table .entry)) (now (ways .entry)) behind m (now (figures .entry)) → On r c (now (table .entry)) q → t < r .trains → y < r .sections → p ≡ codeWith r c t y → Told r n (now (figures .entry)) (One p) b) ⌝ }
+{
+    if m <= p {
+        return false;
+    }
+    if tables::entry_at(figures, p, NO_FIGURE) != NO_FIGURE {
+        return false;
+    }
+    let found = settings::find_in(table, ways, figures, moves::put_on(q, t, y), p, n);
+    match found {
+        Found::Nothing => false,
+        Found::Entry(v) => true,
+    }
+}

@@ -1,0 +1,45 @@
+-- `progress::round_line` meets its contract: the line stands whole in a buffer of its own, and what is put from there is the line.
+-- Assumes nothing.
+use borrow.Author.Needs.{needs}
+use Rattle.text.proofs.Appending.{front-fits, front-cut}
+use Rattle.answerlines.proofs.Made.{made-put}
+use Rattle.progress.proofs.Spelling.{line-short}
+use Rattle.progress.proofs.round_line.Statement.{statement}
+use Rattle.progress.proofs.round_line.Tie as tie
+
+slice-aggregate-spell-round : tie.Need-slice-aggregate-spell-round
+slice-aggregate-spell-round c = search needs
+
+spell-round-requires : tie.Need-spell-round-requires
+spell-round-requires c κs = search needs
+
+array-share-prefix-line : tie.Need-array-share-prefix-line
+array-share-prefix-line c = let p = c .before .spell-round in front-fits (p .ensures) (p .kept .0)
+
+slice-aggregate-put : tie.Need-slice-aggregate-put
+slice-aggregate-put c = let p = c .before .before .spell-round in front-cut (p .ensures) (p .kept .0)
+
+put-requires : tie.Need-put-requires
+put-requires c κs = search needs
+
+same-length : tie.Need-same-length
+same-length c = search needs
+
+returns : tie.Need-returns
+returns c =
+    let t = c .before .before in
+    let p = t .before .before .before .before in
+    let st = p .before .before .before in
+    made-put (p .spell-round .ensures) (line-short (st .args .round) (st .args .a)) (t .put .ensures)
+
+pub round-line-spec : {M : Type 1} → statement M
+round-line-spec =
+    tie.close
+    (tie.spec
+    slice-aggregate-spell-round
+    spell-round-requires
+    array-share-prefix-line
+    slice-aggregate-put
+    put-requires
+    same-length
+    returns)

@@ -1,0 +1,71 @@
+-- `rounds::next_with` meets its contract. The loop's invariant: the codes from c to e have other figures.
+-- Assumes nothing.
+use native.Mathlib.Omega.{arith}
+use borrow.Author.Needs.{needs}
+use mathlib.Core.Path.{_∙_}
+use Prim.Native.Nat.{_-_}
+use Rattle.laws.proofs.Lists.{getD-inside}
+use Rattle.rounds.specs.Visits.{Passed}
+use Rattle.rounds.proofs.Loops.{passed-next}
+use Rattle.rounds.proofs.next_with.Statement.{statement}
+use Rattle.rounds.proofs.next_with.Tie as tie
+
+abbrev Inv-loop : tie.InvT-loop
+Inv-loop figures figure c upto e₀ e = Passed figures figure c upto e
+
+abbrev μ-loop : tie.MeasureT-loop
+μ-loop figures figure c upto e₀ e = upto - e
+
+pass-blocks-requires : tie.Need-pass-blocks-requires Inv-loop μ-loop
+pass-blocks-requires c κs = search needs
+
+loop-holds : tie.Need-loop-holds Inv-loop μ-loop
+loop-holds c = c .pass-blocks .ensures
+
+cast-at : tie.Need-cast-at Inv-loop μ-loop
+cast-at c = search needs
+
+mul-if1 : tie.Need-mul-if1 Inv-loop μ-loop
+mul-if1 c = search needs
+
+shared-slice-read-if1 : tie.Need-shared-slice-read-if1 Inv-loop μ-loop
+shared-slice-read-if1 c = search needs
+
+returns : tie.Need-returns Inv-loop μ-loop
+returns c =
+    let l = c .before .before .before in
+    let a = l .before .before .before in
+    (l .loop .inv, λ h. getD-inside (a .args .figures .now) (l .loop .e) _ 0 (omega (arith, a .pre)) ∙ c .if1 .taken)
+
+add-e : tie.Need-add-e Inv-loop μ-loop
+add-e c = search needs
+
+loop-less : tie.Need-loop-less Inv-loop μ-loop
+loop-less c = search needs
+
+loop-again : tie.Need-loop-again Inv-loop μ-loop
+loop-again c =
+    let i = c .before .before in
+    let l = i .before in
+    let a = l .before .before .before in
+    passed-next (a .args .figures .now) (a .args .figure) (a .args .c) (a .args .upto) (l .loop .e) (l .loop .inv) (i .loop-test .taken) (a .pre) (c .if1 .left)
+
+returns-2 : tie.Need-returns-2 Inv-loop μ-loop
+returns-2 c = (c .before .loop .inv, λ h. absurd (omega (arith, c .loop-test .left)))
+
+pub next-with-spec : {M : Type 1} → statement M
+next-with-spec =
+    tie.close
+    (tie.spec
+    Inv-loop
+    μ-loop
+    pass-blocks-requires
+    loop-holds
+    cast-at
+    mul-if1
+    shared-slice-read-if1
+    returns
+    add-e
+    loop-less
+    loop-again
+    returns-2)

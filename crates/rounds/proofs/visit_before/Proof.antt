@@ -1,0 +1,105 @@
+-- `rounds::visit_before` meets its contract. The loop's invariant: what is before the placement by the first t trains has been visited, and the stride is that of
+-- train t.
+-- Assumes nothing.
+use borrow.Author.Needs.{needs}
+use native.Mathlib.Omega.{arith}
+use mathlib.Core.Path.{_≡_, _∙_, ap}
+use Prim.Native.Nat.{ℕ, _+_, _-_}
+use Rattle.moves.specs.Steps.{strideOf}
+use Rattle.predecessors.specs.Behind.{Behind}
+use Rattle.rounds.specs.Visits.{ByWeight, Comes}
+use Rattle.rounds.proofs.Retracing.{stride-first}
+use Rattle.rounds.proofs.Loops.{VisitedTo, visited-to-start, visited-to-next, visited-to-end, no-train, train-next, all-trains, train-there}
+use Rattle.rounds.proofs.visit_before.Statement.{statement}
+use Rattle.rounds.proofs.visit_before.Tie as tie
+
+abbrev Inv-loop : tie.InvT-loop
+Inv-loop table ways behind figures₀ settings₀ marks₀ m n soon w c q s k stride₀ t₀ figures settings marks stride t =
+    VisitedTo (λ r. Behind r behind) table ways m n soon (λ r i. Comes r w c i) figures₀ settings₀ marks₀ figures settings marks t × (stride ≡ strideOf s t)
+
+abbrev μ-loop : tie.MeasureT-loop
+μ-loop table ways behind figures₀ settings₀ marks₀ m n soon w c q s k stride₀ t₀ figures settings marks stride t = k - t
+
+placement-of-requires : tie.Need-placement-of-requires Inv-loop μ-loop
+placement-of-requires c κs = search needs
+
+sections-in-requires : tie.Need-sections-in-requires Inv-loop μ-loop
+sections-in-requires c κs = search needs
+
+trains-in-requires : tie.Need-trains-in-requires Inv-loop μ-loop
+trains-in-requires c κs = search needs
+
+loop-holds : tie.Need-loop-holds Inv-loop μ-loop
+loop-holds c =
+    let a = c .before .before .before .before .before .before in
+    (visited-to-start (λ r. Behind r (a .args .behind .now)) (a .args .table .now) (a .args .ways .now) (a .args .m) (a .args .n) (a .args .soon) (λ r i. Comes r (a .args .w) (a .args .c) i) (a .args .figures .now) (a .args .settings .now) (a .args .marks .now) 0 (λ r q k. no-train r (a .args .w) (a .args .c) q k), stride-first _)
+
+visit-weighing-requires : tie.Need-visit-weighing-requires Inv-loop μ-loop
+visit-weighing-requires c κs =
+    let l = c .before .before .before .before in
+    let a = l .before .before .before .before .before .before .before in
+    (omega (arith, a .pre .0, l .loop .inv .0 .long-figs), omega (arith, a .pre .1, l .loop .inv .0 .long-sets))
+
+next-stride-requires : tie.Need-next-stride-requires Inv-loop μ-loop
+next-stride-requires c κs = search needs
+
+add-t : tie.Need-add-t Inv-loop μ-loop
+add-t c = omega (arith, c .before .before .before .before .before .before .before .before .before .before .before .loop-test .taken)
+
+loop-less : tie.Need-loop-less Inv-loop μ-loop
+loop-less c = omega (arith, c .before .before .before .before .before .before .before .before .before .before .before .loop-test .taken)
+
+loop-again : tie.Need-loop-again Inv-loop μ-loop
+loop-again c =
+    let v = c .before .before .before .before .before .before .before in
+    let l = v .before .before .before .before .before in
+    let k = l .before in
+    let s = k .before in
+    let q = s .before in
+    let a = q .before .before .before .before in
+    let on = v .before .before .before .before .loop-test .taken in (
+      visited-to-next (λ r. Behind r (a .args .behind .now)) (a .args .table .now) (a .args .ways .now) (a .args .m) (a .args .n) (a .args .soon) (λ r i. Comes r (a .args .w) (a .args .c) i) (a .args .figures .now) (a .args .settings .now) (a .args .marks .now) (l .loop .figures) (l .loop .settings) (l .loop .marks) (l .loop .t) (l .loop .inv .0)
+          (λ r. ByWeight r (a .args .w) (a .args .c) (l .loop .t)) (l .loop .t + 1) _ _ _ (v .visit-weighing .kept .1 .1 .1 .0) (v .visit-weighing .kept .1 .1 .1 .1 .0) (v .visit-weighing .kept .1 .1 .1 .1 .1 .0)
+          (λ r d h o.
+          v .visit-weighing .ensures r d h o (q .placement-of .ensures r (o .compiled)) (omega (arith, a .pre .2, o .counted)) (train-there r _ _ (k .trains-in .ensures r (o .compiled)) on)
+          (l .loop .inv .1 ∙ ap (λ (x : ℕ). strideOf x (l .loop .t)) (s .sections-in .ensures r (o .compiled))))
+          (λ r d h s o q lq x. train-next r (a .args .w) (a .args .c) (l .loop .t) q x),
+      c .next-stride .ensures (l .loop .inv .1),
+    )
+
+same-length : tie.Need-same-length Inv-loop μ-loop
+same-length c = c .before .loop .inv .0 .long-figs
+
+same-length-2 : tie.Need-same-length-2 Inv-loop μ-loop
+same-length-2 c = c .before .loop .inv .0 .long-sets
+
+same-length-3 : tie.Need-same-length-3 Inv-loop μ-loop
+same-length-3 c = c .before .loop .inv .0 .long-marks
+
+returns : tie.Need-returns Inv-loop μ-loop
+returns c =
+    let l = c .before in
+    let k = l .before in
+    let a = k .before .before .before .before .before .before in
+    visited-to-end (λ r. Behind r (a .args .behind .now)) (a .args .table .now) (a .args .ways .now) (a .args .m) (a .args .n) (a .args .soon) (λ r i. Comes r (a .args .w) (a .args .c) i) (a .args .figures .now) (a .args .settings .now) (a .args .marks .now) _ _ _ _ (l .loop .inv .0) (λ r. Comes r (a .args .w) (a .args .c) (r .trains))
+    (λ r d h o q l x. all-trains r _ _ (k .trains-in .ensures r (o .compiled)) (c .loop-test .left) (a .args .w) (a .args .c) q x)
+
+pub visit-before-spec : {M : Type 1} → statement M
+visit-before-spec =
+    tie.close
+    (tie.spec
+    Inv-loop
+    μ-loop
+    placement-of-requires
+    sections-in-requires
+    trains-in-requires
+    loop-holds
+    visit-weighing-requires
+    next-stride-requires
+    add-t
+    loop-less
+    loop-again
+    same-length
+    same-length-2
+    same-length-3
+    returns)

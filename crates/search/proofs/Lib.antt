@@ -1,0 +1,4 @@
+pub mod Opening
+pub mod Inhabited
+pub mod Searching
+pub mod Uses

@@ -1,0 +1,43 @@
+-- `search_api::look_up` meets its contract: refused by the reader, or what is answered for the railway that was read. Assumes nothing.
+use mathlib.Core.Path.{refl}
+use Rattle.reader.proofs.Answers.{by-refused, by-accepted}
+use borrow.Author.Needs.{needs}
+use Rattle.search_api.proofs.look_up.Statement.{statement}
+use Rattle.search_api.proofs.look_up.Tie as tie
+
+read-case-requires : tie.Need-read-case-requires
+read-case-requires c κs = search needs
+
+enum-known-answer : tie.Need-enum-known-answer
+enum-known-answer c = search needs
+
+number-requires : tie.Need-number-requires
+number-requires c κs = search needs
+
+enum-told : tie.Need-enum-told
+enum-told c = search needs
+
+look-railway-requires : tie.Need-look-railway-requires
+look-railway-requires c κs = search needs
+
+returns : tie.Need-returns
+returns c =
+    let m = c .before .before in
+    by-refused _ _ _ _ (m .before .before .read-case .ensures) _ (m .answer .given .1) (c .number .ensures, refl)
+
+returns-2 : tie.Need-returns-2
+returns-2 c =
+    let m = c .before .before in
+    by-accepted _ _ _ _ (m .before .before .read-case .ensures) (m .enum-told .given .1) (c .look-railway .ensures)
+
+pub look-up-spec : {M : Type 1} → statement M
+look-up-spec =
+    tie.close
+    (tie.spec
+    read-case-requires
+    enum-known-answer
+    number-requires
+    enum-told
+    look-railway-requires
+    returns
+    returns-2)

@@ -1,0 +1,102 @@
+// What program searchrun does: a case text on standard input; on standard output a line for each round of its search that brings figures, as soon as the
+// round is finished, and then all that program signalplan writes for the text. Where the case is refused, that alone.
+ghost use mathlib.Core.Path.{_≡_};
+ghost use Prim.Native.Nat.{suc};
+ghost use lib.ListN.{length};
+ghost use Rattle.casefile.specs.Rows.{mostBytes};
+ghost use Rattle.planwriter.specs.Written.{textBytes};
+ghost use Rattle.plan_io.specs.Planned.{Planned};
+use libc::STDIN_FILENO;
+use libc::STDOUT_FILENO;
+use marks::MARKS;
+use progress::Progress;
+use railway::CaseAnswer;
+use railway::Railway;
+use rounds::LAST_ROUND;
+use search::Marks;
+use search::Search;
+use search::SearchAnswer;
+use tables::ENTRIES;
+
+// One byte more than a case text may have: so many bytes decide what is written (`CutWrites` in planwriter/specs/Written).
+const CASE: usize = casefile::MOST_BYTES + 1;
+
+// The answer is how many bytes there are to be written behind the lines of the rounds.
+pub fn write_search() -> usize
+    ensures { λ n. ⌜ Planned n ⌝ }
+{
+    let mut case = [0u8; CASE];
+    let mut text = [0u8; planwriter::TEXT];
+    search_input(&mut case, &mut text)
+}
+
+// Reads, searches and writes, with a buffer for all bytes that decide and one for every text.
+fn search_input(case: &mut [u8], text: &mut [u8]) -> usize
+    requires { ⌜ length (now case) ≡ suc mostBytes ⌝ }
+    requires { ⌜ length (now text) ≡ textBytes ⌝ }
+    ensures { λ n. ⌜ Planned n ⌝ }
+{
+    let came = io::read_full(STDIN_FILENO, case);
+    write_rounds(&case[..came]);
+    let n = plan_io::whole_text(&case[..came], text);
+    io::write_all(STDOUT_FILENO, &text[..n]);
+    n
+}
+
+// The lines of a case text's rounds; none where it is refused.
+fn write_rounds(case: &[u8]) {
+    let read = reader::read_case(case);
+    let answer = read.answer;
+    if let CaseAnswer::Accepted = answer {
+        open(read.railway);
+    }
+}
+
+// A search with tables and marks of its own.
+fn open(r: Railway) {
+    let mut figures = [0u32; ENTRIES];
+    let mut settings = [0u32; ENTRIES];
+    let mut marks = [0u32; MARKS];
+    let opened = searcher::open(r, &mut figures, &mut settings, &mut marks);
+    let answer = opened.answer;
+    if let SearchAnswer::Going = answer {
+        let c = compiled::compile(r);
+        let table = c.table;
+        let m = moves::placements(&table);
+        rounds(opened.search, r, &mut figures, &mut settings, &mut marks, m);
+    }
+}
+
+// Its rounds, with a line for each after which more placements have a figure than before.
+fn rounds(
+    opened: Search,
+    r: Railway,
+    figures: &mut [u32],
+    settings: &mut [u32],
+    marks: &mut Marks,
+    m: u32,
+) {
+    let mut search = opened;
+    let mut last = progress::so_far(figures, m);
+    let mut turns: u32 = 0;
+    while turns <= LAST_ROUND {
+        let reply = searcher::round(search, r, figures, settings, marks);
+        search = reply.search;
+        let now = progress::so_far(figures, m);
+        if last.count < now.count {
+            write_line(search.rounds, now);
+        }
+        if search.ended {
+            return;
+        }
+        last = now;
+        turns += 1;
+    }
+}
+
+// The line of a round.
+fn write_line(round: u32, a: Progress) {
+    let mut line = [0u8; progress::LINE];
+    let put = progress::round_line(round, a, &mut line);
+    output::front(&line, put);
+}

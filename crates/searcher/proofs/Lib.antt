@@ -1,0 +1,6 @@
+pub mod Looking
+pub mod Naming
+pub mod Parts
+pub mod Showing
+pub mod Standings
+pub mod Finishing

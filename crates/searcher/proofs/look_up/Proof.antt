@@ -1,0 +1,68 @@
+-- `searcher::look_up` meets its contract: what is refused, then what names no section, then what the table has.
+-- Assumes nothing.
+use borrow.Author.Needs.{needs}
+use Rattle.searcher.proofs.Showing.{looks-refused, looks-nowhere, looks-there}
+use Rattle.searcher.proofs.look_up.Statement.{statement}
+use Rattle.searcher.proofs.look_up.Tie as tie
+
+open-case-requires : tie.Need-open-case-requires
+open-case-requires c κs = search needs
+
+enum-known-tested : tie.Need-enum-known-tested
+enum-known-tested c = search needs
+
+enum-told : tie.Need-enum-told
+enum-told c = search needs
+
+names-none-requires : tie.Need-names-none-requires
+names-none-requires c κs = search needs
+
+returns : tie.Need-returns
+returns c =
+    let x = c .before in
+    let t = x .before .before in
+    let o = t .before .before .before in
+    let a = o .before .before .before in
+    looks-nowhere (a .args .r) (a .args .figures .now) (a .args .settings .now) _ (o .open-case .ensures) (a .args .search) _ (t .enum-told .given .1) _ (x .names-none .ensures) (c .if1 .taken)
+
+code-of-requires : tie.Need-code-of-requires
+code-of-requires c κs = search needs
+
+entry-at-requires : tie.Need-entry-at-requires
+entry-at-requires c κs = search needs
+
+shows-requires : tie.Need-shows-requires
+shows-requires c κs = search needs
+
+returns-2 : tie.Need-returns-2
+returns-2 c =
+    let t = c .before in
+    let o = t .before .before .before in
+    let a = o .before .before .before in
+    looks-refused (a .args .r) (a .args .figures .now) (a .args .settings .now) _ (o .open-case .ensures) (a .args .search) _ _ (t .tested .given .1)
+
+returns-3 : tie.Need-returns-3
+returns-3 c =
+    let y = c .before in
+    let z = y .before in
+    let e = z .before .before in
+    let x = e .before in
+    let t = x .before .before in
+    let o = t .before .before .before in
+    let a = o .before .before .before in
+    looks-there (a .args .r) (a .args .figures .now) (a .args .settings .now) _ (o .open-case .ensures) (a .args .search) _ (t .enum-told .given .1) _ (x .names-none .ensures) (e .if1 .left) _ _ _ (z .code-of .ensures) (y .entry-at .ensures) (c .shows .ensures)
+
+pub look-up-spec : {M : Type 1} → statement M
+look-up-spec =
+    tie.close
+    (tie.spec
+    open-case-requires
+    enum-known-tested
+    enum-told
+    names-none-requires
+    returns
+    code-of-requires
+    entry-at-requires
+    shows-requires
+    returns-2
+    returns-3)
