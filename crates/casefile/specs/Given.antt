@@ -11,7 +11,7 @@ use lib.ListN.{length}
 use Rattle.laws.specs.Lists.{Every}
 use Rattle.railway.specs.declared.Railway.{Railway}
 use Rattle.railway.specs.declared.Refusal.{Refusal}
-use Rattle.railway.specs.declared.Refusal.the-variants.{Length, Form, Count, Weight, Unknown, Join, Loose, Chain, Double, Place, Space, PlanForm, PlanFault}
+use Rattle.railway.specs.declared.Refusal.the-variants.{Length, Form, Count, Weight, Unknown, Join, Loose, Chain, Double, Place, Space, PlanForm, PlanFault, Report}
 use Rattle.railway.specs.declared.CaseAnswer.{CaseAnswer}
 use Rattle.railway.specs.declared.CaseAnswer.the-variants.{Accepted, Refused}
 use Rattle.railway.specs.Refusals.{number, numberGiven, NotApplying, FirstOf}
@@ -55,6 +55,7 @@ Applies text Place = Says text placeRow
 Applies text Space = ⊥
 Applies text PlanForm = ⊥
 Applies text PlanFault = ⊥
+Applies text Report = ⊥
 
 -- The rows that judge a case text, in the order in which they are given: these two, then those that judge what it says.
 abbrev pub caseTable : List Refusal

@@ -3,4 +3,6 @@ pub mod Checks
 pub mod Moving
 pub mod Searches
 pub mod SearchUses
+pub mod Desks
+pub mod DeskUses
 pub mod Uses

@@ -14,7 +14,7 @@ use borrow.Fn.Kinds.{Dens, resT, endedOf}
 use Rattle.laws.specs.Below.{anyBelow, sumBelow, listBelow}
 use Rattle.railway.specs.Record.{withJoin, withSignal, withLegs, withTrain}
 use Rattle.game.specs.Game.{IsFigure}
-use Rattle.game.specs.Placement.{codeOf, codeOn, placements}
+use Rattle.game.specs.Placement.{codeOf, codeOn, namesNone, placements}
 use Rattle.game.specs.Moves.{gameOf}
 use Rattle.tables.specs.Tables.{noFigure}
 use Rattle.tables.specs.Solver.{SolverPost}
@@ -23,7 +23,7 @@ use Rattle.tables.proofs.WeighedYards.{weighed-accepted, weighed-filled}
 use Rattle.placement.specs.declared.Placement.{Placement}
 use Rattle.placement.specs.ByValue.{sectionIn}
 use Rattle.search.specs.declared.Shown.the-variants.{NotYet}
-use Rattle.search.specs.Search.{State, OpenPost, SearchPost, namesNone, LookPost, Searching, begun, call, SearchAt}
+use Rattle.search.specs.Search.{State, OpenPost, SearchPost, LookPost, Searching, begun, call, SearchAt}
 use Rattle.searcher.specs.Steps.{searching}
 use Rattle.solver.proofs.solve.Kinds as solve
 use Rattle.solver.proofs.solve.Reads.{Learnt as SolveLearnt}

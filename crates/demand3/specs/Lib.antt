@@ -2,3 +2,4 @@ pub mod Running
 pub mod Checks
 pub mod Moving
 pub mod Searches
+pub mod Desks

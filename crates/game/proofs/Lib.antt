@@ -6,6 +6,7 @@ pub mod Figures
 pub mod ByTurns
 pub mod Settle
 pub mod Codes
+pub mod Naming
 pub mod Accepted
 pub mod Moves
 pub mod Back

@@ -1,10 +1,10 @@
 -- Placements and their codes, home and lost (document 01, "A turn", beginning and third paragraph).
 -- Sections and trains count from 0 here: the document's numbers less one. Assumes nothing.
-use mathlib.Core.Bool.{Bool}
+use mathlib.Core.Bool.{Bool, not}
 use mathlib.Core.List.{List, [], _∷_}
 use Prim.Native.Nat.{ℕ, zero, suc, _*_, _/_, _%_, _^_}
 use lib.ListN.{length, getD}
-use lib.Dec.{eqb}
+use lib.Dec.{ltb, eqb}
 use Rattle.laws.specs.Below.{allBelow, anyBelow, sumBelow, listBelow}
 use Rattle.railway.specs.declared.Railway.{Railway}
 use Rattle.railway.specs.Record.{trainOf}
@@ -33,6 +33,10 @@ standsOn r p t = getD (sectionsOf r p) t 0
 -- The code of the placement that has each train on the section given for it.
 abbrev pub codeOn : Railway → (ℕ → ℕ) → ℕ
 codeOn r section = codeOf (r .sections) (listBelow section (r .trains))
+
+-- A placement that is given so names a section that is not there.
+unfoldable pub namesNone : Railway → (ℕ → ℕ) → Bool
+namesNone r section = anyBelow (λ t. not (ltb (section t) (r .sections))) (r .trains)
 
 -- The code of the start: each train stands on its start.
 unfoldable pub startCode : Railway → ℕ

@@ -13,7 +13,7 @@ ghost use Rattle.railway.specs.Ends.{endIndex};
 ghost use Rattle.railway.specs.Record.{isClosed};
 ghost use Rattle.railway.specs.Passing.{entered};
 ghost use Rattle.game.specs.Game.{may};
-ghost use Rattle.game.specs.Placement.{placements, startCode, atHome, shared, codeOn};
+ghost use Rattle.game.specs.Placement.{placements, startCode, atHome, shared, codeOn, namesNone};
 ghost use Rattle.game.specs.Setting.{headsFor, opensFor};
 ghost use Rattle.game.specs.Moves.{moveOf, gameOf};
 ghost use Rattle.tables.specs.Entries.{opensIn, opensEnd, settingAt};
@@ -209,6 +209,22 @@ pub fn home_code(table: &Table) -> u32
         compiled::destination_in(table, 3),
     ];
     code_of(table, Placement { sections: sections })
+}
+
+// The placement names a section that is not there. What stands for trains past the last is not looked at.
+pub fn names_none(table: &Table, q: Placement) -> bool
+    ensures { λ b. ⌜ ((r : Railway) → Compiled r (now (table .entry)) → b ≡ namesNone r (sectionIn q)) ⌝ }
+{
+    let s = compiled::sections_in(table);
+    let k = compiled::trains_in(table);
+    let mut t: u8 = 0;
+    while t < k {
+        if s <= section_at(q, t) {
+            return true;
+        }
+        t += 1;
+    }
+    false
 }
 
 // Another train than t, of the first n, stands on section x.

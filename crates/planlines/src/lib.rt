@@ -114,7 +114,8 @@ fn put_points(out: &mut [u8], at: usize, m: u8, v: u32) -> usize
     put_signs(out, at, m, v)
 }
 
-fn put_signs(out: &mut [u8], at: usize, m: u8, v: u32) -> usize
+// The signs of m points, in their order.
+pub fn put_signs(out: &mut [u8], at: usize, m: u8, v: u32) -> usize
     ensures { λ x. ⌜ Appended (now (out .entry)) at (gatherBelow (pointPiece (bit v)) m) (now (out .exit)) x ⌝ }
 {
     let mut next = at;

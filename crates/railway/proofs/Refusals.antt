@@ -7,13 +7,14 @@ use mathlib.Core.Bool.{Bool, true, false, cond}
 use lib.Dec.{eqb}
 use mathlib.Core.List.{List, [], _∷_, _++_, List·Memᴰ, List·Memᴰ·head, List·Memᴰ·tail}
 use mathlib.Core.Option.{Option, none, some}
-use Prim.Native.Nat.{ℕ}
+use Prim.Native.Nat.{ℕ, _≤_}
+use native.Mathlib.Omega.{arith}
 use Rattle.laws.specs.Below.{orElse}
 use Rattle.laws.specs.Lists.{Every}
 use Rattle.laws.proofs.Bools.{clash, some-none, some-one, not-true}
 use Rattle.laws.proofs.Lists.{every-none, every-more}
 use Rattle.railway.specs.declared.Refusal.{Refusal}
-use Rattle.railway.specs.declared.Refusal.the-variants.{Length, Form, Count, Weight, Unknown, Join, Loose, Chain, Double, Place, Space, PlanForm, PlanFault}
+use Rattle.railway.specs.declared.Refusal.the-variants.{Length, Form, Count, Weight, Unknown, Join, Loose, Chain, Double, Place, Space, PlanForm, PlanFault, Report}
 use Rattle.railway.specs.Refusals.{number, Row, row, Applying, NotApplying, refuseIf, first, numberOf, FirstRow}
 
 first-step : (b : Bool) (x : Row) (xs : List Row) (f : Refusal) → x .applies ≡ b → refuseIf b (x .refusal) (first xs) ≡ some f
@@ -98,8 +99,9 @@ byNumber n =
     (cond (eqb n 9) Space
     (cond (eqb n 10) PlanForm
     (cond (eqb n 11) PlanFault
+    (cond (eqb n 12) Report
     (cond (eqb n 13) Chain
-    Weight)))))))))))
+    Weight))))))))))))
 
 number-back : (f : Refusal) → byNumber (number f) ≡ f
 unfolding byNumber
@@ -114,11 +116,29 @@ number-back Place = refl
 number-back Space = refl
 number-back PlanForm = refl
 number-back PlanFault = refl
+number-back Report = refl
 number-back Chain = refl
 number-back Weight = refl
 
 pub number-one : (f g : Refusal) → number f ≡ number g → f ≡ g
 number-one f g e = sym (number-back f) ∙ (let z : byNumber (number f) ≡ byNumber (number g) = rw e in z) ∙ number-back g
+
+-- a refusal's number is neither 0 nor one of the two largest bytes, by which exported calls say other things
+pub between : (f : Refusal) → (1 ≤ number f) × (number f ≤ 253)
+between Length = (omega arith, omega arith)
+between Form = (omega arith, omega arith)
+between Count = (omega arith, omega arith)
+between Weight = (omega arith, omega arith)
+between Unknown = (omega arith, omega arith)
+between Join = (omega arith, omega arith)
+between Loose = (omega arith, omega arith)
+between Chain = (omega arith, omega arith)
+between Double = (omega arith, omega arith)
+between Place = (omega arith, omega arith)
+between Space = (omega arith, omega arith)
+between PlanForm = (omega arith, omega arith)
+between PlanFault = (omega arith, omega arith)
+between Report = (omega arith, omega arith)
 
 pub number-tells : (a b : Option Refusal) → numberOf a ≡ numberOf b → a ≡ b
 number-tells none none e = refl

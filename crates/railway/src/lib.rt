@@ -66,6 +66,7 @@ pub enum Refusal {
     Space,
     PlanForm,
     PlanFault,
+    Report,
 }
 
 // What a case is answered with, as a record or as a text: it is accepted, or refused with the first row that applies.
@@ -321,6 +322,7 @@ impl Refusal {
             Refusal::Space => 9,
             Refusal::PlanForm => 10,
             Refusal::PlanFault => 11,
+            Refusal::Report => 12,
             Refusal::Chain => 13,
             Refusal::Weight => 16,
         }

@@ -8,18 +8,16 @@ use mathlib.Core.Option.{Option, none, some}
 use Prim.Native.Nat.{ℕ, suc, _≤_, _<_}
 use native.Mathlib.Omega.{arith}
 use lib.ListN.{length, getD}
-use lib.Dec.{ltb, eqb}
-use borrow.Author.Tests.{ltb-true, eqb-true}
-use Rattle.laws.specs.Below.{listBelow}
-use Rattle.laws.proofs.Bools.{bool?, lt?, clash, not-is, not-true, not-false, some-none, some-one}
-use Rattle.laws.proofs.Below.{any-false, list-length, list-get}
+use lib.Dec.{eqb}
+use borrow.Author.Tests.{eqb-true}
+use Rattle.laws.proofs.Bools.{bool?, lt?, clash, not-true, not-false, some-none, some-one}
 use Rattle.railway.specs.declared.Railway.{Railway}
 use Rattle.railway.specs.declared.Refusal.{Refusal}
 use Rattle.railway.specs.Rows.{recordRefusal}
 use Rattle.game.specs.Game.{IsFigure}
-use Rattle.game.specs.Placement.{codeOn, placements}
+use Rattle.game.specs.Placement.{codeOn, namesNone, placements}
 use Rattle.game.specs.Moves.{gameOf}
-use Rattle.game.proofs.Codes.{AllBelow as AllLess, code-below}
+use Rattle.game.proofs.Naming.{code-named}
 use Rattle.game.proofs.Accepted.{facts}
 use Rattle.tables.specs.Tables.{noFigure, figureEntry, figureIn, caseRefusal, IsPlanEntry, Filled}
 use Rattle.tables.specs.Solver.{Kept, SolverPost, SolverLeaves}
@@ -34,7 +32,7 @@ use Rattle.tables.proofs.Rounds.{up-to, of-up-to, round-filled}
 use Rattle.tables.proofs.Steps.{above}
 use Rattle.search.specs.declared.SearchAnswer.{SearchAnswer}
 use Rattle.search.specs.declared.Shown.the-variants.{Figure, NotYet, NoFigure}
-use Rattle.search.specs.Search.{State, Standing, Opened, OpenPost, Rounded, SearchPost, namesNone, shownBy, shown, lookedUp, lookUp, figureShown, Searching, begun, call, refused, UpToRound, SearchAt, SearchHolds}
+use Rattle.search.specs.Search.{State, Standing, Opened, OpenPost, Rounded, SearchPost, shownBy, shown, lookedUp, lookUp, figureShown, Searching, begun, call, refused, UpToRound, SearchAt, SearchHolds}
 
 -- an entry of the figure table is its figure, or the number for none
 entry-some : (x j : ℕ) → figureEntry x ≡ some j → x ≡ j
@@ -149,17 +147,6 @@ module _ (r : Railway) (accepted : recordRefusal r ≡ none) (figs sets : List �
   after-calls marks a s post (call {u = u} {v = v} {k = k} b rest p) = next k u v b (after-calls marks a s post rest) p .0
   after-calls marks a s post (refused {u = u} {v = v} o f b rest e p) = (let z : v ≡ u = same-left o f u v b e p in rw z (after-calls marks a s post rest))
 
-  -- A PLACEMENT that names sections that are there has a code
-  code-in : (f : ℕ → ℕ) → ((t : ℕ) → t < r .trains → f t < r .sections) → codeOn r f < placements r
-  code-in f h = rw (list-length f (r .trains)) at (code-below (r .sections) (listBelow f (r .trains)) all-in)
-    where
-      all-in : AllLess (r .sections) (listBelow f (r .trains))
-      all-in i l = let m : i < r .trains = rw (list-length f (r .trains)) at l in rw (list-get f (r .trains) i 0 m) (h i m)
-
-  there : (section : ℕ → ℕ) → namesNone r section ≡ false → codeOn r section < placements r
-  unfolding namesNone
-  there section e = code-in section (λ t l. ltb-true (section t) (r .sections) (not-is _ (any-false (λ u. not (ltb (section u) (r .sections))) (r .trains) e t l)))
-
   -- WHAT IS SHOWN, and what stands in the tables
   module _ (k : ℕ) (s : State) (g : After k s) where
     looked : (section : ℕ → ℕ) (b : Bool) → namesNone r section ≡ b → lookUp r section s ≡ cond b NoFigure (shownBy (figureIn (s .figs) (codeOn r section)) (s .search .ended))
@@ -183,7 +170,7 @@ module _ (r : Railway) (accepted : recordRefusal r ≡ none) (figs sets : List �
       | inl y ↦ some-none (ap figureShown e) (ap figureShown (looked section true y))
       | inr y ↦
           let p : ℕ = codeOn r section in
-          let l : p < placements r = there section y in
+          let l : p < placements r = code-named r section y in
           let x : Solution r = solution r accepted in
           let f : figureIn (s .figs) p ≡ some j = sym (shown-some (figureIn (s .figs) p) (s .search .ended)) ∙ ap figureShown (sym (looked section false y) ∙ e) in
           let d = of-up-to (s .search .rounds) (x .figure p) j (sym (entry p l (x .figure p) (x .figures p l)) ∙ f) in
@@ -192,17 +179,17 @@ module _ (r : Railway) (accepted : recordRefusal r ≡ none) (figs sets : List �
     ]
 
     shows : (section : ℕ → ℕ) → namesNone r section ≡ false → (j : ℕ) → IsFigure (gameOf r) (codeOn r section) (some j) → j ≤ s .search .rounds → lookUp r section s ≡ Figure j
-    shows section e j i l = by section e (some j) (entry (codeOn r section) (there section e) (some j) i ∙ up-to (s .search .rounds) (some j) j refl l)
+    shows section e j i l = by section e (some j) (entry (codeOn r section) (code-named r section e) (some j) i ∙ up-to (s .search .rounds) (some j) j refl l)
 
     running : (p j : ℕ) → p < placements r → IsFigure (gameOf r) p (some j) → s .search .rounds < j → s .search .ended ≡ false
     running p j l i b = not-true (s .search .ended) (λ y. omega (arith, ended-below (s .search .rounds) s (g .stands) y p j l i))
 
     not-yet : (section : ℕ → ℕ) → namesNone r section ≡ false → (j : ℕ) → IsFigure (gameOf r) (codeOn r section) (some j) → s .search .rounds < j → lookUp r section s ≡ NotYet
     not-yet section e j i b =
-        by section e none (entry (codeOn r section) (there section e) (some j) i ∙ above (s .search .rounds) (some j) j refl b) ∙ ap (shownBy none) (running (codeOn r section) j (there section e) i b)
+        by section e none (entry (codeOn r section) (code-named r section e) (some j) i ∙ above (s .search .rounds) (some j) j refl b) ∙ ap (shownBy none) (running (codeOn r section) j (code-named r section e) i b)
 
     none-yet : (section : ℕ → ℕ) → namesNone r section ≡ false → IsFigure (gameOf r) (codeOn r section) none → lookUp r section s ≡ cond (s .search .ended) NoFigure NotYet
-    none-yet section e i = by section e none (entry (codeOn r section) (there section e) none i) ∙ by-end (s .search .ended)
+    none-yet section e i = by section e none (entry (codeOn r section) (code-named r section e) none i) ∙ by-end (s .search .ended)
       where
         by-end : (b : Bool) → shownBy none b ≡ cond b NoFigure NotYet
         by-end true = refl

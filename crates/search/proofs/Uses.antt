@@ -23,7 +23,7 @@ use Rattle.railway.specs.Refusals.{first}
 use Rattle.railway.specs.Record.{isClosed, joinedBy, joined, hasSignal, legsOf, trainOf, weightOf, withJoin, withSignal, withLegs, withTrain}
 use Rattle.railway.specs.Rows.{weightRow, unknownRow, joinRow, looseRow, longer, chainRow, placeRow}
 use Rattle.game.specs.Game.{IsFigure}
-use Rattle.game.specs.Placement.{codeOf, codeOn, placements, sectionsIn, standsOn, atHome, shared}
+use Rattle.game.specs.Placement.{codeOf, codeOn, namesNone, placements, sectionsIn, standsOn, atHome, shared}
 use Rattle.game.specs.Moves.{gameOf}
 use Rattle.game.proofs.Figures.{figure-one}
 use Rattle.tables.specs.declared.SolverAnswer.{SolverAnswer}
@@ -38,7 +38,7 @@ use Rattle.search.specs.declared.Shown.{Shown}
 use Rattle.search.specs.declared.SearchAnswer.{SearchAnswer}
 use Rattle.search.specs.declared.SearchAnswer.the-variants.{Going, Ended}
 use Rattle.search.specs.declared.Shown.the-variants.{Figure, NotYet, NoFigure, Refused as ShownRefused}
-use Rattle.search.specs.Search.{State, numberGiven, Standing, Opened, OpenPost, Rounded, SearchPost, namesNone, lookedUp, lookUp, Searching, begun, call, refused, SearchAt, SearchHolds, numberShown, figureShown, LookPost}
+use Rattle.search.specs.Search.{State, numberGiven, Standing, Opened, OpenPost, Rounded, SearchPost, lookedUp, lookUp, Searching, begun, call, refused, SearchAt, SearchHolds, numberShown, figureShown, LookPost}
 use Rattle.search.proofs.Searching.{search-holds}
 use Rattle.search.proofs.Inhabited.{Searched, search-exists}
 

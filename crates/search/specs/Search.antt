@@ -1,19 +1,17 @@
 -- A search that is looked into between its rounds (document 02, Q-7; round n brings the figures n, Q-12): its calls, and the statement over whole lists of them. Assumes nothing.
 use mathlib.Core.Path.{_≡_}
 use mathlib.Core.Logic.{_↔_}
-use mathlib.Core.Bool.{Bool, true, false, cond, not}
+use mathlib.Core.Bool.{Bool, true, false, cond}
 use mathlib.Core.List.{List}
 use mathlib.Core.Option.{Option, none, some}
 use Prim.Native.Nat.{ℕ, suc, _≤_, _<_}
 use lib.ListN.{length, getD}
-use lib.Dec.{ltb}
-use Rattle.laws.specs.Below.{anyBelow}
 use Rattle.railway.specs.declared.Railway.{Railway}
 use Rattle.railway.specs.declared.Refusal.{Refusal}
 use Rattle.railway.specs.Refusals.{number, numberOf}
 use Rattle.railway.specs.Rows.{recordRefusal}
 use Rattle.game.specs.Game.{IsFigure}
-use Rattle.game.specs.Placement.{codeOn, placements}
+use Rattle.game.specs.Placement.{codeOn, placements, namesNone}
 use Rattle.game.specs.Moves.{gameOf}
 use Rattle.tables.specs.Tables.{noFigure, figureIn, caseRefusal, Filled}
 use Rattle.tables.specs.Solver.{Kept, SolverPost}
@@ -106,11 +104,7 @@ pub record SearchPost (r : Railway) (old : State) (a : SearchAnswer) (new : Stat
   pub numbered : numberGiven a ≡ numberOf (caseRefusal r (old .figs) (old .sets))
   pub leaves : RoundLeaves r old a new (caseRefusal r (old .figs) (old .sets))
 
--- LOOKING UP a placement, by the section of each train. It names a section that is not there.
-unfoldable pub namesNone : Railway → (ℕ → ℕ) → Bool
-namesNone r section = anyBelow (λ t. not (ltb (section t) (r .sections))) (r .trains)
-
--- What its figure in the table shows, if it has one there, else by whether the search has ended.
+-- LOOKING UP a placement, by the section of each train. What its figure in the table shows, if it has one there, else by whether the search has ended.
 abbrev pub shownBy : Option ℕ → Bool → Shown
 shownBy (some n) ended = Figure n
 shownBy none true = NoFigure

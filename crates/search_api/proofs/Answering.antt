@@ -4,14 +4,14 @@ use mathlib.Core.Path.{_≡_, refl, sym, _∙_, ap, subst}
 use mathlib.Core.Bool.{Bool, true, false, cond, not}
 use mathlib.Core.List.{List}
 use mathlib.Core.Option.{Option, none, some, Option·getD}
-use Prim.Native.Nat.{ℕ, _≤_}
+use Prim.Native.Nat.{ℕ}
 use native.Mathlib.Omega.{arith}
 use lib.Dec.{eqb}
 use Rattle.laws.proofs.Bools.{some-none}
 use Rattle.railway.specs.declared.Railway.{Railway}
 use Rattle.railway.specs.declared.Refusal.{Refusal}
-use Rattle.railway.specs.declared.Refusal.the-variants.{Length, Form, Count, Weight, Unknown, Join, Loose, Chain, Double, Place, Space, PlanForm, PlanFault}
 use Rattle.railway.specs.Refusals.{number, numberOf}
+use Rattle.railway.proofs.Refusals.{between}
 use Rattle.placement.specs.declared.Placement.{Placement}
 use Rattle.placement.specs.ByValue.{sectionIn}
 use Rattle.tables.specs.Tables.{caseRefusal}
@@ -32,22 +32,7 @@ ended-so false = refl
 pub stand-for-themselves : AllStandForThemselves
 stand-for-themselves s = ap (λ (b : Bool). record { rounds = s .rounds; ended = b; coming = s .coming }) (ended-so (s .ended))
 
--- WHAT A NUMBER TELLS: a refusal's lies between
-between : (f : Refusal) → (1 ≤ number f) × (number f ≤ 253)
-between Length = (omega arith, omega arith)
-between Form = (omega arith, omega arith)
-between Count = (omega arith, omega arith)
-between Weight = (omega arith, omega arith)
-between Unknown = (omega arith, omega arith)
-between Join = (omega arith, omega arith)
-between Loose = (omega arith, omega arith)
-between Chain = (omega arith, omega arith)
-between Double = (omega arith, omega arith)
-between Place = (omega arith, omega arith)
-between Space = (omega arith, omega arith)
-between PlanForm = (omega arith, omega arith)
-between PlanFault = (omega arith, omega arith)
-
+-- WHAT A NUMBER TELLS
 pub told-apart : AllToldApart
 told-apart = (
   λ (a : SearchAnswer).

@@ -24,7 +24,7 @@ use Rattle.casefile.specs.Reading.{headerAt, walk, read, caseAnswer}
 use Rattle.casefile.specs.YardTexts.{yardTexts}
 use Rattle.casefile.proofs.Exactly.{refused-exactly}
 use Rattle.casefile.proofs.YardTexts.{yards-accepted}
-use Rattle.game.specs.Placement.{codeOf, placements}
+use Rattle.game.specs.Placement.{codeOf, namesNone, placements}
 use Rattle.tables.specs.Tables.{noFigure, figureIn, tablesShort, caseRefusal}
 use Rattle.tables.specs.Rounds.{AllBelow}
 use Rattle.tables.proofs.Refusals.{case-none}
@@ -35,7 +35,7 @@ use Rattle.search.specs.declared.SearchAnswer.{SearchAnswer}
 use Rattle.search.specs.declared.SearchAnswer.the-variants.{Going, Ended, Refused}
 use Rattle.search.specs.declared.Shown.{Shown}
 use Rattle.search.specs.declared.Shown.the-variants.{Figure, NotYet, NoFigure, Refused as ShownRefused}
-use Rattle.search.specs.Search.{State, numberGiven, goingOn, Standing, Opened, Rounded, SearchPost, namesNone, lookedUp}
+use Rattle.search.specs.Search.{State, numberGiven, goingOn, Standing, Opened, Rounded, SearchPost, lookedUp}
 use Rattle.search_api.specs.Exported.{searchOf, Lent, lent, stateOf, lentOf, leftWith, OpenedRailway, OpenedText, roundNumber, RoundedRailway, RoundedText, placementOf, shownNumber, figureLeft, LookedText}
 use Rattle.search_api.proofs.Answering.{stand-for-themselves, told-apart}
 

@@ -1,5 +1,4 @@
 pub mod Looking
-pub mod Naming
 pub mod Parts
 pub mod Showing
 pub mod Standings

@@ -9,7 +9,7 @@ use Rattle.railway.specs.declared.Railway.{Railway}
 use Rattle.railway.specs.declared.Refusal.{Refusal}
 use Rattle.railway.specs.declared.CaseAnswer.the-variants.{Accepted, Refused}
 use Rattle.railway.specs.Refusals.{numberOf}
-use Rattle.game.specs.Placement.{codeOn}
+use Rattle.game.specs.Placement.{codeOn, namesNone}
 use Rattle.tables.specs.Tables.{noFigure, figureEntry, figureIn, caseRefusal}
 use Rattle.compiled.specs.declared.Compilation.{Compilation}
 use Rattle.compiled.specs.Table.{Compiled}
@@ -18,7 +18,7 @@ use Rattle.cases.proofs.Opened.{opened-refused, opened-none, opened-table}
 use Rattle.search.specs.declared.Search.{Search}
 use Rattle.search.specs.declared.Shown.{Shown}
 use Rattle.search.specs.declared.Shown.the-variants.{NoFigure, Refused as Refuses}
-use Rattle.search.specs.Search.{namesNone, shownBy, shown, lookedUp, numberShown, LookPost}
+use Rattle.search.specs.Search.{shownBy, shown, lookedUp, numberShown, LookPost}
 
 module _ (r : Railway) (figs sets : List ℕ) (c : Compilation) (p : CasePost r figs sets c) (s : Search) (section : ℕ → ℕ) where
   pub looks-refused : (f : Refusal) → c .tested ≡ Refused f → LookPost r section s figs sets (Refuses f)

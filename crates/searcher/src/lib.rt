@@ -17,7 +17,7 @@ ghost use Rattle.predecessors.specs.Behind.{Behind};
 ghost use Rattle.rounds.specs.Visits.{MarkedFor};
 ghost use Rattle.tables.specs.Tables.{noFigure, figureEntry};
 ghost use Rattle.search.specs.declared.SearchAnswer.the-variants.{Refused};
-ghost use Rattle.search.specs.Search.{unopened, goingOn, namesNone, shownBy, LookPost, OpenPost, SearchPost};
+ghost use Rattle.search.specs.Search.{unopened, goingOn, shownBy, LookPost, OpenPost, SearchPost};
 ghost use Rattle.searcher.specs.Steps.{searching, Ready, Shows, Finished};
 use compiled::Table;
 use marks::MARKS;
@@ -118,7 +118,7 @@ pub fn look_up(
     match tested {
         CaseAnswer::Refused(f) => Shown::Refused(f),
         CaseAnswer::Accepted => {
-            if names_none(&table, at) {
+            if moves::names_none(&table, at) {
                 return Shown::NoFigure;
             }
             shows(
@@ -194,22 +194,6 @@ fn look_ahead(
         d = rounds::round(table, ways, behind, figures, settings, marks, d);
     }
     NO_FIGURE
-}
-
-// Whether a placement names a section that is not there.
-fn names_none(table: &Table, at: Placement) -> bool
-    ensures { λ b. ⌜ ((r : Railway) → Compiled r (now (table .entry)) → b ≡ namesNone r (sectionIn at)) ⌝ }
-{
-    let s = compiled::sections_in(table);
-    let k = compiled::trains_in(table);
-    let mut t: u8 = 0;
-    while t < k {
-        if s <= placement::section_at(at, t) {
-            return true;
-        }
-        t += 1;
-    }
-    false
 }
 
 // What an entry of the figure table shows, by whether the search has ended.

@@ -3,15 +3,15 @@
 use mathlib.Core.Path.{_≡_, refl, sym, _∙_, ap, subst}
 use mathlib.Core.List.{List, []}
 use mathlib.Core.Option.{Option, none, some, Option·getD}
-use Prim.Native.Nat.{ℕ, _≤_}
+use Prim.Native.Nat.{ℕ}
 use native.Mathlib.Omega.{arith}
 use Rattle.laws.proofs.Bools.{some-none}
 use Rattle.railway.specs.declared.Railway.{Railway}
 use Rattle.railway.specs.declared.CaseAnswer.{CaseAnswer}
 use Rattle.railway.specs.declared.CaseAnswer.the-variants.{Accepted, Refused as CaseRefused}
 use Rattle.railway.specs.declared.Refusal.{Refusal}
-use Rattle.railway.specs.declared.Refusal.the-variants.{Length, Form, Count, Weight, Unknown, Join, Loose, Chain, Double, Place, Space, PlanForm, PlanFault}
 use Rattle.railway.specs.Refusals.{number, numberOf}
+use Rattle.railway.proofs.Refusals.{between}
 use Rattle.tables.specs.Tables.{caseRefusal}
 use Rattle.plan.specs.declared.PlanPlace.{PlanPlace}
 use Rattle.plan.specs.declared.Emitted.{Emitted}
@@ -26,22 +26,7 @@ use Rattle.plan.specs.Promises.{FreshPost, TestPost}
 use Rattle.plan.proofs.Promises.{tests-so}
 use Rattle.solver_api.specs.Plans.{placeNumber, placeAt, lineNumber, AllToldApart, writing, wroteTo, WrittenRailway, stateOf, stateNumbers, Lent, lent, checkingOf, BegunRailway, TakenRailway, TestedRailway}
 
--- WHAT A NUMBER TELLS: a refusal's lies between
-between : (f : Refusal) → (1 ≤ number f) × (number f ≤ 253)
-between Length = (omega arith, omega arith)
-between Form = (omega arith, omega arith)
-between Count = (omega arith, omega arith)
-between Weight = (omega arith, omega arith)
-between Unknown = (omega arith, omega arith)
-between Join = (omega arith, omega arith)
-between Loose = (omega arith, omega arith)
-between Chain = (omega arith, omega arith)
-between Double = (omega arith, omega arith)
-between Place = (omega arith, omega arith)
-between Space = (omega arith, omega arith)
-between PlanForm = (omega arith, omega arith)
-between PlanFault = (omega arith, omega arith)
-
+-- WHAT A NUMBER TELLS
 pub told-apart : AllToldApart
 told-apart (Line n next) = record { lines = λ e. refl; ended = λ e. absurd (omega (arith, e)); no-plan = λ e. absurd (omega (arith, e)) }
 told-apart End = record { lines = λ e. absurd (omega (arith, e)); ended = λ e. refl; no-plan = λ e. absurd (omega (arith, e)) }

@@ -1,19 +1,19 @@
--- `searcher::names_none` meets its contract. The loop's invariant: the sections of the trains before t are there.
+-- `moves::names_none` meets its contract. The loop's invariant: the sections of the trains before t are there.
 -- Assumes nothing.
 use borrow.Author.Needs.{needs}
 use native.Mathlib.Omega.{arith}
 use mathlib.Core.Path.{sym}
 use Prim.Native.Nat.{ℕ, _-_, _<_}
 use Rattle.placement.specs.ByValue.{sectionIn}
-use Rattle.searcher.proofs.Naming.{one-more, some-named, none-named}
-use Rattle.searcher.proofs.names_none.Statement.{statement}
-use Rattle.searcher.proofs.names_none.Tie as tie
+use Rattle.game.proofs.Naming.{one-more, some-named, none-named}
+use Rattle.moves.proofs.names_none.Statement.{statement}
+use Rattle.moves.proofs.names_none.Tie as tie
 
 abbrev Inv-loop : tie.InvT-loop
-Inv-loop table at s k t₀ t = (u : ℕ) → u < t → sectionIn at u < s
+Inv-loop table q s k t₀ t = (u : ℕ) → u < t → sectionIn q u < s
 
 abbrev μ-loop : tie.MeasureT-loop
-μ-loop table at s k t₀ t = k - t
+μ-loop table q s k t₀ t = k - t
 
 sections-in-requires : tie.Need-sections-in-requires Inv-loop μ-loop
 sections-in-requires c κs = search needs

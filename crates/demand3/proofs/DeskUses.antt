@@ -1,0 +1,101 @@
+-- The statement on desks that run at work, in Yard A with weights 5 and 2: of any run of the solver, any opening with the tables that it left, and any call for the setting or report
+-- at that desk something is drawn from what the calls tell. Assumes nothing.
+use mathlib.Core.Path.{_≡_, refl, _∙_, ap}
+use mathlib.Core.List.{List, []}
+use mathlib.Core.Option.{some}
+use Prim.Native.Nat.{ℕ, _≤_}
+use native.Mathlib.Omega.{arith}
+use lib.ListN.{length, getD}
+use denote.Ref.{now}
+use denote.Triple.Clauses.{AtExit}
+use contract.Lifetimes.{Lfts}
+use borrow.Fn.Kinds.{Dens, resT, endedOf}
+use Rattle.laws.specs.Below.{sumBelow, listBelow}
+use Rattle.railway.specs.Record.{trainOf, weightOf, withJoin, withSignal, withLegs, withTrain}
+use Rattle.game.specs.Game.{IsFigure}
+use Rattle.game.specs.Placement.{codeOf, placements, startCode}
+use Rattle.game.specs.Moves.{gameOf}
+use Rattle.tables.specs.Tables.{figureIn}
+use Rattle.tables.specs.Solver.{SolverPost}
+use Rattle.tables.proofs.Examples.{weighed}
+use Rattle.tables.proofs.WeighedYards.{weighed-accepted, weighed-filled}
+use Rattle.desk.specs.declared.OpenAnswer.the-variants.{Opened}
+use Rattle.desk.specs.declared.ReportAnswer.the-variants.{Counted}
+use Rattle.desk.specs.Desk.{deskCode, settingGiven, OpenPost, SettingPost, ReportPost}
+use Rattle.desk.specs.Following.{begun, AfterReports, DeskRuns}
+use Rattle.desk_calls.specs.Answers.{deskAt, opening, replied}
+use Rattle.solver.proofs.solve.Kinds as solve
+use Rattle.solver.proofs.solve.Reads.{Learnt as SolveLearnt}
+use Rattle.desk_calls.proofs.Desk.open.Kinds as opened
+use Rattle.desk_calls.proofs.Desk.open.Reads.{Asked as OpenAsked, Learnt as OpenLearnt}
+use Rattle.desk_calls.proofs.Desk.open.Statement.{statement as OpenMeets}
+use Rattle.desk_calls.proofs.Desk.setting.Kinds as setting
+use Rattle.desk_calls.proofs.Desk.setting.Reads.{Asked as SettingAsked, Learnt as SettingLearnt}
+use Rattle.desk_calls.proofs.Desk.setting.Statement.{statement as SettingMeets}
+use Rattle.desk_calls.proofs.Desk.report.Kinds as report
+use Rattle.desk_calls.proofs.Desk.report.Reads.{Asked as ReportAsked, Learnt as ReportLearnt}
+use Rattle.desk_calls.proofs.Desk.report.Statement.{statement as ReportMeets}
+use Rattle.demand3.proofs.Desks.{desks-run}
+
+same : {A B : Type 0} → A ≡ B → A → B
+same e x = rw e at x
+
+-- they ask nothing, and are met
+asks-nothing : ((κs : Lfts 2) (a : Dens κs opened.ps) → OpenAsked κs a) × ((κs : Lfts 2) (a : Dens κs setting.ps) → SettingAsked κs a)
+    × ((κs : Lfts 2) (a : Dens κs report.ps) → ReportAsked κs a)
+asks-nothing = (desks-run .opens .asks, desks-run .settings .asks, desks-run .reports .asks)
+
+all-met : {M : Type 1} → OpenMeets M × SettingMeets M × ReportMeets M
+all-met = (desks-run .opens .meets, desks-run .settings .meets, desks-run .reports .meets)
+
+-- the start, (2, 3), has code 7 and figure 7, and a move of train 2 costs 2
+yard : (placements weighed ≡ 9) × (startCode weighed ≡ 7) × (weightOf weighed 1 ≡ 2)
+unfolding startCode codeOf sumBelow listBelow trainOf weightOf withJoin withSignal withLegs withTrain
+yard = (refl, refl, refl)
+
+seven : IsFigure (gameOf weighed) (startCode weighed) (some 7)
+seven = rw (yard .1) (weighed-filled .figures 7 (omega (arith, yard .0)))
+
+module _ (κs : Lfts 2) (a : Dens κs solve.ps) (said : resT solve.r κs .Denot) (left : AtExit (endedOf 2 solve.ps solve.r) κs) (is-yard : a .0 ≡ weighed)
+    (lf : 9 ≤ length (now (a .1 .0))) (ls : 9 ≤ length (now (a .1 .1 .0))) (learnt : SolveLearnt κs a said left) where
+  abbrev figs : List ℕ
+  figs = now (left .1 .0)
+
+  abbrev sets : List ℕ
+  sets = now (left .1 .1 .0)
+
+  solved : SolverPost weighed said (now (a .1 .0)) (now (a .1 .1 .0)) figs sets
+  solved = rw is-yard at (same (desks-run .solver .tells κs a said left) learnt)
+
+  runs : DeskRuns weighed figs sets
+  runs = desks-run .whole .solved weighed said (now (a .1 .0)) (now (a .1 .1 .0)) figs sets weighed-accepted (omega (arith, yard .0)) (omega (arith, yard .0)) solved .0
+
+  module _ (κs₁ : Lfts 2) (b : Dens κs₁ opened.ps) (answer : resT opened.r κs₁ .Denot) (left₁ : AtExit (endedOf 2 opened.ps opened.r) κs₁)
+      (is-yard₁ : b .0 ≡ weighed) (lent-figs : now (b .1 .0) ≡ figs) (lent-sets : now (b .1 .1 .0) ≡ sets) (learnt₁ : OpenLearnt κs₁ b answer left₁) where
+    desk-post : OpenPost weighed figs sets (opening answer)
+    desk-post = rw (is-yard₁, lent-figs, lent-sets) at (same (desks-run .opens .tells κs₁ b answer left₁) learnt₁)
+
+    -- a desk is opened, at (2, 3)
+    at-start : (answer .answer ≡ Opened) × (deskCode weighed (deskAt (answer .desk)) ≡ 7)
+    at-start = let x : answer .answer ≡ Opened = runs .opened-exactly (opening answer) desk-post .1 (7, seven) in (x, runs .at-start (opening answer) desk-post x .0 ∙ yard .1)
+
+    stands : AfterReports weighed figs sets (deskAt (answer .desk)) 7 [] (deskAt (answer .desk))
+    stands = runs .runs (opening answer) desk-post 7 seven [] (deskAt (answer .desk)) begun
+
+    -- the setting given there is the entry that the solver left at code 7
+    gives-entry : (κs₂ : Lfts 2) (c : Dens κs₂ setting.ps) (given : resT setting.r κs₂ .Denot) (left₂ : AtExit (endedOf 2 setting.ps setting.r) κs₂)
+        → c .0 ≡ answer .desk → c .1 .0 ≡ weighed → now (c .1 .1 .0) ≡ figs → now (c .1 .1 .1 .0) ≡ sets → SettingLearnt κs₂ c given left₂ → settingGiven given ≡ some (getD sets 7 0)
+    gives-entry κs₂ c given left₂ handed is-yard₂ figs₂ sets₂ learnt₂ =
+        let x : SettingPost weighed (deskAt (answer .desk)) figs sets given = rw (handed, is-yard₂, figs₂, sets₂) at (same (desks-run .settings .tells κs₂ c given left₂) learnt₂) in
+        stands .gives given x ∙ ap (λ (k : ℕ). some (getD sets k 0)) (at-start .1)
+
+    -- wherever train 2 is reported, if that counts its placement then has a figure of 5 at most
+    lowers-two : (κs₂ : Lfts 2) (c : Dens κs₂ report.ps) (reply : resT report.r κs₂ .Denot) (left₂ : AtExit (endedOf 2 report.ps report.r) κs₂)
+        → c .0 ≡ answer .desk → c .1 .0 ≡ weighed → now (c .1 .1 .0) ≡ figs → now (c .1 .1 .1 .0) ≡ sets → c .1 .1 .1 .1 .0 ≡ 1 → ReportLearnt κs₂ c reply left₂ → reply .answer ≡ Counted
+        → (m : ℕ) × (figureIn figs (deskCode weighed (deskAt (reply .desk))) ≡ some m) × (m ≤ 5)
+    lowers-two κs₂ c reply left₂ handed is-yard₂ figs₂ sets₂ train learnt₂ counted =
+        let section = c .1 .1 .1 .1 .1 .0 in
+        let x : ReportPost weighed (deskAt (answer .desk)) figs sets 1 section (replied reply) =
+        rw (handed, is-yard₂, figs₂, sets₂, train) at (same (desks-run .reports .tells κs₂ c reply left₂) learnt₂) in
+        let y = stands .lowers 1 section (replied reply) x counted in
+        (y .0, y .1, omega (arith, y .2, stands .lowered, yard .2))

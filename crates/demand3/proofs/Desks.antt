@@ -1,0 +1,18 @@
+-- Q-1 of the calls that run: each contract computes to its promise, and asks nothing. Assumes nothing.
+use mathlib.Core.Path.{refl}
+use Rattle.desk_calls.proofs.Desk.open.Met as opened
+use Rattle.desk_calls.proofs.Desk.setting.Met as setting
+use Rattle.desk_calls.proofs.Desk.report.Met as report
+use Rattle.desk.proofs.Following.{desk-holds}
+use Rattle.demand3.specs.Desks.{DesksRun}
+use Rattle.demand3.proofs.Running.{demand3-runs}
+
+pub desks-run : DesksRun
+desks-run =
+    record {
+      whole = desk-holds;
+      solver = demand3-runs .solver;
+      opens = record { asks = λ κs a. tt; tells = λ κs a answer left. refl; meets = opened.met };
+      settings = record { asks = λ κs a. tt; tells = λ κs a answer left. refl; meets = setting.met };
+      reports = record { asks = λ κs a. tt; tells = λ κs a answer left. refl; meets = report.met };
+    }

@@ -1,0 +1,6 @@
+pub mod Examples
+pub mod Placing
+pub mod AnyDesk
+pub mod Following
+pub mod Inhabited
+pub mod Uses

@@ -1,0 +1,79 @@
+-- `desk_calls::Desk::open` meets its contract: what is refused, then whether the start has a figure.
+-- Assumes nothing.
+use borrow.Author.Needs.{needs}
+use Rattle.placement.proofs.Places.{placement-length}
+use Rattle.desk_calls.proofs.Calling.{open-refused, open-none, open-stands}
+use Rattle.desk_calls.proofs.Desk.open.Statement.{statement}
+use Rattle.desk_calls.proofs.Desk.open.Tie as tie
+
+open-case-requires : tie.Need-open-case-requires
+open-case-requires c κs = search needs
+
+enum-known-tested : tie.Need-enum-known-tested
+enum-known-tested c = search needs
+
+nowhere-requires : tie.Need-nowhere-requires
+nowhere-requires c κs = search needs
+
+enum-told : tie.Need-enum-told
+enum-told c = search needs
+
+start-code-requires : tie.Need-start-code-requires
+start-code-requires c κs = search needs
+
+entry-at-requires : tie.Need-entry-at-requires
+entry-at-requires c κs = search needs
+
+nowhere-requires-2 : tie.Need-nowhere-requires-2
+nowhere-requires-2 c κs = search needs
+
+returns : tie.Need-returns
+returns c =
+    let i = c .before in
+    let v = i .before in
+    let s = v .before in
+    let t = s .before .before .before in
+    let o = t .before .before in
+    let a = o .before .before .before in
+    let g = a .args in
+    open-none (g .r) (g .figures .now) (g .settings .now) _ (o .open-case .ensures) (t .enum-told .given .1) _ _ (s .start-code .ensures)
+    (v .entry-at .ensures) (i .if1 .taken) _ (c .nowhere2 .ensures)
+
+placement-of-requires : tie.Need-placement-of-requires
+placement-of-requires c κs = search needs
+
+returns-2 : tie.Need-returns-2
+returns-2 c =
+    let t = c .before .before in
+    let o = t .before .before in
+    let a = o .before .before .before in
+    let g = a .args in
+    open-refused (g .r) (g .figures .now) (g .settings .now) _ (o .open-case .ensures) _ (t .tested .given .1) _ (c .nowhere .ensures)
+
+returns-3 : tie.Need-returns-3
+returns-3 c =
+    let i = c .before .before in
+    let v = i .before in
+    let s = v .before in
+    let t = s .before .before .before in
+    let o = t .before .before in
+    let a = o .before .before .before in
+    let g = a .args in
+    open-stands (g .r) (g .figures .now) (g .settings .now) _ (o .open-case .ensures) (t .enum-told .given .1) _ _ (s .start-code .ensures) (v .entry-at .ensures) (i .if1 .left) _
+    (c .placement-of .ensures) (placement-length (c .placement-of .result) _ (c .placement-of .ok))
+
+pub open-spec : {M : Type 1} → statement M
+open-spec =
+    tie.close
+    (tie.spec
+    open-case-requires
+    enum-known-tested
+    nowhere-requires
+    enum-told
+    start-code-requires
+    entry-at-requires
+    nowhere-requires-2
+    returns
+    placement-of-requires
+    returns-2
+    returns-3)

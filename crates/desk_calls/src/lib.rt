@@ -1,0 +1,173 @@
+// A desk for live running: one call opens it at the start, one gives the setting for the placement where it stands, and each report of a train's movement yields the next desk.
+// The desk goes from call to call by value; the record is tested again at every call, and the two tables, which are lent, are only read. A report that is refused hands the desk
+// back as it was.
+ghost use mathlib.Core.Path.{_≡_};
+ghost use Prim.Native.Nat.{ℕ};
+ghost use Rattle.railway.specs.declared.Railway.{Railway};
+ghost use Rattle.railway.specs.Record.{isClosed};
+ghost use Rattle.routes.specs.Routes.{Laid};
+ghost use Rattle.compiled.specs.Table.{Compiled};
+ghost use Rattle.moves.specs.Steps.{On};
+ghost use Rattle.desk.specs.declared.ReportAnswer.the-variants.{Refused};
+ghost use Rattle.desk.specs.Desk.{misplaced, noDesk, OpenPost, SettingPost, ReportPost};
+ghost use Rattle.desk_calls.specs.Answers.{deskAt, opening, replied};
+ghost use Rattle.desk_calls.specs.Steps.{countsAt};
+use compiled::Table;
+use desk::OpenAnswer;
+use desk::ReportAnswer;
+use desk::SettingAnswer;
+use placement::Placement;
+use railway::CaseAnswer;
+use railway::Railway;
+use railway::Refusal;
+use routes::NO_SECTION;
+use routes::Ways;
+use tables::NO_FIGURE;
+
+// Where the trains stand. What is there for trains that the case does not have is not looked at.
+pub struct Desk {
+    pub at: Placement,
+}
+
+// What opening hands back. Where no desk is opened, the one beside the answer stands nowhere, and every call with it is refused.
+pub struct OpenReply {
+    pub answer: OpenAnswer,
+    pub desk: Desk,
+}
+
+// What a report hands back.
+pub struct ReportReply {
+    pub answer: ReportAnswer,
+    pub desk: Desk,
+}
+
+impl Desk {
+    // OPENING: a desk at the start, or none where the start has no figure in the table.
+    pub fn open(r: Railway, figures: &[u32], settings: &[u32]) -> OpenReply
+        ensures { λ x. ⌜ OpenPost r (now (figures .entry)) (now (settings .entry)) (opening x) ⌝ }
+    {
+        let c = cases::open_case(r, figures, settings);
+        let tested = c.tested;
+        match tested {
+            CaseAnswer::Refused(f) => OpenReply {
+                answer: OpenAnswer::Refused(f),
+                desk: nowhere(),
+            },
+            CaseAnswer::Accepted => {
+                let table = c.table;
+                let p = moves::start_code(&table);
+                if tables::entry_at(figures, p, NO_FIGURE) == NO_FIGURE {
+                    return OpenReply {
+                        answer: OpenAnswer::NoFigure,
+                        desk: nowhere(),
+                    };
+                }
+                OpenReply {
+                    answer: OpenAnswer::Opened,
+                    desk: Desk {
+                        at: moves::placement_of(&table, p),
+                    },
+                }
+            }
+        }
+    }
+
+    // THE SETTING for the placement where the desk stands: the table's entry.
+    pub fn setting(self, r: Railway, figures: &[u32], settings: &[u32]) -> SettingAnswer
+        ensures { λ a. ⌜ SettingPost r (deskAt self) (now (figures .entry)) (now (settings .entry)) a ⌝ }
+    {
+        let c = cases::open_case(r, figures, settings);
+        let tested = c.tested;
+        match tested {
+            CaseAnswer::Refused(f) => SettingAnswer::Refused(f),
+            CaseAnswer::Accepted => {
+                let table = c.table;
+                if self.misplaced(&table) {
+                    return SettingAnswer::Refused(Refusal::Report);
+                }
+                SettingAnswer::Given(tables::entry_at(settings, moves::code_of(&table, self.at), 0))
+            }
+        }
+    }
+
+    // A REPORT: train t has come to section x. The next desk has it there, if the setting allows that move.
+    pub fn report(self, r: Railway, figures: &[u32], settings: &[u32], t: u8, x: u8) -> ReportReply
+        ensures { λ y. ⌜ ReportPost r (deskAt self) (now (figures .entry)) (now (settings .entry)) t x (replied y) ⌝ }
+    {
+        let c = cases::open_case(r, figures, settings);
+        let tested = c.tested;
+        match tested {
+            CaseAnswer::Refused(f) => self.refused(f),
+            CaseAnswer::Accepted => {
+                let table = c.table;
+                if self.misplaced(&table) {
+                    return self.refused(Refusal::Report);
+                }
+                let p = moves::code_of(&table, self.at);
+                let v = tables::entry_at(settings, p, 0);
+                let ways = cases::case_ways(r);
+                if counts(&table, &ways, moves::placement_of(&table, p), v, t, x) {
+                    return ReportReply {
+                        answer: ReportAnswer::Counted,
+                        desk: Desk {
+                            at: moves::put_on(self.at, t, x),
+                        },
+                    };
+                }
+                self.refused(Refusal::Report)
+            }
+        }
+    }
+
+    // The placement names a section that is not there, or puts two trains on one. No code is made of sections that are not there.
+    fn misplaced(self, table: &Table) -> bool
+        ensures { λ b. ⌜ ((r : Railway) → Compiled r (now (table .entry)) → b ≡ misplaced r (self .at)) ⌝ }
+    {
+        let at = self.at;
+        if moves::names_none(table, at) {
+            return true;
+        }
+        moves::is_lost(table, moves::code_of(table, at))
+    }
+
+    // A refusal, and the desk as it was.
+    fn refused(self, f: Refusal) -> ReportReply
+        ensures { λ y. ⌜ (y .answer ≡ Refused f) × (y .desk ≡ self) ⌝ }
+    {
+        ReportReply {
+            answer: ReportAnswer::Refused(f),
+            desk: self,
+        }
+    }
+}
+
+// A desk that stands on no section.
+fn nowhere() -> Desk
+    ensures { λ d. ⌜ deskAt d ≡ noDesk ⌝ }
+{
+    Desk {
+        at: Placement {
+            sections: [255u8; Railway::TRAINS as usize],
+        },
+    }
+}
+
+// Whether the report of a move counts, at a placement by value under entry v: the trains are not home, the train may move and comes to that section, which is not closed, and no
+// other stands there.
+fn counts(table: &Table, ways: &Ways, q: Placement, v: u32, t: u8, x: u8) -> bool
+    ensures { λ b. ⌜ ((r : Railway) (p : ℕ) → On r p (now (table .entry)) q → Laid r (isClosed r) (now (ways .entry)) → b ≡ countsAt r p v t x) ⌝ }
+{
+    if moves::home_in(table, q) {
+        return false;
+    }
+    if x == NO_SECTION {
+        return false;
+    }
+    if moves::other_in(q, t, x, compiled::trains_in(table)) {
+        return false;
+    }
+    if moves::may_in(table, q, v, t) {
+        return moves::leads_to(table, ways, q, v, t) == x;
+    }
+    false
+}

@@ -1,0 +1,4 @@
+pub mod Saying
+pub mod Following
+pub mod Calls
+pub mod Uses

@@ -1,0 +1,40 @@
+-- `desk_io::turn` meets its contract: a line that came, or the end of the input.
+-- Assumes nothing.
+use borrow.Author.Needs.{needs}
+use mathlib.Core.Path.{refl}
+use Rattle.desk_io.specs.Followed.{over, heard}
+use Rattle.desk_io.proofs.turn.Statement.{statement}
+use Rattle.desk_io.proofs.turn.Tie as tie
+
+slice-aggregate-next-line : tie.Need-slice-aggregate-next-line
+slice-aggregate-next-line c = search needs
+
+next-line-requires : tie.Need-next-line-requires
+next-line-requires c κs = search needs
+
+array-share-prefix-line : tie.Need-array-share-prefix-line
+array-share-prefix-line c = search needs
+
+slice-aggregate-answer : tie.Need-slice-aggregate-answer
+slice-aggregate-answer c = search needs
+
+answer-requires : tie.Need-answer-requires
+answer-requires c κs = search needs
+
+returns : tie.Need-returns
+returns c = heard _ (c .answer .ensures)
+
+returns-2 : tie.Need-returns-2
+returns-2 c = over refl refl refl
+
+pub turn-spec : {M : Type 1} → statement M
+turn-spec =
+    tie.close
+    (tie.spec
+    slice-aggregate-next-line
+    next-line-requires
+    array-share-prefix-line
+    slice-aggregate-answer
+    answer-requires
+    returns
+    returns-2)

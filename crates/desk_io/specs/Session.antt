@@ -1,0 +1,94 @@
+-- What program `deskrun` writes: for the opening of a desk, for the state where one stands, for a line that is read there, and for all lines (document 02, Q-1: the plan followed on the
+-- panel). Lines are taken without their ends. Assumes nothing.
+use mathlib.Core.Bool.{Bool, true, false, cond}
+use mathlib.Core.List.{List, [], _∷_, _++_}
+use mathlib.Core.Option.{Option, none, some}
+use Prim.Native.Nat.{ℕ}
+use lib.ListN.{getD}
+use Rattle.railway.specs.declared.Railway.{Railway}
+use Rattle.railway.specs.declared.Refusal.{Refusal}
+use Rattle.railway.specs.declared.Refusal.the-variants.{Report}
+use Rattle.game.specs.Placement.{atHome}
+use Rattle.tables.specs.Tables.{noFigure}
+use Rattle.answerlines.specs.Lines.{refusalLine, noneLine}
+use Rattle.desk.specs.declared.OpenAnswer.{OpenAnswer}
+use Rattle.desk.specs.declared.OpenAnswer.the-variants.{Opened, NoFigure, Refused as OpenRefused}
+use Rattle.desk.specs.declared.SettingAnswer.{SettingAnswer}
+use Rattle.desk.specs.declared.SettingAnswer.the-variants.{Given, Refused as SettingRefused}
+use Rattle.desk.specs.declared.ReportAnswer.{ReportAnswer}
+use Rattle.desk.specs.declared.ReportAnswer.the-variants.{Counted, Refused}
+use Rattle.desk.specs.Desk.{Desk, deskCode, openDesk, giveSetting, Reply, report}
+use Rattle.desk_lines.specs.Panel.{stateLine, homeLine}
+use Rattle.desk_lines.specs.Reports.{Told, reportIn, placeOf}
+
+-- What is written, the desk behind it, and whether lines are read from there on.
+pub record Said : Type 0 where
+  pub text : List ℕ
+  pub desk : Desk
+  pub going : Bool
+
+-- A refusal, with this desk.
+abbrev pub refusedSaid : Refusal → Desk → Bool → Said
+refusedSaid f d going = record { text = refusalLine f; desk = d; going = going }
+
+-- THE STATE where a desk stands. With entry v as its setting: `home`, or the state's line, with the figure that the table has.
+abbrev pub givenSaid : Railway → List ℕ → Desk → ℕ → Said
+givenSaid r figs d v =
+    cond (atHome r (deskCode r d)) (record { text = homeLine; desk = d; going = false })
+    (record { text = stateLine (r .trains) (r .points) (d .at) (getD figs (deskCode r d) noFigure) v; desk = d; going = true })
+
+-- By the answer to the call for the setting.
+abbrev pub settingSaid : Railway → List ℕ → Desk → SettingAnswer → Said
+settingSaid r figs d (Given v) = givenSaid r figs d v
+settingSaid r figs d (SettingRefused f) = refusedSaid f d false
+
+module _ (r : Railway) (figs sets : List ℕ) where
+  abbrev pub stateSaid : Desk → Said
+  stateSaid d = settingSaid r figs d (giveSetting r d figs sets)
+
+  -- THE OPENING, by its answer: the state at the start; `none`; a refusal.
+  abbrev pub openedSaid : OpenAnswer → Desk → Said
+  openedSaid Opened d = stateSaid d
+  openedSaid NoFigure d = record { text = noneLine; desk = d; going = false }
+  openedSaid (OpenRefused f) d = refusedSaid f d false
+
+  abbrev pub openingSaid : Said
+  openingSaid = openedSaid (openDesk r figs sets .answer) (openDesk r figs sets .desk)
+
+  -- A LINE at a desk. A report, by its answer: the state that it leads to; a refusal, and the desk that is handed back.
+  abbrev pub repliedSaid : ReportAnswer → Desk → Said
+  repliedSaid Counted d = stateSaid d
+  repliedSaid (Refused f) d = refusedSaid f d true
+
+  abbrev pub reportSaid : Reply → Said
+  reportSaid y = repliedSaid (y .answer) (y .desk)
+
+  -- That train t has come to section x, as the desk counts them.
+  abbrev pub movedSaid : Desk → ℕ → ℕ → Said
+  movedSaid d t x = reportSaid (report r d figs sets t x)
+
+  -- By what the line is read as: what is no report is refused with 12, as a report that does not count.
+  abbrev pub toldSaid : Desk → Option Told → Said
+  toldSaid d (some y) = movedSaid d (placeOf (y .train)) (placeOf (y .section))
+  toldSaid d none = refusedSaid Report d true
+
+  abbrev pub lineSaid : Desk → List ℕ → Said
+  lineSaid d l = toldSaid d (reportIn l)
+
+  -- ALL LINES, one after the other, as long as lines are read.
+  unfoldable pub answers : Desk → List (List ℕ) → List ℕ
+  answers d [] = []
+  answers d (l ∷ ls) = lineSaid d l .text ++ cond (lineSaid d l .going) (answers (lineSaid d l .desk) ls) []
+
+  -- And the desk behind them.
+  unfoldable pub deskBehind : Desk → List (List ℕ) → Desk
+  deskBehind d [] = d
+  deskBehind d (l ∷ ls) = cond (lineSaid d l .going) (deskBehind (lineSaid d l .desk) ls) (lineSaid d l .desk)
+
+  -- Behind something said.
+  abbrev pub allBehind : Said → List (List ℕ) → List ℕ
+  allBehind s ls = s .text ++ cond (s .going) (answers (s .desk) ls) []
+
+  -- THE WHOLE of what is written for some lines.
+  abbrev pub panelText : List (List ℕ) → List ℕ
+  panelText ls = allBehind openingSaid ls

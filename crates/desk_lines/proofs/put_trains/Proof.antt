@@ -1,0 +1,58 @@
+-- `desk_lines::put_trains` meets its contract. The loop's invariant: the pieces before t are written, and the buffer is as long as it was.
+-- Assumes nothing.
+use borrow.Author.Needs.{needs}
+use native.Mathlib.Omega.{arith}
+use Prim.Native.Nat.{_-_, _≤_}
+use mathlib.Core.Path.{_≡_, refl, _∙_}
+use lib.ListN.{length}
+use Rattle.laws.specs.Below.{gatherBelow}
+use Rattle.text.specs.Appending.{Appended}
+use Rattle.text.proofs.Appending.{pieces-none, pieces-next, pieces-all}
+use Rattle.desk_lines.specs.Panel.{trainPiece}
+use Rattle.desk_lines.proofs.put_trains.Statement.{statement}
+use Rattle.desk_lines.proofs.put_trains.Tie as tie
+
+abbrev Inv-loop : tie.InvT-loop
+Inv-loop out₀ at k q v next₀ t₀ out next t = Appended out₀ at (gatherBelow (trainPiece q v) t) out next × (t ≤ k) × (length out ≡ length out₀)
+
+abbrev μ-loop : tie.MeasureT-loop
+μ-loop out₀ at k q v next₀ t₀ out next t = k - t
+
+loop-holds : tie.Need-loop-holds Inv-loop μ-loop
+loop-holds c = let a = c .before .args in (pieces-none (trainPiece (a .q) (a .v)), omega arith, refl)
+
+put-train-requires : tie.Need-put-train-requires Inv-loop μ-loop
+put-train-requires c κs = search needs
+
+add-t : tie.Need-add-t Inv-loop μ-loop
+add-t c = omega arith
+
+loop-less : tie.Need-loop-less Inv-loop μ-loop
+loop-less c = omega arith
+
+loop-again : tie.Need-loop-again Inv-loop μ-loop
+loop-again c =
+    let p = c .before .before in
+    let l = p .before .before .before in
+    let a = l .before .before .args in
+    (pieces-next (trainPiece (a .q) (a .v)) (l .loop .t) (l .loop .inv .0) (p .put-train .ensures), omega arith, p .put-train .kept .0 ∙ l .loop .inv .2)
+
+same-length : tie.Need-same-length Inv-loop μ-loop
+same-length c = c .before .loop .inv .2
+
+returns : tie.Need-returns Inv-loop μ-loop
+returns c = let l = c .before in let a = l .before .before .args in pieces-all (trainPiece (a .q) (a .v)) (l .loop .t) (a .k) (l .loop .inv .1) (c .loop-test .left) (l .loop .inv .0)
+
+pub put-trains-spec : {M : Type 1} → statement M
+put-trains-spec =
+    tie.close
+    (tie.spec
+    Inv-loop
+    μ-loop
+    loop-holds
+    put-train-requires
+    add-t
+    loop-less
+    loop-again
+    same-length
+    returns)

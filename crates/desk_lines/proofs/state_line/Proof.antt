@@ -1,0 +1,52 @@
+-- `desk_lines::state_line` meets its contract: the trains, the figure, the words, the points and the end.
+-- Assumes nothing.
+use borrow.Author.Needs.{needs}
+use Rattle.text.specs.Text.{bytes}
+use Rattle.desk_lines.proofs.Spelling.{state-made}
+use Rattle.desk_lines.proofs.state_line.Statement.{statement}
+use Rattle.desk_lines.proofs.state_line.Tie as tie
+
+put-trains-requires : tie.Need-put-trains-requires
+put-trains-requires c κs = search needs
+
+number-requires : tie.Need-number-requires
+number-requires c κs = search needs
+
+slice-aggregate-bytes : tie.Need-slice-aggregate-bytes
+slice-aggregate-bytes c = search needs
+
+bytes-requires : tie.Need-bytes-requires
+bytes-requires c κs = search needs
+
+put-points-requires : tie.Need-put-points-requires
+put-points-requires c κs = search needs
+
+byte-requires : tie.Need-byte-requires
+byte-requires c κs = search needs
+
+same-length : tie.Need-same-length
+same-length c = search needs
+
+returns : tie.Need-returns
+unfolding bytes
+returns c =
+    let e = c .before .before in
+    let p = e .before .before .before .before in
+    let w = p .before .before .before .before in
+    let n = w .before .before .before .before .before in
+    let t = n .before .before .before .before in
+    let a = t .before .before .before .args in
+    state-made (a .k) (a .m) (a .q) (a .n) (a .v) (t .put-trains .ensures) (n .number .ensures) (w .bytes .ensures) (p .put-points .ensures) (e .byte .ensures)
+
+pub state-line-spec : {M : Type 1} → statement M
+state-line-spec =
+    tie.close
+    (tie.spec
+    put-trains-requires
+    number-requires
+    slice-aggregate-bytes
+    bytes-requires
+    put-points-requires
+    byte-requires
+    same-length
+    returns)
