@@ -1,8 +1,9 @@
 -- The statement on desks that run at work, in Yard A with weights 5 and 2: of any run of the solver, any opening with the tables that it left, and any call for the setting or report
 -- at that desk something is drawn from what the calls tell. Assumes nothing.
 use mathlib.Core.Path.{_≡_, refl, _∙_, ap}
+use mathlib.Core.Bool.{true}
 use mathlib.Core.List.{List, []}
-use mathlib.Core.Option.{some}
+use mathlib.Core.Option.{none, some}
 use Prim.Native.Nat.{ℕ, _≤_}
 use native.Mathlib.Omega.{arith}
 use lib.ListN.{length, getD}
@@ -10,18 +11,20 @@ use denote.Ref.{now}
 use denote.Triple.Clauses.{AtExit}
 use contract.Lifetimes.{Lfts}
 use borrow.Fn.Kinds.{Dens, resT, endedOf}
-use Rattle.laws.specs.Below.{sumBelow, listBelow}
+use Rattle.laws.specs.Below.{countBelow, sumBelow, listBelow}
+use Rattle.laws.proofs.Bools.{not-false}
 use Rattle.railway.specs.Record.{trainOf, weightOf, withJoin, withSignal, withLegs, withTrain}
 use Rattle.game.specs.Game.{IsFigure}
-use Rattle.game.specs.Placement.{codeOf, placements, startCode}
+use Rattle.game.specs.Placement.{codeOf, sectionsIn, standsOn, placements, startCode}
 use Rattle.game.specs.Moves.{gameOf}
-use Rattle.tables.specs.Tables.{figureIn}
+use Rattle.tables.specs.Tables.{figureIn, caseRefusal}
 use Rattle.tables.specs.Solver.{SolverPost}
+use Rattle.tables.proofs.Refusals.{case-none}
 use Rattle.tables.proofs.Examples.{weighed}
 use Rattle.tables.proofs.WeighedYards.{weighed-accepted, weighed-filled}
 use Rattle.desk.specs.declared.OpenAnswer.the-variants.{Opened}
 use Rattle.desk.specs.declared.ReportAnswer.the-variants.{Counted}
-use Rattle.desk.specs.Desk.{deskCode, settingGiven, OpenPost, SettingPost, ReportPost}
+use Rattle.desk.specs.Desk.{deskCode, arrivals, deskRow, settingGiven, numberSetting, OpenPost, SettingPost, ReportPost}
 use Rattle.desk.specs.Following.{begun, AfterReports, DeskRuns}
 use Rattle.desk_calls.specs.Answers.{deskAt, opening, replied}
 use Rattle.solver.proofs.solve.Kinds as solve
@@ -48,13 +51,26 @@ asks-nothing = (desks-run .opens .asks, desks-run .settings .asks, desks-run .re
 all-met : {M : Type 1} → OpenMeets M × SettingMeets M × ReportMeets M
 all-met = (desks-run .opens .meets, desks-run .settings .meets, desks-run .reports .meets)
 
--- the start, (2, 3), has code 7 and figure 7, and a move of train 2 costs 2
-yard : (placements weighed ≡ 9) × (startCode weighed ≡ 7) × (weightOf weighed 1 ≡ 2)
-unfolding startCode codeOf sumBelow listBelow trainOf weightOf withJoin withSignal withLegs withTrain
-yard = (refl, refl, refl)
+-- the start, (2, 3), has code 7 and figure 7, no train is on its destination there, and a move of train 2 costs 2
+yard : (placements weighed ≡ 9) × (startCode weighed ≡ 7) × (weightOf weighed 1 ≡ 2) × (arrivals weighed 7 ≡ 0)
+unfolding arrivals countBelow standsOn sectionsIn startCode codeOf sumBelow listBelow trainOf weightOf withJoin withSignal withLegs withTrain
+yard = (refl, refl, refl, refl)
 
 seven : IsFigure (gameOf weighed) (startCode weighed) (some 7)
 seven = rw (yard .1) (weighed-filled .figures 7 (omega (arith, yard .0)))
+
+-- a desk at (2, 3) that is handed in with another code than 7 gets 12, whatever tables are lent that are long enough
+module _ (κs : Lfts 2) (a : Dens κs setting.ps) (given : resT setting.r κs .Denot) (left : AtExit (endedOf 2 setting.ps setting.r) κs) (is-yard : a .1 .0 ≡ weighed)
+    (lf : 9 ≤ length (now (a .1 .1 .0))) (ls : 9 ≤ length (now (a .1 .1 .1 .0))) (learnt : SettingLearnt κs a given left) where
+  wrong-code : deskCode weighed (deskAt (a .0)) ≡ 7 → (a .0 .code ≡ 7 → ⊥) → numberSetting given ≡ some 12
+  wrong-code at-seven other =
+      let figs = now (a .1 .1 .0) in
+      let sets = now (a .1 .1 .1 .0) in
+      let post : SettingPost weighed (deskAt (a .0)) figs sets given = rw is-yard at (same (desks-run .settings .tells κs a given left) learnt) in
+      let fits : caseRefusal weighed figs sets ≡ none =
+      case-none weighed figs sets .1 (weighed-accepted, record { figures = omega (arith, lf, yard .0); settings = omega (arith, ls, yard .0) }) in
+      let off : deskRow weighed (deskAt (a .0)) ≡ true = not-false _ (λ z. other (desks-run .whole .any-desk .sound weighed (deskAt (a .0)) .0 z .1 .code ∙ at-seven)) in
+      ap numberSetting (desks-run .whole .any-desk .stopped-setting weighed figs sets (deskAt (a .0)) fits off given post)
 
 module _ (κs : Lfts 2) (a : Dens κs solve.ps) (said : resT solve.r κs .Denot) (left : AtExit (endedOf 2 solve.ps solve.r) κs) (is-yard : a .0 ≡ weighed)
     (lf : 9 ≤ length (now (a .1 .0))) (ls : 9 ≤ length (now (a .1 .1 .0))) (learnt : SolveLearnt κs a said left) where
@@ -81,6 +97,10 @@ module _ (κs : Lfts 2) (a : Dens κs solve.ps) (said : resT solve.r κs .Denot)
 
     stands : AfterReports weighed figs sets (deskAt (answer .desk)) 7 [] (deskAt (answer .desk))
     stands = runs .runs (opening answer) desk-post 7 seven [] (deskAt (answer .desk)) begun
+
+    -- it carries that code, and that no train has arrived
+    carries-start : (answer .desk .code ≡ 7) × (answer .desk .arrived ≡ 0)
+    carries-start = (stands .carries .code ∙ at-start .1, stands .carries .arrived ∙ ap (arrivals weighed) (at-start .1) ∙ yard .3)
 
     -- the setting given there is the entry that the solver left at code 7
     gives-entry : (κs₂ : Lfts 2) (c : Dens κs₂ setting.ps) (given : resT setting.r κs₂ .Denot) (left₂ : AtExit (endedOf 2 setting.ps setting.r) κs₂)

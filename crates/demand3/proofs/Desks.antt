@@ -1,4 +1,4 @@
--- Q-1 of the calls that run: each contract computes to its promise, and asks nothing. Assumes nothing.
+-- Q-1 and Q-9 of the calls that run: each contract computes to its promise, and asks nothing. Assumes nothing.
 use mathlib.Core.Path.{refl}
 use Rattle.desk_calls.proofs.Desk.open.Met as opened
 use Rattle.desk_calls.proofs.Desk.setting.Met as setting

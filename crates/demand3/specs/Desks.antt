@@ -1,5 +1,5 @@
--- Following a plan at a desk (document 02, Q-1), of the calls that run: what desk/Following says of an opening, of the setting and of reports one after the other is said of the
--- contracts of `Desk::open`, `Desk::setting` and `Desk::report`, which ask nothing and are met. Arguments are written as in Running. Assumes nothing.
+-- Following a plan at a desk (document 02, Q-1 and Q-9), of the calls that run: what desk/Following says of an opening, of the setting and of reports one after the other is said of
+-- the contracts of `Desk::open`, `Desk::setting` and `Desk::report`, which ask nothing and are met. Arguments are written as in Running. Assumes nothing.
 use mathlib.Core.Path.{_≡_}
 use denote.Ref.{now}
 use denote.Triple.Clauses.{AtExit}
@@ -41,7 +41,7 @@ pub record ReportRuns : Type 2 where
       ≡ ReportPost (a .1 .0) (deskAt (a .0)) (now (a .1 .1 .0)) (now (a .1 .1 .1 .0)) (a .1 .1 .1 .1 .0) (a .1 .1 .1 .1 .1 .0) (replied answer)
   pub meets : {M : Type 1} → ReportMeets M
 
--- Q-1, of the calls that run; where it speaks of the solver, it speaks of the contract of `solve`.
+-- Q-1 and Q-9, of the calls that run; where it speaks of the solver, it speaks of the contract of `solve`.
 pub record DesksRun : Type 2 where
   pub whole : DeskHolds
   pub solver : SolverRuns

@@ -1,5 +1,6 @@
 -- What holds of any desk, whatever is lent. A report counts exactly if no row applies; then the way that its train takes ends on the section reported, empty and not closed, so the
--- move ends in the desk's placement with the train put there, and that placement tells the section. Where no desk is opened, 255 stands for each section. Assumes nothing.
+-- move ends in the desk's placement with the train put there, and that placement tells the section. What is handed out carries what is right, and what is refused
+-- is handed back. Where no desk is opened, 255 stands for each section. Assumes nothing.
 use mathlib.Core.Path.{_≡_, refl, sym, _∙_, ap}
 use mathlib.Core.Logic.{inl, inr}
 use mathlib.Core.Bool.{Bool, true, false, not}
@@ -34,12 +35,15 @@ use Rattle.game.proofs.Turns.{may-train}
 use Rattle.tables.specs.Tables.{figureIn, caseRows, caseRefusal}
 use Rattle.tables.proofs.Refusals.{case-none, case-then}
 use Rattle.placement.specs.ByValue.{sectionIn}
-use Rattle.desk.specs.declared.SettingAnswer.the-variants.{Given}
+use Rattle.desk.specs.declared.OpenAnswer.{OpenAnswer}
+use Rattle.desk.specs.declared.OpenAnswer.the-variants.{Opened}
+use Rattle.desk.specs.declared.SettingAnswer.the-variants.{Given, Refused as SettingRefused}
 use Rattle.desk.specs.declared.ReportAnswer.{ReportAnswer}
 use Rattle.desk.specs.declared.ReportAnswer.the-variants.{Counted, Refused}
-use Rattle.desk.specs.Desk.{Desk, deskCode, misplaced, deskRow, noDesk, Opening, openBy, openDesk, settingBy, giveSetting, present, comesTo, allows, reportRow, reportRows, movedDesk, Reply, reportBy, report, deskGiven, OpenPost, ReportPost}
-use Rattle.desk.specs.Following.{Countable, AnyDesk}
-use Rattle.desk.proofs.Placing.{placed-exactly, Placed, moved-placed, moved-code}
+use Rattle.desk.specs.Desk.{Desk, deskCode, misplaced, deskRow, startDesk, noDesk, Opening, openBy, openDesk, settingBy, giveSetting, present, comesTo, allows, reportRow, reportRows, movedDesk, Reply, reportBy, report, deskGiven, OpenPost, ReportPost}
+use Rattle.desk.specs.Following.{Reporting, begun, call, refused, Carries, Countable, AnyDesk}
+use Rattle.desk.proofs.Carrying.{made-right, sound-exactly, lamp-home}
+use Rattle.desk.proofs.Placing.{placed-exactly, Placed, placed-so, moved-placed, moved-code}
 
 -- an outcome is a loss or a placement
 lost-at : {A : Type 0} {l : Loss} {q : ℕ} → lost l ≡ at q → A
@@ -59,26 +63,26 @@ counts? Counted = true
 counts? (Refused f) = false
 
 -- ANY REPORT that is refused, whatever was lent, leaves the desk.
-by-refused : (d : Desk) (t x : ℕ) (o : Option Refusal) (f : Refusal) → reportBy d t x o .answer ≡ Refused f → reportBy d t x o .desk ≡ d
-by-refused d t x none f e = clash {b = true} refl (ap counts? e)
-by-refused d t x (some g) f e = refl
+by-refused : (r : Railway) (d : Desk) (t x : ℕ) (o : Option Refusal) (f : Refusal) → reportBy r d t x o .answer ≡ Refused f → reportBy r d t x o .desk ≡ d
+by-refused r d t x none f e = clash {b = true} refl (ap counts? e)
+by-refused r d t x (some g) f e = refl
 
 pub refused-leaves : (r : Railway) (d : Desk) (figs sets : List ℕ) (t x : ℕ) (y : Reply) (f : Refusal) → ReportPost r d figs sets t x y → y .answer ≡ Refused f → y .desk ≡ d
 unfolding report
 refused-leaves r d figs sets t x y f post e =
     ap (λ (w : Reply). w .desk) (post .answers)
-    ∙ by-refused d t x (first (reportRows r d figs sets t x)) f (sym (ap (λ (w : Reply). w .answer) (post .answers)) ∙ e)
+    ∙ by-refused r d t x (first (reportRows r d figs sets t x)) f (sym (ap (λ (w : Reply). w .answer) (post .answers)) ∙ e)
 
 -- and one that counts has its train on the section reported
-by-counted : (d : Desk) (t x : ℕ) (o : Option Refusal) → reportBy d t x o .answer ≡ Counted → (o ≡ none) × (reportBy d t x o .desk ≡ movedDesk d t x)
-by-counted d t x none e = (refl, refl)
-by-counted d t x (some g) e = clash {b = false} (ap counts? e) refl
+by-counted : (r : Railway) (d : Desk) (t x : ℕ) (o : Option Refusal) → reportBy r d t x o .answer ≡ Counted → (o ≡ none) × (reportBy r d t x o .desk ≡ movedDesk r d t x)
+by-counted r d t x none e = (refl, refl)
+by-counted r d t x (some g) e = clash {b = false} (ap counts? e) refl
 
 counted-first : (r : Railway) (d : Desk) (figs sets : List ℕ) (t x : ℕ) (y : Reply) → ReportPost r d figs sets t x y → y .answer ≡ Counted
-    → (first (reportRows r d figs sets t x) ≡ none) × (y .desk ≡ movedDesk d t x)
+    → (first (reportRows r d figs sets t x) ≡ none) × (y .desk ≡ movedDesk r d t x)
 unfolding report
 counted-first r d figs sets t x y post e =
-    let b = by-counted d t x (first (reportRows r d figs sets t x)) (sym (ap (λ (w : Reply). w .answer) (post .answers)) ∙ e) in
+    let b = by-counted r d t x (first (reportRows r d figs sets t x)) (sym (ap (λ (w : Reply). w .answer) (post .answers)) ∙ e) in
     (b .0, ap (λ (w : Reply). w .desk) (post .answers) ∙ b .1)
 
 -- the rows of the case come first
@@ -107,11 +111,11 @@ home-parks r d sets t x e = let z : may (gameOf r) (deskCode r d) (present r d s
 
 -- THE CALLS, behind the rows of the case
 module _ (r : Railway) (figs sets : List ℕ) (fits : caseRefusal r figs sets ≡ none) where
-  report-is : (d : Desk) (t x : ℕ) → report r d figs sets t x ≡ reportBy d t x (refuseIf (reportRow r d sets t x) Report none)
+  report-is : (d : Desk) (t x : ℕ) → report r d figs sets t x ≡ reportBy r d t x (refuseIf (reportRow r d sets t x) Report none)
   unfolding report first
   report-is d t x =
       let e : orElse (caseRefusal r figs sets) (refuseIf (reportRow r d sets t x) Report none) ≡ refuseIf (reportRow r d sets t x) Report none = rw fits refl in
-      ap (reportBy d t x) (case-then r figs sets (row Report (reportRow r d sets t x) ∷ []) ∙ e)
+      ap (reportBy r d t x) (case-then r figs sets (row Report (reportRow r d sets t x) ∷ []) ∙ e)
 
   pub setting-is : (d : Desk) → deskRow r d ≡ false → giveSetting r d figs sets ≡ Given (getD sets (deskCode r d) 0)
   unfolding giveSetting first
@@ -119,16 +123,22 @@ module _ (r : Railway) (figs sets : List ℕ) (fits : caseRefusal r figs sets �
       let e : orElse (caseRefusal r figs sets) (refuseIf (deskRow r d) Report none) ≡ none = rw (fits, well) refl in
       ap (settingBy (getD sets (deskCode r d) 0)) (case-then r figs sets (row Report (deskRow r d) ∷ []) ∙ e)
 
+  setting-stopped : (d : Desk) → deskRow r d ≡ true → giveSetting r d figs sets ≡ SettingRefused Report
+  unfolding giveSetting first
+  setting-stopped d off =
+      let e : orElse (caseRefusal r figs sets) (refuseIf (deskRow r d) Report none) ≡ some Report = rw (fits, off) refl in
+      ap (settingBy (getD sets (deskCode r d) 0)) (case-then r figs sets (row Report (deskRow r d) ∷ []) ∙ e)
+
   pub open-is : openDesk r figs sets ≡ openBy r none (figureIn figs (startCode r))
   unfolding openDesk caseRefusal
   open-is = ap (λ (f : Option Refusal). openBy r f (figureIn figs (startCode r))) fits
 
   module _ (d : Desk) (t x : ℕ) (y : Reply) (post : ReportPost r d figs sets t x y) where
-    pub reply-counts : reportRow r d sets t x ≡ false → y ≡ record { answer = Counted; desk = movedDesk d t x }
-    reply-counts e = post .answers ∙ report-is d t x ∙ ap (λ (b : Bool). reportBy d t x (refuseIf b Report none)) e
+    pub reply-counts : reportRow r d sets t x ≡ false → y ≡ record { answer = Counted; desk = movedDesk r d t x }
+    reply-counts e = post .answers ∙ report-is d t x ∙ ap (λ (b : Bool). reportBy r d t x (refuseIf b Report none)) e
 
     pub reply-refused : reportRow r d sets t x ≡ true → y ≡ record { answer = Refused Report; desk = d }
-    reply-refused e = post .answers ∙ report-is d t x ∙ ap (λ (b : Bool). reportBy d t x (refuseIf b Report none)) e
+    reply-refused e = post .answers ∙ report-is d t x ∙ ap (λ (b : Bool). reportBy r d t x (refuseIf b Report none)) e
 
     -- what counts, row 12 did not stop
     pub not-stopped : y .answer ≡ Counted → reportRow r d sets t x ≡ false
@@ -172,6 +182,10 @@ module _ (r : Railway) (sets : List ℕ) where
   unfolding reportRow
   home-refused d t x e = or-right (deskRow r d) _ (or-left (atHome r (deskCode r d)) _ e)
 
+  desk-refused : (d : Desk) (t x : ℕ) → deskRow r d ≡ true → reportRow r d sets t x ≡ true
+  unfolding reportRow
+  desk-refused d t x e = or-left (deskRow r d) _ e
+
   module _ (ok : Facts r) (d : Desk) (placed : Placed r d) (t x : ℕ) where
     train-there : may (gameOf r) (deskCode r d) (present r d sets) t ≡ true → t < r .trains
     train-there go = may-train (gameOf r) (deskCode r d) (present r d sets) t go
@@ -181,10 +195,10 @@ module _ (r : Railway) (sets : List ℕ) where
       pub section-there : x < r .sections
       section-there = passes-below r ok (present r d sets .plus) (headsFor r (deskCode r d) t) x (n .to)
 
-      pub move-is : moveOf r (deskCode r d) (present r d sets) t ≡ at (deskCode r (movedDesk d t x))
+      pub move-is : moveOf r (deskCode r d) (present r d sets) t ≡ at (deskCode r (movedDesk r d t x))
       move-is = moves-to d t x n ∙ ap (λ (c : ℕ). at c) (sym (moved-code r ok d placed t x (train-there (n .go))))
 
-      pub next-placed : Placed r (movedDesk d t x)
+      pub next-placed : Placed r (movedDesk r d t x)
       next-placed = moved-placed r ok d placed t x (train-there (n .go)) section-there (n .empty)
 
     -- and a move that ends there is named so: the placement tells the section
@@ -214,7 +228,7 @@ module _ (r : Railway) (sets : List ℕ) where
       ]
 
     names : atHome r (deskCode r d) ≡ false → may (gameOf r) (deskCode r d) (present r d sets) t ≡ true → x < r .sections
-        → moveOf r (deskCode r d) (present r d sets) t ≡ at (deskCode r (movedDesk d t x)) → Named d t x
+        → moveOf r (deskCode r d) (present r d sets) t ≡ at (deskCode r (movedDesk r d t x)) → Named d t x
     unfolding moveOf entered
     names away go b e =
         let l : t < r .trains = train-there go in
@@ -227,7 +241,7 @@ module _ (r : Railway) (figs sets : List ℕ) (d : Desk) (sized : length (d .at 
   fine fits = facts r (case-none r figs sets .0 fits .0)
 
   well : deskRow r d ≡ false → Placed r d
-  well e = record { sized = sized; apart = placed-exactly r (d .at) .0 e }
+  well e = placed-so r d sized e
 
   counted-so : y .answer ≡ Counted → Countable r figs sets d t x
   counted-so q =
@@ -247,6 +261,31 @@ module _ (r : Railway) (figs sets : List ℕ) (d : Desk) (sized : length (d .at 
       ap (λ (w : Reply). w .answer) (reply-counts r figs sets (c .accepted) d t x y post
       (row-off r sets d t x (c .placed) (names r sets (fine (c .accepted)) d (well (c .placed)) t x (c .away) (c .allowed) (c .there) (c .ends))))
 
+-- WHAT IS CARRIED, from the opening on
+by-opened : (r : Railway) (o : Option Refusal) (f : Option ℕ) → openBy r o f .answer ≡ Opened → openBy r o f .desk ≡ startDesk r
+by-opened r (some g) f e = some-none {o = some noDesk} refl (ap (λ (a : OpenAnswer). deskGiven a noDesk) (sym e))
+by-opened r none none e = some-none {o = some noDesk} refl (ap (λ (a : OpenAnswer). deskGiven a noDesk) (sym e))
+by-opened r none (some n) e = refl
+
+opened-right : (r : Railway) (figs sets : List ℕ) (x : Opening) → OpenPost r figs sets x → x .answer ≡ Opened → Carries r (x .desk)
+unfolding openDesk
+opened-right r figs sets x post e =
+    let d : x .desk ≡ startDesk r =
+    ap (λ (w : Opening). w .desk) (post .answers)
+    ∙ by-opened r (first (caseRows r figs sets)) (figureIn figs (startCode r)) (sym (ap (λ (w : Opening). w .answer) (post .answers)) ∙ e) in
+    rw d (made-right r _)
+
+module _ (r : Railway) (figs sets : List ℕ) where
+  -- one report more, by its answer
+  right-on : (d : Desk) (t x : ℕ) (y : Reply) → Carries r d → ReportPost r d figs sets t x y → (a : ReportAnswer) → y .answer ≡ a → Carries r (y .desk)
+  right-on d t x y c post Counted e = let q : y .desk ≡ movedDesk r d t x = counted-first r d figs sets t x y post e .1 in rw q (made-right r _)
+  right-on d t x y c post (Refused f) e = let q : y .desk ≡ d = refused-leaves r d figs sets t x y f post e in rw q c
+
+  stays-right : {d e : Desk} {ts : List ℕ} → Carries r d → Reporting r figs sets d ts e → Carries r e
+  stays-right c begun = c
+  stays-right c (call {e = e} t x y rest post) = right-on e t x y (stays-right c rest) post (y .answer) refl
+  stays-right c (refused {e = e} o figs₁ sets₁ t x f y rest post shown) = let q : y .desk ≡ e = refused-leaves o e figs₁ sets₁ t x y f post shown in rw q (stays-right c rest)
+
 -- WHERE NO DESK IS OPENED
 by-unopened : (r : Railway) (o : Option Refusal) (f : Option ℕ) → deskGiven (openBy r o f .answer) (openBy r o f .desk) ≡ none → openBy r o f .desk ≡ noDesk
 by-unopened r (some g) f e = refl
@@ -255,7 +294,8 @@ by-unopened r none (some n) e = some-none refl e
 
 no-desk : (r : Railway) → recordRefusal r ≡ none → deskRow r noDesk ≡ true
 unfolding misplaced
-no-desk r acc = or-left _ _ (some-named r (sectionIn (noDesk .at)) 0 (facts r acc .one-train) (omega (arith, facts r acc .few-sections)))
+no-desk r acc =
+    or-left (misplaced r (noDesk .at)) _ (or-left _ _ (some-named r (sectionIn (noDesk .at)) 0 (facts r acc .one-train) (omega (arith, facts r acc .few-sections))))
 
 unopened : (r : Railway) (figs sets : List ℕ) (x : Opening) → OpenPost r figs sets x → deskGiven (x .answer) (x .desk) ≡ none → x .desk ≡ noDesk
 unfolding openDesk
@@ -267,6 +307,12 @@ pub any-desk : AnyDesk
 any-desk =
     record {
       placed = placed-exactly;
+      sound = sound-exactly;
+      stopped-setting = λ r figs sets d fits off a post. post .answers ∙ setting-stopped r figs sets fits d off;
+      stopped-report = λ r figs sets d fits off t x y post. ap (λ (w : Reply). w .answer) (reply-refused r figs sets fits d t x y post (desk-refused r sets d t x off));
+      opened-right = opened-right;
+      stays-right = λ r figs sets d c ts e calls. stays-right r figs sets c calls;
+      lamp = lamp-home;
       counted = λ r figs sets d sized t x y post. (counted-so r figs sets d sized t x y post, so-counted r figs sets d sized t x y post);
       next = λ r figs sets d t x y post q. counted-first r d figs sets t x y post q .1;
       leaves = λ r figs sets d t x y f post q. refused-leaves r d figs sets t x y f post q;

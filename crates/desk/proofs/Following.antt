@@ -36,7 +36,8 @@ use Rattle.desk.specs.declared.OpenAnswer.the-variants.{Opened, NoFigure
 use Rattle.desk.specs.declared.ReportAnswer.the-variants.{Counted, Refused}
 use Rattle.desk.specs.Desk.{Desk, deskCode, deskRow, startDesk, Opening, openBy, present, reportRow, movedDesk, Reply, settingGiven, OpenPost, ReportPost}
 use Rattle.desk.specs.Following.{movedBy, Reporting, begun, call, refused, total, Movers, Played, MoveCounts, AfterReports, RunsFrom, Followable, DescentHolds, DeskRuns, DeskHolds}
-use Rattle.desk.proofs.Placing.{placed-exactly, Placed, none-together, code-there, start-on, start-placed, start-is}
+use Rattle.desk.proofs.Carrying.{lamp-home}
+use Rattle.desk.proofs.Placing.{Placed, placed-so, so-placed, none-together, code-there, start-on, start-placed, start-is}
 use Rattle.desk.proofs.AnyDesk.{refused-leaves, none-may, setting-is, open-is, reply-counts, reply-refused, not-stopped, Named, named, row-off, home-refused, section-there, move-is, next-placed, any-desk}
 
 -- a figure within n is there
@@ -126,7 +127,7 @@ module _ (r : Railway) (acc : recordRefusal r ≡ none) (figs sets : List ℕ) (
 
   module _ (d : Desk) (m : ℕ) (on : On d m) where
     well-placed : deskRow r d ≡ false
-    well-placed = placed-exactly r (d .at) .1 (on .placed .apart)
+    well-placed = so-placed r d (on .placed)
 
     keeps : atHome r (deskCode r d) ≡ false → Keeps (gameOf r) (figureIn figs) (deskCode r d) (present r d sets) m
     keeps away = follow (deskCode r d) m (code-there r ok d (on .placed)) (on .has) away
@@ -138,11 +139,11 @@ module _ (r : Railway) (acc : recordRefusal r ≡ none) (figs sets : List ℕ) (
     ]
 
     -- a report that counts
-    lower : (t x : ℕ) → Named r sets d t x → (j : ℕ) × On (movedDesk d t x) j × (j + weightOf r t ≤ m)
+    lower : (t x : ℕ) → Named r sets d t x → (j : ℕ) × On (movedDesk r d t x) j × (j + weightOf r t ≤ m)
     lower t x n =
         let b : Within m (weightOf r t) (figureOf (figureIn figs) (moveOf r (deskCode r d) (present r d sets) t)) = keeps (n .away) .all-within t (n .go) in
-        let c : Within m (weightOf r t) (figureIn figs (deskCode r (movedDesk d t x))) = rw (move-is r sets ok d (on .placed) t x n) at b in
-        let j : (j : ℕ) × (figureIn figs (deskCode r (movedDesk d t x)) ≡ some j) × (j + weightOf r t ≤ m) = within-has m (weightOf r t) _ c in
+        let c : Within m (weightOf r t) (figureIn figs (deskCode r (movedDesk r d t x))) = rw (move-is r sets ok d (on .placed) t x n) at b in
+        let j : (j : ℕ) × (figureIn figs (deskCode r (movedDesk r d t x)) ≡ some j) × (j + weightOf r t ≤ m) = within-has m (weightOf r t) _ c in
         (j .0, record { placed = next-placed r sets ok d (on .placed) t x n; has = j .1 }, j .2)
 
     -- of each train that may move there is a section whose report counts
@@ -194,19 +195,19 @@ module _ (r : Railway) (acc : recordRefusal r ≡ none) (figs sets : List ℕ) (
       refuses : y ≡ record { answer = Refused Report; desk = e } → Ran p n (ts ++ movedBy (y .answer) t) (y .desk)
       refuses q = subst (λ (w : Reply). Ran p n (ts ++ movedBy (w .answer) t) (w .desk)) (sym q) (let e₁ : ts ++ [] ≡ ts = append-nil ts in rw e₁ z)
 
-      counts : Named r sets e t x → y ≡ record { answer = Counted; desk = movedDesk e t x } → Ran p n (ts ++ movedBy (y .answer) t) (y .desk)
+      counts : Named r sets e t x → y ≡ record { answer = Counted; desk = movedDesk r e t x } → Ran p n (ts ++ movedBy (y .answer) t) (y .desk)
       counts s q =
-          let l : (j : ℕ) × On (movedDesk e t x) j × (j + weightOf r t ≤ z .figure) = lower e (z .figure) (z .on) t x s in
+          let l : (j : ℕ) × On (movedDesk r e t x) j × (j + weightOf r t ≤ z .figure) = lower e (z .figure) (z .on) t x s in
           let w : 1 ≤ weightOf r t = costs r ok t (may-train (gameOf r) (deskCode r e) (present r e sets) t (s .go)) in
           let k : total r (ts ++ (t ∷ [])) ≡ total r ts + weightOf r t = total-snoc r ts t in
-          let more : Ran p n (ts ++ (t ∷ [])) (movedDesk e t x) =
+          let more : Ran p n (ts ++ (t ∷ [])) (movedDesk r e t x) =
           record {
             figure = l .0;
             on = l .1;
             lowered = rw k (omega (arith, z .lowered, l .2));
             long = rw (k, length-snoc ts t) (omega (arith, z .long, w));
             path =
-                path-more r sets p ts (deskCode r e) t (deskCode r (movedDesk e t x)) (z .path)
+                path-more r sets p ts (deskCode r e) t (deskCode r (movedDesk r e t x)) (z .path)
                 (or-none (shared r (deskCode r e)) (atHome r (deskCode r e)) (none-together r ok e (z .on .placed)) (s .away)) (s .go) (move-is r sets ok e (z .on .placed) t x s);
           } in
           subst (λ (w : Reply). Ran p n (ts ++ movedBy (w .answer) t) (w .desk)) (sym q) more
@@ -229,6 +230,8 @@ module _ (r : Railway) (acc : recordRefusal r ≡ none) (figs sets : List ℕ) (
         lowered = z .lowered;
         at-most = omega (arith, z .lowered, z .long);
         home-by = λ q. home-at-zero e m on (omega (arith, z .lowered, q));
+        carries = on .placed .carries;
+        lamp = lamp-home r e (on .placed .carries);
         sound = well-placed e m on;
         gives = λ a post. ap settingGiven (post .answers ∙ setting-is r figs sets fits e (well-placed e m on));
         goes-on = λ away. keeps e m on away .one-may;
@@ -241,8 +244,8 @@ module _ (r : Railway) (acc : recordRefusal r ≡ none) (figs sets : List ℕ) (
       lowers : (e : Desk) (m : ℕ) → On e m → (t x : ℕ) (y : Reply) → ReportPost r e figs sets t x y → reportRow r e sets t x ≡ false
           → (j : ℕ) × (figureIn figs (deskCode r (y .desk)) ≡ some j) × (j + weightOf r t ≤ m)
       lowers e m on t x y post off =
-          let l : (j : ℕ) × On (movedDesk e t x) j × (j + weightOf r t ≤ m) = lower e m on t x (named r sets e t x off .1) in
-          let q : y .desk ≡ movedDesk e t x = ap (λ (w : Reply). w .desk) (reply-counts r figs sets fits e t x y post off) in
+          let l : (j : ℕ) × On (movedDesk r e t x) j × (j + weightOf r t ≤ m) = lower e m on t x (named r sets e t x off .1) in
+          let q : y .desk ≡ movedDesk r e t x = ap (λ (w : Reply). w .desk) (reply-counts r figs sets fits e t x y post off) in
           (l .0, (rw q (l .1 .has)), l .2)
 
   runs-from : (d : Desk) → Placed r d → (n : ℕ) → figureIn figs (deskCode r d) ≡ some n → RunsFrom r figs sets d n
@@ -252,7 +255,7 @@ module _ (r : Railway) (acc : recordRefusal r ≡ none) (figs sets : List ℕ) (
 descent : DescentHolds
 descent r figs sets acc lf ls follow d sized well n has =
     runs-from r acc figs sets (case-none r figs sets .1 (acc, record { figures = lf; settings = ls })) follow d
-    (record { sized = sized; apart = placed-exactly r (d .at) .0 well }) n has
+    (placed-so r d sized well) n has
 
 -- A SOLVER'S TABLES can be followed
 pub filled-followable : (r : Railway) → recordRefusal r ≡ none → (figs sets : List ℕ) → Filled r figs sets → Followable r figs sets
@@ -318,7 +321,7 @@ module _ (r : Railway) (acc : recordRefusal r ≡ none) (figs sets : List ℕ) (
   pub desk-runs : DeskRuns r figs sets
   desk-runs = record { none-exactly = none-exactly; opened-exactly = opened-exactly; at-start = at-start; runs = runs-on }
 
--- Q-1
+-- Q-1 and Q-9
 pub desk-holds : DeskHolds
 desk-holds =
     record {

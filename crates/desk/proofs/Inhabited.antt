@@ -37,9 +37,9 @@ setting-number : (v : ℕ) (o : Option Refusal) → numberSetting (settingBy v o
 setting-number v none = refl
 setting-number v (some g) = refl
 
-report-number : (d : Desk) (t x : ℕ) (o : Option Refusal) → numberReported (reportBy d t x o .answer) ≡ numberOf o
-report-number d t x none = refl
-report-number d t x (some g) = refl
+report-number : (r : Railway) (d : Desk) (t x : ℕ) (o : Option Refusal) → numberReported (reportBy r d t x o .answer) ≡ numberOf o
+report-number r d t x none = refl
+report-number r d t x (some g) = refl
 
 pub open-made : (r : Railway) (figs sets : List ℕ) → OpenPost r figs sets (openDesk r figs sets)
 unfolding openDesk
@@ -51,7 +51,7 @@ setting-made r d figs sets = record { numbered = setting-number _ (first (settin
 
 pub report-made : (r : Railway) (d : Desk) (figs sets : List ℕ) (t x : ℕ) → ReportPost r d figs sets t x (report r d figs sets t x)
 unfolding report
-report-made r d figs sets t x = record { numbered = report-number d t x (first (reportRows r d figs sets t x)); answers = refl }
+report-made r d figs sets t x = record { numbered = report-number r d t x (first (reportRows r d figs sets t x)); answers = refl }
 
 -- A LIST OF REPORTS that brings the trains home
 pub record Brought (r : Railway) (figs sets : List ℕ) (d : Desk) : Type 0 where

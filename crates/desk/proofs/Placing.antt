@@ -1,4 +1,4 @@
--- Laws of a desk's placement: 12 does not stop it exactly if its sections are there and no two trains share one, since its code then stands for those sections. A train put on
+-- Laws of a desk's placement: it can be exactly if its sections are there and no two trains share one, since its code then stands for those sections. A train put on
 -- another section is put there in the code too, and nowhere else, so a desk keeps its size and its trains stay apart where no other stood there. Assumes nothing.
 use mathlib.Core.Path.{_≡_, sym, _∙_, ap}
 use mathlib.Core.Logic.{_↔_, inl, inr}
@@ -25,10 +25,11 @@ use Rattle.game.proofs.Accepted.{Facts, facts}
 use Rattle.game.proofs.Naming.{none-named, all-named, code-named, sections-named, stands-named}
 use Rattle.placement.specs.declared.Placement.{Placement}
 use Rattle.placement.specs.ByValue.{sectionIn}
-use Rattle.desk.specs.Desk.{Desk, deskCode, misplaced, startDesk, movedDesk}
-use Rattle.desk.specs.Following.{Apart}
+use Rattle.desk.specs.Desk.{Desk, deskCode, misplaced, deskRow, startDesk, movedDesk}
+use Rattle.desk.specs.Following.{Carries, Apart}
 -- (Examples is named so that it is checked before: a wrong definition then shows at a computed value.)
 use Rattle.desk.proofs.Examples as Examples
+use Rattle.desk.proofs.Carrying.{made-right, sound-exactly}
 
 -- numbers below k have different values, if no lower one has that of a higher
 both-ways : (k : ℕ) (f : ℕ → ℕ) → ((t u : ℕ) → u < t → t < k → f u ≡ f t → ⊥) → (t u : ℕ) → t < k → u < k → f t ≡ f u → t ≡ u
@@ -75,10 +76,17 @@ placed-exactly r q = (there, λ h. let n : namesNone r (sectionIn q) ≡ false =
           alone = both-ways (r .trains) (sectionIn q) (not-both r q (m .0) (m .1));
         }
 
--- A desk with places for the most trains, whose placement can be.
+-- A desk with places for the most trains, whose placement can be, and which carries what is right: 12 does not stop it.
 pub record Placed (r : Railway) (d : Desk) : Type 0 where
   pub sized : length (d .at .sections) ≡ mostTrains
   pub apart : Apart r (d .at)
+  pub carries : Carries r d
+
+pub placed-so : (r : Railway) (d : Desk) → length (d .at .sections) ≡ mostTrains → deskRow r d ≡ false → Placed r d
+placed-so r d sized e = let s = sound-exactly r d .0 e in record { sized = sized; apart = placed-exactly r (d .at) .0 (s .0); carries = s .1 }
+
+pub so-placed : (r : Railway) (d : Desk) → Placed r d → deskRow r d ≡ false
+so-placed r d h = sound-exactly r d .1 (placed-exactly r (d .at) .1 (h .apart), h .carries)
 
 module _ (r : Railway) (ok : Facts r) (d : Desk) (h : Placed r d) where
   all-there : namesNone r (sectionIn (d .at)) ≡ false
@@ -95,10 +103,10 @@ module _ (r : Railway) (ok : Facts r) (d : Desk) (h : Placed r d) where
 
   -- ONE TRAIN PUT ELSEWHERE
   module _ (t x : ℕ) (l : t < r .trains) where
-    moved-same : sectionIn (movedDesk d t x .at) t ≡ x
+    moved-same : sectionIn (movedDesk r d t x .at) t ≡ x
     moved-same = getD-set-same (d .at .sections) t x 0 (let e : length (d .at .sections) ≡ mostTrains = h .sized in rw e (omega (arith, ok .few-trains)))
 
-    moved-other : (u : ℕ) → (u ≡ t → ⊥) → sectionIn (movedDesk d t x .at) u ≡ sectionIn (d .at) u
+    moved-other : (u : ℕ) → (u ≡ t → ⊥) → sectionIn (movedDesk r d t x .at) u ≡ sectionIn (d .at) u
     moved-other u n = getD-set-other (d .at .sections) t u x 0 n
 
     -- no other train stands there
@@ -108,7 +116,7 @@ module _ (r : Railway) (ok : Facts r) (d : Desk) (h : Placed r d) where
         let there : eqb (standsOn r (deskCode r d) u) x ≡ true = eq-eqb _ _ (stands-in r (d .at) all-there u k ∙ same) in
         clash (and-both (not (eqb u t)) (eqb (standsOn r (deskCode r d) u) x) (ap not (ne-eqb u t n)) there) (any-false (otherOn r (deskCode r d) t x) (r .trains) e u k)
 
-    pub moved-placed : x < r .sections → occupied r (deskCode r d) t x ≡ false → Placed r (movedDesk d t x)
+    pub moved-placed : x < r .sections → occupied r (deskCode r d) t x ≡ false → Placed r (movedDesk r d t x)
     moved-placed m empty =
         record {
           sized = length-set (d .at .sections) t x ∙ h .sized;
@@ -129,20 +137,21 @@ module _ (r : Railway) (ok : Facts r) (d : Desk) (h : Placed r d) where
                   ]
                 ];
               };
+          carries = made-right r _;
         }
 
-    lists : listBelow (sectionIn (movedDesk d t x .at)) (r .trains) ≡ set (listBelow (sectionIn (d .at)) (r .trains)) t x
+    lists : listBelow (sectionIn (movedDesk r d t x .at)) (r .trains) ≡ set (listBelow (sectionIn (d .at)) (r .trains)) t x
     lists =
-        ext-getD 0 (listBelow (sectionIn (movedDesk d t x .at)) (r .trains)) (set (listBelow (sectionIn (d .at)) (r .trains)) t x)
-        (list-length (sectionIn (movedDesk d t x .at)) (r .trains) ∙ sym (length-set (listBelow (sectionIn (d .at)) (r .trains)) t x ∙ list-length (sectionIn (d .at)) (r .trains)))
+        ext-getD 0 (listBelow (sectionIn (movedDesk r d t x .at)) (r .trains)) (set (listBelow (sectionIn (d .at)) (r .trains)) t x)
+        (list-length (sectionIn (movedDesk r d t x .at)) (r .trains) ∙ sym (length-set (listBelow (sectionIn (d .at)) (r .trains)) t x ∙ list-length (sectionIn (d .at)) (r .trains)))
         (λ u m.
-        let k : u < r .trains = rw (list-length (sectionIn (movedDesk d t x .at)) (r .trains)) at m in
-        list-get (sectionIn (movedDesk d t x .at)) (r .trains) u 0 k ∙ elim (eq? u t) [
+        let k : u < r .trains = rw (list-length (sectionIn (movedDesk r d t x .at)) (r .trains)) at m in
+        list-get (sectionIn (movedDesk r d t x .at)) (r .trains) u 0 k ∙ elim (eq? u t) [
           | inl e ↦ rw e (moved-same ∙ sym (getD-set-same (listBelow (sectionIn (d .at)) (r .trains)) t x 0 (rw (list-length (sectionIn (d .at)) (r .trains)) l)))
           | inr e ↦ moved-other u e ∙ sym (getD-set-other (listBelow (sectionIn (d .at)) (r .trains)) t u x 0 e ∙ list-get (sectionIn (d .at)) (r .trains) u 0 k)
         ])
 
-    pub moved-code : deskCode r (movedDesk d t x) ≡ codeWith r (deskCode r d) t x
+    pub moved-code : deskCode r (movedDesk r d t x) ≡ codeWith r (deskCode r d) t x
     moved-code = ap (codeOf (r .sections)) (lists ∙ ap (λ (xs : List ℕ). set xs t x) (sym code-sections))
 
 -- THE DESK AT THE START
@@ -159,6 +168,7 @@ module _ (r : Railway) (acc : recordRefusal r ≡ none) where
               there = λ t l. rw (start-on t l) (facts r acc .starts t l);
               alone = λ t u l k e. both-ways (r .trains) (λ v. trainOf r v .start .0) (accepted-facts r acc .starts) t u l k (sym (start-on t l) ∙ e ∙ start-on u k);
             };
+        carries = made-right r _;
       }
 
   pub start-is : deskCode r (startDesk r) ≡ startCode r

@@ -11,7 +11,7 @@ use native.Mathlib.Omega.{arith}
 use lib.ListN.{length, getD, replicate}
 use lib.Seq.{getD-set-same, getD-set-other}
 use borrow.Author.Tests.{eqb-true}
-use Rattle.laws.specs.Below.{allBelow, anyBelow, sumBelow, listBelow}
+use Rattle.laws.specs.Below.{allBelow, anyBelow, countBelow, sumBelow, listBelow}
 use Rattle.laws.proofs.Bools.{eq?, clash, some-none, either, or-none}
 use Rattle.laws.proofs.Below.{all-at}
 use Rattle.railway.specs.declared.Railway.{Railway}
@@ -34,7 +34,7 @@ use Rattle.game.proofs.Turns.{may-train, mover-cases, test-keeps}
 use Rattle.game.proofs.Figures.{figure-one}
 use Rattle.tables.specs.declared.SolverAnswer.{SolverAnswer}
 use Rattle.tables.specs.Entries.{settingAt}
-use Rattle.tables.specs.Tables.{noFigure, figureIn, settingIn, tablesShort}
+use Rattle.tables.specs.Tables.{noFigure, figureIn, settingIn, caseRefusal, tablesShort}
 use Rattle.tables.specs.Solver.{SolverPost}
 use Rattle.tables.proofs.Refusals.{case-none}
 use Rattle.tables.proofs.Examples.{weighed, figsW, setsW}
@@ -48,9 +48,10 @@ use Rattle.desk.specs.declared.SettingAnswer.{SettingAnswer}
 use Rattle.desk.specs.declared.SettingAnswer.the-variants.{Given, Refused as SettingRefused}
 use Rattle.desk.specs.declared.ReportAnswer.{ReportAnswer}
 use Rattle.desk.specs.declared.ReportAnswer.the-variants.{Counted, Refused}
-use Rattle.desk.specs.Desk.{Desk, deskCode, misplaced, noDesk, Opening, openDesk, giveSetting, present, allows, reportRow, movedDesk, Reply, report, deskGiven, settingGiven, numberOpening, numberSetting, numberReported, OpenPost, SettingPost, ReportPost}
-use Rattle.desk.specs.Following.{movedBy, Reporting, begun, call, refused, total, Movers, Played, MoveCounts, AfterReports, RunsFrom, Followable, DeskRuns, Countable, Apart, AnyDesk, DeskHolds}
+use Rattle.desk.specs.Desk.{Desk, deskCode, misplaced, arrivals, miscarries, deskRow, noDesk, Opening, openDesk, giveSetting, present, allows, reportRow, movedDesk, Reply, report, deskGiven, settingGiven, numberOpening, numberSetting, numberReported, OpenPost, SettingPost, ReportPost}
+use Rattle.desk.specs.Following.{movedBy, Reporting, begun, call, refused, total, Movers, Played, MoveCounts, Carries, AfterReports, RunsFrom, Followable, DeskRuns, Countable, Apart, AnyDesk, DeskHolds}
 use Rattle.desk.proofs.Examples.{on}
+use Rattle.desk.proofs.Carrying.{sound-exactly}
 use Rattle.desk.proofs.Placing.{placed-exactly}
 use Rattle.desk.proofs.Following.{desk-holds}
 use Rattle.desk.proofs.Inhabited.{Brought, brought, Homes, home-reached}
@@ -66,37 +67,37 @@ opens-short x post = (post .numbered, post .answers)
 
 -- at (2, 1) the setting given is that train 1's signal is open; at (2, 2), where no two trains can be, 12, and 9 where a table is too short besides
 gives : (a : SettingAnswer) → SettingPost weighed (on 2 1) figsW setsW a → (numberSetting a ≡ none) × (a ≡ Given 65536)
-unfolding giveSetting misplaced namesNone shared standsOn sectionsIn codeOf listBelow sumBelow tablesShort first weightRow weightOf unknownRow joinRow looseRow chainRow longer placeRow endAt joinedBy joined hasSignal legsOf trainOf withJoin withSignal withLegs withTrain anyBelow isClosed
+unfolding giveSetting misplaced miscarries arrivals countBelow namesNone shared standsOn sectionsIn codeOf listBelow sumBelow tablesShort first weightRow weightOf unknownRow joinRow looseRow chainRow longer placeRow endAt joinedBy joined hasSignal legsOf trainOf withJoin withSignal withLegs withTrain anyBelow isClosed
 gives a post = (post .numbered, post .answers)
 
 gives-none : (a b : SettingAnswer) → SettingPost weighed (on 2 2) figsW setsW a → SettingPost weighed (on 2 2) (replicate 8 0) setsW b
     → (numberSetting a ≡ some 12) × (a ≡ SettingRefused Report) × (numberSetting b ≡ some 9) × (b ≡ SettingRefused Space)
-unfolding giveSetting misplaced namesNone shared standsOn sectionsIn codeOf listBelow sumBelow tablesShort first weightRow weightOf unknownRow joinRow looseRow chainRow longer placeRow endAt joinedBy joined hasSignal legsOf trainOf withJoin withSignal withLegs withTrain anyBelow isClosed
+unfolding giveSetting misplaced miscarries arrivals countBelow namesNone shared standsOn sectionsIn codeOf listBelow sumBelow tablesShort first weightRow weightOf unknownRow joinRow looseRow chainRow longer placeRow endAt joinedBy joined hasSignal legsOf trainOf withJoin withSignal withLegs withTrain anyBelow isClosed
 gives-none a b p q = (p .numbered, p .answers, q .numbered, q .answers)
 
 -- at (2, 3) the report that train 2 has come to 1 counts, and the desk then has (2, 1); that train 1 has come to 3 gives 12, and leaves the desk
 reports : (y z : Reply) → ReportPost weighed (on 2 3) figsW setsW 1 0 y → ReportPost weighed (on 2 3) figsW setsW 0 2 z
     → (numberReported (y .answer) ≡ none) × (y ≡ record { answer = Counted; desk = on 2 1 })
     × (numberReported (z .answer) ≡ some 12) × (z ≡ record { answer = Refused Report; desk = on 2 3 })
-unfolding report reportRow allows misplaced namesNone shared atHome occupied passes follow settingAt mayMove free held signalOpen headsFor standsOn sectionsIn codeOf listBelow sumBelow tablesShort first weightRow weightOf unknownRow joinRow looseRow chainRow longer placeRow endAt joinedBy joined hasSignal legsOf trainOf withJoin withSignal withLegs withTrain anyBelow allBelow isClosed
+unfolding report reportRow allows misplaced miscarries arrivals countBelow namesNone shared atHome occupied passes follow settingAt mayMove free held signalOpen headsFor standsOn sectionsIn codeOf listBelow sumBelow tablesShort first weightRow weightOf unknownRow joinRow looseRow chainRow longer placeRow endAt joinedBy joined hasSignal legsOf trainOf withJoin withSignal withLegs withTrain anyBelow allBelow isClosed
 reports y z p q = (p .numbered, p .answers, q .numbered, q .answers)
 
 -- What is computed of Yard A with weights: its counts, and what its plan does at (2, 3), where train 1 is held and train 2 comes to 1.
-record Yard : Type 0 where
-  two : weighed .trains ≡ 2
-  three : weighed .sections ≡ 3
-  nine : placements weighed ≡ 9
+pub record Yard : Type 0 where
+  pub two : weighed .trains ≡ 2
+  pub three : weighed .sections ≡ 3
+  pub nine : placements weighed ≡ 9
   five : weightOf weighed 0 ≡ 5
   weight-two : weightOf weighed 1 ≡ 2
   start : startCode weighed ≡ 7
   apart : shared weighed 7 ≡ false
   away : atHome weighed 7 ≡ false
-  home : atHome weighed 2 ≡ true
+  pub home : atHome weighed 2 ≡ true
   first-held : may (gameOf weighed) 7 (settingIn weighed setsW 7) 0 ≡ false
   second-may : may (gameOf weighed) 7 (settingIn weighed setsW 7) 1 ≡ true
   second-moves : moveOf weighed 7 (settingIn weighed setsW 7) 1 ≡ at 1
 
-yard : Yard
+pub yard : Yard
 unfolding startCode weightOf shared atHome moveOf passes follow entered isClosed occupied settingAt mayMove free held signalOpen headsFor standsOn sectionsIn codeOf listBelow sumBelow endAt joinedBy joined hasSignal trainOf withJoin withSignal withLegs withTrain anyBelow allBelow
 yard =
     record {
@@ -113,6 +114,11 @@ yard =
       second-may = refl;
       second-moves = refl;
     }
+
+-- home, train 1 is on section 3
+pub home-on-three : (p : ℕ) → atHome weighed p ≡ true → standsOn weighed p 0 ≡ 2
+unfolding atHome trainOf withJoin withSignal withLegs withTrain
+home-on-three p e = eqb-true _ _ (all-at (arrived weighed p) 2 e 0 (omega arith))
 
 -- where an outcome and a position are
 abbrev placed : Outcome → ℕ
@@ -186,7 +192,7 @@ module _ (d : Desk) (ts : List ℕ) (e : Desk) (x : AfterReports weighed figsW s
 
   -- each train on one of the three sections
   on-sections : (t : ℕ) → t < 2 → sectionIn (e .at) t < 3
-  on-sections t l = omega (arith, placed-exactly weighed (e .at) .0 (x .sound) .there t (omega (arith, yard .two)), yard .three)
+  on-sections t l = omega (arith, placed-exactly weighed (e .at) .0 (sound-exactly weighed e .0 (x .sound) .0) .there t (omega (arith, yard .two)), yard .three)
 
   -- at (2, 1) the setting given opens train 1's signal; anywhere, one is given
   gives-65536 : deskCode weighed e ≡ 1 → (a : SettingAnswer) → SettingPost weighed e figsW setsW a → settingGiven a ≡ some 65536
@@ -224,8 +230,8 @@ played-seven d e x = seven-spent (deskCode weighed e) (deskCode weighed d) (x .p
 
 -- and they are home: train 1 is on section 3
 home-by-seven : (d e : Desk) → AfterReports weighed figsW setsW d 7 (1 ∷ 0 ∷ []) e → standsOn weighed (deskCode weighed e) 0 ≡ 2
-unfolding total atHome trainOf withJoin withSignal withLegs withTrain
-home-by-seven d e x = eqb-true _ _ (all-at (arrived weighed (deskCode weighed e)) 2 (x .home-by (omega (arith, yard .five, yard .weight-two))) 0 (omega arith))
+unfolding total
+home-by-seven d e x = home-on-three (deskCode weighed e) (x .home-by (omega (arith, yard .five, yard .weight-two)))
 
 -- FROM THE OPENING ON, with any tables of which it is said
 start-seven : IsFigure (gameOf weighed) (startCode weighed) (some 7)
@@ -305,7 +311,10 @@ module _ (figs sets : List ℕ) (d : Desk) (t x : ℕ) (c : Countable weighed fi
   nine-entries = omega (arith, case-none weighed figs sets .0 (c .accepted) .1 .figures, yard .nine)
 
   not-on-one : sectionIn (d .at) 0 ≡ sectionIn (d .at) 1 → ⊥
-  not-on-one e = let z : _≡_ {A = ℕ} 0 1 = placed-exactly weighed (d .at) .0 (c .placed) .alone 0 1 (omega (arith, yard .two)) (omega (arith, yard .two)) e in omega arith
+  not-on-one e =
+      let a : Apart weighed (d .at) = placed-exactly weighed (d .at) .0 (sound-exactly weighed d .0 (c .placed) .0) in
+      let z : _≡_ {A = ℕ} 0 1 = a .alone 0 1 (omega (arith, yard .two)) (omega (arith, yard .two)) e in
+      omega arith
 
   not-home : deskCode weighed d ≡ 2 → ⊥
   not-home e = clash (ap (atHome weighed) e ∙ yard .home) (c .away)
@@ -320,8 +329,12 @@ module _ (figs sets : List ℕ) (d : Desk) (t x : ℕ) (c : Countable weighed fi
 is-second : (figs : List ℕ) (d : Desk) (t x : ℕ) → Countable weighed figs setsW d t x → deskCode weighed d ≡ 7 → t ≡ 1
 is-second figs d t x c e = second-alone t (sym (ap (λ (p : ℕ). may (gameOf weighed) p (settingIn weighed setsW p) t) e) ∙ c .allowed)
 
-ends-there : (figs : List ℕ) (d : Desk) (x : ℕ) → Countable weighed figs setsW d 1 x → deskCode weighed d ≡ 7 → deskCode weighed (movedDesk d 1 x) ≡ 1
+ends-there : (figs : List ℕ) (d : Desk) (x : ℕ) → Countable weighed figs setsW d 1 x → deskCode weighed d ≡ 7 → deskCode weighed (movedDesk weighed d 1 x) ≡ 1
 ends-there figs d x c e = sym (ap placed (sym (ap (λ (p : ℕ). moveOf weighed p (settingIn weighed setsW p) 1) e ∙ yard .second-moves) ∙ c .ends))
+
+-- tables of nine entries are long enough
+pub long-enough : (figs sets : List ℕ) → 9 ≤ length figs → 9 ≤ length sets → caseRefusal weighed figs sets ≡ none
+long-enough figs sets lf ls = case-none weighed figs sets .1 (weighed-accepted, record { figures = omega (arith, lf, yard .nine); settings = omega (arith, ls, yard .nine) })
 
 -- what holds of trains 1 and 2 holds of each of two; the yard of one train has one section
 two-of : (P : ℕ → Type 0) → P 0 → P 1 → (t : ℕ) → t < 2 → P t
@@ -335,7 +348,7 @@ lone = (refl, refl)
 
 module _ (says : AnyDesk) where
   -- 12 does not stop a placement of Yard A: then the trains are on different sections of the three; and on 2 and 3 it does not
-  stand-apart : (q : Placement) → misplaced weighed q ≡ false → (sectionIn q 1 < 3) × (sectionIn q 0 ≡ sectionIn q 1 → ⊥)
+  pub stand-apart : (q : Placement) → misplaced weighed q ≡ false → (sectionIn q 1 < 3) × (sectionIn q 0 ≡ sectionIn q 1 → ⊥)
   stand-apart q e =
       let a : Apart weighed q = says .placed weighed q .0 e in (
         omega (arith, a .there 1 (omega (arith, yard .two)), yard .three),
@@ -352,6 +365,10 @@ module _ (says : AnyDesk) where
             (two-of (λ w. sectionIn q 1 ≡ sectionIn q w → 1 ≡ w) (λ s. absurd (omega (arith, a, b, s))) (λ s. refl) u (omega (arith, k, yard .two)))
             t (omega (arith, l, yard .two));
       })
+
+  -- on 2 and 3, with the code and the count of that placement, 12 does not stop a desk
+  not-stopped : (d : Desk) → sectionIn (d .at) 0 ≡ 1 → sectionIn (d .at) 1 ≡ 2 → Carries weighed d → deskRow weighed d ≡ false
+  not-stopped d a b c = says .sound weighed d .1 (on-two-and-three (d .at) a b, c)
 
   -- of the yard of one train and one section exactly those are not stopped that have it there
   one-there : (q : Placement) → (misplaced yardOne q ≡ false) ↔ (sectionIn q 0 ≡ 0)
@@ -370,7 +387,7 @@ module _ (says : AnyDesk) where
     on-section : length (d .at .sections) ≡ mostTrains → t < 4 → y .answer ≡ Counted
         → (sectionIn (y .desk .at) t ≡ x) × ((u : ℕ) → (u ≡ t → ⊥) → sectionIn (y .desk .at) u ≡ sectionIn (d .at) u)
     on-section sized l q =
-        let e : y .desk ≡ movedDesk d t x = says .next weighed figs sets d t x y post q in (
+        let e : y .desk ≡ movedDesk weighed d t x = says .next weighed figs sets d t x y post q in (
           ap (λ (k : Desk). sectionIn (k .at) t) e ∙ getD-set-same (d .at .sections) t x 0 (rw sized l),
           λ u n. ap (λ (k : Desk). sectionIn (k .at) u) e ∙ getD-set-other (d .at .sections) t u x 0 n,
         )
@@ -383,13 +400,14 @@ module _ (says : AnyDesk) where
       → y .answer ≡ Counted → ⊥
   held-there figs d x y sized e post q = let z : _≡_ {A = ℕ} 0 1 = is-second figs d 0 x (says .counted weighed figs setsW d sized 0 x y post .0 q) e in omega arith
 
-  that-counts : (figs : List ℕ) → 9 ≤ length figs → (a b : ℕ) (y : Reply) → ReportPost weighed (record { at = record { sections = 1 ∷ 2 ∷ a ∷ b ∷ [] } }) figs setsW 1 0 y
+  that-counts : (figs : List ℕ) → 9 ≤ length figs → (a b : ℕ) (y : Reply)
+      → ReportPost weighed (record { at = record { sections = 1 ∷ 2 ∷ a ∷ b ∷ [] }; code = 7; arrived = 0 }) figs setsW 1 0 y
       → numberReported (y .answer) ≡ none
-  unfolding misplaced namesNone shared standsOn sectionsIn codeOf listBelow sumBelow withJoin withSignal withLegs withTrain anyBelow
+  unfolding misplaced miscarries arrivals countBelow namesNone shared standsOn sectionsIn codeOf listBelow sumBelow trainOf withJoin withSignal withLegs withTrain anyBelow
   that-counts figs l a b y post =
       ap numberReported (says .counted weighed figs setsW _ refl 1 0 y post .1
       (record {
-        accepted = case-none weighed figs setsW .1 (weighed-accepted, record { figures = omega (arith, l, yard .nine); settings = omega (arith, yard .nine) });
+        accepted = long-enough figs setsW l (omega arith);
         placed = refl;
         away = yard .away;
         allowed = yard .second-may;
@@ -401,19 +419,22 @@ module _ (says : AnyDesk) where
   none-allowed : (d : Desk) (sets : List ℕ) (t x : ℕ) → deskCode weighed d ≡ 2 → allows weighed d sets t x ≡ false
   none-allowed d sets t x c = says .home-parks weighed d sets t x (ap (atHome weighed) c ∙ yard .home)
 
-  -- a desk that was not opened: after a refusal it has not the trains of Yard A on 2 and 3; where the start has no figure, it has not the one train of the other yard on 1
+  -- a desk that was not opened: after a refusal it has not the trains of Yard A on 2 and 3, or carries what is wrong there; where the start has no figure, so with the one train of the
+  -- other yard on 1
   module _ (r : Railway) (figs sets : List ℕ) (x : Opening) (post : OpenPost r figs sets x) where
-    not-at-start : (f : Refusal) → x .answer ≡ OpenRefused f → sectionIn (x .desk .at) 0 ≡ 1 → sectionIn (x .desk .at) 1 ≡ 2 → ⊥
-    not-at-start f q a b =
-        clash (says .unopened r figs sets x post (ap (λ (k : OpenAnswer). deskGiven k (x .desk)) q) weighed weighed-accepted) (on-two-and-three (x .desk .at) a b)
+    not-at-start : (f : Refusal) → x .answer ≡ OpenRefused f → sectionIn (x .desk .at) 0 ≡ 1 → sectionIn (x .desk .at) 1 ≡ 2 → Carries weighed (x .desk) → ⊥
+    not-at-start f q a b c =
+        clash (says .unopened r figs sets x post (ap (λ (k : OpenAnswer). deskGiven k (x .desk)) q) weighed weighed-accepted) (not-stopped (x .desk) a b c)
 
-    not-on-the-one : x .answer ≡ NoFigure → sectionIn (x .desk .at) 0 ≡ 0 → ⊥
-    not-on-the-one q a =
-        clash (says .unopened r figs sets x post (ap (λ (k : OpenAnswer). deskGiven k (x .desk)) q) yardOne (one-filled .0)) (one-there (x .desk .at) .1 a)
+    not-on-the-one : x .answer ≡ NoFigure → sectionIn (x .desk .at) 0 ≡ 0 → Carries yardOne (x .desk) → ⊥
+    not-on-the-one q a c =
+        clash (says .unopened r figs sets x post (ap (λ (k : OpenAnswer). deskGiven k (x .desk)) q) yardOne (one-filled .0))
+        (says .sound yardOne (x .desk) .1 (one-there (x .desk .at) .1 a, c))
 
 -- all of this is said of every desk
-not-opened-nowhere : DeskHolds → (r : Railway) (figs sets : List ℕ) (x : Opening) → OpenPost r figs sets x → x .answer ≡ NoFigure → sectionIn (x .desk .at) 0 ≡ 0 → ⊥
-not-opened-nowhere says r figs sets x post q a = not-on-the-one (says .any-desk) r figs sets x post q a
+not-opened-nowhere : DeskHolds → (r : Railway) (figs sets : List ℕ) (x : Opening) → OpenPost r figs sets x → x .answer ≡ NoFigure
+    → sectionIn (x .desk .at) 0 ≡ 0 → Carries yardOne (x .desk) → ⊥
+not-opened-nowhere says r figs sets x post q a c = not-on-the-one (says .any-desk) r figs sets x post q a c
 
 -- TABLES that no solver left: a figure at (2, 1) and at home alone, and 9 for 5. They can be followed, since every setting keeps what they have.
 abbrev figsF : List ℕ
@@ -438,7 +459,7 @@ followable p n l e away =
 -- from a desk with (2, 1) at most 9 reports count with them, and behind one of train 1 the figure is 4 or less
 module _ (says : DeskHolds) where
   from-there : RunsFrom weighed figsF setsW (on 2 1) 9
-  unfolding misplaced namesNone shared standsOn sectionsIn codeOf listBelow sumBelow withJoin withSignal withLegs withTrain anyBelow
+  unfolding misplaced miscarries arrivals countBelow namesNone shared standsOn sectionsIn codeOf listBelow sumBelow trainOf withJoin withSignal withLegs withTrain anyBelow
   from-there = says .descent weighed figsF setsW weighed-accepted (omega (arith, yard .nine)) (omega (arith, yard .nine)) followable (on 2 1) refl refl 9 refl
 
   nine-count : (ts : List ℕ) (e : Desk) → Reporting weighed figsF setsW (on 2 1) ts e → length ts ≤ 9

@@ -1,5 +1,5 @@
--- A desk for live running (document 02, Q-1): where it stands, its three calls, and what they promise. Trains and sections count from 0, the document's numbers less one; each
--- call is answered for any record, desk, tables and report. Assumes nothing.
+-- A desk for live running (document 02, Q-1): where it stands, the code and the count that it carries (Q-9), its three calls, and what they promise. Trains and sections count
+-- from 0, the document's numbers less one; each call is answered for any record, desk, tables and report. Assumes nothing.
 use mathlib.Core.Path.{_≡_}
 use mathlib.Core.Bool.{Bool, false, not, _&&_, _||_}
 use mathlib.Core.List.{List, [], _∷_, _++_}
@@ -7,7 +7,7 @@ use mathlib.Core.Option.{Option, none, some}
 use Prim.Native.Nat.{ℕ}
 use lib.ListN.{getD, set, replicate}
 use lib.Dec.{eqb}
-use Rattle.laws.specs.Below.{listBelow}
+use Rattle.laws.specs.Below.{countBelow, listBelow}
 use Rattle.railway.specs.declared.Railway.{Railway}
 use Rattle.railway.specs.declared.Refusal.{Refusal}
 use Rattle.railway.specs.declared.Refusal.the-variants.{Report}
@@ -16,7 +16,7 @@ use Rattle.railway.specs.Refusals.{number, Row, row, first, numberOf}
 use Rattle.railway.specs.Record.{trainOf, isClosed}
 use Rattle.railway.specs.Passing.{passes}
 use Rattle.game.specs.Game.{may}
-use Rattle.game.specs.Placement.{codeOn, namesNone, startCode, atHome, shared}
+use Rattle.game.specs.Placement.{codeOn, namesNone, startCode, arrived, atHome, shared}
 use Rattle.game.specs.Setting.{Setting, headsFor}
 use Rattle.game.specs.Moves.{occupied, gameOf}
 use Rattle.tables.specs.Tables.{figureIn, settingIn, caseRows}
@@ -29,11 +29,14 @@ use Rattle.desk.specs.declared.SettingAnswer.the-variants.{Given, Refuse
 use Rattle.desk.specs.declared.ReportAnswer.{ReportAnswer}
 use Rattle.desk.specs.declared.ReportAnswer.the-variants.{Counted, Refused}
 
--- A desk: the section of each train. What stands there for trains that the case does not have is not looked at.
+-- A desk: the section of each train, the code of that placement, and how many trains stand on their destinations. What stands there for trains that the case does not have is not
+-- looked at.
 pub record Desk : Type 0 where
   pub at : Placement
+  pub code : ℕ
+  pub arrived : ℕ
 
--- The code of its placement.
+-- The code of its placement, whatever code it carries.
 abbrev pub deskCode : Railway → Desk → ℕ
 deskCode r d = codeOn r (sectionIn (d .at))
 
@@ -41,17 +44,29 @@ deskCode r d = codeOn r (sectionIn (d .at))
 unfoldable pub misplaced : Railway → Placement → Bool
 misplaced r q = namesNone r (sectionIn q) || shared r (codeOn r (sectionIn q))
 
--- 12 AT ANY CALL WITH A DESK: so its placement is.
+-- How many of the case's trains stand on their destinations in placement p.
+unfoldable pub arrivals : Railway → ℕ → ℕ
+arrivals r p = countBelow (arrived r p) (r .trains)
+
+-- A desk carries another code than its placement's, or another count.
+unfoldable pub miscarries : Railway → Desk → Bool
+miscarries r d = not (eqb (d .code) (deskCode r d)) || not (eqb (d .arrived) (arrivals r (deskCode r d)))
+
+-- 12 AT ANY CALL WITH A DESK: its placement cannot be, or what it carries is wrong.
 abbrev pub deskRow : Railway → Desk → Bool
-deskRow r d = misplaced r (d .at)
+deskRow r d = misplaced r (d .at) || miscarries r d
+
+-- The desk of a placement: opening and reports that count hand out no other.
+abbrev pub deskOn : Railway → Placement → Desk
+deskOn r q = record { at = q; code = codeOn r (sectionIn q); arrived = arrivals r (codeOn r (sectionIn q)) }
 
 -- OPENING. The desk at the start.
 abbrev pub startDesk : Railway → Desk
-startDesk r = record { at = record { sections = listBelow (λ t. trainOf r t .start .0) mostTrains } }
+startDesk r = deskOn r (record { sections = listBelow (λ t. trainOf r t .start .0) mostTrains })
 
 -- What is handed out where no desk is opened: no case has these sections, so that 12 stops it at every call.
 abbrev pub noDesk : Desk
-noDesk = record { at = record { sections = replicate mostTrains 255 } }
+noDesk = record { at = record { sections = replicate mostTrains 255 }; code = 0; arrived = 0 }
 
 -- An answer to opening, and the desk beside it.
 pub record Opening : Type 0 where
@@ -94,7 +109,7 @@ comesTo (some y) x = eqb y x
 unfoldable pub allows : Railway → Desk → List ℕ → ℕ → ℕ → Bool
 allows r d sets t x = may (gameOf r) (deskCode r d) (present r d sets) t && comesTo (passes r (present r d sets .plus) (headsFor r (deskCode r d) t) .reached) x
 
--- 12, report: the desk's placement cannot be; the trains are home; the setting does not allow the move; it ends on another train; it ends in a closed section.
+-- 12, report: the desk's own row; the trains are home; the setting does not allow the move; it ends on another train; it ends in a closed section.
 unfoldable pub reportRow : Railway → Desk → List ℕ → ℕ → ℕ → Bool
 reportRow r d sets t x = deskRow r d || (atHome r (deskCode r d) || (not (allows r d sets t x) || (occupied r (deskCode r d) t x || isClosed r x)))
 
@@ -103,8 +118,8 @@ abbrev pub reportRows : Railway → Desk → List ℕ → List ℕ → ℕ → �
 reportRows r d figs sets t x = caseRows r figs sets ++ (row Report (reportRow r d sets t x) ∷ [])
 
 -- The desk with train t on section x.
-abbrev pub movedDesk : Desk → ℕ → ℕ → Desk
-movedDesk d t x = record { at = record { sections = set (d .at .sections) t x } }
+abbrev pub movedDesk : Railway → Desk → ℕ → ℕ → Desk
+movedDesk r d t x = deskOn r (record { sections = set (d .at .sections) t x })
 
 -- An answer to a report, and the next desk beside it.
 pub record Reply : Type 0 where
@@ -112,13 +127,13 @@ pub record Reply : Type 0 where
   pub desk : Desk
 
 -- By the refusal: refused, the desk is as it was.
-abbrev pub reportBy : Desk → ℕ → ℕ → Option Refusal → Reply
-reportBy d t x (some f) = record { answer = Refused f; desk = d }
-reportBy d t x none = record { answer = Counted; desk = movedDesk d t x }
+abbrev pub reportBy : Railway → Desk → ℕ → ℕ → Option Refusal → Reply
+reportBy r d t x (some f) = record { answer = Refused f; desk = d }
+reportBy r d t x none = record { answer = Counted; desk = movedDesk r d t x }
 
 -- The call.
 unfoldable pub report : Railway → Desk → List ℕ → List ℕ → ℕ → ℕ → Reply
-report r d figs sets t x = reportBy d t x (first (reportRows r d figs sets t x))
+report r d figs sets t x = reportBy r d t x (first (reportRows r d figs sets t x))
 
 -- THE NUMBERS, in the table, of the refusals that the answers give, if they do. Of opening.
 abbrev pub numberOpening : OpenAnswer → Option ℕ

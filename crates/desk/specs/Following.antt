@@ -1,4 +1,5 @@
--- What following a plan at a desk comes to, over whole lists of reports (document 02, Q-1; figures are totals of weights, Q-12). Assumes nothing.
+-- What following a plan at a desk comes to, over whole lists of reports (document 02, Q-1; the code and the count that it carries, Q-9; figures are totals of weights, Q-12).
+-- Assumes nothing.
 use mathlib.Core.Path.{_≡_}
 use mathlib.Core.Logic.{_↔_}
 use mathlib.Core.Bool.{true, false}
@@ -24,9 +25,10 @@ use Rattle.placement.specs.declared.Placement.{Placement}
 use Rattle.placement.specs.ByValue.{sectionIn}
 use Rattle.desk.specs.declared.OpenAnswer.the-variants.{Opened, NoFigure}
 use Rattle.desk.specs.declared.SettingAnswer.{SettingAnswer}
+use Rattle.desk.specs.declared.SettingAnswer.the-variants.{Refused as SettingRefused}
 use Rattle.desk.specs.declared.ReportAnswer.{ReportAnswer}
 use Rattle.desk.specs.declared.ReportAnswer.the-variants.{Counted, Refused}
-use Rattle.desk.specs.Desk.{Desk, deskCode, misplaced, deskRow, present, allows, movedDesk, Opening, Reply, deskGiven, settingGiven, OpenPost, SettingPost, ReportPost}
+use Rattle.desk.specs.Desk.{Desk, deskCode, misplaced, arrivals, deskRow, present, allows, movedDesk, Opening, Reply, deskGiven, settingGiven, OpenPost, SettingPost, ReportPost}
 
 -- The train of a report, by its answer: none, if it does not count.
 abbrev pub movedBy : ReportAnswer → ℕ → List ℕ
@@ -68,6 +70,11 @@ pub record MoveCounts (r : Railway) (figs sets : List ℕ) (d : Desk) (t : ℕ) 
   pub counts : (y : Reply) → ReportPost r d figs sets t section y → y .answer ≡ Counted
   pub arrives : (y : Reply) → ReportPost r d figs sets t section y → moveOf r (deskCode r d) (present r d sets) t ≡ at (deskCode r (y .desk))
 
+-- WHAT A DESK CARRIES is right: the code, and the count of trains on their destinations.
+pub record Carries (r : Railway) (d : Desk) : Type 0 where
+  pub code : d .code ≡ deskCode r d
+  pub arrived : d .arrived ≡ arrivals r (deskCode r d)
+
 -- AFTER REPORTS: d is the desk before them, at a placement of figure n, ts are the trains of those that counted, and e is the desk after them.
 pub record AfterReports (r : Railway) (figs sets : List ℕ) (d : Desk) (n : ℕ) (ts : List ℕ) (e : Desk) : Type 0 where
   -- its placement has a figure, and each report that counted has lowered it by at least the weight of its train
@@ -77,6 +84,9 @@ pub record AfterReports (r : Railway) (figs sets : List ℕ) (d : Desk) (n : ℕ
   -- so no more reports count than the first figure, and when their moves have cost as much the trains are home
   pub at-most : length ts ≤ n
   pub home-by : n ≤ total r ts → atHome r (deskCode r e) ≡ true
+  -- it carries the code of its placement, and how many trains stand on their destinations: all of them exactly at home
+  pub carries : Carries r e
+  pub lamp : (e .arrived ≡ r .trains) ↔ (atHome r (deskCode r e) ≡ true)
   -- 12 does not stop the desk, and it gives the setting that the table has
   pub sound : deskRow r e ≡ false
   pub gives : (a : SettingAnswer) → SettingPost r e figs sets a → settingGiven a ≡ some (getD sets (deskCode r e) 0)
@@ -120,7 +130,7 @@ pub record Countable (r : Railway) (figs sets : List ℕ) (d : Desk) (t x : ℕ)
   pub away : atHome r (deskCode r d) ≡ false
   pub allowed : may (gameOf r) (deskCode r d) (present r d sets) t ≡ true
   pub there : x < r .sections
-  pub ends : moveOf r (deskCode r d) (present r d sets) t ≡ at (deskCode r (movedDesk d t x))
+  pub ends : moveOf r (deskCode r d) (present r d sets) t ≡ at (deskCode r (movedDesk r d t x))
 
 -- A placement that can be: each train stands on a section that is there, and no two on the same.
 pub record Apart (r : Railway) (q : Placement) : Type 0 where
@@ -129,19 +139,30 @@ pub record Apart (r : Railway) (q : Placement) : Type 0 where
 
 -- What holds of every desk.
 pub record AnyDesk : Type 0 where
-  -- which placements 12 does not stop
+  -- which desks 12 does not stop: those at a placement that can be, which carry what is right
   pub placed : (r : Railway) (q : Placement) → (misplaced r q ≡ false) ↔ Apart r q
+  pub sound : (r : Railway) (d : Desk) → (deskRow r d ≡ false) ↔ ((misplaced r (d .at) ≡ false) × Carries r d)
+  -- any other gets 12 at any call, where no number stops the case
+  pub stopped-setting : (r : Railway) (figs sets : List ℕ) (d : Desk) → caseRefusal r figs sets ≡ none → deskRow r d ≡ true
+      → (a : SettingAnswer) → SettingPost r d figs sets a → a ≡ SettingRefused Report
+  pub stopped-report : (r : Railway) (figs sets : List ℕ) (d : Desk) → caseRefusal r figs sets ≡ none → deskRow r d ≡ true
+      → (t x : ℕ) (y : Reply) → ReportPost r d figs sets t x y → y .answer ≡ Refused Report
+  -- what a desk carries is right from its opening on, whatever tables are lent, and then the count is the number of trains exactly at home
+  pub opened-right : (r : Railway) (figs sets : List ℕ) (x : Opening) → OpenPost r figs sets x → x .answer ≡ Opened → Carries r (x .desk)
+  pub stays-right : (r : Railway) (figs sets : List ℕ) (d : Desk) → Carries r d → (ts : List ℕ) (e : Desk) → Reporting r figs sets d ts e → Carries r e
+  pub lamp : (r : Railway) (d : Desk) → Carries r d → (d .arrived ≡ r .trains) ↔ (atHome r (deskCode r d) ≡ true)
   -- which reports count; the desk then has the train on the section reported, and else it is as it was
   pub counted : (r : Railway) (figs sets : List ℕ) (d : Desk) → length (d .at .sections) ≡ mostTrains → (t x : ℕ) (y : Reply) → ReportPost r d figs sets t x y
       → (y .answer ≡ Counted) ↔ Countable r figs sets d t x
-  pub next : (r : Railway) (figs sets : List ℕ) (d : Desk) (t x : ℕ) (y : Reply) → ReportPost r d figs sets t x y → y .answer ≡ Counted → y .desk ≡ movedDesk d t x
+  pub next : (r : Railway) (figs sets : List ℕ) (d : Desk) (t x : ℕ) (y : Reply) → ReportPost r d figs sets t x y → y .answer ≡ Counted → y .desk ≡ movedDesk r d t x
   pub leaves : (r : Railway) (figs sets : List ℕ) (d : Desk) (t x : ℕ) (y : Reply) (f : Refusal) → ReportPost r d figs sets t x y → y .answer ≡ Refused f → y .desk ≡ d
   -- at home the setting allows no move, since every train is parked there
   pub home-parks : (r : Railway) (d : Desk) (sets : List ℕ) (t x : ℕ) → atHome r (deskCode r d) ≡ true → allows r d sets t x ≡ false
   -- where no desk is opened, 12 stops the one that is handed out, in every accepted case
   pub unopened : (r : Railway) (figs sets : List ℕ) (x : Opening) → OpenPost r figs sets x → deskGiven (x .answer) (x .desk) ≡ none → (o : Railway) → recordRefusal o ≡ none → deskRow o (x .desk) ≡ true
 
--- Q-1: a desk with the tables that a solver filled, in every accepted case with tables that are long enough; with any tables that can be followed, which those are; and any desk.
+-- Q-1 and Q-9: a desk with the tables that a solver filled, in every accepted case with tables that are long enough; with any tables that can be followed, which those are; and any
+-- desk.
 pub record DeskHolds : Type 0 where
   pub solved : (r : Railway) (a : SolverAnswer) (figs sets figs₁ sets₁ : List ℕ) → recordRefusal r ≡ none → placements r ≤ length figs → placements r ≤ length sets
       → SolverPost r a figs sets figs₁ sets₁ → DeskRuns r figs₁ sets₁ × Followable r figs₁ sets₁

@@ -7,7 +7,7 @@ use Rattle.desk_calls.specs.declared.ReportReply.{ReportReply}
 use Rattle.desk_calls.specs.Answers.{deskAt, opening, replied}
 
 abbrev heldAt : DeskAt → Desk
-heldAt d = record { at = d .at }
+heldAt d = record { at = d .at; code = d .code; arrived = d .arrived }
 
 pub desk-one : (d e : Desk) → deskAt d ≡ deskAt e → d ≡ e
 desk-one d e q = ap heldAt q

@@ -16,7 +16,7 @@ use Rattle.railway.specs.declared.CaseAnswer.the-variants.{Accepted, Refused as
 use Rattle.railway.specs.Bounds.{mostTrains}
 use Rattle.railway.specs.Record.{isClosed}
 use Rattle.railway.specs.Refusals.{row, refuseIf, first, numberOf}
-use Rattle.game.specs.Placement.{codeOn, startCode}
+use Rattle.game.specs.Placement.{startCode}
 use Rattle.tables.specs.Tables.{noFigure, figureIn, caseRows, caseRefusal}
 use Rattle.tables.proofs.Refusals.{case-then}
 use Rattle.routes.specs.Routes.{Laid}
@@ -32,8 +32,8 @@ use Rattle.desk.specs.declared.OpenAnswer.the-variants.{Opened, NoFigure, Refus
 use Rattle.desk.specs.declared.SettingAnswer.{SettingAnswer}
 use Rattle.desk.specs.declared.SettingAnswer.the-variants.{Given, Refused as SettingRefused}
 use Rattle.desk.specs.declared.ReportAnswer.the-variants.{Counted, Refused}
-use Rattle.desk.specs.Desk.{Desk as DeskAt, deskCode, misplaced, noDesk, Opening, openBy, openDesk, settingRows, settingBy, giveSetting}
-use Rattle.desk.specs.Desk.{reportRow, reportRows, Reply, reportBy, report, numberOpening, numberSetting, numberReported, OpenPost, SettingPost, ReportPost}
+use Rattle.desk.specs.Desk.{Desk as DeskAt, deskCode, deskRow, deskOn, noDesk, Opening, openBy, openDesk, settingRows, settingBy, giveSetting, reportRow, reportRows, Reply, reportBy, report, numberOpening, numberSetting, numberReported, OpenPost, SettingPost, ReportPost}
+use Rattle.desk.proofs.Carrying.{sound-exactly}
 use Rattle.desk_calls.specs.declared.Desk.{Desk}
 use Rattle.desk_calls.specs.declared.ReportReply.{ReportReply}
 use Rattle.desk_calls.specs.Answers.{deskAt, opening, replied}
@@ -51,9 +51,9 @@ setting-number : (v : ℕ) (o : Option Refusal) → numberSetting (settingBy v o
 setting-number v none = refl
 setting-number v (some f) = refl
 
-report-number : (d : DeskAt) (t x : ℕ) (o : Option Refusal) → numberReported (reportBy d t x o .answer) ≡ numberOf o
-report-number d t x none = refl
-report-number d t x (some f) = refl
+report-number : (r : Railway) (d : DeskAt) (t x : ℕ) (o : Option Refusal) → numberReported (reportBy r d t x o .answer) ≡ numberOf o
+report-number r d t x none = refl
+report-number r d t x (some f) = refl
 
 module _ (r : Railway) (figs sets : List ℕ) where
   open-post : (o : Option Refusal) (n : Option ℕ) (x : Opening) → caseRefusal r figs sets ≡ o → figureIn figs (startCode r) ≡ n → x ≡ openBy r o n
@@ -75,14 +75,14 @@ module _ (r : Railway) (figs sets : List ℕ) where
         let v = getD sets (deskCode r d) 0 in
         record { numbered = ap numberSetting ea ∙ setting-number v o ∙ ap numberOf (sym e); answers = ea ∙ ap (settingBy v) (sym e) }
 
-    report-post : (t x : ℕ) (o : Option Refusal) (y : Reply) → first (reportRows r d figs sets t x) ≡ o → y ≡ reportBy d t x o → ReportPost r d figs sets t x y
+    report-post : (t x : ℕ) (o : Option Refusal) (y : Reply) → first (reportRows r d figs sets t x) ≡ o → y ≡ reportBy r d t x o → ReportPost r d figs sets t x y
     unfolding report
     report-post t x o y e ey =
-        record { numbered = ap (λ (z : Reply). numberReported (z .answer)) ey ∙ report-number d t x o ∙ ap numberOf (sym e); answers = ey ∙ ap (reportBy d t x) (sym e) }
+        record { numbered = ap (λ (z : Reply). numberReported (z .answer)) ey ∙ report-number r d t x o ∙ ap numberOf (sym e); answers = ey ∙ ap (reportBy r d t x) (sym e) }
 
 -- A refused report, as it is handed back.
-handed-back : (d : Desk) (f : Refusal) (t x : ℕ) (y : ReportReply) → (y .answer ≡ Refused f) × (y .desk ≡ d) → replied y ≡ reportBy (deskAt d) t x (some f)
-handed-back d f t x y e = rw (e .0, e .1) refl
+handed-back : (r : Railway) (d : Desk) (f : Refusal) (t x : ℕ) (y : ReportReply) → (y .answer ≡ Refused f) × (y .desk ≡ d) → replied y ≡ reportBy r (deskAt d) t x (some f)
+handed-back r d f t x y e = rw (e .0, e .1) refl
 
 module _ (r : Railway) (figs sets : List ℕ) (c : Compilation) (p : CasePost r figs sets c) where
   -- THE CASE IS REFUSED
@@ -93,12 +93,12 @@ module _ (r : Railway) (figs sets : List ℕ) (c : Compilation) (p : CasePost r 
 
     pub setting-refused : (d : Desk) → SettingPost r (deskAt d) figs sets (SettingRefused f)
     setting-refused d =
-        setting-post r figs sets (deskAt d) (some f) (SettingRefused f) (then-report r figs sets (misplaced r (d .at)) (some f) (opened-refused p e)) refl
+        setting-post r figs sets (deskAt d) (some f) (SettingRefused f) (then-report r figs sets (deskRow r (deskAt d)) (some f) (opened-refused p e)) refl
 
     pub report-refused : (d : Desk) (t x : ℕ) (y : ReportReply) → (y .answer ≡ Refused f) × (y .desk ≡ d) → ReportPost r (deskAt d) figs sets t x (replied y)
     report-refused d t x y made =
         let rows = then-report r figs sets (reportRow r (deskAt d) sets t x) (some f) (opened-refused p e) in
-        report-post r figs sets (deskAt d) t x (some f) (replied y) rows (handed-back d f t x y made)
+        report-post r figs sets (deskAt d) t x (some f) (replied y) rows (handed-back r d f t x y made)
 
   module _ (e : c .tested ≡ Accepted) where
     fine : caseRefusal r figs sets ≡ none
@@ -118,60 +118,65 @@ module _ (r : Railway) (figs sets : List ℕ) (c : Compilation) (p : CasePost r 
           open-post r figs sets none none _ fine (rw (entry, z) refl) (ap (λ (z : DeskAt). record { answer = NoFigure; desk = z }) nowhere)
 
       pub open-stands : (v ≡ noFigure → ⊥) → (q : Placement) → ((o : Railway) → Compiled o (c .table) → On o at (c .table) q) → length (q .sections) ≡ mostTrains
-          → OpenPost r figs sets (opening (record { answer = Opened; desk = record { at = q } }))
-      open-stands z q stands sized =
+          → (d : Desk) → ((o : Railway) → Compiled o (c .table) → deskAt d ≡ deskOn o q) → OpenPost r figs sets (opening (record { answer = Opened; desk = d }))
+      open-stands z q stands sized d made =
           let table = opened-table p e in
           let on : On r (startCode r) (c .table) q = rw (starts r table) at (stands r table) in
           open-post r figs sets none (some v) _ fine (rw (entry, ne-eqb v noFigure z) refl)
-          (ap (λ (xs : List ℕ). record { answer = Opened; desk = record { at = record { sections = xs } } }) (start-sections r (c .table) q on sized))
+          (ap (λ (w : DeskAt). record { answer = Opened; desk = w })
+          (made r table ∙ ap (λ (xs : List ℕ). deskOn r (record { sections = xs })) (start-sections r (c .table) q on sized)))
 
-    module _ (d : Desk) (b : Bool) (tests : (o : Railway) → Compiled o (c .table) → b ≡ misplaced o (d .at)) where
-      is-misplaced : b ≡ misplaced r (d .at)
-      is-misplaced = tests r (opened-table p e)
+    module _ (d : Desk) (b : Bool) (tests : (o : Railway) → Compiled o (c .table) → b ≡ deskRow o (deskAt d)) where
+      is-stopped : b ≡ deskRow r (deskAt d)
+      is-stopped = tests r (opened-table p e)
 
-      -- MISPLACED
+      -- STOPPED
       module _ (y : b ≡ true) where
-        pub setting-misplaced : SettingPost r (deskAt d) figs sets (SettingRefused Report)
-        setting-misplaced =
-            setting-post r figs sets (deskAt d) (some Report) (SettingRefused Report) (twelve (misplaced r (d .at)) ∙ rw (sym is-misplaced ∙ y) refl) refl
+        pub setting-stopped : SettingPost r (deskAt d) figs sets (SettingRefused Report)
+        setting-stopped =
+            setting-post r figs sets (deskAt d) (some Report) (SettingRefused Report) (twelve (deskRow r (deskAt d)) ∙ rw (sym is-stopped ∙ y) refl) refl
 
-        pub report-misplaced : (t x : ℕ) (z : ReportReply) → (z .answer ≡ Refused Report) × (z .desk ≡ d) → ReportPost r (deskAt d) figs sets t x (replied z)
+        pub report-stopped : (t x : ℕ) (z : ReportReply) → (z .answer ≡ Refused Report) × (z .desk ≡ d) → ReportPost r (deskAt d) figs sets t x (replied z)
         unfolding reportRow
-        report-misplaced t x z made =
-            let row : first (reportRows r (deskAt d) figs sets t x) ≡ some Report = twelve (reportRow r (deskAt d) sets t x) ∙ rw (sym is-misplaced ∙ y) refl in
-            report-post r figs sets (deskAt d) t x (some Report) (replied z) row (handed-back d Report t x z made)
+        report-stopped t x z made =
+            let row : first (reportRows r (deskAt d) figs sets t x) ≡ some Report = twelve (reportRow r (deskAt d) sets t x) ∙ rw (sym is-stopped ∙ y) refl in
+            report-post r figs sets (deskAt d) t x (some Report) (replied z) row (handed-back r d Report t x z made)
 
-      -- NOT MISPLACED: the entry at the code of the desk's placement
-      module _ (n : b ≡ false) (at v : ℕ) (codes : (o : Railway) → Compiled o (c .table) → at ≡ codeOn o (sectionIn (d .at))) (read : v ≡ getD sets at 0) where
-        sound : misplaced r (d .at) ≡ false
-        sound = sym is-misplaced ∙ n
+      -- NOT STOPPED: the entry at the code that the desk carries, which is its placement's
+      module _ (n : b ≡ false) (v : ℕ) (read : v ≡ getD sets (d .code) 0) where
+        sound : deskRow r (deskAt d) ≡ false
+        sound = sym is-stopped ∙ n
+
+        code-right : d .code ≡ deskCode r (deskAt d)
+        code-right = sound-exactly r (deskAt d) .0 sound .1 .code
 
         entry-there : v ≡ getD sets (deskCode r (deskAt d)) 0
-        entry-there = read ∙ ap (λ (k : ℕ). getD sets k 0) (codes r (opened-table p e))
+        entry-there = read ∙ ap (λ (k : ℕ). getD sets k 0) code-right
 
         pub setting-given : SettingPost r (deskAt d) figs sets (Given v)
-        setting-given = setting-post r figs sets (deskAt d) none (Given v) (twelve (misplaced r (d .at)) ∙ rw sound refl) (ap (λ (k : ℕ). Given k) entry-there)
+        setting-given = setting-post r figs sets (deskAt d) none (Given v) (twelve (deskRow r (deskAt d)) ∙ rw sound refl) (ap (λ (k : ℕ). Given k) entry-there)
 
         -- A REPORT, by whether it counts
-        module _ (t x : ℕ) (ways : List ℕ) (laid : Laid r (isClosed r) ways) (q : Placement) (stands : (o : Railway) → Compiled o (c .table) → On o at (c .table) q)
+        module _ (t x : ℕ) (ways : List ℕ) (laid : Laid r (isClosed r) ways) (q : Placement) (stands : (o : Railway) → Compiled o (c .table) → On o (d .code) (c .table) q)
             (k : Bool) (counts : (o : Railway) (m : ℕ) → On o m (c .table) q → Laid o (isClosed o) ways → k ≡ countsAt o m v t x) where
           it-counts : k ≡ countsAt r (deskCode r (deskAt d)) (getD sets (deskCode r (deskAt d)) 0) t x
           it-counts =
-              let table = opened-table p e in
-              counts r at (stands r table) laid
-              ∙ ap (λ (m : ℕ). countsAt r m v t x) (codes r table) ∙ ap (λ (u : ℕ). countsAt r (deskCode r (deskAt d)) u t x) entry-there
+              counts r (d .code) (stands r (opened-table p e)) laid
+              ∙ ap (λ (m : ℕ). countsAt r m v t x) code-right ∙ ap (λ (u : ℕ). countsAt r (deskCode r (deskAt d)) u t x) entry-there
 
           its-row : first (reportRows r (deskAt d) figs sets t x) ≡ refuseIf (not k) Report none
           its-row = twelve (reportRow r (deskAt d) sets t x) ∙ ap (λ (z : Bool). refuseIf z Report none) (report-row r (deskAt d) sets t x sound ∙ ap not (sym it-counts))
 
           pub report-counts : k ≡ true → (o : Placement) → ((u : ℕ) → sectionIn o u ≡ putIn (d .at) t x u)
               → length (o .sections) ≡ mostTrains → length (d .at .sections) ≡ mostTrains
-              → ReportPost r (deskAt d) figs sets t x (replied (record { answer = Counted; desk = record { at = o } }))
-          report-counts y o put lo ld =
+              → (next : Desk) → ((a : Railway) → Compiled a (c .table) → deskAt next ≡ deskOn a o)
+              → ReportPost r (deskAt d) figs sets t x (replied (record { answer = Counted; desk = next }))
+          report-counts y o put lo ld next made =
               let few = table-facts r (c .table) (opened-table p e) .few-trains in
               let l : t < mostTrains = omega (arith, few, counts-train r _ _ t x (sym it-counts ∙ y)) in
               report-post r figs sets (deskAt d) t x none _ (its-row ∙ rw y refl)
-              (ap (λ (xs : List ℕ). record { answer = Counted; desk = record { at = record { sections = xs } } }) (moved-sections (d .at) o t x ld lo l put))
+              (ap (λ (w : DeskAt). record { answer = Counted; desk = w })
+              (made r (opened-table p e) ∙ ap (λ (xs : List ℕ). deskOn r (record { sections = xs })) (moved-sections (d .at) o t x ld lo l put)))
 
           pub report-not : k ≡ false → (z : ReportReply) → (z .answer ≡ Refused Report) × (z .desk ≡ d) → ReportPost r (deskAt d) figs sets t x (replied z)
-          report-not y z made = report-post r figs sets (deskAt d) t x (some Report) (replied z) (its-row ∙ rw y refl) (handed-back d Report t x z made)
+          report-not y z made = report-post r figs sets (deskAt d) t x (some Report) (replied z) (its-row ∙ rw y refl) (handed-back r d Report t x z made)

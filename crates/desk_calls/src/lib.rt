@@ -1,6 +1,6 @@
 // A desk for live running: one call opens it at the start, one gives the setting for the placement where it stands, and each report of a train's movement yields the next desk.
-// The desk goes from call to call by value; the record is tested again at every call, and the two tables, which are lent, are only read. A report that is refused hands the desk
-// back as it was.
+// It carries the code of its placement and the number of trains on their destinations, and what it carries is tested before it is used. The desk goes from call to call by value;
+// the record is tested again at every call, and the two tables, which are lent, are only read. A report that is refused hands the desk back as it was.
 ghost use mathlib.Core.Path.{_≡_};
 ghost use Prim.Native.Nat.{ℕ};
 ghost use Rattle.railway.specs.declared.Railway.{Railway};
@@ -9,7 +9,7 @@ ghost use Rattle.routes.specs.Routes.{Laid};
 ghost use Rattle.compiled.specs.Table.{Compiled};
 ghost use Rattle.moves.specs.Steps.{On};
 ghost use Rattle.desk.specs.declared.ReportAnswer.the-variants.{Refused};
-ghost use Rattle.desk.specs.Desk.{misplaced, noDesk, OpenPost, SettingPost, ReportPost};
+ghost use Rattle.desk.specs.Desk.{arrivals, deskOn, deskRow, noDesk, OpenPost, SettingPost, ReportPost};
 ghost use Rattle.desk_calls.specs.Answers.{deskAt, opening, replied};
 ghost use Rattle.desk_calls.specs.Steps.{countsAt};
 use compiled::Table;
@@ -24,9 +24,12 @@ use routes::NO_SECTION;
 use routes::Ways;
 use tables::NO_FIGURE;
 
-// Where the trains stand. What is there for trains that the case does not have is not looked at.
+// Where the trains stand, the code of that placement, and how many of them stand on their destinations: a lamp reads both off the desk. What is there for trains that the case does
+// not have is not looked at.
 pub struct Desk {
     pub at: Placement,
+    pub code: u32,
+    pub arrived: u8,
 }
 
 // What opening hands back. Where no desk is opened, the one beside the answer stands nowhere, and every call with it is refused.
@@ -64,9 +67,7 @@ impl Desk {
                 }
                 OpenReply {
                     answer: OpenAnswer::Opened,
-                    desk: Desk {
-                        at: moves::placement_of(&table, p),
-                    },
+                    desk: desk_on(&table, moves::placement_of(&table, p)),
                 }
             }
         }
@@ -82,10 +83,10 @@ impl Desk {
             CaseAnswer::Refused(f) => SettingAnswer::Refused(f),
             CaseAnswer::Accepted => {
                 let table = c.table;
-                if self.misplaced(&table) {
+                if self.stopped(&table) {
                     return SettingAnswer::Refused(Refusal::Report);
                 }
-                SettingAnswer::Given(tables::entry_at(settings, moves::code_of(&table, self.at), 0))
+                SettingAnswer::Given(tables::entry_at(settings, self.code, 0))
             }
         }
     }
@@ -100,18 +101,16 @@ impl Desk {
             CaseAnswer::Refused(f) => self.refused(f),
             CaseAnswer::Accepted => {
                 let table = c.table;
-                if self.misplaced(&table) {
+                if self.stopped(&table) {
                     return self.refused(Refusal::Report);
                 }
-                let p = moves::code_of(&table, self.at);
+                let p = self.code;
                 let v = tables::entry_at(settings, p, 0);
                 let ways = cases::case_ways(r);
                 if counts(&table, &ways, moves::placement_of(&table, p), v, t, x) {
                     return ReportReply {
                         answer: ReportAnswer::Counted,
-                        desk: Desk {
-                            at: moves::put_on(self.at, t, x),
-                        },
+                        desk: desk_on(&table, moves::put_on(self.at, t, x)),
                     };
                 }
                 self.refused(Refusal::Report)
@@ -119,15 +118,23 @@ impl Desk {
         }
     }
 
-    // The placement names a section that is not there, or puts two trains on one. No code is made of sections that are not there.
-    fn misplaced(self, table: &Table) -> bool
-        ensures { λ b. ⌜ ((r : Railway) → Compiled r (now (table .entry)) → b ≡ misplaced r (self .at)) ⌝ }
+    // The placement names a section that is not there, or puts two trains on one, or what the desk carries is wrong. No code is made of sections that are not there.
+    fn stopped(self, table: &Table) -> bool
+        ensures { λ b. ⌜ ((r : Railway) → Compiled r (now (table .entry)) → b ≡ deskRow r (deskAt self)) ⌝ }
     {
         let at = self.at;
         if moves::names_none(table, at) {
             return true;
         }
-        moves::is_lost(table, moves::code_of(table, at))
+        let p = moves::code_of(table, at);
+        if self.code != p {
+            return true;
+        }
+        let q = moves::placement_of(table, p);
+        if moves::lost_in(table, q) {
+            return true;
+        }
+        self.arrived != arrivals(table, q)
     }
 
     // A refusal, and the desk as it was.
@@ -149,7 +156,37 @@ fn nowhere() -> Desk
         at: Placement {
             sections: [255u8; Railway::TRAINS as usize],
         },
+        code: 0,
+        arrived: 0,
     }
+}
+
+// The desk of a placement, with what it carries.
+fn desk_on(table: &Table, at: Placement) -> Desk
+    ensures { λ d. ⌜ ((r : Railway) → Compiled r (now (table .entry)) → deskAt d ≡ deskOn r at) ⌝ }
+{
+    let p = moves::code_of(table, at);
+    Desk {
+        at: at,
+        code: p,
+        arrived: arrivals(table, moves::placement_of(table, p)),
+    }
+}
+
+// How many trains of a placement by value stand on their destinations.
+fn arrivals(table: &Table, q: Placement) -> u8
+    ensures { λ n. ⌜ ((r : Railway) (p : ℕ) → On r p (now (table .entry)) q → n ≡ arrivals r p) ⌝ }
+{
+    let k = compiled::trains_in(table);
+    let mut n: u8 = 0;
+    let mut t: u8 = 0;
+    while t < k {
+        if placement::section_at(q, t) == compiled::destination_in(table, t) {
+            n += 1;
+        }
+        t += 1;
+    }
+    n
 }
 
 // Whether the report of a move counts, at a placement by value under entry v: the trains are not home, the train may move and comes to that section, which is not closed, and no

@@ -6,14 +6,14 @@ use mathlib.Core.Bool.{Bool, true, false, cond}
 use mathlib.Core.List.{List, [], _∷_}
 use mathlib.Core.Option.{Option, none, some}
 use Prim.Native.Nat.{ℕ}
+use lib.Dec.{eqb}
 use Rattle.railway.specs.declared.Railway.{Railway}
-use Rattle.game.specs.Placement.{atHome}
 use Rattle.laws.proofs.Bools.{bool?}
 use Rattle.desk.specs.declared.SettingAnswer.{SettingAnswer}
 use Rattle.desk.specs.declared.SettingAnswer.the-variants.{Given, Refused as SettingRefused}
 use Rattle.desk.specs.declared.ReportAnswer.{ReportAnswer}
 use Rattle.desk.specs.declared.ReportAnswer.the-variants.{Counted, Refused}
-use Rattle.desk.specs.Desk.{Desk, deskCode, giveSetting, report}
+use Rattle.desk.specs.Desk.{Desk, giveSetting, report}
 use Rattle.desk.specs.Following.{Reporting, begun, call}
 use Rattle.desk.proofs.Inhabited.{report-made}
 use Rattle.desk_lines.specs.Reports.{Told, reportIn, placeOf}
@@ -23,7 +23,7 @@ use Rattle.desk_io.specs.Followed.{ByCalls}
 module _ (r : Railway) (figs sets : List ℕ) where
   -- THE DESK of what is said
   given-desk : (d : Desk) (v : ℕ) → givenSaid r figs d v .desk ≡ d
-  given-desk d v = elim (bool? (atHome r (deskCode r d))) [ inl e ↦ rw e | inr e ↦ rw e ]
+  given-desk d v = elim (bool? (eqb (d .arrived) (r .trains))) [ inl e ↦ rw e | inr e ↦ rw e ]
 
   setting-desk : (d : Desk) (a : SettingAnswer) → settingSaid r figs d a .desk ≡ d
   setting-desk d (Given v) = given-desk d v

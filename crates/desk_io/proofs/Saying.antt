@@ -7,6 +7,8 @@ use mathlib.Core.Option.{Option, none, some, Option·getD}
 use Prim.Native.Nat.{ℕ, _≤_}
 use native.Mathlib.Omega.{arith}
 use lib.ListN.{length, getD}
+use lib.Dec.{eqb}
+use borrow.Author.Tests.{eq-eqb, ne-eqb}
 use Rattle.laws.specs.Below.{orElse}
 use Rattle.laws.proofs.Bools.{some-none}
 use Rattle.text.specs.Text.{line, bytes}
@@ -18,7 +20,6 @@ use Rattle.railway.specs.Refusals.{row, first}
 use Rattle.railway.specs.Rows.{recordRefusal}
 use Rattle.casefile.specs.declared.Written.{Written}
 use Rattle.casefile.specs.Writing.{writtenCount}
-use Rattle.game.specs.Placement.{atHome}
 use Rattle.game.proofs.Accepted.{facts}
 use Rattle.tables.specs.Tables.{noFigure, caseRefusal}
 use Rattle.tables.proofs.Refusals.{case-then, case-none}
@@ -29,7 +30,7 @@ use Rattle.desk.specs.declared.OpenAnswer.{OpenAnswer}
 use Rattle.desk.specs.declared.SettingAnswer.{SettingAnswer}
 use Rattle.desk.specs.declared.SettingAnswer.the-variants.{Given}
 use Rattle.desk.specs.declared.ReportAnswer.{ReportAnswer}
-use Rattle.desk.specs.Desk.{Desk, deskCode, deskRow, Opening, settingRows, settingBy, giveSetting, Reply, OpenPost, SettingPost, ReportPost}
+use Rattle.desk.specs.Desk.{Desk, deskRow, Opening, settingRows, settingBy, giveSetting, Reply, OpenPost, SettingPost, ReportPost}
 use Rattle.desk_lines.specs.Panel.{stateLine, homeLine, mostStateBytes}
 use Rattle.desk_lines.specs.Reports.{Told, reportIn, placeOf}
 use Rattle.desk_lines.proofs.Spelling.{state-short, home-short}
@@ -59,20 +60,17 @@ module _ (old new : List ℕ) (w : Written) where
   refusal-count f room p n count = count ∙ ap (λ (z : Written). Option·getD (writtenCount z) 0) (put-fits (refusalLine f) old p (omega (arith, refusal-short f, room)) .0)
 
 -- THE STATE
-module _ (r : Railway) (figs : List ℕ) (d : Desk) (v : ℕ) (old new : List ℕ) (w : Written) (p : ℕ) (b : Bool) (code : p ≡ deskCode r d) (is : b ≡ atHome r p) where
-  at-home : {x : Bool} → b ≡ x → atHome r (deskCode r d) ≡ x
-  at-home e = ap (atHome r) (sym code) ∙ sym is ∙ e
+module _ (r : Railway) (figs : List ℕ) (d : Desk) (v : ℕ) (old new : List ℕ) (w : Written) where
+  pub given-home : d .arrived ≡ r .trains → PutPost homeLine old w new → SaidPost (givenSaid r figs d v) old d w false new
+  given-home e h = let z : eqb (d .arrived) (r .trains) ≡ true = eq-eqb (d .arrived) (r .trains) e in rw z (record { put = h; short = home-short; desk = refl; going = refl })
 
-  pub given-home : b ≡ true → PutPost homeLine old w new → SaidPost (givenSaid r figs d v) old d w false new
-  given-home e h = rw (at-home e) (record { put = h; short = home-short; desk = refl; going = refl })
-
-  pub given-away : recordRefusal r ≡ none → b ≡ false → (n : ℕ) → n ≡ getD figs p noFigure
+  pub given-away : recordRefusal r ≡ none → (d .arrived ≡ r .trains → ⊥) → (n : ℕ) → n ≡ getD figs (d .code) noFigure
       → (r .trains ≤ mostTrains → r .points ≤ mostPoints → PutPost (stateLine (r .trains) (r .points) (d .at) n v) old w new) → SaidPost (givenSaid r figs d v) old d w true new
   given-away accepted e n entry h =
       let f = facts r accepted in
-      let z : n ≡ getD figs (deskCode r d) noFigure = entry ∙ ap (λ (c : ℕ). getD figs c noFigure) code in
+      let z : eqb (d .arrived) (r .trains) ≡ false = ne-eqb (d .arrived) (r .trains) e in
       let short = state-short (r .trains) (r .points) (d .at) n v (f .few-trains) (f .few-points) in
-      rw (at-home e, ← z) (record { put = h (f .few-trains) (f .few-points); short = short; desk = refl; going = refl })
+      rw (z, ← entry) (record { put = h (f .few-trains) (f .few-points); short = short; desk = refl; going = refl })
 
 module _ (r : Railway) (figs sets : List ℕ) where
   module _ (d : Desk) (a : SettingAnswer) (post : SettingPost r d figs sets a) where

@@ -7,7 +7,7 @@ use mathlib.Core.Option.{some}
 use Prim.Native.Nat.{ℕ, _≤_}
 use lib.ListN.{length, take, replicate}
 use native.Mathlib.Omega.{arith}
-use Rattle.laws.specs.Below.{allBelow, anyBelow, sumBelow, listBelow, gatherBelow}
+use Rattle.laws.specs.Below.{allBelow, anyBelow, countBelow, sumBelow, listBelow, gatherBelow}
 use Rattle.text.specs.Text.{digits, line, bytes}
 use Rattle.text.specs.Reading.{isDigit, byteAt, digitsAt, numberAt}
 use Rattle.railway.specs.declared.Railway.{Railway}
@@ -30,7 +30,7 @@ use Rattle.game.specs.Moves.{occupied, gameOf}
 use Rattle.tables.specs.Entries.{settingAt}
 use Rattle.tables.specs.Tables.{tablesShort}
 use Rattle.tables.proofs.KnownYards.{figsA, setsA}
-use Rattle.desk.specs.Desk.{Desk, misplaced, Opening, openDesk, giveSetting, allows, reportRow, report, OpenPost}
+use Rattle.desk.specs.Desk.{Desk, misplaced, arrivals, miscarries, Opening, openDesk, giveSetting, allows, reportRow, report, OpenPost}
 use Rattle.desk.specs.Following.{AfterReports, DeskRuns}
 use Rattle.desk_lines.specs.Reports.{reportAt}
 use Rattle.desk_lines.proofs.Reading.{cut-reads}
@@ -42,7 +42,7 @@ use Rattle.desk_io.proofs.Calls.{by-calls}
 -- YARD A: train 1 has no open signal yet; train 2 goes to 1; a line that is none; train 1 goes to 3, which is home; the last line is not read
 session : panelText yardA figsA setsA (bytes "1\t3" ∷ bytes "2\t1" ∷ bytes "hello" ∷ bytes "1\t3" ∷ bytes "2\t2" ∷ [])
     ≡ bytes "train 1 at 2 | train 2 at 3 | 2 left | points +\nrefused\t12\ntrain 1 at 2 open | train 2 at 1 | 1 left | points -\nrefused\t12\nhome\n"
-unfolding bytes digits line gatherBelow answers reportAt numberAt digitsAt byteAt isDigit openDesk giveSetting report reportRow allows misplaced tablesShort first weightRow weightOf unknownRow joinRow looseRow chainRow longer placeRow endAt joinedBy joined hasSignal legsOf trainOf withJoin withSignal withLegs withTrain allBelow anyBelow sumBelow listBelow sectionsIn standsOn codeOf startCode namesNone atHome shared headsFor mayMove free held signalOpen passes follow occupied isClosed settingAt
+unfolding bytes digits line gatherBelow answers reportAt numberAt digitsAt byteAt isDigit openDesk giveSetting report reportRow allows misplaced arrivals miscarries countBelow tablesShort first weightRow weightOf unknownRow joinRow looseRow chainRow longer placeRow endAt joinedBy joined hasSignal legsOf trainOf withJoin withSignal withLegs withTrain allBelow anyBelow sumBelow listBelow sectionsIn standsOn codeOf startCode namesNone atHome shared headsFor mayMove free held signalOpen passes follow occupied isClosed settingAt
 session = refl
 
 -- ANY DESK, and a line that is no report

@@ -5,10 +5,10 @@ use mathlib.Core.List.{List, [], _∷_, _++_}
 use mathlib.Core.Option.{Option, none, some}
 use Prim.Native.Nat.{ℕ}
 use lib.ListN.{getD}
+use lib.Dec.{eqb}
 use Rattle.railway.specs.declared.Railway.{Railway}
 use Rattle.railway.specs.declared.Refusal.{Refusal}
 use Rattle.railway.specs.declared.Refusal.the-variants.{Report}
-use Rattle.game.specs.Placement.{atHome}
 use Rattle.tables.specs.Tables.{noFigure}
 use Rattle.answerlines.specs.Lines.{refusalLine, noneLine}
 use Rattle.desk.specs.declared.OpenAnswer.{OpenAnswer}
@@ -17,7 +17,7 @@ use Rattle.desk.specs.declared.SettingAnswer.{SettingAnswer}
 use Rattle.desk.specs.declared.SettingAnswer.the-variants.{Given, Refused as SettingRefused}
 use Rattle.desk.specs.declared.ReportAnswer.{ReportAnswer}
 use Rattle.desk.specs.declared.ReportAnswer.the-variants.{Counted, Refused}
-use Rattle.desk.specs.Desk.{Desk, deskCode, openDesk, giveSetting, Reply, report}
+use Rattle.desk.specs.Desk.{Desk, openDesk, giveSetting, Reply, report}
 use Rattle.desk_lines.specs.Panel.{stateLine, homeLine}
 use Rattle.desk_lines.specs.Reports.{Told, reportIn, placeOf}
 
@@ -31,11 +31,12 @@ pub record Said : Type 0 where
 abbrev pub refusedSaid : Refusal → Desk → Bool → Said
 refusedSaid f d going = record { text = refusalLine f; desk = d; going = going }
 
--- THE STATE where a desk stands. With entry v as its setting: `home`, or the state's line, with the figure that the table has.
+-- THE STATE where a desk stands, read off what it carries. With entry v as its setting: `home` if all trains have arrived; else the state's line, with the figure that the table has at
+-- its code.
 abbrev pub givenSaid : Railway → List ℕ → Desk → ℕ → Said
 givenSaid r figs d v =
-    cond (atHome r (deskCode r d)) (record { text = homeLine; desk = d; going = false })
-    (record { text = stateLine (r .trains) (r .points) (d .at) (getD figs (deskCode r d) noFigure) v; desk = d; going = true })
+    cond (eqb (d .arrived) (r .trains)) (record { text = homeLine; desk = d; going = false })
+    (record { text = stateLine (r .trains) (r .points) (d .at) (getD figs (d .code) noFigure) v; desk = d; going = true })
 
 -- By the answer to the call for the setting.
 abbrev pub settingSaid : Railway → List ℕ → Desk → SettingAnswer → Said

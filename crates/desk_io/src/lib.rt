@@ -285,22 +285,19 @@ pub fn state_text(desk: Desk, r: Railway, figures: &[u32], settings: &[u32], out
     }
 }
 
-// With the setting that it gives: `home`, or the line of the state.
+// With the setting that it gives: `home`, or the line of the state, read off what the desk carries.
 fn given_text(desk: Desk, r: Railway, figures: &[u32], v: u32, out: &mut [u8]) -> Step
     ensures { λ x. ⌜ (recordRefusal r ≡ none → SaidPost (givenSaid r (now (figures .entry)) (deskAt desk) v) (now (out .entry)) (deskAt (x .desk)) (x .put) (x .going) (now (out .exit))) ⌝ }
 {
-    let c = compiled::compile(r);
-    let table = c.table;
     let at = desk.at;
-    let p = moves::code_of(&table, at);
-    if moves::is_home(&table, p) {
+    if desk.arrived == r.trains {
         return Step {
             desk: desk,
             put: desk_lines::home_line(out),
             going: false,
         };
     }
-    let n = tables::entry_at(figures, p, NO_FIGURE);
+    let n = tables::entry_at(figures, desk.code, NO_FIGURE);
     Step {
         desk: desk,
         put: put_state(r.trains, r.points, at, n, v, out),

@@ -1,6 +1,6 @@
 // Desks, each followed by a script of calls. Standard input is records (crate framed), two for each: a case text of at most 1,024 placements, and a script, a line a command. Kept are
 // the case, the solver's tables, how many entries of them are lent (at first as many as there are placements) and the present desk. Commands: `o` opens a desk; `s` asks for its
-// setting; `r`, train, section: a report; `d`, a section for each train: the present desk; `l`, n: so many entries are lent from here on; `f`, code, figure, setting: written into the
+// setting; `r`, train, section: a report; `d`, a section for each train, code and count: the present desk; `l`, n: so many entries are lent from here on; `f`, code, figure, setting: written into the
 // tables. The first three are answered, a line each, and the desk that is handed back becomes the present one.
 ghost use Rattle.io.specs.Counts.{Counts};
 use desk::OpenAnswer;
@@ -17,15 +17,18 @@ use railway::Refusal;
 const ENTRIES: usize = 1024;
 
 // The fields of a command, its letter's included, at most.
-const FIELDS: u8 = 5;
+const FIELDS: u8 = 7;
 
 // A number that no train and no section has, for those that are not there.
 const NOWHERE: u8 = 255;
 
+// The numbers of a command's fields.
+type Numbers = [u32; FIELDS as usize];
+
 // A command as far as its line has been read: its letter, which is field 0; the numbers in the fields behind it; the field that is read.
 struct Command {
     letter: u8,
-    numbers: [u32; FIELDS as usize],
+    numbers: Numbers,
     field: u8,
 }
 
@@ -128,7 +131,14 @@ fn turn(kept: Kept, b: u8, r: Railway, figures: &mut [u32], settings: &mut [u32]
 
 // A desk that stands on no section.
 fn nowhere() -> Desk {
-    desk_on(NOWHERE, NOWHERE, NOWHERE, NOWHERE)
+    let at = Placement {
+        sections: [NOWHERE; Railway::TRAINS as usize],
+    };
+    Desk {
+        at: at,
+        code: 0,
+        arrived: 0,
+    }
 }
 
 // A line of which nothing has been read.
@@ -266,22 +276,45 @@ fn call(desk: Desk, c: Command, r: Railway, figures: &[u32], settings: &[u32]) -
         return report(desk, r, figures, settings, number_of(n[1]), number_of(n[2]));
     }
     if letter == b'd' {
-        return desk_on(
-            number_of(n[1]),
-            number_of(n[2]),
-            number_of(n[3]),
-            number_of(n[4]),
-        );
+        return desk_of(n, r.trains);
     }
     desk
 }
 
-// The desk with the trains on these sections.
-fn desk_on(a: u8, b: u8, c: u8, d: u8) -> Desk {
+// The desk of a command's numbers: the section of each train, then the code and the count.
+fn desk_of(n: Numbers, k: u8) -> Desk {
     let at = Placement {
-        sections: [a, b, c, d],
+        sections: [
+            section_of(n, k, 0),
+            section_of(n, k, 1),
+            section_of(n, k, 2),
+            section_of(n, k, 3),
+        ],
     };
-    Desk { at: at }
+    Desk {
+        at: at,
+        code: field_at(n, k, 1),
+        arrived: byte_of(field_at(n, k, 2)),
+    }
+}
+
+// The section of train t; none for one that is not there.
+fn section_of(n: Numbers, k: u8, t: u8) -> u8 {
+    if t < k {
+        return number_of(field_at(n, t, 1));
+    }
+    NOWHERE
+}
+
+// The number in the field that stands so many behind field a.
+fn field_at(n: Numbers, a: u8, behind: u8) -> u32 {
+    let at = a as usize + behind as usize;
+    if at < FIELDS as usize { n[at] } else { 0 }
+}
+
+// A count as a byte; the largest, which none has, for one that is too large.
+fn byte_of(n: u32) -> u8 {
+    if n < 255 { n as u8 } else { NOWHERE }
 }
 
 fn open(r: Railway, figures: &[u32], settings: &[u32]) -> Desk {
@@ -320,7 +353,7 @@ fn report(desk: Desk, r: Railway, figures: &[u32], settings: &[u32], t: u8, x: u
     next
 }
 
-// Where a desk stands: the section of each train.
+// Where a desk stands: the section of each train; then what it carries, the code and the count.
 fn stands(desk: Desk, trains: u8) {
     let at = desk.at;
     io::write_all(STDOUT_FILENO, b"desk");
@@ -329,6 +362,8 @@ fn stands(desk: Desk, trains: u8) {
         number(placement::section_at(at, t) as u32 + 1);
         t += 1;
     }
+    number(desk.code);
+    number(desk.arrived as u32);
     line_end();
 }
 

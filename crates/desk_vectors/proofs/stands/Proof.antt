@@ -7,10 +7,10 @@ use Rattle.desk_vectors.proofs.stands.Statement.{statement}
 use Rattle.desk_vectors.proofs.stands.Tie as tie
 
 abbrev Inv-loop : tie.InvT-loop
-Inv-loop trains at t₀ t = t ≤ trains
+Inv-loop desk trains at t₀ t = t ≤ trains
 
 abbrev μ-loop : tie.MeasureT-loop
-μ-loop trains at t₀ t = trains - t
+μ-loop desk trains at t₀ t = trains - t
 
 slice-aggregate-write-all : tie.Need-slice-aggregate-write-all Inv-loop μ-loop
 slice-aggregate-write-all c = search needs
@@ -42,6 +42,15 @@ loop-less c = omega arith
 loop-again : tie.Need-loop-again Inv-loop μ-loop
 loop-again c = omega arith
 
+number-requires-2 : tie.Need-number-requires-2 Inv-loop μ-loop
+number-requires-2 c κs = search needs
+
+cast-number-2 : tie.Need-cast-number-2 Inv-loop μ-loop
+cast-number-2 c = search needs
+
+number-requires-3 : tie.Need-number-requires-3 Inv-loop μ-loop
+number-requires-3 c κs = search needs
+
 line-end-requires : tie.Need-line-end-requires Inv-loop μ-loop
 line-end-requires c κs = search needs
 
@@ -64,5 +73,8 @@ stands-spec =
     add-t
     loop-less
     loop-again
+    number-requires-2
+    cast-number-2
+    number-requires-3
     line-end-requires
     returns)

@@ -42,6 +42,9 @@ returns c =
 placement-of-requires : tie.Need-placement-of-requires
 placement-of-requires c κs = search needs
 
+desk-on-requires : tie.Need-desk-on-requires
+desk-on-requires c κs = search needs
+
 returns-2 : tie.Need-returns-2
 returns-2 c =
     let t = c .before .before in
@@ -52,7 +55,8 @@ returns-2 c =
 
 returns-3 : tie.Need-returns-3
 returns-3 c =
-    let i = c .before .before in
+    let q = c .before in
+    let i = q .before .before .before in
     let v = i .before in
     let s = v .before in
     let t = s .before .before .before in
@@ -60,7 +64,7 @@ returns-3 c =
     let a = o .before .before .before in
     let g = a .args in
     open-stands (g .r) (g .figures .now) (g .settings .now) _ (o .open-case .ensures) (t .enum-told .given .1) _ _ (s .start-code .ensures) (v .entry-at .ensures) (i .if1 .left) _
-    (c .placement-of .ensures) (placement-length (c .placement-of .result) _ (c .placement-of .ok))
+    (q .placement-of .ensures) (placement-length (q .placement-of .result) _ (q .placement-of .ok)) _ (c .desk-on .ensures)
 
 pub open-spec : {M : Type 1} → statement M
 open-spec =
@@ -75,5 +79,6 @@ open-spec =
     nowhere-requires-2
     returns
     placement-of-requires
+    desk-on-requires
     returns-2
     returns-3)

@@ -1,9 +1,9 @@
--- `desk_calls::Desk::report` meets its contract: what is refused, then a desk that cannot be, then whether the report counts.
+-- `desk_calls::Desk::report` meets its contract: what is refused, then a desk that 12 stops, then whether the report counts.
 -- Assumes nothing.
 use borrow.Author.Needs.{needs}
 use Rattle.placement.proofs.Places.{placement-length}
 use Rattle.desk_calls.proofs.Desks.{desk-length}
-use Rattle.desk_calls.proofs.Calling.{report-refused, report-misplaced, report-counts, report-not}
+use Rattle.desk_calls.proofs.Calling.{report-refused, report-stopped, report-counts, report-not}
 use Rattle.desk_calls.proofs.Desk.report.Statement.{statement}
 use Rattle.desk_calls.proofs.Desk.report.Tie as tie
 
@@ -19,8 +19,8 @@ refused-requires c κs = search needs
 enum-told : tie.Need-enum-told
 enum-told c = search needs
 
-misplaced-requires : tie.Need-misplaced-requires
-misplaced-requires c κs = search needs
+stopped-requires : tie.Need-stopped-requires
+stopped-requires c κs = search needs
 
 refused-requires-2 : tie.Need-refused-requires-2
 refused-requires-2 c κs = search needs
@@ -33,11 +33,8 @@ returns c =
     let o = t .before .before in
     let a = o .before .before .before in
     let g = a .args in
-    report-misplaced (g .r) (g .figures .now) (g .settings .now) _ (o .open-case .ensures) (t .enum-told .given .1) (g .self) _ (m .misplaced .ensures) (i .if1 .taken) (g .t) (g .x) _
+    report-stopped (g .r) (g .figures .now) (g .settings .now) _ (o .open-case .ensures) (t .enum-told .given .1) (g .self) _ (m .stopped .ensures) (i .if1 .taken) (g .t) (g .x) _
     (c .refused2 .ensures)
-
-code-of-requires : tie.Need-code-of-requires
-code-of-requires c κs = search needs
 
 entry-at-requires : tie.Need-entry-at-requires
 entry-at-requires c κs = search needs
@@ -54,23 +51,26 @@ counts-requires c κs = search needs
 put-on-requires : tie.Need-put-on-requires
 put-on-requires c κs = search needs
 
+desk-on-requires : tie.Need-desk-on-requires
+desk-on-requires c κs = search needs
+
 returns-2 : tie.Need-returns-2
 returns-2 c =
-    let j = c .before in
+    let u = c .before in
+    let j = u .before .before in
     let n = j .before in
     let q = n .before in
     let w = q .before .before .before .before in
     let v = w .before in
-    let k = v .before in
-    let i = k .before .before in
+    let i = v .before in
     let m = i .before in
     let t = m .before .before .before in
     let o = t .before .before in
     let a = o .before .before .before in
     let g = a .args in
-    report-counts (g .r) (g .figures .now) (g .settings .now) _ (o .open-case .ensures) (t .enum-told .given .1) (g .self) _ (m .misplaced .ensures) (i .if1 .left) _ _
-    (k .code-of .ensures) (v .entry-at .ensures) (g .t) (g .x) _ (w .case-ways .ensures) _ (q .placement-of .ensures) _ (n .counts .ensures) (j .if2 .taken) _ (c .put-on .ensures)
-    (placement-length (c .put-on .result) _ (c .put-on .ok)) (desk-length (g .self) _ (a .good .0))
+    report-counts (g .r) (g .figures .now) (g .settings .now) _ (o .open-case .ensures) (t .enum-told .given .1) (g .self) _ (m .stopped .ensures) (i .if1 .left) _
+    (v .entry-at .ensures) (g .t) (g .x) _ (w .case-ways .ensures) _ (q .placement-of .ensures) _ (n .counts .ensures) (j .if2 .taken) _ (u .put-on .ensures)
+    (placement-length (u .put-on .result) _ (u .put-on .ok)) (desk-length (g .self) _ (a .good .0)) _ (c .desk-on .ensures)
 
 refused-requires-3 : tie.Need-refused-requires-3
 refused-requires-3 c κs = search needs
@@ -90,15 +90,14 @@ returns-4 c =
     let q = n .before in
     let w = q .before .before .before .before in
     let v = w .before in
-    let k = v .before in
-    let i = k .before .before in
+    let i = v .before in
     let m = i .before in
     let t = m .before .before .before in
     let o = t .before .before in
     let a = o .before .before .before in
     let g = a .args in
-    report-not (g .r) (g .figures .now) (g .settings .now) _ (o .open-case .ensures) (t .enum-told .given .1) (g .self) _ (m .misplaced .ensures) (i .if1 .left) _ _
-    (k .code-of .ensures) (v .entry-at .ensures) (g .t) (g .x) _ (w .case-ways .ensures) _ (q .placement-of .ensures) _ (n .counts .ensures) (j .if2 .left) _ (c .refused3 .ensures)
+    report-not (g .r) (g .figures .now) (g .settings .now) _ (o .open-case .ensures) (t .enum-told .given .1) (g .self) _ (m .stopped .ensures) (i .if1 .left) _
+    (v .entry-at .ensures) (g .t) (g .x) _ (w .case-ways .ensures) _ (q .placement-of .ensures) _ (n .counts .ensures) (j .if2 .left) _ (c .refused3 .ensures)
 
 pub report-spec : {M : Type 1} → statement M
 report-spec =
@@ -108,15 +107,15 @@ report-spec =
     enum-known-tested
     refused-requires
     enum-told
-    misplaced-requires
+    stopped-requires
     refused-requires-2
     returns
-    code-of-requires
     entry-at-requires
     case-ways-requires
     placement-of-requires
     counts-requires
     put-on-requires
+    desk-on-requires
     returns-2
     refused-requires-3
     returns-3

@@ -1,7 +1,7 @@
--- `desk_calls::Desk::setting` meets its contract: what is refused, then a desk that cannot be, then what the table has.
+-- `desk_calls::Desk::setting` meets its contract: what is refused, then a desk that 12 stops, then what the table has.
 -- Assumes nothing.
 use borrow.Author.Needs.{needs}
-use Rattle.desk_calls.proofs.Calling.{setting-refused, setting-misplaced, setting-given}
+use Rattle.desk_calls.proofs.Calling.{setting-refused, setting-stopped, setting-given}
 use Rattle.desk_calls.proofs.Desk.setting.Statement.{statement}
 use Rattle.desk_calls.proofs.Desk.setting.Tie as tie
 
@@ -14,8 +14,8 @@ enum-known-tested c = search needs
 enum-told : tie.Need-enum-told
 enum-told c = search needs
 
-misplaced-requires : tie.Need-misplaced-requires
-misplaced-requires c κs = search needs
+stopped-requires : tie.Need-stopped-requires
+stopped-requires c κs = search needs
 
 returns : tie.Need-returns
 returns c =
@@ -24,10 +24,7 @@ returns c =
     let o = t .before .before in
     let a = o .before .before .before in
     let g = a .args in
-    setting-misplaced (g .r) (g .figures .now) (g .settings .now) _ (o .open-case .ensures) (t .enum-told .given .1) (g .self) _ (m .misplaced .ensures) (c .if1 .taken)
-
-code-of-requires : tie.Need-code-of-requires
-code-of-requires c κs = search needs
+    setting-stopped (g .r) (g .figures .now) (g .settings .now) _ (o .open-case .ensures) (t .enum-told .given .1) (g .self) _ (m .stopped .ensures) (c .if1 .taken)
 
 entry-at-requires : tie.Need-entry-at-requires
 entry-at-requires c κs = search needs
@@ -42,15 +39,14 @@ returns-2 c =
 
 returns-3 : tie.Need-returns-3
 returns-3 c =
-    let k = c .before in
-    let i = k .before .before in
+    let i = c .before in
     let m = i .before in
     let t = m .before .before .before in
     let o = t .before .before in
     let a = o .before .before .before in
     let g = a .args in
-    setting-given (g .r) (g .figures .now) (g .settings .now) _ (o .open-case .ensures) (t .enum-told .given .1) (g .self) _ (m .misplaced .ensures) (i .if1 .left) _ _
-    (k .code-of .ensures) (c .entry-at .ensures)
+    setting-given (g .r) (g .figures .now) (g .settings .now) _ (o .open-case .ensures) (t .enum-told .given .1) (g .self) _ (m .stopped .ensures) (i .if1 .left) _
+    (c .entry-at .ensures)
 
 pub setting-spec : {M : Type 1} → statement M
 setting-spec =
@@ -59,9 +55,8 @@ setting-spec =
     open-case-requires
     enum-known-tested
     enum-told
-    misplaced-requires
+    stopped-requires
     returns
-    code-of-requires
     entry-at-requires
     returns-2
     returns-3)

@@ -1,0 +1,73 @@
+-- `desk_calls::Desk::stopped` meets its contract: a section that is not there, another code, two trains on one section, another count.
+-- Assumes nothing.
+use borrow.Author.Needs.{needs}
+use Rattle.desk_calls.specs.Answers.{deskAt}
+use Rattle.desk_calls.proofs.Desks.{stopped-named, stopped-code, stopped-lost, stopped-count}
+use Rattle.desk_calls.proofs.Desk.stopped.Statement.{statement}
+use Rattle.desk_calls.proofs.Desk.stopped.Tie as tie
+
+names-none-requires : tie.Need-names-none-requires
+names-none-requires c κs = search needs
+
+returns : tie.Need-returns
+returns c = let x = c .before in λ r h. stopped-named r (deskAt (x .before .before .args .self)) _ (x .names-none .ensures r h) (c .if1 .taken)
+
+code-of-requires : tie.Need-code-of-requires
+code-of-requires c κs = search needs
+
+returns-2 : tie.Need-returns-2
+returns-2 c =
+    let y = c .before .before in
+    let e = y .before in
+    let x = e .before in
+    λ r h. stopped-code r (deskAt (x .before .before .args .self)) _ (x .names-none .ensures r h) _ (e .if1 .left) (y .code-of .ensures r h) (c .if2 .taken)
+
+placement-of-requires : tie.Need-placement-of-requires
+placement-of-requires c κs = search needs
+
+lost-in-requires : tie.Need-lost-in-requires
+lost-in-requires c κs = search needs
+
+returns-3 : tie.Need-returns-3
+returns-3 c =
+    let m = c .before in
+    let q = m .before in
+    let g = q .before in
+    let y = g .before .before in
+    let e = y .before in
+    let x = e .before in
+    λ r h.
+    stopped-lost r (deskAt (x .before .before .args .self)) _ (x .names-none .ensures r h) _ (e .if1 .left) (y .code-of .ensures r h) (g .if2 .left)
+    _ (m .lost-in .ensures r _ (q .placement-of .ensures r h)) (c .if3 .taken)
+
+arrivals-requires : tie.Need-arrivals-requires
+arrivals-requires c κs = search needs
+
+returns-4 : tie.Need-returns-4
+returns-4 c =
+    let k = c .before in
+    let f = k .before in
+    let m = f .before in
+    let q = m .before in
+    let g = q .before in
+    let y = g .before .before in
+    let e = y .before in
+    let x = e .before in
+    λ r h.
+    let on = q .placement-of .ensures r h in
+    stopped-count r (deskAt (x .before .before .args .self)) _ (x .names-none .ensures r h) _ (e .if1 .left) (y .code-of .ensures r h) (g .if2 .left)
+    _ (m .lost-in .ensures r _ on) (f .if3 .left) _ (k .arrivals .ensures r _ on)
+
+pub stopped-spec : {M : Type 1} → statement M
+stopped-spec =
+    tie.close
+    (tie.spec
+    names-none-requires
+    returns
+    code-of-requires
+    returns-2
+    placement-of-requires
+    lost-in-requires
+    returns-3
+    arrivals-requires
+    returns-4)
