@@ -11,7 +11,7 @@ use lib.ListN.{length}
 use Rattle.laws.specs.Lists.{Every}
 use Rattle.railway.specs.declared.Railway.{Railway}
 use Rattle.railway.specs.declared.Refusal.{Refusal}
-use Rattle.railway.specs.declared.Refusal.the-variants.{Length, Form, Count, Weight, Unknown, Join, Loose, Chain, Double, Place, Space, PlanForm, PlanFault, Report}
+use Rattle.railway.specs.declared.Refusal.the-variants.{Length, Form, Count, Weight, Unknown, Join, Loose, Chain, Double, Place, Space, PlanForm, PlanFault, Report, Log}
 use Rattle.railway.specs.declared.CaseAnswer.{CaseAnswer}
 use Rattle.railway.specs.declared.CaseAnswer.the-variants.{Accepted, Refused}
 use Rattle.railway.specs.Refusals.{number, numberGiven, NotApplying, FirstOf}
@@ -40,7 +40,7 @@ pub record Says (text : List ℕ) (test : Description → Bool) : Type 0 where
   pub described : Describes text description
   pub passes : test description ≡ true
 
--- A row applies to a text. Rows 9 to 11 judge no case text.
+-- A row applies to a text. Rows 9 to 12 and 17 judge no case text.
 abbrev pub Applies : List ℕ → Refusal → Type 0
 Applies text Length = LengthRow text
 Applies text Form = FormRow text
@@ -56,6 +56,7 @@ Applies text Space = ⊥
 Applies text PlanForm = ⊥
 Applies text PlanFault = ⊥
 Applies text Report = ⊥
+Applies text Log = ⊥
 
 -- The rows that judge a case text, in the order in which they are given: these two, then those that judge what it says.
 abbrev pub caseTable : List Refusal

@@ -6,3 +6,5 @@ pub mod SearchUses
 pub mod Desks
 pub mod DeskUses
 pub mod Uses
+pub mod Logs
+pub mod LogUses

@@ -3,3 +3,4 @@ pub mod Checks
 pub mod Moving
 pub mod Searches
 pub mod Desks
+pub mod Logs

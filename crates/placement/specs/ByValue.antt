@@ -1,4 +1,4 @@
--- What is read off a placement by value (document 02, Q-7: the placement that is looked up). Nothing of document 01 rests on this file.
+-- What is read off a placement by value (document 02, Q-7: the placement that is looked up; Q-1: that of a desk). Nothing of document 01 rests on this file.
 -- Assumes nothing.
 use Prim.Native.Nat.{ℕ}
 use lib.ListN.{getD}

@@ -14,7 +14,7 @@ use Rattle.laws.specs.Lists.{Every}
 use Rattle.laws.proofs.Bools.{clash, some-none, some-one, not-true}
 use Rattle.laws.proofs.Lists.{every-none, every-more}
 use Rattle.railway.specs.declared.Refusal.{Refusal}
-use Rattle.railway.specs.declared.Refusal.the-variants.{Length, Form, Count, Weight, Unknown, Join, Loose, Chain, Double, Place, Space, PlanForm, PlanFault, Report}
+use Rattle.railway.specs.declared.Refusal.the-variants.{Length, Form, Count, Weight, Unknown, Join, Loose, Chain, Double, Place, Space, PlanForm, PlanFault, Report, Log}
 use Rattle.railway.specs.Refusals.{number, Row, row, Applying, NotApplying, refuseIf, first, numberOf, FirstRow}
 
 first-step : (b : Bool) (x : Row) (xs : List Row) (f : Refusal) → x .applies ≡ b → refuseIf b (x .refusal) (first xs) ≡ some f
@@ -101,7 +101,8 @@ byNumber n =
     (cond (eqb n 11) PlanFault
     (cond (eqb n 12) Report
     (cond (eqb n 13) Chain
-    Weight))))))))))))
+    (cond (eqb n 16) Weight
+    Log)))))))))))))
 
 number-back : (f : Refusal) → byNumber (number f) ≡ f
 unfolding byNumber
@@ -119,6 +120,7 @@ number-back PlanFault = refl
 number-back Report = refl
 number-back Chain = refl
 number-back Weight = refl
+number-back Log = refl
 
 pub number-one : (f g : Refusal) → number f ≡ number g → f ≡ g
 number-one f g e = sym (number-back f) ∙ (let z : byNumber (number f) ≡ byNumber (number g) = rw e in z) ∙ number-back g
@@ -139,6 +141,7 @@ between Space = (omega arith, omega arith)
 between PlanForm = (omega arith, omega arith)
 between PlanFault = (omega arith, omega arith)
 between Report = (omega arith, omega arith)
+between Log = (omega arith, omega arith)
 
 pub number-tells : (a b : Option Refusal) → numberOf a ≡ numberOf b → a ≡ b
 number-tells none none e = refl

@@ -1,4 +1,4 @@
--- The table of numbers (document 01, "Numbers that a desk can get"; 12, 13 and 16: document 02, Q-1, Q-6 and Q-12): the number of each refusal, and which row of several is given.
+-- The table of numbers (document 01, "Numbers that a desk can get"; 12, 13, 16 and 17: document 02, Q-1, Q-6, Q-12 and Q-13): the number of each refusal, and which row of several is given.
 -- Assumes nothing.
 use mathlib.Core.Path.{_≡_}
 use mathlib.Core.Bool.{Bool, true, false}
@@ -7,7 +7,7 @@ use mathlib.Core.Option.{Option, none, some}
 use Prim.Native.Nat.{ℕ}
 use Rattle.laws.specs.Lists.{Every}
 use Rattle.railway.specs.declared.Refusal.{Refusal}
-use Rattle.railway.specs.declared.Refusal.the-variants.{Length, Form, Count, Weight, Unknown, Join, Loose, Chain, Double, Place, Space, PlanForm, PlanFault, Report}
+use Rattle.railway.specs.declared.Refusal.the-variants.{Length, Form, Count, Weight, Unknown, Join, Loose, Chain, Double, Place, Space, PlanForm, PlanFault, Report, Log}
 use Rattle.railway.specs.declared.CaseAnswer.{CaseAnswer}
 use Rattle.railway.specs.declared.CaseAnswer.the-variants.{Accepted, Refused}
 
@@ -27,6 +27,7 @@ number PlanFault = 11
 number Report = 12
 number Chain = 13
 number Weight = 16
+number Log = 17
 
 -- The number that the answer to a case gives, if it is refused.
 abbrev pub numberGiven : CaseAnswer → Option ℕ

@@ -51,7 +51,7 @@ pub struct Train {
     pub weight: u8,
 }
 
-// Why a case, a record, a table or a plan is refused, in the order in which they are given; `number` gives the documents' number.
+// Why a case, a record, a table, a plan or a report is refused, in the order in which they are given; `number` gives the documents' number.
 pub enum Refusal {
     Length,
     Form,
@@ -67,6 +67,7 @@ pub enum Refusal {
     PlanForm,
     PlanFault,
     Report,
+    Log,
 }
 
 // What a case is answered with, as a record or as a text: it is accepted, or refused with the first row that applies.
@@ -325,6 +326,7 @@ impl Refusal {
             Refusal::Report => 12,
             Refusal::Chain => 13,
             Refusal::Weight => 16,
+            Refusal::Log => 17,
         }
     }
 }

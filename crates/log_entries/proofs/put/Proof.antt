@@ -1,0 +1,24 @@
+-- `log_entries::put` meets its contract: the entry is written where there is room for it, and else nothing changes.
+-- Assumes nothing.
+use Rattle.log_entries.proofs.Laws.{put-room, put-full}
+use borrow.Author.Needs.{needs}
+use Rattle.log_entries.proofs.put.Statement.{statement}
+use Rattle.log_entries.proofs.put.Tie as tie
+
+element-write-q : tie.Need-element-write-q
+element-write-q c = search needs
+
+element-write-q-2 : tie.Need-element-write-q-2
+element-write-q-2 c = search needs
+
+add-q : tie.Need-add-q
+add-q c = search needs
+
+returns : tie.Need-returns
+returns c = put-room (c .before .args .p) (c .before .args .e) (c .if1 .taken)
+
+returns-2 : tie.Need-returns-2
+returns-2 c = put-full (c .before .args .p) (c .before .args .e) (c .if1 .left)
+
+pub put-spec : {M : Type 1} → statement M
+put-spec = tie.close (tie.spec element-write-q element-write-q-2 add-q returns returns-2)

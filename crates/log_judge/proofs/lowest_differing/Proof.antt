@@ -1,0 +1,56 @@
+-- `log_judge::lowest_differing` meets its contract. The loop's invariant: no train below t differs.
+-- Assumes nothing.
+use borrow.Author.Needs.{needs}
+use native.Mathlib.Omega.{arith}
+use native.Mathlib.Nat.{not-suc-le-zero}
+use mathlib.Core.Path.{_≡_, sym, _∙_}
+use mathlib.Core.Bool.{false}
+use Prim.Native.Nat.{ℕ, _-_, _<_}
+use Rattle.logs.specs.Computed.{differs}
+use Rattle.log_judge.specs.Judging.{logOf}
+use Rattle.log_judge.proofs.Passes.{lowest-here, lowest-none, below-next}
+use Rattle.log_judge.proofs.lowest_differing.Statement.{statement}
+use Rattle.log_judge.proofs.lowest_differing.Tie as tie
+
+abbrev Inv-loop : tie.InvT-loop
+Inv-loop k ta sa tb sb t₀ t = (u : ℕ) → u < t → differs (logOf ta sa) (logOf tb sb) u ≡ false
+
+abbrev μ-loop : tie.MeasureT-loop
+μ-loop k ta sa tb sb t₀ t = k - t
+
+loop-holds : tie.Need-loop-holds Inv-loop μ-loop
+loop-holds c = λ u l. absurd (not-suc-le-zero l)
+
+train-differs-requires : tie.Need-train-differs-requires Inv-loop μ-loop
+train-differs-requires c κs = search needs
+
+returns : tie.Need-returns Inv-loop μ-loop
+returns c =
+    let i = c .before .before in
+    lowest-here _ _ (i .before .loop .inv) _ (i .loop-test .taken) (sym (c .if1 .taken) ∙ c .before .train-differs .ensures)
+
+add-t : tie.Need-add-t Inv-loop μ-loop
+add-t c = search needs
+
+loop-less : tie.Need-loop-less Inv-loop μ-loop
+loop-less c = omega arith
+
+loop-again : tie.Need-loop-again Inv-loop μ-loop
+loop-again c = let i = c .before .before in below-next _ _ (i .before .loop .inv) (sym (c .if1 .left) ∙ c .before .train-differs .ensures)
+
+returns-2 : tie.Need-returns-2 Inv-loop μ-loop
+returns-2 c = lowest-none _ _ (c .before .loop .inv) _ (c .loop-test .left)
+
+pub lowest-differing-spec : {M : Type 1} → statement M
+lowest-differing-spec =
+    tie.close
+    (tie.spec
+    Inv-loop
+    μ-loop
+    loop-holds
+    train-differs-requires
+    returns
+    add-t
+    loop-less
+    loop-again
+    returns-2)

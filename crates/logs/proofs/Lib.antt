@@ -1,0 +1,5 @@
+pub mod Examples
+pub mod Comparing
+pub mod Swapping
+pub mod Claims
+pub mod Uses
