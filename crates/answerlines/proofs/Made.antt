@@ -8,7 +8,7 @@ use Rattle.text.specs.Text.{digits, decimal, tab, lineEnd, line, bytes}
 use Rattle.text.specs.Appending.{Appended}
 use Rattle.text.proofs.Appending.{line-more, line-last, front-text}
 use Rattle.railway.specs.declared.Refusal.{Refusal}
-use Rattle.railway.specs.declared.Refusal.the-variants.{Length, Form, Count, Weight, Unknown, Join, Loose, Chain, Double, Place, Space, PlanForm, PlanFault, Report, Log}
+use Rattle.railway.specs.declared.Refusal.the-variants.{Length, Form, Count, Weight, Unknown, Join, Loose, Chain, Double, Place, Mismatch, Space, PlanForm, PlanFault, Report, Stranded, Log}
 use Rattle.railway.specs.Refusals.{number}
 use Rattle.casefile.specs.declared.Written.{Written}
 use Rattle.plan.specs.declared.TestAnswer.{TestAnswer}
@@ -35,6 +35,8 @@ refusal-short Space = omega arith
 refusal-short PlanForm = omega arith
 refusal-short PlanFault = omega arith
 refusal-short Report = omega arith
+refusal-short Mismatch = omega arith
+refusal-short Stranded = omega arith
 refusal-short Log = omega arith
 
 pub made-put : {blank text buffer old new : List ℕ} {n : ℕ} {w : Written} → Appended blank 0 text buffer n → length text ≤ length blank → PutPost (take n buffer) old w new → PutPost text old w new

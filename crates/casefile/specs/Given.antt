@@ -11,7 +11,7 @@ use lib.ListN.{length}
 use Rattle.laws.specs.Lists.{Every}
 use Rattle.railway.specs.declared.Railway.{Railway}
 use Rattle.railway.specs.declared.Refusal.{Refusal}
-use Rattle.railway.specs.declared.Refusal.the-variants.{Length, Form, Count, Weight, Unknown, Join, Loose, Chain, Double, Place, Space, PlanForm, PlanFault, Report, Log}
+use Rattle.railway.specs.declared.Refusal.the-variants.{Length, Form, Count, Weight, Unknown, Join, Loose, Chain, Double, Place, Mismatch, Space, PlanForm, PlanFault, Report, Stranded, Log}
 use Rattle.railway.specs.declared.CaseAnswer.{CaseAnswer}
 use Rattle.railway.specs.declared.CaseAnswer.the-variants.{Accepted, Refused}
 use Rattle.railway.specs.Refusals.{number, numberGiven, NotApplying, FirstOf}
@@ -56,6 +56,8 @@ Applies text Space = ⊥
 Applies text PlanForm = ⊥
 Applies text PlanFault = ⊥
 Applies text Report = ⊥
+Applies text Mismatch = ⊥
+Applies text Stranded = ⊥
 Applies text Log = ⊥
 
 -- The rows that judge a case text, in the order in which they are given: these two, then those that judge what it says.

@@ -6,3 +6,12 @@ pub mod Following
 pub mod Inhabited
 pub mod Uses
 pub mod CarryingUses
+pub mod ChangeExamples
+pub mod Sooner
+pub mod ChangeRows
+pub mod ChangeNumbers
+pub mod Change
+pub mod ChangeInhabited
+pub mod ChangeUses
+pub mod ChangeNumberUses
+pub mod ChangeSolvedUses

@@ -15,6 +15,12 @@ pub enum SettingAnswer {
     Refused(Refusal),
 }
 
+// What a change of case is answered with: it is made; or a refusal.
+pub enum ChangeAnswer {
+    Changed,
+    Refused(Refusal),
+}
+
 // What a report is answered with: it counts; or a refusal.
 pub enum ReportAnswer {
     Counted,

@@ -2,3 +2,5 @@ pub mod Answers
 pub mod Desks
 pub mod Counting
 pub mod Calling
+pub mod Shapes
+pub mod Changing

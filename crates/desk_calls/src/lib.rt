@@ -1,18 +1,24 @@
-// A desk for live running: one call opens it at the start, one gives the setting for the placement where it stands, and each report of a train's movement yields the next desk.
-// It carries the code of its placement and the number of trains on their destinations, and what it carries is tested before it is used. The desk goes from call to call by value;
-// the record is tested again at every call, and the two tables, which are lent, are only read. A report that is refused hands the desk back as it was.
+// A desk for live running: one call opens it at the start, one gives the setting for the placement where it stands, each report of a train's movement yields the next desk, and a
+// change takes it over to another case, its trains where they stand. It carries the code of its placement and the number of trains on their destinations, and what it carries is
+// tested before it is used. The desk goes from call to call by value; the record is tested again at every call, and the two tables, which are lent, are only read. A report or a change
+// that is refused hands the desk back as it was.
 ghost use mathlib.Core.Path.{_≡_};
 ghost use Prim.Native.Nat.{ℕ};
 ghost use Rattle.railway.specs.declared.Railway.{Railway};
+ghost use mathlib.Core.Option.{none};
 ghost use Rattle.railway.specs.Record.{isClosed};
+ghost use Rattle.railway.specs.Rows.{recordRefusal};
 ghost use Rattle.routes.specs.Routes.{Laid};
 ghost use Rattle.compiled.specs.Table.{Compiled};
 ghost use Rattle.moves.specs.Steps.{On};
 ghost use Rattle.desk.specs.declared.ReportAnswer.the-variants.{Refused};
+ghost use Rattle.desk.specs.declared.ChangeAnswer.the-variants.{Refused as Unchanged};
+ghost use Rattle.desk.specs.Change.{mismatch, changeTo, ChangePost};
 ghost use Rattle.desk.specs.Desk.{arrivals, deskOn, deskRow, noDesk, OpenPost, SettingPost, ReportPost};
-ghost use Rattle.desk_calls.specs.Answers.{deskAt, opening, replied};
-ghost use Rattle.desk_calls.specs.Steps.{countsAt};
+ghost use Rattle.desk_calls.specs.Answers.{deskAt, opening, replied, changing};
+ghost use Rattle.desk_calls.specs.Steps.{countsAt, soonerOf};
 use compiled::Table;
+use desk::ChangeAnswer;
 use desk::OpenAnswer;
 use desk::ReportAnswer;
 use desk::SettingAnswer;
@@ -41,6 +47,12 @@ pub struct OpenReply {
 // What a report hands back.
 pub struct ReportReply {
     pub answer: ReportAnswer,
+    pub desk: Desk,
+}
+
+// What a change of case hands back.
+pub struct ChangeReply {
+    pub answer: ChangeAnswer,
     pub desk: Desk,
 }
 
@@ -115,6 +127,68 @@ impl Desk {
                 }
                 self.refused(Refusal::Report)
             }
+        }
+    }
+
+    // A CHANGE OF CASE, the trains where they stand: from the record's case to that of the text, whose tables are lent. The desk goes over if sections, trains and headings are the
+    // same and its placement has a figure in the new table.
+    pub fn change(self, r: Railway, text: &[u8], figures: &[u32], settings: &[u32]) -> ChangeReply
+        ensures { λ y. ⌜ ChangePost r (now (text .entry)) (deskAt self) (now (figures .entry)) (now (settings .entry)) (changing y) ⌝ }
+    {
+        let old = compiled::compile(r);
+        let tested = old.tested;
+        let read = reader::read_case(text);
+        let answer = read.answer;
+        match answer {
+            CaseAnswer::Refused(g) => self.unchanged(sooner(tested, g)),
+            CaseAnswer::Accepted => match tested {
+                CaseAnswer::Refused(f) => self.unchanged(f),
+                CaseAnswer::Accepted => {
+                    let table = old.table;
+                    let s = read.railway;
+                    self.go_over(&table, s, figures, settings)
+                }
+            },
+        }
+    }
+
+    // It, between two cases that are accepted.
+    fn go_over(self, table: &Table, s: Railway, figures: &[u32], settings: &[u32]) -> ChangeReply
+        ensures { λ y. ⌜ ((r : Railway) → Compiled r (now (table .entry)) → recordRefusal s ≡ none → changing y ≡ changeTo r s (deskAt self) (now (figures .entry)) (now (settings .entry))) ⌝ }
+    {
+        let c = compiled::compile(s);
+        let next = c.table;
+        if mismatched(table, &next) {
+            return self.unchanged(Refusal::Mismatch);
+        }
+        let lent = cases::open_case(s, figures, settings);
+        let tested = lent.tested;
+        match tested {
+            CaseAnswer::Refused(f) => self.unchanged(f),
+            CaseAnswer::Accepted => {
+                if self.stopped(table) {
+                    return self.unchanged(Refusal::Report);
+                }
+                let at = self.at;
+                let p = moves::code_of(&next, at);
+                if tables::entry_at(figures, p, NO_FIGURE) == NO_FIGURE {
+                    return self.unchanged(Refusal::Stranded);
+                }
+                ChangeReply {
+                    answer: ChangeAnswer::Changed,
+                    desk: desk_on(&next, at),
+                }
+            }
+        }
+    }
+
+    // A refused change, and the desk as it was.
+    fn unchanged(self, f: Refusal) -> ChangeReply
+        ensures { λ y. ⌜ (y .answer ≡ Unchanged f) × (y .desk ≡ self) ⌝ }
+    {
+        ChangeReply {
+            answer: ChangeAnswer::Refused(f),
+            desk: self,
         }
     }
 
@@ -205,6 +279,44 @@ fn counts(table: &Table, ways: &Ways, q: Placement, v: u32, t: u8, x: u8) -> boo
     }
     if moves::may_in(table, q, v, t) {
         return moves::leads_to(table, ways, q, v, t) == x;
+    }
+    false
+}
+
+// Of what a record's test says and the refusal of a text, the one that comes first in the order of the numbers.
+fn sooner(tested: CaseAnswer, g: Refusal) -> Refusal
+    ensures { λ f. ⌜ f ≡ soonerOf tested g ⌝ }
+{
+    match tested {
+        CaseAnswer::Accepted => g,
+        CaseAnswer::Refused(f) => {
+            if f.rank() < g.rank() {
+                return f;
+            }
+            g
+        }
+    }
+}
+
+// Another number of sections or of trains, or a train that heads the other way.
+fn mismatched(old: &Table, new: &Table) -> bool
+    ensures { λ b. ⌜ ((r s : Railway) → Compiled r (now (old .entry)) → Compiled s (now (new .entry)) → b ≡ mismatch r s) ⌝ }
+{
+    if compiled::sections_in(old) != compiled::sections_in(new) {
+        return true;
+    }
+    let k = compiled::trains_in(old);
+    if k != compiled::trains_in(new) {
+        return true;
+    }
+    let mut t: u8 = 0;
+    while t < k {
+        let a = railway::side_index(compiled::heading_in(old, t));
+        let b = railway::side_index(compiled::heading_in(new, t));
+        if a != b {
+            return true;
+        }
+        t += 1;
     }
     false
 }

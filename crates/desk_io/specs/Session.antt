@@ -1,95 +1,85 @@
--- What program `deskrun` writes: for the opening of a desk, for the state where one stands, for a line that is read there, and for all lines (document 02, Q-1: the plan followed on the
--- panel). Lines are taken without their ends. Assumes nothing.
-use mathlib.Core.Bool.{Bool, true, false, cond}
+-- All that program `deskrun` writes: line after line, at a panel that has a case, its tables and a desk; a change of case (document 02, Q-11) may put another case there. What is written for
+-- the opening and for a report is in desk_texts/Said. Assumes nothing.
+use mathlib.Core.Bool.{Bool, true, cond}
 use mathlib.Core.List.{List, [], _∷_, _++_}
-use mathlib.Core.Option.{Option, none, some}
 use Prim.Native.Nat.{ℕ}
-use lib.ListN.{getD}
-use lib.Dec.{eqb}
 use Rattle.railway.specs.declared.Railway.{Railway}
-use Rattle.railway.specs.declared.Refusal.{Refusal}
-use Rattle.railway.specs.declared.Refusal.the-variants.{Report}
-use Rattle.tables.specs.Tables.{noFigure}
-use Rattle.answerlines.specs.Lines.{refusalLine, noneLine}
-use Rattle.desk.specs.declared.OpenAnswer.{OpenAnswer}
-use Rattle.desk.specs.declared.OpenAnswer.the-variants.{Opened, NoFigure, Refused as OpenRefused}
-use Rattle.desk.specs.declared.SettingAnswer.{SettingAnswer}
-use Rattle.desk.specs.declared.SettingAnswer.the-variants.{Given, Refused as SettingRefused}
-use Rattle.desk.specs.declared.ReportAnswer.{ReportAnswer}
-use Rattle.desk.specs.declared.ReportAnswer.the-variants.{Counted, Refused}
-use Rattle.desk.specs.Desk.{Desk, openDesk, giveSetting, Reply, report}
-use Rattle.desk_lines.specs.Panel.{stateLine, homeLine}
-use Rattle.desk_lines.specs.Reports.{Told, reportIn, placeOf}
+use Rattle.railway.specs.declared.CaseAnswer.{CaseAnswer}
+use Rattle.railway.specs.declared.CaseAnswer.the-variants.{Accepted, Refused as CaseRefused}
+use Rattle.railway.specs.Rows.{recordRefusal}
+use Rattle.casefile.specs.declared.CaseRead.{CaseRead}
+use Rattle.desk.specs.declared.ChangeAnswer.{ChangeAnswer}
+use Rattle.desk.specs.declared.ChangeAnswer.the-variants.{Changed, Refused}
+use Rattle.desk.specs.Desk.{Desk}
+use Rattle.desk.specs.Change.{sooner, Changing, changeTo}
+use Rattle.desk_lines.specs.Changes.{isChange}
+use Rattle.desk_texts.specs.Said.{Said, refusedSaid, stateSaid, openingSaid, lineSaid}
 
--- What is written, the desk behind it, and whether lines are read from there on.
-pub record Said : Type 0 where
-  pub text : List ℕ
+-- THE PANEL: the case that is followed, the tables that are lent with it, and the desk.
+pub record Panel : Type 0 where
+  pub railway : Railway
+  pub figs : List ℕ
+  pub sets : List ℕ
   pub desk : Desk
+
+-- With these.
+abbrev pub panelOf : Railway → List ℕ → List ℕ → Desk → Panel
+panelOf r figs sets d = record { railway = r; figs = figs; sets = sets; desk = d }
+
+-- What is written for a line, the panel behind it, and whether lines are read from there on.
+pub record Heard : Type 0 where
+  pub text : List ℕ
+  pub panel : Panel
   pub going : Bool
 
--- A refusal, with this desk.
-abbrev pub refusedSaid : Refusal → Desk → Bool → Said
-refusedSaid f d going = record { text = refusalLine f; desk = d; going = going }
+-- Something said with this case and these tables.
+abbrev pub heardAt : Railway → List ℕ → List ℕ → Said → Heard
+heardAt r figs sets s = record { text = s .text; panel = panelOf r figs sets (s .desk); going = s .going }
 
--- THE STATE where a desk stands, read off what it carries. With entry v as its setting: `home` if all trains have arrived; else the state's line, with the figure that the table has at
--- its code.
-abbrev pub givenSaid : Railway → List ℕ → Desk → ℕ → Said
-givenSaid r figs d v =
-    cond (eqb (d .arrived) (r .trains)) (record { text = homeLine; desk = d; going = false })
-    (record { text = stateLine (r .trains) (r .points) (d .at) (getD figs (d .code) noFigure) v; desk = d; going = true })
+-- WHAT COMES IN: a line; and for one that names a file the file's text, what the reader answers to it, and the tables of that case.
+pub record Input : Type 0 where
+  pub line : List ℕ
+  pub file : List ℕ
+  pub read : CaseRead
+  pub figs : List ℕ
+  pub sets : List ℕ
 
--- By the answer to the call for the setting.
-abbrev pub settingSaid : Railway → List ℕ → Desk → SettingAnswer → Said
-settingSaid r figs d (Given v) = givenSaid r figs d v
-settingSaid r figs d (SettingRefused f) = refusedSaid f d false
+-- A CHANGE. The answer to the call, by what the reader answers.
+abbrev pub changeRead : Railway → Desk → List ℕ → List ℕ → CaseAnswer → Railway → Changing
+changeRead r d figs sets Accepted s = changeTo r s d figs sets
+changeRead r d figs sets (CaseRefused g) s = record { answer = Refused (sooner (recordRefusal r) g); desk = d }
 
-module _ (r : Railway) (figs sets : List ℕ) where
-  abbrev pub stateSaid : Desk → Said
-  stateSaid d = settingSaid r figs d (giveSetting r d figs sets)
+-- By that answer: the state with the new case and its tables, which are on the panel from there on; or a refusal, and work goes on as before.
+abbrev pub changedHeard : Panel → Input → ChangeAnswer → Desk → Heard
+changedHeard p x Changed d = heardAt (x .read .railway) (x .figs) (x .sets) (stateSaid (x .read .railway) (x .figs) (x .sets) d)
+changedHeard p x (Refused f) d = heardAt (p .railway) (p .figs) (p .sets) (refusedSaid f d true)
 
-  -- THE OPENING, by its answer: the state at the start; `none`; a refusal.
-  abbrev pub openedSaid : OpenAnswer → Desk → Said
-  openedSaid Opened d = stateSaid d
-  openedSaid NoFigure d = record { text = noneLine; desk = d; going = false }
-  openedSaid (OpenRefused f) d = refusedSaid f d false
+-- The change that the line asks for, at this panel.
+abbrev pub changeFor : Panel → Input → Changing
+changeFor p x = changeRead (p .railway) (p .desk) (x .figs) (x .sets) (x .read .answer) (x .read .railway)
 
-  abbrev pub openingSaid : Said
-  openingSaid = openedSaid (openDesk r figs sets .answer) (openDesk r figs sets .desk)
+-- What is written for it.
+abbrev pub changeHeard : Panel → Input → Heard
+changeHeard p x = changedHeard p x (changeFor p x .answer) (changeFor p x .desk)
 
-  -- A LINE at a desk. A report, by its answer: the state that it leads to; a refusal, and the desk that is handed back.
-  abbrev pub repliedSaid : ReportAnswer → Desk → Said
-  repliedSaid Counted d = stateSaid d
-  repliedSaid (Refused f) d = refusedSaid f d true
+-- A LINE: a change, or what is taken for a report.
+abbrev pub heardFor : Panel → Input → Heard
+heardFor p x = cond (isChange (x .line)) (changeHeard p x) (heardAt (p .railway) (p .figs) (p .sets) (lineSaid (p .railway) (p .figs) (p .sets) (p .desk) (x .line)))
 
-  abbrev pub reportSaid : Reply → Said
-  reportSaid y = repliedSaid (y .answer) (y .desk)
+-- ALL LINES, one after the other, as long as lines are read.
+unfoldable pub answers : Panel → List Input → List ℕ
+answers p [] = []
+answers p (x ∷ xs) = heardFor p x .text ++ cond (heardFor p x .going) (answers (heardFor p x .panel) xs) []
 
-  -- That train t has come to section x, as the desk counts them.
-  abbrev pub movedSaid : Desk → ℕ → ℕ → Said
-  movedSaid d t x = reportSaid (report r d figs sets t x)
+-- And the panel behind them.
+unfoldable pub panelBehind : Panel → List Input → Panel
+panelBehind p [] = p
+panelBehind p (x ∷ xs) = cond (heardFor p x .going) (panelBehind (heardFor p x .panel) xs) (heardFor p x .panel)
 
-  -- By what the line is read as: what is no report is refused with 12, as a report that does not count.
-  abbrev pub toldSaid : Desk → Option Told → Said
-  toldSaid d (some y) = movedSaid d (placeOf (y .train)) (placeOf (y .section))
-  toldSaid d none = refusedSaid Report d true
+-- Behind something written.
+abbrev pub allBehind : Heard → List Input → List ℕ
+allBehind h xs = h .text ++ cond (h .going) (answers (h .panel) xs) []
 
-  abbrev pub lineSaid : Desk → List ℕ → Said
-  lineSaid d l = toldSaid d (reportIn l)
-
-  -- ALL LINES, one after the other, as long as lines are read.
-  unfoldable pub answers : Desk → List (List ℕ) → List ℕ
-  answers d [] = []
-  answers d (l ∷ ls) = lineSaid d l .text ++ cond (lineSaid d l .going) (answers (lineSaid d l .desk) ls) []
-
-  -- And the desk behind them.
-  unfoldable pub deskBehind : Desk → List (List ℕ) → Desk
-  deskBehind d [] = d
-  deskBehind d (l ∷ ls) = cond (lineSaid d l .going) (deskBehind (lineSaid d l .desk) ls) (lineSaid d l .desk)
-
-  -- Behind something said.
-  abbrev pub allBehind : Said → List (List ℕ) → List ℕ
-  allBehind s ls = s .text ++ cond (s .going) (answers (s .desk) ls) []
-
-  -- THE WHOLE of what is written for some lines.
-  abbrev pub panelText : List (List ℕ) → List ℕ
-  panelText ls = allBehind openingSaid ls
+-- THE WHOLE of what is written for a case, its tables and some lines.
+abbrev pub panelText : Railway → List ℕ → List ℕ → List Input → List ℕ
+panelText r figs sets xs = allBehind (heardAt r figs sets (openingSaid r figs sets)) xs

@@ -1,35 +1,33 @@
 // What program deskrun does. The case is that of file case.txt in the working folder; it is solved, and a desk opened. On standard output a line for the opening, and then one for each
-// line of standard input: the state that a report leads to, or that it is refused, with the desk as it was. Each is written before the next line is read. Behind `home`, behind an opening that
-// is refused or has no figure, and at the end of the input it stops.
+// line of standard input: the state that a report leads to, or that it is refused, with the desk as it was. A line may also name a file with another case; that is solved, too, and the desk goes over to it,
+// or it is refused, and work goes on as before. Each is written before the next line is read. Behind `home`, behind an opening that is refused or has no figure, and at the end of the input it stops.
 ghost use mathlib.Core.Path.{_≡_};
-ghost use mathlib.Core.Option.{none, Option·getD};
+ghost use mathlib.Core.Bool.{true};
+ghost use mathlib.Core.Option.{Option·getD};
 ghost use Prim.Native.Nat.{suc, _≤_};
 ghost use lib.ListN.{length};
 ghost use Rattle.io.specs.Counts.{Counts};
-ghost use Rattle.railway.specs.Bounds.{mostPoints, mostTrains};
-ghost use Rattle.railway.specs.Rows.{recordRefusal};
 ghost use Rattle.casefile.specs.Rows.{mostBytes};
 ghost use Rattle.casefile.specs.Writing.{writtenCount};
-ghost use Rattle.answerlines.specs.Lines.{refusalLine, PutPost};
+ghost use Rattle.tables.specs.Lengths.{entries};
+ghost use Rattle.answerlines.specs.Lines.{refusalLine};
 ghost use Rattle.desk_calls.specs.Answers.{deskAt};
-ghost use Rattle.desk_lines.specs.Panel.{stateLine};
-ghost use Rattle.desk_io.specs.Session.{givenSaid, stateSaid, openingSaid, movedSaid, lineSaid};
-ghost use Rattle.desk_io.specs.Followed.{SaidPost, Wrote, Turned, Ran, Solved, CaseFollowed, Followed};
+ghost use Rattle.desk_texts.specs.Said.{stateSaid, openingSaid, lineSaid};
+ghost use Rattle.desk_lines.specs.Changes.{isChange};
+ghost use Rattle.desk_io.specs.Session.{panelOf, heardAt};
+ghost use Rattle.desk_io.specs.Followed.{Wrote, NewCase, Turned, Ran, Solved, CaseFollowed, Followed};
 use casefile::Written;
-use desk::OpenAnswer;
-use desk::ReportAnswer;
-use desk::SettingAnswer;
+use desk::ChangeAnswer;
 use desk_calls::Desk;
+use desk_lines::INPUT;
 use desk_lines::LINE;
-use desk_lines::REPORT;
-use desk_lines::ReportLine;
+use desk_lines::NAME;
+use desk_texts::Step;
 use libc::STDIN_FILENO;
-use placement::Placement;
 use railway::CaseAnswer;
 use railway::Railway;
 use railway::Refusal;
 use tables::ENTRIES;
-use tables::NO_FIGURE;
 use text::LINE_END;
 use text::append;
 
@@ -39,15 +37,9 @@ const CASE: usize = casefile::MOST_BYTES + 1;
 // More lines than can come; what is written for so many is counted in 64 bits.
 const TURNS: usize = 72057594037927936;
 
-// What was put for an opening or for a line, the desk behind it, and whether lines are read from there on.
-pub struct Step {
-    pub desk: Desk,
-    pub put: Written,
-    pub going: bool,
-}
-
-// How many bytes were written for one of them, and the same beside.
+// How many bytes were written for an opening or for a line, the case and the desk behind it, and whether lines are read from there on.
 struct Stand {
+    railway: Railway,
     desk: Desk,
     bytes: usize,
     going: bool,
@@ -111,14 +103,16 @@ fn follow_railway(r: Railway) -> usize
     let mut figures = [0u32; ENTRIES];
     let mut settings = [0u32; ENTRIES];
     solver::solve(r, &mut figures, &mut settings);
-    follow_plan(r, &figures, &settings)
+    follow_plan(r, &mut figures, &mut settings)
 }
 
-// The desk, from its opening on.
-fn follow_plan(r: Railway, figures: &[u32], settings: &[u32]) -> usize
+// The desk, from its opening on. The tables are those of the case that it follows.
+fn follow_plan(r: Railway, figures: &mut [u32], settings: &mut [u32]) -> usize
+    requires { ⌜ (length (now figures) ≡ entries) × (length (now settings) ≡ entries) ⌝ }
     ensures { λ n. ⌜ Ran r (now (figures .entry)) (now (settings .entry)) n ⌝ }
 {
     let start = open(r, figures, settings);
+    let mut railway = r;
     let mut desk = start.desk;
     let mut bytes = start.bytes;
     let mut going = start.going;
@@ -127,7 +121,8 @@ fn follow_plan(r: Railway, figures: &[u32], settings: &[u32]) -> usize
         if TURNS <= turns {
             return bytes;
         }
-        let next = turn(desk, r, figures, settings);
+        let next = turn(desk, railway, figures, settings);
+        railway = next.railway;
         desk = next.desk;
         bytes += next.bytes;
         going = next.going;
@@ -138,47 +133,70 @@ fn follow_plan(r: Railway, figures: &[u32], settings: &[u32]) -> usize
 
 // The opening.
 fn open(r: Railway, figures: &[u32], settings: &[u32]) -> Stand
-    ensures { λ t. ⌜ Wrote (openingSaid r (now (figures .entry)) (now (settings .entry))) (deskAt (t .desk)) (t .bytes) (t .going) ⌝ }
+    ensures { λ t. ⌜ Wrote (heardAt r (now (figures .entry)) (now (settings .entry)) (openingSaid r (now (figures .entry)) (now (settings .entry)))) (panelOf r (now (figures .entry)) (now (settings .entry)) (deskAt (t .desk))) (t .bytes) (t .going) ⌝ }
 {
     let mut out = [0u8; LINE];
-    let step = open_text(r, figures, settings, &mut out);
-    write(step, &out)
+    let step = desk_texts::open_text(r, figures, settings, &mut out);
+    write(r, step, &out)
 }
 
-// The next line, or as many of its bytes as decide whether it is a report. At the end of the input nothing is written.
-fn turn(desk: Desk, r: Railway, figures: &[u32], settings: &[u32]) -> Stand
-    ensures { λ t. ⌜ Turned r (now (figures .entry)) (now (settings .entry)) (deskAt desk) (deskAt (t .desk)) (t .bytes) (t .going) ⌝ }
+// The next line, or as many of its bytes as decide what it is. At the end of the input nothing is written.
+fn turn(desk: Desk, r: Railway, figures: &mut [u32], settings: &mut [u32]) -> Stand
+    requires { ⌜ (length (now figures) ≡ entries) × (length (now settings) ≡ entries) ⌝ }
+    ensures { λ t. ⌜ Turned (panelOf r (now (figures .entry)) (now (settings .entry)) (deskAt desk)) (panelOf (t .railway) (now (figures .exit)) (now (settings .exit)) (deskAt (t .desk))) (t .bytes) (t .going) ⌝ }
 {
-    let mut line = [0u8; REPORT];
+    let mut line = [0u8; INPUT];
     let read = next_line(&mut line);
     let n = read.count;
     if read.whole {
-        return answer(desk, &line[..n], r, figures, settings);
+        return hear(desk, &line[..n], r, figures, settings);
     }
     Stand {
+        railway: r,
         desk: desk,
         bytes: 0,
         going: false,
     }
 }
 
-// A line that came.
+// A line that came: a change, or what is taken for a report.
+fn hear(desk: Desk, line: &[u8], r: Railway, figures: &mut [u32], settings: &mut [u32]) -> Stand
+    requires { ⌜ (length (now figures) ≡ entries) × (length (now settings) ≡ entries) ⌝ }
+    ensures { λ t. ⌜ Turned (panelOf r (now (figures .entry)) (now (settings .entry)) (deskAt desk)) (panelOf (t .railway) (now (figures .exit)) (now (settings .exit)) (deskAt (t .desk))) (t .bytes) (t .going) ⌝ }
+{
+    if desk_lines::is_change(line) {
+        return change_file(desk, line, r, figures, settings);
+    }
+    answer(desk, line, r, figures, settings)
+}
+
+// A report, or a line that is none.
 fn answer(desk: Desk, line: &[u8], r: Railway, figures: &[u32], settings: &[u32]) -> Stand
-    ensures { λ t. ⌜ Wrote (lineSaid r (now (figures .entry)) (now (settings .entry)) (deskAt desk) (now (line .entry))) (deskAt (t .desk)) (t .bytes) (t .going) ⌝ }
+    ensures { λ t. ⌜ Wrote (heardAt r (now (figures .entry)) (now (settings .entry)) (lineSaid r (now (figures .entry)) (now (settings .entry)) (deskAt desk) (now (line .entry)))) (panelOf (t .railway) (now (figures .entry)) (now (settings .entry)) (deskAt (t .desk))) (t .bytes) (t .going) ⌝ }
 {
     let mut out = [0u8; LINE];
-    let step = line_text(desk, line, r, figures, settings, &mut out);
-    write(step, &out)
+    let step = desk_texts::line_text(desk, line, r, figures, settings, &mut out);
+    write(r, step, &out)
+}
+
+// The state where a desk stands.
+fn tell(desk: Desk, r: Railway, figures: &[u32], settings: &[u32]) -> Stand
+    ensures { λ t. ⌜ Wrote (heardAt r (now (figures .entry)) (now (settings .entry)) (stateSaid r (now (figures .entry)) (now (settings .entry)) (deskAt desk))) (panelOf (t .railway) (now (figures .entry)) (now (settings .entry)) (deskAt (t .desk))) (t .bytes) (t .going) ⌝ }
+{
+    let mut out = [0u8; LINE];
+    let step = desk_texts::state_text(desk, r, figures, settings, &mut out);
+    write(r, step, &out)
 }
 
 // What was put, on standard output.
-fn write(step: Step, out: &[u8]) -> Stand
-    ensures { λ t. ⌜ (t .desk ≡ step .desk) × (t .bytes ≡ Option·getD (writtenCount (step .put)) 0) × (t .going ≡ step .going) ⌝ }
+fn write(r: Railway, step: Step, out: &[u8]) -> Stand
+    ensures { λ t. ⌜ (t .desk ≡ step .desk) × (t .bytes ≡ Option·getD (writtenCount (step .put)) 0) × (t .going ≡ step .going) × (t .railway ≡ r) ⌝ }
 {
     let desk = step.desk;
     let put = step.put;
     output::front(out, put);
     Stand {
+        railway: r,
         desk: desk,
         bytes: bytes_put(put),
         going: step.going,
@@ -195,123 +213,84 @@ fn bytes_put(put: Written) -> usize
     }
 }
 
-// THE TEXTS. What is put for the opening: a refusal, `none`, or the state at the start.
-pub fn open_text(r: Railway, figures: &[u32], settings: &[u32], out: &mut [u8]) -> Step
-    ensures { λ x. ⌜ SaidPost (openingSaid r (now (figures .entry)) (now (settings .entry))) (now (out .entry)) (deskAt (x .desk)) (x .put) (x .going) (now (out .exit)) ⌝ }
-{
-    let opened = Desk::open(r, figures, settings);
-    let answer = opened.answer;
-    let desk = opened.desk;
-    match answer {
-        OpenAnswer::Opened => state_text(desk, r, figures, settings, out),
-        OpenAnswer::NoFigure => Step {
-            desk: desk,
-            put: answerlines::none_line(out),
-            going: false,
-        },
-        OpenAnswer::Refused(f) => Step {
-            desk: desk,
-            put: answerlines::refusal_line(f, out),
-            going: false,
-        },
-    }
-}
-
-// What is put for a line that is handed in without its end: a refusal, or the state that the report leads to. A line that is no report is refused as one that does not count.
-pub fn line_text(
+// A CHANGE: the file that a line names is read, as the first case was.
+fn change_file(
     desk: Desk,
     line: &[u8],
     r: Railway,
-    figures: &[u32],
-    settings: &[u32],
-    out: &mut [u8],
-) -> Step
-    ensures { λ x. ⌜ SaidPost (lineSaid r (now (figures .entry)) (now (settings .entry)) (deskAt desk) (now (line .entry))) (now (out .entry)) (deskAt (x .desk)) (x .put) (x .going) (now (out .exit)) ⌝ }
+    figures: &mut [u32],
+    settings: &mut [u32],
+) -> Stand
+    requires { ⌜ (length (now figures) ≡ entries) × (length (now settings) ≡ entries) ⌝ }
+    ensures { λ t. ⌜ (isChange (now (line .entry)) ≡ true → Turned (panelOf r (now (figures .entry)) (now (settings .entry)) (deskAt desk)) (panelOf (t .railway) (now (figures .exit)) (now (settings .exit)) (deskAt (t .desk))) (t .bytes) (t .going)) ⌝ }
 {
-    match desk_lines::report_in(line) {
-        ReportLine::NoReport => Step {
-            desk: desk,
-            put: answerlines::refusal_line(Refusal::Report, out),
-            going: true,
-        },
-        ReportLine::Of(t, x) => report_text(
-            desk,
-            r,
-            figures,
-            settings,
-            desk_lines::place_of(t),
-            desk_lines::place_of(x),
-            out,
-        ),
-    }
+    let mut text = [0u8; CASE];
+    let file = open_named(line);
+    let came = io::read_full(file, &mut text);
+    libc::close(file);
+    change_text(desk, &text[..came], r, figures, settings)
 }
 
-// The same for a report.
-fn report_text(
+// The file's name stands behind the word and its tab.
+fn open_named(line: &[u8]) -> i32 {
+    let n = line.len();
+    if n < NAME {
+        return os::open_read(line);
+    }
+    os::open_read(&line[NAME..n])
+}
+
+// Its text: read, and solved in tables of its own. Of a text that is refused the reader hands out an empty record, for which nothing is solved.
+fn change_text(
     desk: Desk,
+    text: &[u8],
     r: Railway,
-    figures: &[u32],
-    settings: &[u32],
-    t: u8,
-    x: u8,
-    out: &mut [u8],
-) -> Step
-    ensures { λ y. ⌜ SaidPost (movedSaid r (now (figures .entry)) (now (settings .entry)) (deskAt desk) t x) (now (out .entry)) (deskAt (y .desk)) (y .put) (y .going) (now (out .exit)) ⌝ }
+    figures: &mut [u32],
+    settings: &mut [u32],
+) -> Stand
+    requires { ⌜ (length (now figures) ≡ entries) × (length (now settings) ≡ entries) ⌝ }
+    ensures { λ t. ⌜ NewCase (now (text .entry)) (panelOf r (now (figures .entry)) (now (settings .entry)) (deskAt desk)) (panelOf (t .railway) (now (figures .exit)) (now (settings .exit)) (deskAt (t .desk))) (t .bytes) (t .going) ⌝ }
 {
-    let reply = desk.report(r, figures, settings, t, x);
+    let mut next_figures = [0u32; ENTRIES];
+    let mut next_settings = [0u32; ENTRIES];
+    let read = reader::read_case(text);
+    let s = read.railway;
+    solver::solve(s, &mut next_figures, &mut next_settings);
+    let reply = desk.change(r, text, &next_figures, &next_settings);
     let answer = reply.answer;
     let next = reply.desk;
     match answer {
-        ReportAnswer::Counted => state_text(next, r, figures, settings, out),
-        ReportAnswer::Refused(f) => Step {
-            desk: next,
-            put: answerlines::refusal_line(f, out),
-            going: true,
-        },
+        ChangeAnswer::Changed => {
+            copy(&next_figures, figures);
+            copy(&next_settings, settings);
+            tell(next, s, figures, settings)
+        }
+        ChangeAnswer::Refused(f) => refuse(next, r, f),
     }
 }
 
-// What is put for the state where a desk stands.
-pub fn state_text(desk: Desk, r: Railway, figures: &[u32], settings: &[u32], out: &mut [u8]) -> Step
-    ensures { λ x. ⌜ SaidPost (stateSaid r (now (figures .entry)) (now (settings .entry)) (deskAt desk)) (now (out .entry)) (deskAt (x .desk)) (x .put) (x .going) (now (out .exit)) ⌝ }
+// A change that is refused: the case is the old one.
+fn refuse(desk: Desk, r: Railway, f: Refusal) -> Stand
+    ensures { λ t. ⌜ (t .railway ≡ r) × (t .desk ≡ desk) × (t .bytes ≡ length (refusalLine f)) × (t .going ≡ true) ⌝ }
 {
-    match desk.setting(r, figures, settings) {
-        SettingAnswer::Given(v) => given_text(desk, r, figures, v, out),
-        SettingAnswer::Refused(f) => Step {
-            desk: desk,
-            put: answerlines::refusal_line(f, out),
-            going: false,
-        },
-    }
-}
-
-// With the setting that it gives: `home`, or the line of the state, read off what the desk carries.
-fn given_text(desk: Desk, r: Railway, figures: &[u32], v: u32, out: &mut [u8]) -> Step
-    ensures { λ x. ⌜ (recordRefusal r ≡ none → SaidPost (givenSaid r (now (figures .entry)) (deskAt desk) v) (now (out .entry)) (deskAt (x .desk)) (x .put) (x .going) (now (out .exit))) ⌝ }
-{
-    let at = desk.at;
-    if desk.arrived == r.trains {
-        return Step {
-            desk: desk,
-            put: desk_lines::home_line(out),
-            going: false,
-        };
-    }
-    let n = tables::entry_at(figures, desk.code, NO_FIGURE);
-    Step {
+    Stand {
+        railway: r,
         desk: desk,
-        put: put_state(r.trains, r.points, at, n, v, out),
+        bytes: write_refusal(f),
         going: true,
     }
 }
 
-// The line of a state, made in a buffer with room for that of an accepted case.
-fn put_state(k: u8, m: u8, q: Placement, n: u32, v: u32, out: &mut [u8]) -> Written
-    ensures { λ w. ⌜ (k ≤ mostTrains → m ≤ mostPoints → PutPost (stateLine k m q n v) (now (out .entry)) w (now (out .exit))) ⌝ }
+// A table over another that is as long.
+fn copy(from: &[u32], to: &mut [u32])
+    requires { ⌜ length (now from) ≡ length (now to) ⌝ }
+    ensures { λ _. ⌜ now (to .exit) ≡ now (from .entry) ⌝ }
 {
-    let mut line = [0u8; LINE];
-    let end = desk_lines::state_line(&mut line, 0, k, m, q, n, v);
-    answerlines::put(&line[..end], out)
+    let mut i: usize = 0;
+    while i < to.len() {
+        to[i] = from[i];
+        i += 1;
+    }
 }
 
 // A LINE of standard input without its end, at the front of a lent buffer; what finds no room there is lost. It is read byte by byte, so that nothing behind it is waited for.

@@ -1,5 +1,6 @@
 -- The lines written out, by computation: two states, home, and what is a report and what is not. Assumes nothing.
 use mathlib.Core.Path.{_≡_, refl}
+use mathlib.Core.Bool.{Bool, true, false}
 use mathlib.Core.List.{[], _∷_}
 use mathlib.Core.Option.{none, some}
 use Prim.Native.Nat.{ℕ}
@@ -10,6 +11,7 @@ use Rattle.text.specs.Reading.{isDigit, byteAt, digitsAt, numberAt}
 use Rattle.placement.specs.declared.Placement.{Placement}
 use Rattle.desk_lines.specs.Panel.{stateLine, homeLine}
 use Rattle.desk_lines.specs.Reports.{reportAt, reportIn, placeOf}
+use Rattle.desk_lines.specs.Changes.{startsWith, isChange}
 
 abbrev on : ℕ → ℕ → Placement
 on a b = record { sections = a ∷ b ∷ 0 ∷ 0 ∷ [] }
@@ -34,3 +36,12 @@ reports = (refl, refl, refl, refl, refl, refl, refl, refl, refl)
 
 places : (placeOf 1 ≡ 0) × (placeOf 48 ≡ 47) × (placeOf 0 ≡ 255) × (placeOf 255 ≡ 254) × (placeOf 256 ≡ 255) × (placeOf 999 ≡ 255)
 places = (refl, refl, refl, refl, refl, refl)
+
+-- changes; another word, no tab, or 65 bytes are none
+abbrev change : String → Bool
+change s = isChange (bytes s)
+
+changes : (change "change\tnew.txt" ≡ true) × (change "change\t" ≡ true) × (change "change" ≡ false) × (change "Change\tnew.txt" ≡ false) × (change "change new.txt" ≡ false) × (change "1\t3" ≡ false)
+    × (change "change\t123456789012345678901234567890123456789012345678901234567" ≡ true) × (change "change\t1234567890123456789012345678901234567890123456789012345678" ≡ false)
+unfolding bytes isChange startsWith
+changes = (refl, refl, refl, refl, refl, refl, refl, refl)

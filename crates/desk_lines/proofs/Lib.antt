@@ -1,3 +1,4 @@
 pub mod Examples
 pub mod Spelling
 pub mod Reading
+pub mod Changing

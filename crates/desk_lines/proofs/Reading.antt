@@ -67,16 +67,16 @@ spelled-short s y w =
     rw (w .text) (simp length-append (omega (arith, digits-short 10 2 (y .train) (omega (arith, w .small-train)), digits-short 10 2 (y .section) (omega (arith, w .small-section)))))
 
 pub cut-reads : CutReads
-cut-reads s = elim (option? (reportIn s)) [
+cut-reads s n enough = elim (option? (reportIn s)) [
   | inr w ↦ same (spelled-short s (w .0) (reads-exactly s (w .0) .0 (w .1)))
-  | inl e ↦ elim (option? (reportIn (take 8 s))) [
+  | inl e ↦ elim (option? (reportIn (take n s))) [
     | inl f ↦ f ∙ sym e
-    | inr w ↦ same (let l = spelled-short (take 8 s) (w .0) (reads-exactly (take 8 s) (w .0) .0 (w .1)) in let m : length (take 8 s) ≡ min 8 (length s) = length-take 8 s in omega arith)
+    | inr w ↦ same (let l = spelled-short (take n s) (w .0) (reads-exactly (take n s) (w .0) .0 (w .1)) in let m : length (take n s) ≡ min n (length s) = length-take n s in omega arith)
   ]
 ]
   where
-    same : length s ≤ 7 → reportIn (take 8 s) ≡ reportIn s
-    same l = ap reportIn (take-all 8 s (omega arith))
+    same : length s ≤ 7 → reportIn (take n s) ≡ reportIn s
+    same l = ap reportIn (take-all n s (omega arith))
 
 -- AS CODE READS IT: a step that reads nothing, or the next one
 end-more : (s : List ℕ) (y : Told) (c : ℕ) → c < length s → bad ≡ endAt s y c

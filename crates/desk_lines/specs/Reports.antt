@@ -40,9 +40,9 @@ reportIn s = value (reportAt s)
 abbrev pub ReadsExactly : Type 0
 ReadsExactly = (s : List ℕ) (y : Told) → (reportIn s ≡ some y) ↔ Spells s y
 
--- So many bytes of a line decide: no report has more than seven.
+-- So many bytes of a line decide, and any more: no report has more than seven.
 abbrev pub CutReads : Type 0
-CutReads = (s : List ℕ) → reportIn (take 8 s) ≡ reportIn s
+CutReads = (s : List ℕ) (n : ℕ) → 7 < n → reportIn (take n s) ≡ reportIn s
 
 -- What was read, in code.
 abbrev pub reportRead : ReportLine → Option Told

@@ -1,11 +1,12 @@
 // The lines of program deskrun. What it writes for a state: where each train stands, and `open` behind those whose signal is to be opened; the figure that is left; how the points are
-// to lie. `home` stands for the last. What it reads: a report, train and section. All functions are total.
+// to lie. `home` stands for the last. What it reads: a report, train and section; or a change of case, with the name of a file. All functions are total.
 ghost use mathlib.Core.Path.{_≡_};
 ghost use Rattle.laws.specs.Below.{gatherBelow};
 ghost use Rattle.text.specs.Appending.{Appended};
 ghost use Rattle.answerlines.specs.Lines.{PutPost};
 ghost use Rattle.desk_lines.specs.Panel.{trainPiece, pointsPart, stateLine, homeLine};
 ghost use Rattle.desk_lines.specs.Reports.{placeOf, reportIn, reportRead};
+ghost use Rattle.desk_lines.specs.Changes.{startsWith, isChange};
 use casefile::Written;
 use placement::Placement;
 use placement::TRAIN_BITS;
@@ -20,8 +21,11 @@ use text::append;
 // Room enough for the line of a state, in a case that is accepted.
 pub const LINE: usize = 200;
 
-// So many bytes of a line, without its end, decide whether it is a report (`CutReads` in specs/Reports).
-pub const REPORT: usize = 8;
+// So many bytes of a line, without its end, decide whether it is a report or a change (`CutReads` in specs/Reports, `CutChanges` in specs/Changes).
+pub const INPUT: usize = 65;
+
+// In a change the name of the file stands behind so many bytes.
+pub const NAME: usize = 7;
 
 // A number that no train and no section has, counted from 0.
 const NOWHERE: u8 = 255;
@@ -117,4 +121,31 @@ pub fn place_of(n: u64) -> u8
         return NOWHERE;
     }
     (n - 1) as u8
+}
+
+// A change: the word, and in all no more bytes than a change may have. The line is handed in without its end.
+pub fn is_change(line: &[u8]) -> bool
+    ensures { λ b. ⌜ b ≡ isChange (now (line .entry)) ⌝ }
+{
+    if INPUT <= line.len() {
+        return false;
+    }
+    starts_with(line, b"change\t")
+}
+
+// A word at the front of a line.
+fn starts_with(line: &[u8], word: &[u8]) -> bool
+    ensures { λ b. ⌜ b ≡ startsWith (now (word .entry)) (now (line .entry)) ⌝ }
+{
+    let mut i: usize = 0;
+    while i < word.len() {
+        if line.len() <= i {
+            return false;
+        }
+        if line[i] != word[i] {
+            return false;
+        }
+        i += 1;
+    }
+    true
 }

@@ -20,7 +20,7 @@ use Rattle.railway.proofs.Ends.{index-one, index-below, index-end, numb
 use Rattle.railway.proofs.Bytes.{byte-past, byte-back, byte-of}
 use Rattle.railway.proofs.Lookups.{joined-there}
 use Rattle.railway.proofs.Accepted.{Accepted, accepted-facts, known-numbered, joined-link, joined-known, joined-back}
-use Rattle.railway.proofs.Refusals.{given-exactly, first-none, none-first, number-one, number-tells}
+use Rattle.railway.proofs.Refusals.{given-exactly, first-none, none-first, number-one, number-tells, rank-place}
 
 pub record-numbers : RecordNumbers
 unfolding recordRefusal
@@ -32,6 +32,7 @@ record-numbers =
       accepted = λ r.
           (λ e. first-none (recordRows r) (number-tells (recordRefusal r) none e), λ h. ap numberOf (none-first (recordRows r) h));
       one = number-one;
+      ranked = rank-place;
     }
 
 -- BYTES

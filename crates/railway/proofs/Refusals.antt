@@ -9,13 +9,14 @@ use mathlib.Core.List.{List, [], _∷_, _++_, List·Memᴰ, List·Memᴰ·head, 
 use mathlib.Core.Option.{Option, none, some}
 use Prim.Native.Nat.{ℕ, _≤_}
 use native.Mathlib.Omega.{arith}
+use lib.ListN.{getD}
 use Rattle.laws.specs.Below.{orElse}
 use Rattle.laws.specs.Lists.{Every}
 use Rattle.laws.proofs.Bools.{clash, some-none, some-one, not-true}
 use Rattle.laws.proofs.Lists.{every-none, every-more}
 use Rattle.railway.specs.declared.Refusal.{Refusal}
-use Rattle.railway.specs.declared.Refusal.the-variants.{Length, Form, Count, Weight, Unknown, Join, Loose, Chain, Double, Place, Space, PlanForm, PlanFault, Report, Log}
-use Rattle.railway.specs.Refusals.{number, Row, row, Applying, NotApplying, refuseIf, first, numberOf, FirstRow}
+use Rattle.railway.specs.declared.Refusal.the-variants.{Length, Form, Count, Weight, Unknown, Join, Loose, Chain, Double, Place, Mismatch, Space, PlanForm, PlanFault, Report, Stranded, Log}
+use Rattle.railway.specs.Refusals.{number, numbersInOrder, rank, Row, row, Applying, NotApplying, refuseIf, first, numberOf, FirstRow}
 
 first-step : (b : Bool) (x : Row) (xs : List Row) (f : Refusal) → x .applies ≡ b → refuseIf b (x .refusal) (first xs) ≡ some f
     → (first xs ≡ some f → FirstRow xs f) → FirstRow (x ∷ xs) f
@@ -101,8 +102,10 @@ byNumber n =
     (cond (eqb n 11) PlanFault
     (cond (eqb n 12) Report
     (cond (eqb n 13) Chain
+    (cond (eqb n 14) Mismatch
+    (cond (eqb n 15) Stranded
     (cond (eqb n 16) Weight
-    Log)))))))))))))
+    Log)))))))))))))))
 
 number-back : (f : Refusal) → byNumber (number f) ≡ f
 unfolding byNumber
@@ -119,6 +122,8 @@ number-back PlanForm = refl
 number-back PlanFault = refl
 number-back Report = refl
 number-back Chain = refl
+number-back Mismatch = refl
+number-back Stranded = refl
 number-back Weight = refl
 number-back Log = refl
 
@@ -141,6 +146,8 @@ between Space = (omega arith, omega arith)
 between PlanForm = (omega arith, omega arith)
 between PlanFault = (omega arith, omega arith)
 between Report = (omega arith, omega arith)
+between Mismatch = (omega arith, omega arith)
+between Stranded = (omega arith, omega arith)
 between Log = (omega arith, omega arith)
 
 pub number-tells : (a b : Option Refusal) → numberOf a ≡ numberOf b → a ≡ b
@@ -148,3 +155,23 @@ number-tells none none e = refl
 number-tells none (some g) e = some-none e refl
 number-tells (some f) none e = some-none refl e
 number-tells (some f) (some g) e = ap (λ (h : Refusal). some h) (number-one f g (some-one e))
+
+-- Each refusal's number stands at its rank.
+pub rank-place : (f : Refusal) → getD numbersInOrder (rank f) 0 ≡ number f
+rank-place Length = refl
+rank-place Form = refl
+rank-place Count = refl
+rank-place Weight = refl
+rank-place Unknown = refl
+rank-place Join = refl
+rank-place Loose = refl
+rank-place Chain = refl
+rank-place Double = refl
+rank-place Place = refl
+rank-place Mismatch = refl
+rank-place Space = refl
+rank-place PlanForm = refl
+rank-place PlanFault = refl
+rank-place Report = refl
+rank-place Stranded = refl
+rank-place Log = refl

@@ -20,10 +20,10 @@ use Rattle.railway.specs.declared.End.the-variants.{Section, Port}
 use Rattle.railway.specs.declared.Joined.the-variants.{Nothing, With}
 use Rattle.railway.specs.declared.Railway.{Railway}
 use Rattle.railway.specs.declared.Refusal.{Refusal}
-use Rattle.railway.specs.declared.Refusal.the-variants.{Count, Weight, Unknown, Join, Loose, Chain, Double, Place}
+use Rattle.railway.specs.declared.Refusal.the-variants.{Count, Weight, Unknown, Join, Loose, Chain, Double, Place, Space, Report}
 use Rattle.railway.specs.Ends.{Numbered, endIndex, endAt}
 use Rattle.railway.specs.Record.{isClosed, noLink, joinedBy, joined, legsOf, trainOf, weightOf, withLinks, withJoin, withSignal, withLegs, withTrain}
-use Rattle.railway.specs.Refusals.{number, Row, row, Applying, NotApplying, numberOf}
+use Rattle.railway.specs.Refusals.{number, numbersInOrder, rank, Row, row, Applying, NotApplying, numberOf}
 use Rattle.railway.specs.Rows.{known, weightRow, unknownRow, joinRow, looseRow, longer, chainRow, placeRow, recordRows, recordRefusal}
 use Rattle.railway.specs.Yards.{yardA, lineT}
 use Rattle.railway.specs.Same.{SameByte, SameButForNone}
@@ -60,6 +60,13 @@ eight-alone f e = record-numbers .one f Place (some-one (sym e ∙ eight))
 -- The number 5 tells Join.
 five-tells : (f : Refusal) → number f ≡ 5 → f ≡ Join
 five-tells f e = record-numbers .one f Join e
+
+-- What stands behind 12 in the order is 15, and before 9 stands 14.
+behind-twelve : (f : Refusal) → rank f ≡ suc (rank Report) → number f ≡ 15
+behind-twelve f e = sym (record-numbers .ranked f) ∙ ap (λ n. getD numbersInOrder n 0) e
+
+before-nine : (f : Refusal) → suc (rank f) ≡ rank Space → number f ≡ 14
+before-nine f e = let h : rank f ≡ 10 = omega (arith, e) in sym (record-numbers .ranked f) ∙ ap (λ n. getD numbersInOrder n 0) h
 
 -- To a record that gets 8 the row for places applies.
 other : (f : Refusal) (b : Bool) (xs : List Row) → (number f ≡ 8 → ⊥) → List·Memᴰ (row Place true) (row f b ∷ xs) → List·Memᴰ (row Place true) xs

@@ -14,7 +14,7 @@ use Rattle.railway.specs.declared.Refusal.{Refusal}
 use Rattle.railway.specs.Bounds.{allEnds}
 use Rattle.railway.specs.Ends.{Numbered, endIndex}
 use Rattle.railway.specs.Record.{noLink, joinedBy, joined}
-use Rattle.railway.specs.Refusals.{number, numberOf, NotApplying, FirstRow}
+use Rattle.railway.specs.Refusals.{number, numbersInOrder, rank, numberOf, NotApplying, FirstRow}
 use Rattle.railway.specs.Rows.{known, recordRows, recordRefusal}
 use Rattle.railway.specs.Same.{SameRailway, SameButForNone}
 
@@ -26,6 +26,8 @@ pub record RecordNumbers : Type 0 where
   pub accepted : (r : Railway) → (numberOf (recordRefusal r) ≡ none) ↔ Every NotApplying (recordRows r)
   -- no two refusals have one number
   pub one : (f g : Refusal) → number f ≡ number g → f ≡ g
+  -- where two cases are judged together, it goes by the place of each number in the order
+  pub ranked : (f : Refusal) → getD numbersInOrder (rank f) 0 ≡ number f
 
 -- BYTES FOR ENDS. Each end that a railway can have has a byte of its own, and comes back from it.
 pub record EndBytes : Type 0 where

@@ -1,4 +1,4 @@
--- The table of numbers (document 01, "Numbers that a desk can get"; 12, 13, 16 and 17: document 02, Q-1, Q-6, Q-12 and Q-13): the number of each refusal, and which row of several is given.
+-- The table of numbers (document 01, "Numbers that a desk can get"; 12 to 17: document 02, Q-1, Q-6, Q-11, Q-12 and Q-13): the number of each refusal, and which row of several is given.
 -- Assumes nothing.
 use mathlib.Core.Path.{_≡_}
 use mathlib.Core.Bool.{Bool, true, false}
@@ -7,7 +7,7 @@ use mathlib.Core.Option.{Option, none, some}
 use Prim.Native.Nat.{ℕ}
 use Rattle.laws.specs.Lists.{Every}
 use Rattle.railway.specs.declared.Refusal.{Refusal}
-use Rattle.railway.specs.declared.Refusal.the-variants.{Length, Form, Count, Weight, Unknown, Join, Loose, Chain, Double, Place, Space, PlanForm, PlanFault, Report, Log}
+use Rattle.railway.specs.declared.Refusal.the-variants.{Length, Form, Count, Weight, Unknown, Join, Loose, Chain, Double, Place, Mismatch, Space, PlanForm, PlanFault, Report, Stranded, Log}
 use Rattle.railway.specs.declared.CaseAnswer.{CaseAnswer}
 use Rattle.railway.specs.declared.CaseAnswer.the-variants.{Accepted, Refused}
 
@@ -26,8 +26,34 @@ number PlanForm = 10
 number PlanFault = 11
 number Report = 12
 number Chain = 13
+number Mismatch = 14
+number Stranded = 15
 number Weight = 16
 number Log = 17
+
+-- Their order: of several that apply, the one whose number stands first here is given.
+abbrev pub numbersInOrder : List ℕ
+numbersInOrder = 1 ∷ 2 ∷ 3 ∷ 16 ∷ 4 ∷ 5 ∷ 6 ∷ 13 ∷ 7 ∷ 8 ∷ 14 ∷ 9 ∷ 10 ∷ 11 ∷ 12 ∷ 15 ∷ 17 ∷ []
+
+-- Each one's place there (railway/Claims `ranked`).
+abbrev pub rank : Refusal → ℕ
+rank Length = 0
+rank Form = 1
+rank Count = 2
+rank Weight = 3
+rank Unknown = 4
+rank Join = 5
+rank Loose = 6
+rank Chain = 7
+rank Double = 8
+rank Place = 9
+rank Mismatch = 10
+rank Space = 11
+rank PlanForm = 12
+rank PlanFault = 13
+rank Report = 14
+rank Stranded = 15
+rank Log = 16
 
 -- The number that the answer to a case gives, if it is refused.
 abbrev pub numberGiven : CaseAnswer → Option ℕ

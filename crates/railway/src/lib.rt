@@ -8,7 +8,7 @@ ghost use Rattle.railway.specs.declared.Railway.{Railway};
 ghost use Rattle.railway.specs.Bounds.{fewestSections, fewestTrains, mostSections, mostPoints, mostTrains, leastWeight, mostWeight, sectionEnds, allEnds};
 ghost use Rattle.railway.specs.Ends.{opposite, sideIndex, legIndex, endIndex, sideAt, legAt, endAt, portSide};
 ghost use Rattle.railway.specs.Record.{noLink, noTrain, emptyRailway, joinedBy, linkAt, flagAt, joined, hasSignal, isClosed, legsOf, trainOf, sideOf, withJoin, withSignal, withLegs, withTrain, withClosed};
-ghost use Rattle.railway.specs.Refusals.{number};
+ghost use Rattle.railway.specs.Refusals.{number, rank};
 ghost use Rattle.railway.specs.Lent.{LinksOf, SignalsOf, ClosedOf};
 
 pub enum Side {
@@ -63,10 +63,12 @@ pub enum Refusal {
     Chain,
     Double,
     Place,
+    Mismatch,
     Space,
     PlanForm,
     PlanFault,
     Report,
+    Stranded,
     Log,
 }
 
@@ -325,8 +327,35 @@ impl Refusal {
             Refusal::PlanFault => 11,
             Refusal::Report => 12,
             Refusal::Chain => 13,
+            Refusal::Mismatch => 14,
+            Refusal::Stranded => 15,
             Refusal::Weight => 16,
             Refusal::Log => 17,
+        }
+    }
+
+    // Its place in the order in which numbers are given.
+    pub fn rank(self) -> u8
+        ensures { λ n. ⌜ n ≡ rank self ⌝ }
+    {
+        match self {
+            Refusal::Length => 0,
+            Refusal::Form => 1,
+            Refusal::Count => 2,
+            Refusal::Weight => 3,
+            Refusal::Unknown => 4,
+            Refusal::Join => 5,
+            Refusal::Loose => 6,
+            Refusal::Chain => 7,
+            Refusal::Double => 8,
+            Refusal::Place => 9,
+            Refusal::Mismatch => 10,
+            Refusal::Space => 11,
+            Refusal::PlanForm => 12,
+            Refusal::PlanFault => 13,
+            Refusal::Report => 14,
+            Refusal::Stranded => 15,
+            Refusal::Log => 16,
         }
     }
 }

@@ -23,7 +23,7 @@ write-requires c κs = search needs
 returns : tie.Need-returns
 returns c =
     let p = c .before .before .before in
-    wrote (p .line-text .ensures) (own-length _ _ refl) _ _ _ (ap deskAt (c .write .ensures .0)) (c .write .ensures .1) (c .write .ensures .2)
+    wrote (p .line-text .ensures) (own-length _ _ refl) _ _ _ _ _ _ _ (ap deskAt (c .write .ensures .0)) (c .write .ensures .1) (c .write .ensures .2) (c .write .ensures .3)
 
 pub answer-spec : {M : Type 1} → statement M
 answer-spec =

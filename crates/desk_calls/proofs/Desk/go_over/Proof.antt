@@ -1,0 +1,140 @@
+-- `desk_calls::Desk::go_over` meets its contract, row by row: another shape, tables too short, the desk's own row, no figure; else it goes over.
+-- Assumes nothing.
+use borrow.Author.Needs.{needs}
+use Rattle.desk_calls.proofs.Changing.{over-mismatch, over-short, over-stopped, over-stranded, over-made}
+use Rattle.desk_calls.proofs.Desk.go_over.Statement.{statement}
+use Rattle.desk_calls.proofs.Desk.go_over.Tie as tie
+
+compile-requires : tie.Need-compile-requires
+compile-requires c κs = search needs
+
+mismatched-requires : tie.Need-mismatched-requires
+mismatched-requires c κs = search needs
+
+unchanged-requires : tie.Need-unchanged-requires
+unchanged-requires c κs = search needs
+
+returns : tie.Need-returns
+returns c =
+    let i = c .before in
+    let m = i .before in
+    let k = m .before .before .before in
+    let g = k .before .before .before .args in
+    λ r h new.
+    over-mismatch r (g .s) (g .self) (g .figures .now) (g .settings .now) (h .accepted) _ (m .mismatched .ensures r (g .s) h (k .compile .ensures .accepted new)) (i .if1 .taken) _
+    (c .unchanged .ensures)
+
+open-case-requires : tie.Need-open-case-requires
+open-case-requires c κs = search needs
+
+enum-known-tested : tie.Need-enum-known-tested
+enum-known-tested c = search needs
+
+unchanged-requires-2 : tie.Need-unchanged-requires-2
+unchanged-requires-2 c κs = search needs
+
+enum-told : tie.Need-enum-told
+enum-told c = search needs
+
+stopped-requires : tie.Need-stopped-requires
+stopped-requires c κs = search needs
+
+unchanged-requires-3 : tie.Need-unchanged-requires-3
+unchanged-requires-3 c κs = search needs
+
+returns-2 : tie.Need-returns-2
+returns-2 c =
+    let j = c .before in
+    let s = j .before in
+    let t = s .before in
+    let o = t .before .before in
+    let i = o .before in
+    let m = i .before in
+    let k = m .before .before .before in
+    let g = k .before .before .before .args in
+    λ r h new.
+    over-stopped r (g .s) (g .self) (g .figures .now) (g .settings .now) (h .accepted) _ (m .mismatched .ensures r (g .s) h (k .compile .ensures .accepted new)) (i .if1 .left) new _
+    (o .open-case .ensures) (t .enum-told .given .1) _ (s .stopped .ensures r h) (j .if2 .taken) _ (c .unchanged3 .ensures)
+
+code-of-requires : tie.Need-code-of-requires
+code-of-requires c κs = search needs
+
+entry-at-requires : tie.Need-entry-at-requires
+entry-at-requires c κs = search needs
+
+unchanged-requires-4 : tie.Need-unchanged-requires-4
+unchanged-requires-4 c κs = search needs
+
+returns-3 : tie.Need-returns-3
+returns-3 c =
+    let l = c .before in
+    let v = l .before in
+    let p = v .before in
+    let j = p .before .before .before in
+    let s = j .before in
+    let t = s .before in
+    let o = t .before .before in
+    let i = o .before in
+    let m = i .before in
+    let k = m .before .before .before in
+    let g = k .before .before .before .args in
+    λ r h new.
+    over-stranded r (g .s) (g .self) (g .figures .now) (g .settings .now) (h .accepted) _ (m .mismatched .ensures r (g .s) h (k .compile .ensures .accepted new)) (i .if1 .left) new _
+    (o .open-case .ensures) (t .enum-told .given .1) _ (s .stopped .ensures r h) (j .if2 .left) _ _ (p .code-of .ensures (g .s) (k .compile .ensures .accepted new)) (v .entry-at .ensures)
+    (l .if3 .taken) _ (c .unchanged4 .ensures)
+
+desk-on-requires : tie.Need-desk-on-requires
+desk-on-requires c κs = search needs
+
+returns-4 : tie.Need-returns-4
+returns-4 c =
+    let t = c .before .before in
+    let o = t .before .before in
+    let i = o .before in
+    let m = i .before in
+    let k = m .before .before .before in
+    let g = k .before .before .before .args in
+    λ r h new.
+    over-short r (g .s) (g .self) (g .figures .now) (g .settings .now) (h .accepted) _ (m .mismatched .ensures r (g .s) h (k .compile .ensures .accepted new)) (i .if1 .left) new _
+    (o .open-case .ensures) _ (t .tested .given .1) _ (c .unchanged2 .ensures)
+
+returns-5 : tie.Need-returns-5
+returns-5 c =
+    let l = c .before .before in
+    let v = l .before in
+    let p = v .before in
+    let j = p .before .before .before in
+    let s = j .before in
+    let t = s .before in
+    let o = t .before .before in
+    let i = o .before in
+    let m = i .before in
+    let k = m .before .before .before in
+    let g = k .before .before .before .args in
+    λ r h new.
+    over-made r (g .s) (g .self) (g .figures .now) (g .settings .now) (h .accepted) _ (m .mismatched .ensures r (g .s) h (k .compile .ensures .accepted new)) (i .if1 .left) new _
+    (o .open-case .ensures) (t .enum-told .given .1) _ (s .stopped .ensures r h) (j .if2 .left) _ _ (p .code-of .ensures (g .s) (k .compile .ensures .accepted new)) (v .entry-at .ensures)
+    (l .if3 .left) _ (c .desk-on .ensures (g .s) (k .compile .ensures .accepted new))
+
+pub go-over-spec : {M : Type 1} → statement M
+go-over-spec =
+    tie.close
+    (tie.spec
+    compile-requires
+    mismatched-requires
+    unchanged-requires
+    returns
+    open-case-requires
+    enum-known-tested
+    unchanged-requires-2
+    enum-told
+    stopped-requires
+    unchanged-requires-3
+    returns-2
+    code-of-requires
+    entry-at-requires
+    unchanged-requires-4
+    returns-3
+    desk-on-requires
+    returns-4
+    returns-5)

@@ -1,0 +1,36 @@
+-- `desk_io::tell` meets its contract: what was put in a buffer with room for it is written out.
+-- Assumes nothing.
+use mathlib.Core.Path.{refl, ap}
+use Rattle.desk_calls.specs.Answers.{deskAt}
+use Rattle.desk_io.proofs.Following.{own-length}
+use Rattle.desk_io.proofs.Saying.{wrote}
+use borrow.Author.Needs.{needs}
+use Rattle.desk_io.proofs.tell.Statement.{statement}
+use Rattle.desk_io.proofs.tell.Tie as tie
+
+slice-aggregate-state-text : tie.Need-slice-aggregate-state-text
+slice-aggregate-state-text c = search needs
+
+state-text-requires : tie.Need-state-text-requires
+state-text-requires c κs = search needs
+
+slice-aggregate-write : tie.Need-slice-aggregate-write
+slice-aggregate-write c = search needs
+
+write-requires : tie.Need-write-requires
+write-requires c κs = search needs
+
+returns : tie.Need-returns
+returns c =
+    let p = c .before .before .before in
+    wrote (p .state-text .ensures) (own-length _ _ refl) _ _ _ _ _ _ _ (ap deskAt (c .write .ensures .0)) (c .write .ensures .1) (c .write .ensures .2) (c .write .ensures .3)
+
+pub tell-spec : {M : Type 1} → statement M
+tell-spec =
+    tie.close
+    (tie.spec
+    slice-aggregate-state-text
+    state-text-requires
+    slice-aggregate-write
+    write-requires
+    returns)

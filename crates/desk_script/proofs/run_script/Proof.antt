@@ -1,0 +1,30 @@
+-- `desk_script::run_script` meets its contract: by what the reader answers to the case text.
+-- Assumes nothing.
+use mathlib.Core.Path.{refl}
+use Rattle.reader.proofs.Answers.{by-refused, by-accepted}
+use borrow.Author.Needs.{needs}
+use Rattle.desk_script.proofs.run_script.Statement.{statement}
+use Rattle.desk_script.proofs.run_script.Tie as tie
+
+read-case-requires : tie.Need-read-case-requires
+read-case-requires c κs = search needs
+
+enum-told : tie.Need-enum-told
+enum-told c = search needs
+
+enum-told-2 : tie.Need-enum-told-2
+enum-told-2 c = search needs
+
+begin-requires : tie.Need-begin-requires
+begin-requires c κs = search needs
+
+returns : tie.Need-returns
+returns c = by-refused _ _ _ _ (c .before .before .read-case .ensures) _ (c .enum-told .given .1) refl
+
+returns-2 : tie.Need-returns-2
+returns-2 c = by-accepted _ _ _ _ (c .before .before .before .read-case .ensures) (c .before .enum-told2 .given .1) refl
+
+pub run-script-spec : {M : Type 1} → statement M
+run-script-spec =
+    tie.close
+    (tie.spec read-case-requires enum-told enum-told-2 begin-requires returns returns-2)

@@ -1,0 +1,45 @@
+-- `desk_texts::put_state` meets its contract: the line stands whole in a buffer of its own, and what is put from there is the line.
+-- Assumes nothing.
+use Rattle.text.proofs.Appending.{front-fits, front-cut}
+use Rattle.answerlines.proofs.Made.{made-put}
+use Rattle.desk_lines.proofs.Spelling.{state-short}
+use borrow.Author.Needs.{needs}
+use Rattle.desk_texts.proofs.put_state.Statement.{statement}
+use Rattle.desk_texts.proofs.put_state.Tie as tie
+
+slice-aggregate-state-line : tie.Need-slice-aggregate-state-line
+slice-aggregate-state-line c = search needs
+
+state-line-requires : tie.Need-state-line-requires
+state-line-requires c κs = search needs
+
+array-share-prefix-line : tie.Need-array-share-prefix-line
+array-share-prefix-line c = let p = c .before .state-line in front-fits (p .ensures) (p .kept .0)
+
+slice-aggregate-put : tie.Need-slice-aggregate-put
+slice-aggregate-put c = let p = c .before .before .state-line in front-cut (p .ensures) (p .kept .0)
+
+put-requires : tie.Need-put-requires
+put-requires c κs = search needs
+
+same-length : tie.Need-same-length
+same-length c = search needs
+
+returns : tie.Need-returns
+returns c =
+    let w = c .before .before in
+    let p = w .before .before .before .before in
+    let a = p .before .before .before .args in
+    λ trains points. made-put (p .state-line .ensures) (state-short (a .k) (a .m) (a .q) (a .n) (a .v) trains points) (w .put .ensures)
+
+pub put-state-spec : {M : Type 1} → statement M
+put-state-spec =
+    tie.close
+    (tie.spec
+    slice-aggregate-state-line
+    state-line-requires
+    array-share-prefix-line
+    slice-aggregate-put
+    put-requires
+    same-length
+    returns)
