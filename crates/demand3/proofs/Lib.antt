@@ -5,6 +5,8 @@ pub mod Searches
 pub mod SearchUses
 pub mod Desks
 pub mod DeskUses
+pub mod Runs
+pub mod RunUses
 pub mod Uses
 pub mod Logs
 pub mod LogUses

@@ -4,3 +4,4 @@ pub mod Moving
 pub mod Searches
 pub mod Desks
 pub mod Logs
+pub mod Runs

@@ -1,0 +1,59 @@
+-- `run_tables::fill` meets its contract. The loop's invariant: the rows below x are those of their sections. Assumes nothing.
+use borrow.Author.Needs.{needs}
+use native.Mathlib.Omega.{arith}
+use Prim.Native.Nat.{ℕ, _-_}
+use Rattle.railway.specs.declared.Railway.{Railway}
+use Rattle.railway.specs.Bounds.{mostSections}
+use Rattle.run_tables.specs.Filling.{Lent}
+use Rattle.run_tables.proofs.Steps.{TableTo, no-rows, one-row, all-rows}
+use Rattle.run_tables.proofs.fill.Statement.{statement}
+use Rattle.run_tables.proofs.fill.Tie as tie
+
+abbrev Inv-loop : tie.InvT-loop
+Inv-loop ways sections heading all₀ x₀ all x = (r : Railway) → Lent r ways sections → TableTo r heading x all
+
+abbrev μ-loop : tie.MeasureT-loop
+μ-loop ways sections heading all₀ x₀ all x = mostSections - x
+
+loop-holds : tie.Need-loop-holds Inv-loop μ-loop
+loop-holds c = λ r h. no-rows r _ _ _ (c .good .1 .1 .1 .0)
+
+cast-at : tie.Need-cast-at Inv-loop μ-loop
+cast-at c = search needs
+
+row-from-requires : tie.Need-row-from-requires Inv-loop μ-loop
+row-from-requires c κs = search needs
+
+mul-all : tie.Need-mul-all Inv-loop μ-loop
+mul-all c = search needs
+
+array-set-from-all : tie.Need-array-set-from-all Inv-loop μ-loop
+array-set-from-all c = search needs
+
+add-x : tie.Need-add-x Inv-loop μ-loop
+add-x c = search needs
+
+loop-less : tie.Need-loop-less Inv-loop μ-loop
+loop-less c = search needs
+
+loop-again : tie.Need-loop-again Inv-loop μ-loop
+loop-again c = λ r h. one-row r _ _ _ _ (c .before .loop-test .taken) (c .row-from .ensures r h) (c .before .before .loop .inv r h)
+
+returns : tie.Need-returns Inv-loop μ-loop
+returns c = λ r h. all-rows r _ _ _ (c .loop-test .left) (c .before .loop .inv r h)
+
+pub fill-spec : {M : Type 1} → statement M
+fill-spec =
+    tie.close
+    (tie.spec
+    Inv-loop
+    μ-loop
+    loop-holds
+    cast-at
+    row-from-requires
+    mul-all
+    array-set-from-all
+    add-x
+    loop-less
+    loop-again
+    returns)

@@ -1,0 +1,24 @@
+-- `runs_io::write_runs` meets its contract: its two buffers are as long as they have to be.
+-- Assumes nothing.
+use mathlib.Core.Path.{refl}
+use Rattle.runs_io.proofs.Shown.{own-length}
+use borrow.Author.Needs.{needs}
+use Rattle.runs_io.proofs.write_runs.Statement.{statement}
+use Rattle.runs_io.proofs.write_runs.Tie as tie
+
+slice-aggregate-runs-input : tie.Need-slice-aggregate-runs-input
+slice-aggregate-runs-input c = search needs
+
+slice-aggregate-runs-input-2 : tie.Need-slice-aggregate-runs-input-2
+slice-aggregate-runs-input-2 c = search needs
+
+runs-input-requires : tie.Need-runs-input-requires
+runs-input-requires c κs = (own-length _ _ refl, own-length _ _ refl)
+
+returns : tie.Need-returns
+returns c = search needs
+
+pub write-runs-spec : {M : Type 1} → statement M
+write-runs-spec =
+    tie.close
+    (tie.spec slice-aggregate-runs-input slice-aggregate-runs-input-2 runs-input-requires returns)

@@ -1,0 +1,54 @@
+-- `runwriter::railway_runs` meets its contract: the text stands whole in a buffer of the call's own, and what is put from there is the text. Assumes nothing.
+use native.Mathlib.Omega.{arith}
+use borrow.Author.Needs.{needs}
+use Rattle.text.proofs.Appending.{front-fits, front-cut}
+use Rattle.answerlines.proofs.Made.{made-put}
+use Rattle.game.proofs.Accepted.{facts}
+use lib.ListN.{getD}
+use Rattle.runwriter.proofs.Spelling.{text-short, railway-put}
+use Rattle.runwriter.proofs.railway_runs.Statement.{statement}
+use Rattle.runwriter.proofs.railway_runs.Tie as tie
+
+runs-of-requires : tie.Need-runs-of-requires
+runs-of-requires c κs = search needs
+
+slice-aggregate-spell-runs : tie.Need-slice-aggregate-spell-runs
+slice-aggregate-spell-runs c = search needs
+
+spell-runs-requires : tie.Need-spell-runs-requires
+spell-runs-requires c κs = let st = c .before .before .before in facts (st .args .r) (st .pre) .few-trains
+
+array-share-prefix-own : tie.Need-array-share-prefix-own
+array-share-prefix-own c = let p = c .before .spell-runs in front-fits (p .ensures) (p .kept .0)
+
+slice-aggregate-put : tie.Need-slice-aggregate-put
+slice-aggregate-put c = let p = c .before .before .spell-runs in front-cut (p .ensures) (p .kept .0)
+
+put-requires : tie.Need-put-requires
+put-requires c κs = search needs
+
+same-length : tie.Need-same-length
+same-length c = search needs
+
+returns : tie.Need-returns
+returns c =
+    let put = c .before .before in
+    let spelled = put .before .before .before .before in
+    let runs = spelled .before .before in
+    let st = runs .before .before in
+    let r = st .args .r in
+    railway-put r (st .pre) _ _ _ _ (runs .runs-of .ensures)
+    (made-put (spelled .spell-runs .ensures) (text-short (λ t. getD (runs .runs-of .result) t 0) (r .trains) (facts r (st .pre) .few-trains)) (put .put .ensures))
+
+pub railway-runs-spec : {M : Type 1} → statement M
+railway-runs-spec =
+    tie.close
+    (tie.spec
+    runs-of-requires
+    slice-aggregate-spell-runs
+    spell-runs-requires
+    array-share-prefix-own
+    slice-aggregate-put
+    put-requires
+    same-length
+    returns)

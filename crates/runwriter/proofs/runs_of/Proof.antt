@@ -1,0 +1,33 @@
+-- `runwriter::runs_of` meets its contract: the two answers hold the tables of the headings, for the record is accepted. Assumes nothing.
+use borrow.Author.Needs.{needs}
+use Rattle.runwriter.proofs.Reading.{trains-run}
+use Rattle.runwriter.proofs.runs_of.Statement.{statement}
+use Rattle.runwriter.proofs.runs_of.Tie as tie
+
+run-table-requires : tie.Need-run-table-requires
+run-table-requires c κs = search needs
+
+run-table-requires-2 : tie.Need-run-table-requires-2
+run-table-requires-2 c κs = search needs
+
+table-in-requires : tie.Need-table-in-requires
+table-in-requires c κs = search needs
+
+table-in-requires-2 : tie.Need-table-in-requires-2
+table-in-requires-2 c κs = search needs
+
+read-runs-requires : tie.Need-read-runs-requires
+read-runs-requires c κs = search needs
+
+returns : tie.Need-returns
+returns c =
+    let down = c .before in
+    let up = down .before in
+    let second = up .before .before .before in
+    let first = second .before in
+    let st = first .before in
+    trains-run (st .args .r) (st .pre) _ _ (first .run-table .result) (second .run-table2 .result) _ _ _ (first .run-table .ensures) (second .run-table2 .ensures) (up .table-in .ensures) (down .table-in2 .ensures) (c .read-runs .ensures)
+
+pub runs-of-spec : {M : Type 1} → statement M
+runs-of-spec =
+    tie.close (tie.spec run-table-requires run-table-requires-2 table-in-requires table-in-requires-2 read-runs-requires returns)
