@@ -10,3 +10,5 @@ pub mod RunUses
 pub mod Uses
 pub mod Logs
 pub mod LogUses
+pub mod Counts
+pub mod CountUses

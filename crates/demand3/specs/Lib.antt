@@ -5,3 +5,4 @@ pub mod Searches
 pub mod Desks
 pub mod Logs
 pub mod Runs
+pub mod Counts

@@ -1,0 +1,43 @@
+-- `count_io::refused_text` meets its contract: there is room for the line.
+-- Assumes nothing.
+use Rattle.count_io.proofs.Showing.{refused-whole, refused-never}
+use borrow.Author.Needs.{needs}
+use Rattle.count_io.proofs.refused_text.Statement.{statement}
+use Rattle.count_io.proofs.refused_text.Tie as tie
+
+refusal-line-requires : tie.Need-refusal-line-requires
+refusal-line-requires c κs = search needs
+
+enum-known-n : tie.Need-enum-known-n
+enum-known-n c = search needs
+
+enum-told : tie.Need-enum-told
+enum-told c = search needs
+
+same-length : tie.Need-same-length
+same-length c = search needs
+
+returns : tie.Need-returns
+returns c =
+    let p = c .before .before .before .before .before in
+    refused-whole (p .before .before .before .args .f) (p .refusal-line .ensures) _ (c .before .n .given .1)
+
+same-length-2 : tie.Need-same-length-2
+same-length-2 c = search needs
+
+returns-2 : tie.Need-returns-2
+returns-2 c =
+    let p = c .before .before .before .before in
+    refused-never (p .before .before .before .args .f) (p .refusal-line .ensures) (p .before .before .before .pre) _ (c .enum-told .given .1)
+
+pub refused-text-spec : {M : Type 1} → statement M
+refused-text-spec =
+    tie.close
+    (tie.spec
+    refusal-line-requires
+    enum-known-n
+    enum-told
+    same-length
+    returns
+    same-length-2
+    returns-2)

@@ -1,0 +1,29 @@
+-- `count_lines::put_named` meets its contract: the word, a tab, the number and the end of the line.
+-- Assumes nothing.
+use Rattle.count_lines.proofs.Spelling.{named-made}
+use borrow.Author.Needs.{needs}
+use Rattle.count_lines.proofs.put_named.Statement.{statement}
+use Rattle.count_lines.proofs.put_named.Tie as tie
+
+bytes-requires : tie.Need-bytes-requires
+bytes-requires c κs = search needs
+
+byte-requires : tie.Need-byte-requires
+byte-requires c κs = search needs
+
+number-requires : tie.Need-number-requires
+number-requires c κs = search needs
+
+same-length : tie.Need-same-length
+same-length c = search needs
+
+returns : tie.Need-returns
+returns c =
+    let n = c .before .before in
+    let t = n .before .before .before .before in
+    let w = t .before .before .before .before in
+    named-made _ (w .before .before .before .before .args .n) (w .bytes .ensures) (t .byte .ensures) (n .number .ensures)
+
+pub put-named-spec : {M : Type 1} → statement M
+put-named-spec =
+    tie.close (tie.spec bytes-requires byte-requires number-requires same-length returns)

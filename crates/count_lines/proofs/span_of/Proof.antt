@@ -1,0 +1,18 @@
+-- `count_lines::span_of` meets its contract: by the largest figure, or by 254.
+-- Assumes nothing.
+use Rattle.count_lines.proofs.Spelling.{span-small, span-large}
+use borrow.Author.Needs.{needs}
+use Rattle.count_lines.proofs.span_of.Statement.{statement}
+use Rattle.count_lines.proofs.span_of.Tie as tie
+
+cast-result : tie.Need-cast-result
+cast-result c = search needs
+
+returns : tie.Need-returns
+returns c = span-small _ (c .if1 .taken)
+
+returns-2 : tie.Need-returns-2
+returns-2 c = span-large _ (c .if1 .left)
+
+pub span-of-spec : {M : Type 1} → statement M
+span-of-spec = tie.close (tie.spec cast-result returns returns-2)

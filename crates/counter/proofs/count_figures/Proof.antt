@@ -1,0 +1,52 @@
+-- `counter::count_figures` meets its contract: the test of the record comes first, and what it refuses is refused; an accepted record has s to the power k placements.
+-- Assumes nothing.
+use borrow.Author.Needs.{needs}
+use Rattle.acceptance.proofs.Answers.{judged-accepted}
+use Rattle.counter.proofs.Tallying.{record-due, stride-placements}
+use Rattle.counter.proofs.count_figures.Statement.{statement}
+use Rattle.counter.proofs.count_figures.Tie as tie
+
+test-record-requires : tie.Need-test-record-requires
+test-record-requires c κs = search needs
+
+enum-known-tested : tie.Need-enum-known-tested
+enum-known-tested c = search needs
+
+refused-requires : tie.Need-refused-requires
+refused-requires c κs = search needs
+
+enum-told : tie.Need-enum-told
+enum-told c = search needs
+
+power-requires : tie.Need-power-requires
+power-requires c κs = search needs
+
+counted-requires : tie.Need-counted-requires
+counted-requires c κs = search needs
+
+returns : tie.Need-returns
+returns c =
+    let told = c .before .before in
+    let test = told .before .before in
+    c .refused .ensures (test .before .before .args .r) _ (record-due (test .before .before .args .r) _ _ (test .test-record .ensures) _ (told .tested .given .1))
+
+returns-2 : tie.Need-returns-2
+returns-2 c =
+    let told = c .before .before in
+    let test = told .before .before in
+    let r = test .before .before .args .r in
+    let acc = judged-accepted r (test .test-record .ensures) (told .enum-told .given .1) in
+    c .counted .ensures r acc (stride-placements r acc _ (c .before .power .ensures))
+
+pub count-figures-spec : {M : Type 1} → statement M
+count-figures-spec =
+    tie.close
+    (tie.spec
+    test-record-requires
+    enum-known-tested
+    refused-requires
+    enum-told
+    power-requires
+    counted-requires
+    returns
+    returns-2)

@@ -1,0 +1,66 @@
+-- `counter::tally` meets its contract: from entry to entry the counts are those of the entries before.
+-- Assumes nothing.
+use mathlib.Core.Path.{refl}
+use Prim.Native.Nat.{_-_}
+use native.Mathlib.Omega.{arith}
+use borrow.Author.Needs.{needs}
+use Rattle.counter.proofs.Tallying.{class-there, Tallied, tally-start, tally-most, tally-next, tally-all}
+use Rattle.counter.proofs.tally.Statement.{statement}
+use Rattle.counter.proofs.tally.Tie as tie
+
+abbrev Inv-loop : tie.InvT-loop
+Inv-loop figures n counts₀ p₀ counts p = Tallied figures n p counts
+
+abbrev μ-loop : tie.MeasureT-loop
+μ-loop figures n counts₀ p₀ counts p = n - p
+
+loop-holds : tie.Need-loop-holds Inv-loop μ-loop
+loop-holds c = tally-start _ _ _ refl
+
+entry-at-requires : tie.Need-entry-at-requires Inv-loop μ-loop
+entry-at-requires c κs = search needs
+
+class-of-requires : tie.Need-class-of-requires Inv-loop μ-loop
+class-of-requires c κs = search needs
+
+mul-counts : tie.Need-mul-counts Inv-loop μ-loop
+mul-counts c = omega (arith, class-there (c .before .entry-at .result) _ (c .class-of .ensures))
+
+array-read-counts : tie.Need-array-read-counts Inv-loop μ-loop
+array-read-counts c = omega (arith, class-there (c .before .entry-at .result) _ (c .class-of .ensures), c .before .before .before .loop .inv .sized)
+
+add-counts : tie.Need-add-counts Inv-loop μ-loop
+add-counts c = omega (arith, tally-most (c .before .before .before .loop .inv) _ (class-there (c .before .entry-at .result) _ (c .class-of .ensures)), c .before .before .loop-test .taken)
+
+array-write-counts : tie.Need-array-write-counts Inv-loop μ-loop
+array-write-counts c = omega (arith, class-there (c .before .entry-at .result) _ (c .class-of .ensures), c .before .before .before .loop .inv .sized)
+
+add-p : tie.Need-add-p Inv-loop μ-loop
+add-p c = search needs
+
+loop-less : tie.Need-loop-less Inv-loop μ-loop
+loop-less c = omega (arith, c .before .before .loop-test .taken)
+
+loop-again : tie.Need-loop-again Inv-loop μ-loop
+loop-again c = tally-next (c .before .before .before .loop .inv) (c .before .before .loop-test .taken) _ _ (c .before .entry-at .ensures) (c .class-of .ensures)
+
+returns : tie.Need-returns Inv-loop μ-loop
+returns c = tally-all (c .before .loop .inv) (c .loop-test .left)
+
+pub tally-spec : {M : Type 1} → statement M
+tally-spec =
+    tie.close
+    (tie.spec
+    Inv-loop
+    μ-loop
+    loop-holds
+    entry-at-requires
+    class-of-requires
+    mul-counts
+    array-read-counts
+    add-counts
+    array-write-counts
+    add-p
+    loop-less
+    loop-again
+    returns)

@@ -1,0 +1,150 @@
+// How many placements have each figure, for case texts. Standard input is records (crate framed), a case text each; it is solved, and the figure table that the solver left is counted: a line
+// for each figure up to 254 that some placement has, with their number, then one for the greater figures and one for none; or the number of the refusal. Behind them come records and
+// tables that no case text gives.
+use counts::CountAnswer;
+use counts::CountReply;
+use libc::STDOUT_FILENO;
+use railway::CaseAnswer;
+use railway::End;
+use railway::Leg;
+use railway::PointNo;
+use railway::Railway;
+use railway::Refusal;
+use railway::SectionNo;
+use railway::Side;
+use railway::Train;
+use tables::ENTRIES;
+use tables::NO_FIGURE;
+
+fn main() {
+    let mut turns: u64 = 0;
+    while turns < 18446744073709551615 {
+        if one() {
+            turns += 1;
+        } else {
+            own_records();
+            return;
+        }
+    }
+}
+
+// One record; answers whether there was one.
+fn one() -> bool {
+    let mut space = io::large_buffer();
+    let record = framed::next_record(&mut space);
+    let n = record.bytes;
+    let reading = record.reading;
+    if framed::is_whole(reading) {
+        show(&space[..n]);
+        return true;
+    }
+    false
+}
+
+fn show(case: &[u8]) {
+    let read = reader::read_case(case);
+    let answer = read.answer;
+    match answer {
+        CaseAnswer::Refused(f) => refused(f),
+        CaseAnswer::Accepted => solved(read.railway),
+    }
+}
+
+// The solver's table; where the solver refuses, counting does so too, for the same reason.
+fn solved(r: Railway) {
+    let mut figures = [0u32; ENTRIES];
+    let mut settings = [0u32; ENTRIES];
+    solver::solve(r, &mut figures, &mut settings);
+    tell(counter::count_figures(r, &figures));
+}
+
+// Three placements, with figures about the last that is counted for itself, and two entries past the last code; tables that are too short; a round of two points gets 13 and a weight of 0
+// gets 16, whatever the length of the table, and with both it is 16.
+fn own_records() {
+    let plain = record_of(0, 1);
+    let round = record_of(2, 1);
+    let entries = [254u32, 255, NO_FIGURE, 0, 254];
+    tell(counter::count_figures(plain, &entries));
+    tell(counter::count_figures(plain, &entries[..3]));
+    tell(counter::count_figures(plain, &entries[..2]));
+    tell(counter::count_figures(plain, &entries[..0]));
+    tell(counter::count_figures(round, &entries));
+    tell(counter::count_figures(round, &entries[..2]));
+    tell(counter::count_figures(record_of(0, 0), &entries));
+    tell(counter::count_figures(record_of(0, 0), &entries[..0]));
+    tell(counter::count_figures(record_of(2, 0), &entries));
+    tell(counter::count_figures(Railway::empty(), &entries[..0]));
+}
+
+// Three sections that nothing joins, and a train with a weight; two points, if there are any, in a round.
+fn record_of(points: u8, weight: u8) -> Railway {
+    let mut r = Railway::empty();
+    r.sections = 3;
+    r.points = points;
+    r.trains = 1;
+    let train = Train {
+        heading: Side::Up,
+        start: SectionNo(0),
+        destination: SectionNo(2),
+        weight: weight,
+    };
+    let t = r.with_train(0, train);
+    if points == 0 {
+        return t;
+    }
+    let legs = t.with_legs(PointNo(1), Side::Down);
+    let stems = legs.with_join(
+        End::Port(PointNo(0), Leg::Stem),
+        End::Port(PointNo(1), Leg::Stem),
+    );
+    let pluses = stems.with_join(
+        End::Port(PointNo(0), Leg::Plus),
+        End::Port(PointNo(1), Leg::Plus),
+    );
+    pluses.with_join(
+        End::Port(PointNo(0), Leg::Minus),
+        End::Port(PointNo(1), Leg::Minus),
+    )
+}
+
+fn tell(x: CountReply) {
+    let answer = x.answer;
+    let counts = x.counts;
+    match answer {
+        CountAnswer::Refused(f) => refused(f),
+        CountAnswer::Counted => lines(&counts),
+    }
+}
+
+fn lines(counts: &[u32]) {
+    io::write_all(STDOUT_FILENO, b"case\n");
+    each(counts);
+    io::write_all(STDOUT_FILENO, b"more\t");
+    number(tables::entry_at(counts, 255, 0));
+    io::write_all(STDOUT_FILENO, b"none\t");
+    number(tables::entry_at(counts, 256, 0));
+}
+
+// The figures that have a count of their own, and that some placement has.
+fn each(counts: &[u32]) {
+    let mut i: u32 = 0;
+    while i < 255 {
+        let n = tables::entry_at(counts, i, 0);
+        if n != 0 {
+            io::print_decimal(STDOUT_FILENO, i as u64);
+            io::write_all(STDOUT_FILENO, b"\t");
+            number(n);
+        }
+        i += 1;
+    }
+}
+
+fn refused(f: Refusal) {
+    io::write_all(STDOUT_FILENO, b"refused\t");
+    number(f.number() as u32);
+}
+
+fn number(n: u32) {
+    io::print_decimal(STDOUT_FILENO, n as u64);
+    io::write_all(STDOUT_FILENO, b"\n");
+}
