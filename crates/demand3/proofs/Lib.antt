@@ -12,3 +12,5 @@ pub mod Logs
 pub mod LogUses
 pub mod Counts
 pub mod CountUses
+pub mod Thins
+pub mod ThinUses

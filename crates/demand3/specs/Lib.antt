@@ -6,3 +6,4 @@ pub mod Desks
 pub mod Logs
 pub mod Runs
 pub mod Counts
+pub mod Thins

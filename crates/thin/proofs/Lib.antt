@@ -1,0 +1,8 @@
+pub mod Examples
+pub mod Law
+pub mod Bits
+pub mod Placement
+pub mod Tables
+pub mod Claims
+pub mod Calls
+pub mod Uses

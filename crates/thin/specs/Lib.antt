@@ -1,0 +1,4 @@
+pub mod Law
+pub mod Thinning
+pub mod Claims
+pub mod Calls

@@ -1,0 +1,170 @@
+// Plans thinned. Standard input is records (crate framed), two for each: a case text and a plan's. For each the answer of the call, and the tables as it leaves them, a line for each listed
+// code: code, figure, setting; or the refusal of the first line that is refused. Behind them calls on records and tables that the program makes.
+use checker::Checker;
+use libc::STDOUT_FILENO;
+use railway::CaseAnswer;
+use railway::Railway;
+use tables::ENTRIES;
+use tables::NO_FIGURE;
+use thin::ThinAnswer;
+
+fn main() {
+    let mut turns: u64 = 0;
+    while turns < 18446744073709551615 {
+        if one() {
+            turns += 1;
+        } else {
+            own_calls();
+            return;
+        }
+    }
+}
+
+// One pair of records; answers whether there was one.
+fn one() -> bool {
+    let mut space = io::large_buffer();
+    let record = framed::next_record(&mut space);
+    let n = record.bytes;
+    let reading = record.reading;
+    if framed::is_whole(reading) {
+        return plan_of(&space[..n]);
+    }
+    false
+}
+
+// The plan's record behind the case's.
+fn plan_of(case: &[u8]) -> bool {
+    let mut space = io::large_buffer();
+    let record = framed::next_record(&mut space);
+    let n = record.bytes;
+    let reading = record.reading;
+    if framed::is_whole(reading) {
+        show(case, &space[..n]);
+        return true;
+    }
+    io::write_all(STDOUT_FILENO, b"no plan\n");
+    false
+}
+
+fn show(case: &[u8], plan: &[u8]) {
+    let read = reader::read_case(case);
+    let answer = read.answer;
+    match answer {
+        CaseAnswer::Refused(f) => {
+            let mut line = [0u8; output::LINE];
+            output::refusal(f, &mut line);
+        }
+        CaseAnswer::Accepted => own_tables(read.railway, plan),
+    }
+}
+
+// The plan is entered into tables of the call's own.
+fn own_tables(r: Railway, plan: &[u8]) {
+    let mut figures = [0u32; ENTRIES];
+    let mut settings = [0u32; ENTRIES];
+    let fresh = Checker::fresh(r, &mut figures, &mut settings);
+    let checker = fresh.checker;
+    run(checker, r, plan, &mut figures, &mut settings);
+}
+
+// Its lines taken, and then thinned; a line that is refused ends it.
+fn run(
+    start: Checker,
+    r: Railway,
+    plan: &[u8],
+    figures: &mut [u32],
+    settings: &mut [u32],
+) -> Checker {
+    let gone = verdict::go_on(start, r, plan, figures, settings);
+    let n = gone.bytes;
+    let checker = gone.checker;
+    if n < plan.len() {
+        let answer = verdict::finish(checker, r, &plan[n..], figures, settings);
+        let mut line = [0u8; output::LINE];
+        output::test_answer(answer, &mut line);
+        return checker;
+    }
+    thinned(checker, r, figures, settings)
+}
+
+// The call, what it answers and what it leaves.
+fn thinned(checker: Checker, r: Railway, figures: &[u32], settings: &mut [u32]) -> Checker {
+    let reply = thinner::thin(checker, r, figures, settings);
+    let answer = reply.answer;
+    match answer {
+        ThinAnswer::Thinned => {
+            io::write_all(STDOUT_FILENO, b"thinned\n");
+        }
+        ThinAnswer::Refused(f) => {
+            let mut line = [0u8; output::LINE];
+            output::refusal(f, &mut line);
+        }
+    }
+    entries(r, figures, settings);
+    reply.checker
+}
+
+// Every code whose figure is not none; of a record that is refused, which has no codes, 0 alone.
+fn entries(r: Railway, figures: &[u32], settings: &[u32]) {
+    let c = compiled::compile(r);
+    let table = c.table;
+    let m = moves::placements(&table);
+    let mut p: u32 = 0;
+    while p < m {
+        let n = tables::entry_at(figures, p, NO_FIGURE);
+        if n < NO_FIGURE {
+            entry(p, n, tables::entry_at(settings, p, 0));
+        }
+        p += 1;
+    }
+}
+
+fn entry(p: u32, figure: u32, setting: u32) {
+    io::print_decimal(STDOUT_FILENO, p as u64);
+    io::write_all(STDOUT_FILENO, b"\t");
+    io::print_decimal(STDOUT_FILENO, figure as u64);
+    io::write_all(STDOUT_FILENO, b"\t");
+    io::print_decimal(STDOUT_FILENO, setting as u64);
+    io::write_all(STDOUT_FILENO, b"\n");
+}
+
+// OWN CALLS. A record that breaks a row, and two sidings with a signal each.
+fn own_calls() {
+    io::write_all(STDOUT_FILENO, b"own calls\n");
+    short_tables(Railway::empty());
+    let read = reader::read_case(
+        b"H\t4\t0\t2\nJ\t1u\t2d\nJ\t3u\t4d\nG\t1u\nG\t3u\nT\t1\tu\t1\t2\nT\t2\tu\t3\t4\n",
+    );
+    let r = read.railway;
+    short_tables(r);
+    on_and_on(r);
+}
+
+// Tables that are one entry too short for the sidings, and hold what no checker has entered.
+fn short_tables(r: Railway) {
+    let figures = [1u32; 15];
+    let mut settings = [983041u32; 15];
+    let mut other_figures = [0u32; 15];
+    let mut other_settings = [0u32; 15];
+    let fresh = Checker::fresh(r, &mut other_figures, &mut other_settings);
+    let checker = fresh.checker;
+    thinned(checker, r, &figures, &mut settings);
+}
+
+// No line yet; a plan that opens both trains; the same thinned again; a line more, with which it fails, and stays as it is; and a line that does not rise.
+fn on_and_on(r: Railway) {
+    let mut figures = [7u32; 18];
+    let mut settings = [7u32; 18];
+    let fresh = Checker::fresh(r, &mut figures, &mut settings);
+    let none = run(fresh.checker, r, b"", &mut figures, &mut settings);
+    let once = run(
+        none,
+        r,
+        b"plan\t2\n1\t3\t2\t12\t.\n2\t3\t1\t2\t.\n1\t4\t1\t1\t.\n2\t4\t0\t0\t.\n",
+        &mut figures,
+        &mut settings,
+    );
+    let twice = run(once, r, b"", &mut figures, &mut settings);
+    let more = run(twice, r, b"3\t4\t5\t0\t.\n", &mut figures, &mut settings);
+    run(more, r, b"3\t4\t5\t0\t.\n", &mut figures, &mut settings);
+}

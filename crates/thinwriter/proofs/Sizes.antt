@@ -1,0 +1,90 @@
+-- How long the lines of a plan are together: each is the spelling of a line that fits the case, so it has 45 bytes at most; and there is a first line
+-- and at most one for each placement, of which there are no more than entries. Assumes nothing.
+use mathlib.Core.Path.{_≡_, refl, _∙_, ap}
+use mathlib.Core.Logic.{inl, inr}
+use mathlib.Core.Bool.{Bool, true}
+use mathlib.Core.List.{List, [], _∷_, map, flatten}
+use mathlib.Core.Option.{none}
+use Prim.Native.Nat.{ℕ, suc, _*_, _≤_, _<_}
+use native.Mathlib.Omega.{arith}
+use lib.ListN.{length, getD, length-append, length-map}
+use lib.Dec.{leb, ltb, eqb}
+use borrow.Author.Tests.{le-leb, leb-true, lt-ltb, eq-eqb}
+use Rattle.laws.specs.Below.{whichBelow}
+use Rattle.laws.specs.Lists.{all}
+use Rattle.laws.proofs.Bools.{lt?, and-true, and-both, some-none}
+use Rattle.laws.proofs.Which.{which-length, all-which}
+use Rattle.railway.specs.declared.Railway.{Railway}
+use Rattle.railway.specs.Rows.{recordRefusal}
+use Rattle.game.specs.Placement.{placements, startCode}
+use Rattle.game.proofs.Accepted.{facts}
+use Rattle.game.proofs.Moves.{start-below}
+use Rattle.tables.specs.Tables.{noFigure, figureIn}
+use Rattle.tables.proofs.Refusals.{case-none}
+use Rattle.plan.specs.Lines.{PlacementLine, PlanLine, placementLine, spell, fits, mostLineBytes}
+use Rattle.plan.specs.Text.{hasFigure, lineFor, planLines, planTexts, planText}
+use Rattle.plan.proofs.Lengths.{lines-short}
+use Rattle.plan.proofs.Plan.{line-fits}
+use Rattle.planwriter.specs.Written.{textBytes}
+use Rattle.thinwriter.specs.Listable.{Listable}
+
+-- A LINE has 45 bytes at most
+abbrev sized : List ℕ → Bool
+sized l = leb (length l) mostLineBytes
+
+all-sized : (r : Railway) → recordRefusal r ≡ none → (ls : List PlanLine) → all (fits r) ls ≡ true → all sized (map spell ls) ≡ true
+unfolding all
+all-sized r accepted [] e = refl
+all-sized r accepted (l ∷ ls) e =
+    let h = and-true (fits r l) (all (fits r) ls) e in
+    and-both (sized (spell l)) (all sized (map spell ls)) (le-leb (length (spell l)) mostLineBytes (lines-short r accepted l (h .0))) (all-sized r accepted ls (h .1))
+
+sum-sized : (ls : List (List ℕ)) → all sized ls ≡ true → length (flatten ls) ≤ length ls * mostLineBytes
+unfolding all flatten
+sum-sized [] e = omega arith
+sum-sized (l ∷ ls) e =
+    let h = and-true (sized l) (all sized ls) e in
+    rw (length-append l (flatten ls)) (omega (arith, leb-true (length l) mostLineBytes (h .0), sum-sized ls (h .1)))
+
+map-twice : {A B : Type 0} (f : A → B) (g : ℕ → A) (xs : List ℕ) → map f (map g xs) ≡ map (λ x. f (g x)) xs
+map-twice f g [] = refl
+map-twice f g (x ∷ xs) = ap (λ (l : List _). f (g x) ∷ l) (map-twice f g xs)
+
+-- THE PLAN
+module _ (r : Railway) (figs sets : List ℕ) (s : Listable r figs sets) where
+  abbrev accepted : recordRefusal r ≡ none
+  accepted = case-none r figs sets .0 (s .unrefused) .0
+
+  start-fits : getD figs (startCode r) noFigure < noFigure
+  start-fits = elim (lt? (getD figs (startCode r) noFigure) noFigure) [
+    | inl l ↦ l
+    | inr l ↦
+        let e : getD figs (startCode r) noFigure ≡ noFigure = omega (arith, l, s .bounded (startCode r) (start-below r (facts r accepted))) in
+        let z : figureIn figs (startCode r) ≡ none = (let b : eqb (getD figs (startCode r) noFigure) noFigure ≡ true = eq-eqb (getD figs (startCode r) noFigure) noFigure e in rw b refl) in
+        some-none (s .start) z
+  ]
+
+  pub plan-fits : all (fits r) (planLines r figs sets) ≡ true
+  unfolding planLines all fits
+  plan-fits =
+      and-both (ltb (getD figs (startCode r) noFigure) noFigure) _ (lt-ltb (getD figs (startCode r) noFigure) noFigure start-fits)
+      (ap (all (fits r)) (map-twice placementLine (lineFor r figs sets) (whichBelow (hasFigure figs) (placements r)))
+      ∙ all-which (fits r) (λ p. placementLine (lineFor r figs sets p)) (hasFigure figs) (placements r) (λ p l. line-fits r accepted figs sets p (s .bounded p l)))
+
+  plan-sized : all sized (planTexts r figs sets) ≡ true
+  unfolding planTexts
+  plan-sized =
+      all-sized r accepted (planLines r figs sets) plan-fits
+
+  plan-count : length (planTexts r figs sets) ≤ suc (placements r)
+  unfolding planTexts planLines
+  plan-count =
+      let codes : List ℕ = whichBelow (hasFigure figs) (placements r) in
+      let ds : List PlacementLine = map (lineFor r figs sets) codes in
+      omega (arith, length-map (map placementLine ds) spell, length-map ds placementLine, length-map codes (lineFor r figs sets), which-length (hasFigure figs) (placements r))
+
+  -- the placements of a case that is not refused are no more than the entries
+  pub plan-short : length (planText r figs sets) ≤ textBytes
+  plan-short =
+      let few : placements r ≤ length figs = case-none r figs sets .0 (s .unrefused) .1 .figures in
+      omega (arith, sum-sized (planTexts r figs sets) plan-sized, plan-count, few, s .long)

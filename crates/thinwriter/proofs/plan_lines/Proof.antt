@@ -1,0 +1,86 @@
+-- `thinwriter::plan_lines` meets its contract: there is room for all lines, so one call gives them, and no answer but a line can come.
+-- Assumes nothing.
+use mathlib.Core.Path.{_≡_, ap}
+use mathlib.Core.Bool.{false}
+use denote.Ref.{now}
+use Rattle.plan.specs.Emitter.{isLine}
+use Rattle.thinwriter.proofs.Whole.{at-once, no-other}
+use borrow.Author.Needs.{needs}
+use Rattle.thinwriter.proofs.plan_lines.Statement.{statement}
+use Rattle.thinwriter.proofs.plan_lines.Tie as tie
+
+-- the emitter's call, from behind it, and what was lent
+abbrev emitted : tie.After-slice-known2 → tie.After-emit-lines
+emitted c = c .before .before
+
+abbrev start : tie.After-emit-lines → tie.Start
+start e = e .before .before .before .before .before
+
+-- the answer is a line
+other : (c : tie.After-slice-known2) → isLine (emitted c .emit-lines .result) ≡ false → {A : Type 0} → A
+other c no-line =
+    let e = emitted c in
+    let st = start e in
+    let a = st .args in
+    no-other (a .r) (now (a .figures)) (now (a .settings)) (now (a .out)) _ _ (st .pre .0) (st .pre .1) (e .emit-lines .ensures) no-line
+
+emit-lines-requires : tie.Need-emit-lines-requires
+emit-lines-requires c κs = search needs
+
+enum-known-n : tie.Need-enum-known-n
+enum-known-n c = search needs
+
+enum-told : tie.Need-enum-told
+enum-told c = search needs
+
+enum-told-2 : tie.Need-enum-told-2
+enum-told-2 c = search needs
+
+enum-told-3 : tie.Need-enum-told-3
+enum-told-3 c = search needs
+
+same-length : tie.Need-same-length
+same-length c = search needs
+
+returns : tie.Need-returns
+returns c =
+    let e = emitted (c .before .before .before) in
+    let st = start e in
+    let a = st .args in
+    at-once (a .r) (now (a .figures)) (now (a .settings)) (now (a .out)) _ _ (st .pre .0) (st .pre .1) (e .emit-lines .ensures) _ _ (c .before .n .given .1)
+
+same-length-2 : tie.Need-same-length-2
+same-length-2 c = search needs
+
+returns-2 : tie.Need-returns-2
+returns-2 c = other (c .before .before) (ap isLine (c .enum-told .given .1))
+
+same-length-3 : tie.Need-same-length-3
+same-length-3 c = search needs
+
+returns-3 : tie.Need-returns-3
+returns-3 c = other (c .before .before) (ap isLine (c .enum-told2 .given .1))
+
+same-length-4 : tie.Need-same-length-4
+same-length-4 c = search needs
+
+returns-4 : tie.Need-returns-4
+returns-4 c = other (c .before .before) (ap isLine (c .enum-told3 .given .1))
+
+pub plan-lines-spec : {M : Type 1} → statement M
+plan-lines-spec =
+    tie.close
+    (tie.spec
+    emit-lines-requires
+    enum-known-n
+    enum-told
+    enum-told-2
+    enum-told-3
+    same-length
+    returns
+    same-length-2
+    returns-2
+    same-length-3
+    returns-3
+    same-length-4
+    returns-4)

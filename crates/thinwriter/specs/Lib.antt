@@ -1,0 +1,3 @@
+pub mod Lean
+pub mod Listable
+pub mod Claims

@@ -1,0 +1,18 @@
+-- Two tables of which a plan's text can be written. Nothing of document 02 rests on this file: what the call that thins leaves is such tables. Assumes nothing.
+use mathlib.Core.Path.{_≡_}
+use mathlib.Core.List.{List}
+use mathlib.Core.Option.{none, some}
+use Prim.Native.Nat.{ℕ, _≤_, _<_}
+use lib.ListN.{length, getD}
+use Rattle.railway.specs.declared.Railway.{Railway}
+use Rattle.game.specs.Placement.{placements, startCode}
+use Rattle.tables.specs.Lengths.{entries}
+use Rattle.tables.specs.Tables.{noFigure, figureIn, caseRefusal}
+
+-- They have as many entries as the programs' tables, and none that is over a figure's bounds, in a case that is not refused; and the start has a figure.
+pub record Listable (r : Railway) (figs sets : List ℕ) : Type 0 where
+  pub long : length figs ≡ entries
+  pub unrefused : caseRefusal r figs sets ≡ none
+  pub bounded : (p : ℕ) → p < placements r → getD figs p noFigure ≤ noFigure
+  pub figure : ℕ
+  pub start : figureIn figs (startCode r) ≡ some figure
