@@ -14,3 +14,5 @@ pub mod Counts
 pub mod CountUses
 pub mod Thins
 pub mod ThinUses
+pub mod Advice
+pub mod AdviceUses

@@ -7,3 +7,4 @@ pub mod Logs
 pub mod Runs
 pub mod Counts
 pub mod Thins
+pub mod Advice

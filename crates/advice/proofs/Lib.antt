@@ -1,0 +1,8 @@
+pub mod Examples
+pub mod Accepting
+pub mod Naming
+pub mod NeverWorse
+pub mod Claims
+pub mod Answered
+pub mod Yards
+pub mod Uses
