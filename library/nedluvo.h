@@ -25,8 +25,9 @@ extern "C" {
 
 /* TABLES. Both have one entry for each placement: the number of sections, to the power of the number of trains. A longer table will do, and what stands
  * behind the last placement is left alone. The entry of a placement is at its code: for each train the number of its section less 1, times the number of
- * sections to the power of the train's number less 1, all added up. A figure table has figures or NEDLUVO_NONE. In a setting table bit n - 1 says that point n
- * lies at plus, and bit 15 + t that train t's signal is open; at home, and where there is no figure, the entry is 0. */
+ * sections to the power of the train's number less 1, all added up. A figure table has figures or NEDLUVO_NONE. A setting table has a bit
+ * for each point, the lowest for point 1, set if it lies at plus, and from bit 16 on one for each train, set if its signal is open; at home, and where there is
+ * no figure, the entry is 0. */
 
 /* Fills both tables. 0 also where the start has no figure. */
 uint8_t solve_case(const uint8_t *text, size_t bytes, uint32_t *figures, size_t figure_entries, uint32_t *settings, size_t setting_entries);
