@@ -40,7 +40,7 @@ pub record Says (text : List ℕ) (test : Description → Bool) : Type 0 where
   pub described : Describes text description
   pub passes : test description ≡ true
 
--- A row applies to a text. Rows 9 to 12 and 17 judge no case text.
+-- A row applies to a text. Rows 9 to 12, 14, 15 and 17 judge no case text.
 abbrev pub Applies : List ℕ → Refusal → Type 0
 Applies text Length = LengthRow text
 Applies text Form = FormRow text

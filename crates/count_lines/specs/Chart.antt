@@ -62,6 +62,7 @@ capped n = cond (ltb n 4294967296) n 4294967295
 abbrev pub together : List ℕ → ℕ → ℕ → ℕ
 together counts s first = capped (sumBelow (λ j. getD counts (first + j) 0) (s + 1))
 
+-- The row itself, of the h that lead home.
 abbrev pub figureRow : ℕ → ℕ → List ℕ → ℕ → List ℕ
 figureRow h s counts b = rowText h (label s (firstOf s b)) (together counts s (firstOf s b))
 

@@ -57,7 +57,7 @@ module _ (Is : ℕ → Option ℕ → Type 0) (counts : List ℕ) (s : Spread Is
   nobody : ((p : ℕ) → Is p (some 3) → ⊥) → getD counts 3 0 ≡ 0
   nobody h = none-such (s .each 3 (omega arith)) (λ p l. h p)
 
-  -- one with 255 is in the last but one, and so is one with 300; if all figures are 254 at most, there is 0
+  -- one with 255 is in the last but one; if all figures are 254 at most, there is 0
   greater-there : Is 7 (some 255) → 1 ≤ getD counts 255 0
   greater-there i = some-such (s .greater) 7 (omega arith) (255, omega arith, i)
 

@@ -52,12 +52,16 @@ use Rattle.thin.specs.Claims.{LeanAt, Lean, ThinClaims}
 use Rattle.thin.specs.Calls.{PlanThinned}
 use Rattle.thin.proofs.Examples.{sidings, sidingsFree, figsS, generous, leanS, generousFree, handed, calls}
 
--- THE LAW. In the sidings at the start, where both trains are held: with both open both may move; what one open train and the other have in common lets nobody move; and train 1 comes to
--- 2, whoever is open.
+-- THE LAW. In the sidings at the start, where both trains are held: with both open train 2 may move; what the one open train and the other have in common lets train 1 not move, and what it and
+-- all have in common does; and a move of train 1 ends where it ends, whoever is open.
 module _ (plus : ℕ → Bool) (w : LawHolds) where
   joined-both : moves sidings 8 plus (inEither (eqb 0) (eqb 1)) 1 ≡ true
   unfolding mayMove signalOpen held free hasSignal headsFor standsOn sectionsIn trainOf withJoin withSignal withLegs withTrain anyBelow
   joined-both = w .law sidings 8 plus (eqb 0) (eqb 1) .joined 1
+
+  common-nobody : moves sidings 8 plus (inBoth (eqb 0) (eqb 1)) 0 ≡ false
+  unfolding mayMove signalOpen held free hasSignal headsFor standsOn sectionsIn trainOf withJoin withSignal withLegs withTrain anyBelow shared
+  common-nobody = w .law sidings 8 plus (eqb 0) (eqb 1) .common refl 0
 
   common-one : moves sidings 8 plus (inBoth (eqb 0) (λ t. true)) 0 ≡ true
   unfolding mayMove signalOpen held free hasSignal headsFor standsOn sectionsIn trainOf withJoin withSignal withLegs withTrain anyBelow shared

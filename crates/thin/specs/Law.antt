@@ -19,10 +19,11 @@ use Rattle.tables.specs.Entries.{settingFrom}
 abbrev pub moves : Railway → ℕ → (ℕ → Bool) → (ℕ → Bool) → ℕ → Bool
 moves r p plus opens t = may (gameOf r) p (settingFrom r p plus opens) t
 
--- Both sets joined, and what is common to both.
+-- Both sets joined.
 abbrev pub inEither : (ℕ → Bool) → (ℕ → Bool) → ℕ → Bool
 inEither a b t = a t || b t
 
+-- What is common to both.
 abbrev pub inBoth : (ℕ → Bool) → (ℕ → Bool) → ℕ → Bool
 inBoth a b t = a t && b t
 
@@ -41,6 +42,7 @@ pub record SharedSignal (r : Railway) (p : ℕ) (plus : ℕ → Bool) (t u : ℕ
   pub by-other : moves r p plus (eqb u) t ≡ true
   pub by-nobody : moves r p plus (inBoth (eqb t) (eqb u)) t ≡ false
 
+-- So it is of any two such trains, with a signal at that end, wherever they stand.
 abbrev pub SignalsShared : Type 0
 SignalsShared =
     (r : Railway) (p : ℕ) (plus : ℕ → Bool) (t u : ℕ) → t < r .trains → u < r .trains → (t ≡ u → ⊥) → held r p t ≡ true → headsFor r p t ≡ headsFor r p u
