@@ -5,27 +5,6 @@ use Rattle.acceptance.proofs.Bytes.{port-chained, no-port-chained}
 use Rattle.acceptance.proofs.chained_at.Statement.{statement}
 use Rattle.acceptance.proofs.chained_at.Tie as tie
 
-mul-stem : tie.Need-mul-stem
-mul-stem c = search needs
-
-add-stem : tie.Need-add-stem
-add-stem c = search needs
-
-is-long-requires : tie.Need-is-long-requires
-is-long-requires c κs = search needs
-
-add-is-long : tie.Need-add-is-long
-add-is-long c = search needs
-
-is-long-requires-2 : tie.Need-is-long-requires-2
-is-long-requires-2 c κs = search needs
-
-add-is-long-2 : tie.Need-add-is-long-2
-add-is-long-2 c = search needs
-
-is-long-requires-3 : tie.Need-is-long-requires-3
-is-long-requires-3 c κs = search needs
-
 returns : tie.Need-returns
 returns c = λ r h. let s = c .before .before in port-chained r _ (s .before .if1 .taken) _ _ _ (s .is-long .ensures r h) (c .before .is-long2 .ensures r h) (c .is-long3 .ensures r h)
 
@@ -33,4 +12,7 @@ returns-2 : tie.Need-returns-2
 returns-2 c = λ r h. no-port-chained r _ (c .if1 .left)
 
 pub chained-at-spec : {M : Type 1} → statement M
-chained-at-spec = tie.close (tie.spec mul-stem add-stem is-long-requires add-is-long is-long-requires-2 add-is-long-2 is-long-requires-3 returns returns-2)
+chained-at-spec =
+    tie.close (tie.spec
+    (λ c. search needs) (λ c. search needs) (λ c κs. search needs) (λ c. search needs) (λ c κs. search needs)
+    (λ c. search needs) (λ c κs. search needs) returns returns-2)

@@ -61,9 +61,6 @@ asked6 e = passed (asked5 (fifth (e .before))) (sym (chained-is (e .before)) ∙
 asked7 : (e : tie.Else7) → Asked (rows0 (start4 (fourth (fifth (e .before .before) .before)))) 7
 asked7 e = passed (asked6 (e .before)) (e .if7 .left)
 
-counts-outside-requires : tie.Need-counts-outside-requires
-counts-outside-requires c κs = search needs
-
 returns : tie.Need-returns
 returns c = judged (given-by (none-asked (rows0 (c .before .before))) (sym (c .before .counts-outside .ensures) ∙ c .if1 .taken))
 
@@ -76,14 +73,8 @@ returns-3 c = judged (given-by (asked2 (c .before)) (c .if3 .taken))
 returns-4 : tie.Need-returns-4
 returns-4 c = judged (given-by (asked3 (c .before)) (c .if4 .taken))
 
-loose-ports-requires : tie.Need-loose-ports-requires
-loose-ports-requires c κs = search needs
-
 returns-5 : tie.Need-returns-5
 returns-5 c = judged (given-by (asked4 (fourth (c .before))) (sym (loose-is (c .before)) ∙ c .if5 .taken))
-
-chained-requires : tie.Need-chained-requires
-chained-requires c κs = search needs
 
 returns-6 : tie.Need-returns-6
 returns-6 c = judged (given-by (asked5 (fifth (c .before))) (sym (chained-is (c .before)) ∙ c .if6 .taken))
@@ -120,18 +111,6 @@ returns-9 c = judged (all-passed (passed (asked7 (seventh (c .before .before))) 
 
 pub first-row-spec : {M : Type 1} → statement M
 first-row-spec =
-    tie.close
-    (tie.spec
-    counts-outside-requires
-    returns
-    returns-2
-    returns-3
-    returns-4
-    loose-ports-requires
-    returns-5
-    chained-requires
-    returns-6
-    returns-7
-    misplaced-requires
-    returns-8
-    returns-9)
+    tie.close (tie.spec
+    (λ c κs. search needs) returns returns-2 returns-3 returns-4 (λ c κs. search needs) returns-5
+    (λ c κs. search needs) returns-6 returns-7 misplaced-requires returns-8 returns-9)

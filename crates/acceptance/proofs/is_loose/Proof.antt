@@ -5,11 +5,8 @@ use Rattle.acceptance.proofs.Bytes.{loose-byte}
 use Rattle.acceptance.proofs.is_loose.Statement.{statement}
 use Rattle.acceptance.proofs.is_loose.Tie as tie
 
-link-in-requires : tie.Need-link-in-requires
-link-in-requires c κs = search needs
-
 returns : tie.Need-returns
 returns c = λ r h. loose-byte r _ _ (c .link-in .ensures r h)
 
 pub is-loose-spec : {M : Type 1} → statement M
-is-loose-spec = tie.close (tie.spec link-in-requires returns)
+is-loose-spec = tie.close (tie.spec (λ c κs. search needs) returns)

@@ -4,14 +4,8 @@ use borrow.Author.Needs.{needs}
 use Rattle.acceptance.proofs.is_shut.Statement.{statement}
 use Rattle.acceptance.proofs.is_shut.Tie as tie
 
-closed-in-requires : tie.Need-closed-in-requires
-closed-in-requires c κs = search needs
-
-closed-in-requires-2 : tie.Need-closed-in-requires-2
-closed-in-requires-2 c κs = search needs
-
 returns : tie.Need-returns
 returns c = λ r h. rw (c .before .closed-in .ensures r h, c .closed-in2 .ensures r h)
 
 pub is-shut-spec : {M : Type 1} → statement M
-is-shut-spec = tie.close (tie.spec closed-in-requires closed-in-requires-2 returns)
+is-shut-spec = tie.close (tie.spec (λ c κs. search needs) (λ c κs. search needs) returns)

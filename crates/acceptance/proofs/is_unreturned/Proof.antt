@@ -5,12 +5,6 @@ use Rattle.acceptance.proofs.Bytes.{none-unreturned, link-unreturned}
 use Rattle.acceptance.proofs.is_unreturned.Statement.{statement}
 use Rattle.acceptance.proofs.is_unreturned.Tie as tie
 
-link-in-requires : tie.Need-link-in-requires
-link-in-requires c κs = search needs
-
-link-in-requires-2 : tie.Need-link-in-requires-2
-link-in-requires-2 c κs = search needs
-
 returns : tie.Need-returns
 returns c = λ r h. let l = c .before .before in link-unreturned r _ _ (l .link-in .ensures r h) (c .before .if1 .taken) (l .before .pre) _ (c .link-in2 .ensures r h)
 
@@ -18,4 +12,4 @@ returns-2 : tie.Need-returns-2
 returns-2 c = λ r h. none-unreturned r _ _ (c .before .link-in .ensures r h) (c .if1 .left)
 
 pub is-unreturned-spec : {M : Type 1} → statement M
-is-unreturned-spec = tie.close (tie.spec link-in-requires link-in-requires-2 returns returns-2)
+is-unreturned-spec = tie.close (tie.spec (λ c κs. search needs) (λ c κs. search needs) returns returns-2)

@@ -20,35 +20,11 @@ abbrev μ-loop : tie.MeasureT-loop
 loop-holds : tie.Need-loop-holds Inv-loop μ-loop
 loop-holds c = (omega arith, λ r h. looked-none r)
 
-is-seen-requires : tie.Need-is-seen-requires Inv-loop μ-loop
-is-seen-requires c κs = search needs
-
-add-i : tie.Need-add-i Inv-loop μ-loop
-add-i c = omega arith
-
-loop-less : tie.Need-loop-less Inv-loop μ-loop
-loop-less c = omega arith
-
 loop-again : tie.Need-loop-again Inv-loop μ-loop
 loop-again c =
     let d = c .before in
     let t = d .before in
     (omega arith, λ r h. looked-again r _ _ _ _ _ (t .before .loop .inv .1 r h) (t .loop-test .taken) (d .is-seen .ensures r (h .linked)) (c .if1 .taken))
-
-unknown-link-requires : tie.Need-unknown-link-requires Inv-loop μ-loop
-unknown-link-requires c κs = search needs
-
-wrong-link-requires : tie.Need-wrong-link-requires Inv-loop μ-loop
-wrong-link-requires c κs = search needs
-
-is-unreturned-requires : tie.Need-is-unreturned-requires Inv-loop μ-loop
-is-unreturned-requires c κs = search needs
-
-add-i-2 : tie.Need-add-i-2 Inv-loop μ-loop
-add-i-2 c = omega arith
-
-loop-less-2 : tie.Need-loop-less-2 Inv-loop μ-loop
-loop-less-2 c = omega arith
 
 loop-again-2 : tie.Need-loop-again-2 Inv-loop μ-loop
 loop-again-2 c =
@@ -65,19 +41,7 @@ returns c = λ r h. let l = c .before in looked-all r _ _ _ _ (l .loop .inv .1 r
 
 pub look-spec : {M : Type 1} → statement M
 look-spec =
-    tie.close
-    (tie.spec
-    Inv-loop
-    μ-loop
-    loop-holds
-    is-seen-requires
-    add-i
-    loop-less
-    loop-again
-    unknown-link-requires
-    wrong-link-requires
-    is-unreturned-requires
-    add-i-2
-    loop-less-2
-    loop-again-2
-    returns)
+    tie.close (tie.spec
+    Inv-loop μ-loop loop-holds (λ c κs. search needs) (λ c. omega arith) (λ c. omega arith) loop-again
+    (λ c κs. search needs) (λ c κs. search needs) (λ c κs. search needs) (λ c. omega arith) (λ c. omega arith)
+    loop-again-2 returns)

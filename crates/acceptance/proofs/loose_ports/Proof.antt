@@ -22,15 +22,6 @@ loop-holds : tie.Need-loop-holds Inv-loop μ-loop
 unfolding anyBelow
 loop-holds c = (omega arith, λ r h. refl)
 
-loose-port-requires : tie.Need-loose-port-requires Inv-loop μ-loop
-loose-port-requires c κs = search needs
-
-add-n : tie.Need-add-n Inv-loop μ-loop
-add-n c = omega arith
-
-loop-less : tie.Need-loop-less Inv-loop μ-loop
-loop-less c = omega arith
-
 loop-again : tie.Need-loop-again Inv-loop μ-loop
 loop-again c = let l = c .before .before in (omega arith, λ r h. noted-next (looseAt r) _ _ (l .loop .inv .1 r h) _ (c .loose-port .ensures r h))
 
@@ -38,4 +29,6 @@ returns : tie.Need-returns Inv-loop μ-loop
 returns c = λ r h p. let l = c .before in points-loose r _ _ p (noted-all (looseAt r) _ _ (l .loop .inv .1 r h) _ (l .loop .inv .0) (c .loop-test .left))
 
 pub loose-ports-spec : {M : Type 1} → statement M
-loose-ports-spec = tie.close (tie.spec Inv-loop μ-loop loop-holds loose-port-requires add-n loop-less loop-again returns)
+loose-ports-spec =
+    tie.close (tie.spec
+    Inv-loop μ-loop loop-holds (λ c κs. search needs) (λ c. omega arith) (λ c. omega arith) loop-again returns)

@@ -21,15 +21,6 @@ loop-holds : tie.Need-loop-holds Inv-loop μ-loop
 unfolding anyBelow
 loop-holds c = (omega arith, λ r h. refl)
 
-shares-before-requires : tie.Need-shares-before-requires Inv-loop μ-loop
-shares-before-requires c κs = omega arith
-
-add-t : tie.Need-add-t Inv-loop μ-loop
-add-t c = omega arith
-
-loop-less : tie.Need-loop-less Inv-loop μ-loop
-loop-less c = omega arith
-
 loop-again : tie.Need-loop-again Inv-loop μ-loop
 loop-again c = let i = c .before in let l = i .before in (omega arith, λ r h. noted-next (sharesAt r) _ _ (l .loop .inv .1 r h) _ (c .shares-before .ensures r _ h (i .loop-test .taken)))
 
@@ -37,4 +28,6 @@ returns : tie.Need-returns Inv-loop μ-loop
 returns c = λ r h. let l = c .before in noted-all (sharesAt r) _ _ (l .loop .inv .1 r h) _ (l .loop .inv .0) (c .loop-test .left)
 
 pub places-shared-spec : {M : Type 1} → statement M
-places-shared-spec = tie.close (tie.spec Inv-loop μ-loop loop-holds shares-before-requires add-t loop-less loop-again returns)
+places-shared-spec =
+    tie.close (tie.spec
+    Inv-loop μ-loop loop-holds (λ c κs. omega arith) (λ c. omega arith) (λ c. omega arith) loop-again returns)

@@ -19,33 +19,9 @@ Inv-loop t roster at x found₀ u₀ found u = (u ≤ t) × ((r : Railway) (k : 
 abbrev μ-loop : tie.MeasureT-loop
 μ-loop t roster at x found₀ u₀ found u = t - u
 
-mul-x : tie.Need-mul-x Inv-loop μ-loop
-mul-x c = omega arith
-
-array-copy-out-x : tie.Need-array-copy-out-x Inv-loop μ-loop
-array-copy-out-x c = omega arith
-
 loop-holds : tie.Need-loop-holds Inv-loop μ-loop
 unfolding anyBelow
 loop-holds c = (omega arith, λ r k h e. refl)
-
-cast-before : tie.Need-cast-before Inv-loop μ-loop
-cast-before c = search needs
-
-mul-shares : tie.Need-mul-shares Inv-loop μ-loop
-mul-shares c = omega arith
-
-array-copy-out-shares : tie.Need-array-copy-out-shares Inv-loop μ-loop
-array-copy-out-shares c = omega arith
-
-shares-requires : tie.Need-shares-requires Inv-loop μ-loop
-shares-requires c κs = search needs
-
-add-u : tie.Need-add-u Inv-loop μ-loop
-add-u c = omega arith
-
-loop-less : tie.Need-loop-less Inv-loop μ-loop
-loop-less c = omega arith
 
 loop-again : tie.Need-loop-again Inv-loop μ-loop
 loop-again c =
@@ -58,18 +34,6 @@ returns c = λ r k h e. let l = c .before in noted-all (sharesWith r _) _ _ (l .
 
 pub shares-before-spec : {M : Type 1} → statement M
 shares-before-spec =
-    tie.close
-    (tie.spec
-    Inv-loop
-    μ-loop
-    mul-x
-    array-copy-out-x
-    loop-holds
-    cast-before
-    mul-shares
-    array-copy-out-shares
-    shares-requires
-    add-u
-    loop-less
-    loop-again
-    returns)
+    tie.close (tie.spec
+    Inv-loop μ-loop (λ c. omega arith) (λ c. omega arith) loop-holds (λ c. search needs) (λ c. omega arith)
+    (λ c. omega arith) (λ c κs. search needs) (λ c. omega arith) (λ c. omega arith) loop-again returns)

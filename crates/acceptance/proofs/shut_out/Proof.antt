@@ -24,24 +24,6 @@ loop-holds : tie.Need-loop-holds Inv-loop μ-loop
 unfolding anyBelow
 loop-holds c = (omega arith, λ r h e. refl)
 
-cast-at : tie.Need-cast-at Inv-loop μ-loop
-cast-at c = search needs
-
-mul-is-shut : tie.Need-mul-is-shut Inv-loop μ-loop
-mul-is-shut c = omega arith
-
-array-copy-out-is-shut : tie.Need-array-copy-out-is-shut Inv-loop μ-loop
-array-copy-out-is-shut c = omega arith
-
-is-shut-requires : tie.Need-is-shut-requires Inv-loop μ-loop
-is-shut-requires c κs = search needs
-
-add-t : tie.Need-add-t Inv-loop μ-loop
-add-t c = omega arith
-
-loop-less : tie.Need-loop-less Inv-loop μ-loop
-loop-less c = omega arith
-
 loop-again : tie.Need-loop-again Inv-loop μ-loop
 loop-again c =
     let i = c .before .before in
@@ -53,16 +35,6 @@ returns c = λ r h e. let l = c .before in noted-all (shutOutAt r) _ _ (l .loop 
 
 pub shut-out-spec : {M : Type 1} → statement M
 shut-out-spec =
-    tie.close
-    (tie.spec
-    Inv-loop
-    μ-loop
-    loop-holds
-    cast-at
-    mul-is-shut
-    array-copy-out-is-shut
-    is-shut-requires
-    add-t
-    loop-less
-    loop-again
-    returns)
+    tie.close (tie.spec
+    Inv-loop μ-loop loop-holds (λ c. search needs) (λ c. omega arith) (λ c. omega arith)
+    (λ c κs. search needs) (λ c. omega arith) (λ c. omega arith) loop-again returns)

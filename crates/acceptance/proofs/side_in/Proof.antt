@@ -8,12 +8,6 @@ use Rattle.acceptance.proofs.side_in.Tie as tie
 returns : tie.Need-returns
 returns c = λ r h. side-section r _ (c .if1 .taken)
 
-cast-at : tie.Need-cast-at
-cast-at c = search needs
-
-element-copy-out-legs : tie.Need-element-copy-out-legs
-element-copy-out-legs c = search needs
-
 returns-2 : tie.Need-returns-2
 returns-2 c = λ r h. let l = c .before .before .before in stem-of-down r _ _ h (l .if1 .left) (l .before .pre) (c .before .if2 .taken) (c .if3 .taken)
 
@@ -24,4 +18,6 @@ returns-4 : tie.Need-returns-4
 returns-4 c = λ r h. let l = c .before .before in leg-of r _ _ h (l .if1 .left) (l .before .pre) (c .if2 .left)
 
 pub side-in-spec : {M : Type 1} → statement M
-side-in-spec = tie.close (tie.spec returns cast-at element-copy-out-legs returns-2 returns-3 returns-4)
+side-in-spec =
+    tie.close (tie.spec
+    returns (λ c. search needs) (λ c. search needs) returns-2 returns-3 returns-4)

@@ -23,24 +23,6 @@ abbrev μ-loop : tie.MeasureT-loop
 loop-holds : tie.Need-loop-holds Inv-loop μ-loop
 loop-holds c = (omega arith, λ r h k. fill-start (λ m. sideIndex (legsOf r m)) mostPoints _ (length-replicate {A = ℕ} mostPoints 1))
 
-cast-at : tie.Need-cast-at Inv-loop μ-loop
-cast-at c = search needs
-
-array-copy-out-legs-index : tie.Need-array-copy-out-legs-index Inv-loop μ-loop
-array-copy-out-legs-index c = search needs
-
-legs-index-requires : tie.Need-legs-index-requires Inv-loop μ-loop
-legs-index-requires c κs = search needs
-
-array-write-sides : tie.Need-array-write-sides Inv-loop μ-loop
-array-write-sides c = omega arith
-
-add-n : tie.Need-add-n Inv-loop μ-loop
-add-n c = omega arith
-
-loop-less : tie.Need-loop-less Inv-loop μ-loop
-loop-less c = omega arith
-
 loop-again : tie.Need-loop-again Inv-loop μ-loop
 loop-again c =
     let i = c .before .before in
@@ -51,4 +33,7 @@ returns : tie.Need-returns Inv-loop μ-loop
 returns c = λ r h k. let l = c .before in all-sided r _ _ (l .loop .inv .1 r h k) (c .loop-test .left)
 
 pub sides-of-spec : {M : Type 1} → statement M
-sides-of-spec = tie.close (tie.spec Inv-loop μ-loop loop-holds cast-at array-copy-out-legs-index legs-index-requires array-write-sides add-n loop-less loop-again returns)
+sides-of-spec =
+    tie.close (tie.spec
+    Inv-loop μ-loop loop-holds (λ c. search needs) (λ c. search needs) (λ c κs. search needs)
+    (λ c. omega arith) (λ c. omega arith) (λ c. omega arith) loop-again returns)

@@ -26,17 +26,11 @@ few e = few-counted _ _ _ _ (e .before .counts-outside .ensures) (e .if1 .left)
 trains : (e : tie.Else1) → let r = e .before .before .args .r in RosterOf r (r .roster) (r .trains)
 trains e = let s = e .before .before in own-roster (s .args .r) (roster-length (s .args .r) _ (s .good .0)) (few e .2)
 
-counts-outside-requires : tie.Need-counts-outside-requires
-counts-outside-requires c κs = search needs
-
 returns : tie.Need-returns
 returns c = count-given (c .before .before .args .r) _ (c .before .counts-outside .ensures) (c .if1 .taken)
 
 wrong-weights-requires : tie.Need-wrong-weights-requires
 wrong-weights-requires c κs = few (c .before .before .before .before .before) .2
-
-sides-of-requires : tie.Need-sides-of-requires
-sides-of-requires c κs = search needs
 
 mul-ends : tie.Need-mul-ends
 mul-ends c = omega (arith, few (begun c) .0)
@@ -46,9 +40,6 @@ mul-ports c = omega (arith, few (begun c) .1)
 
 add-ports : tie.Need-add-ports
 add-ports c = omega (arith, few (begun c) .1)
-
-look-requires : tie.Need-look-requires
-look-requires c κs = search needs
 
 -- where the sides are worked out, and where the pass over the links is behind
 abbrev sided : tie.After-look → tie.After-sides-of
@@ -65,9 +56,6 @@ unknown-closed-requires c κs = few (begun (sided (c .before .before .before .be
 
 unknown-trains-requires : tie.Need-unknown-trains-requires
 unknown-trains-requires c κs = few (begun (sided (looked c))) .2
-
-first-row-requires : tie.Need-first-row-requires
-first-row-requires c κs = search needs
 
 -- what the pass over the links finds
 found : (e : tie.After-look) → Looked (begun (sided e) .before .before .args .r) allEnds (e .look .result .unknown) (e .look .result .wrong) (e .look .result .unreturned)
@@ -90,18 +78,7 @@ returns-2 c =
 
 pub test-record-spec : {M : Type 1} → statement M
 test-record-spec =
-    tie.close
-    (tie.spec
-    counts-outside-requires
-    returns
-    wrong-weights-requires
-    sides-of-requires
-    mul-ends
-    mul-ports
-    add-ports
-    look-requires
-    unknown-signals-requires
-    unknown-closed-requires
-    unknown-trains-requires
-    first-row-requires
-    returns-2)
+    tie.close (tie.spec
+    (λ c κs. search needs) returns wrong-weights-requires (λ c κs. search needs) mul-ends mul-ports add-ports
+    (λ c κs. search needs) unknown-signals-requires unknown-closed-requires unknown-trains-requires
+    (λ c κs. search needs) returns-2)

@@ -23,15 +23,6 @@ abbrev μ-loop : tie.MeasureT-loop
 loop-holds : tie.Need-loop-holds Inv-loop μ-loop
 loop-holds c = (omega arith, c .pre, λ r h k. closed-known r _ k)
 
-closed-in-requires : tie.Need-closed-in-requires Inv-loop μ-loop
-closed-in-requires c κs = search needs
-
-add-x : tie.Need-add-x Inv-loop μ-loop
-add-x c = omega arith
-
-loop-less : tie.Need-loop-less Inv-loop μ-loop
-loop-less c = omega arith
-
 loop-again : tie.Need-loop-again Inv-loop μ-loop
 loop-again c =
     let l = c .before .before in
@@ -41,4 +32,6 @@ returns : tie.Need-returns Inv-loop μ-loop
 returns c = λ r h k. let l = c .before in noted-all (unknownClosedAt r) _ _ (l .loop .inv .2 r h k) _ (l .loop .inv .1) (c .loop-test .left)
 
 pub unknown-closed-spec : {M : Type 1} → statement M
-unknown-closed-spec = tie.close (tie.spec Inv-loop μ-loop loop-holds closed-in-requires add-x loop-less loop-again returns)
+unknown-closed-spec =
+    tie.close (tie.spec
+    Inv-loop μ-loop loop-holds (λ c κs. search needs) (λ c. omega arith) (λ c. omega arith) loop-again returns)

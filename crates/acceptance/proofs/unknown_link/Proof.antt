@@ -5,15 +5,6 @@ use Rattle.acceptance.proofs.Bytes.{none-unknown, link-unknown}
 use Rattle.acceptance.proofs.unknown_link.Statement.{statement}
 use Rattle.acceptance.proofs.unknown_link.Tie as tie
 
-link-in-requires : tie.Need-link-in-requires
-link-in-requires c κs = search needs
-
-known-at-requires : tie.Need-known-at-requires
-known-at-requires c κs = search needs
-
-known-at-requires-2 : tie.Need-known-at-requires-2
-known-at-requires-2 c κs = search needs
-
 returns : tie.Need-returns
 returns c = λ r h k. let l = c .before .before .before in link-unknown r _ _ (l .link-in .ensures r h) (c .before .before .if1 .taken) _ _ (c .before .known-at .ensures r k) (c .known-at2 .ensures r k)
 
@@ -21,4 +12,6 @@ returns-2 : tie.Need-returns-2
 returns-2 c = λ r h k. none-unknown r _ _ (c .before .link-in .ensures r h) (c .if1 .left)
 
 pub unknown-link-spec : {M : Type 1} → statement M
-unknown-link-spec = tie.close (tie.spec link-in-requires known-at-requires known-at-requires-2 returns returns-2)
+unknown-link-spec =
+    tie.close (tie.spec
+    (λ c κs. search needs) (λ c κs. search needs) (λ c κs. search needs) returns returns-2)

@@ -23,15 +23,6 @@ abbrev μ-loop : tie.MeasureT-loop
 loop-holds : tie.Need-loop-holds Inv-loop μ-loop
 loop-holds c = (omega arith, c .pre, λ r h k. signals-known r _ k (c .pre))
 
-signal-in-requires : tie.Need-signal-in-requires Inv-loop μ-loop
-signal-in-requires c κs = search needs
-
-add-i : tie.Need-add-i Inv-loop μ-loop
-add-i c = omega arith
-
-loop-less : tie.Need-loop-less Inv-loop μ-loop
-loop-less c = omega arith
-
 loop-again : tie.Need-loop-again Inv-loop μ-loop
 loop-again c =
     let d = c .before in
@@ -42,4 +33,6 @@ returns : tie.Need-returns Inv-loop μ-loop
 returns c = λ r h k. let l = c .before in noted-all (unknownSignalAt r) _ _ (l .loop .inv .2 r h k) _ (l .loop .inv .1) (c .loop-test .left)
 
 pub unknown-signals-spec : {M : Type 1} → statement M
-unknown-signals-spec = tie.close (tie.spec Inv-loop μ-loop loop-holds signal-in-requires add-i loop-less loop-again returns)
+unknown-signals-spec =
+    tie.close (tie.spec
+    Inv-loop μ-loop loop-holds (λ c κs. search needs) (λ c. omega arith) (λ c. omega arith) loop-again returns)

@@ -23,24 +23,6 @@ loop-holds : tie.Need-loop-holds Inv-loop μ-loop
 unfolding anyBelow
 loop-holds c = (omega arith, λ r h e. refl)
 
-cast-at : tie.Need-cast-at Inv-loop μ-loop
-cast-at c = search needs
-
-mul-is-unknown : tie.Need-mul-is-unknown Inv-loop μ-loop
-mul-is-unknown c = omega arith
-
-array-copy-out-is-unknown : tie.Need-array-copy-out-is-unknown Inv-loop μ-loop
-array-copy-out-is-unknown c = omega arith
-
-is-unknown-requires : tie.Need-is-unknown-requires Inv-loop μ-loop
-is-unknown-requires c κs = search needs
-
-add-t : tie.Need-add-t Inv-loop μ-loop
-add-t c = omega arith
-
-loop-less : tie.Need-loop-less Inv-loop μ-loop
-loop-less c = omega arith
-
 loop-again : tie.Need-loop-again Inv-loop μ-loop
 loop-again c =
     let i = c .before .before in
@@ -52,16 +34,6 @@ returns c = λ r h e. let l = c .before in noted-all (unknownTrainAt r) _ _ (l .
 
 pub unknown-trains-spec : {M : Type 1} → statement M
 unknown-trains-spec =
-    tie.close
-    (tie.spec
-    Inv-loop
-    μ-loop
-    loop-holds
-    cast-at
-    mul-is-unknown
-    array-copy-out-is-unknown
-    is-unknown-requires
-    add-t
-    loop-less
-    loop-again
-    returns)
+    tie.close (tie.spec
+    Inv-loop μ-loop loop-holds (λ c. search needs) (λ c. omega arith) (λ c. omega arith)
+    (λ c κs. search needs) (λ c. omega arith) (λ c. omega arith) loop-again returns)

@@ -5,20 +5,13 @@ use Rattle.acceptance.proofs.Bytes.{pair-wrong, pair-sides}
 use Rattle.acceptance.proofs.wrong_at.Statement.{statement}
 use Rattle.acceptance.proofs.wrong_at.Tie as tie
 
-one-owner-at-requires : tie.Need-one-owner-at-requires
-one-owner-at-requires c κs = search needs
-
 returns : tie.Need-returns
 returns c = λ r h. pair-wrong r _ _ _ (c .before .one-owner-at .ensures) (c .if1 .taken)
-
-side-in-requires : tie.Need-side-in-requires
-side-in-requires c κs = search needs
-
-side-in-requires-2 : tie.Need-side-in-requires-2
-side-in-requires-2 c κs = search needs
 
 returns-2 : tie.Need-returns-2
 returns-2 c = λ r h. let e = c .before .before in pair-sides r _ _ _ (e .before .one-owner-at .ensures) (e .if1 .left) _ _ (c .before .side-in .ensures r h) (c .side-in2 .ensures r h)
 
 pub wrong-at-spec : {M : Type 1} → statement M
-wrong-at-spec = tie.close (tie.spec one-owner-at-requires returns side-in-requires side-in-requires-2 returns-2)
+wrong-at-spec =
+    tie.close (tie.spec
+    (λ c κs. search needs) returns (λ c κs. search needs) (λ c κs. search needs) returns-2)

@@ -5,12 +5,6 @@ use Rattle.acceptance.proofs.Bytes.{none-wrong, link-wrong}
 use Rattle.acceptance.proofs.wrong_link.Statement.{statement}
 use Rattle.acceptance.proofs.wrong_link.Tie as tie
 
-link-in-requires : tie.Need-link-in-requires
-link-in-requires c κs = search needs
-
-wrong-at-requires : tie.Need-wrong-at-requires
-wrong-at-requires c κs = search needs
-
 returns : tie.Need-returns
 returns c = λ r h k. let l = c .before .before in link-wrong r _ _ (l .link-in .ensures r h) (c .before .if1 .taken) _ (c .wrong-at .ensures r k)
 
@@ -18,4 +12,4 @@ returns-2 : tie.Need-returns-2
 returns-2 c = λ r h k. none-wrong r _ _ (c .before .link-in .ensures r h) (c .if1 .left)
 
 pub wrong-link-spec : {M : Type 1} → statement M
-wrong-link-spec = tie.close (tie.spec link-in-requires wrong-at-requires returns returns-2)
+wrong-link-spec = tie.close (tie.spec (λ c κs. search needs) (λ c κs. search needs) returns returns-2)

@@ -6,31 +6,14 @@ use Rattle.acceptance.proofs.Testing.{first-holds, then-second}
 use Rattle.acceptance.proofs.wrong_pair.Statement.{statement}
 use Rattle.acceptance.proofs.wrong_pair.Tie as tie
 
-one-owner-requires : tie.Need-one-owner-requires
-one-owner-requires c κs = search needs
-
 returns : tie.Need-returns
 returns c = first-holds _ _ (sym (c .before .one-owner .ensures) ∙ c .if1 .taken)
-
-side-of-requires : tie.Need-side-of-requires
-side-of-requires c κs = search needs
-
-side-of-requires-2 : tie.Need-side-of-requires-2
-side-of-requires-2 c κs = search needs
-
-same-side-requires : tie.Need-same-side-requires
-same-side-requires c κs = search needs
 
 returns-2 : tie.Need-returns-2
 returns-2 c = then-second _ _ _ (sym (c .before .before .before .before .one-owner .ensures) ∙ c .before .before .before .if1 .left) (rw (← c .before .before .side-of .ensures, ← c .before .side-of2 .ensures) (c .same-side .ensures))
 
 pub wrong-pair-spec : {M : Type 1} → statement M
 wrong-pair-spec =
-    tie.close
-    (tie.spec
-    one-owner-requires
-    returns
-    side-of-requires
-    side-of-requires-2
-    same-side-requires
+    tie.close (tie.spec
+    (λ c κs. search needs) returns (λ c κs. search needs) (λ c κs. search needs) (λ c κs. search needs)
     returns-2)

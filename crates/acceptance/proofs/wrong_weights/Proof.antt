@@ -23,24 +23,6 @@ loop-holds : tie.Need-loop-holds Inv-loop μ-loop
 unfolding anyBelow
 loop-holds c = (omega arith, λ r h. refl)
 
-cast-at : tie.Need-cast-at Inv-loop μ-loop
-cast-at c = search needs
-
-mul-is-wrong : tie.Need-mul-is-wrong Inv-loop μ-loop
-mul-is-wrong c = omega arith
-
-array-copy-out-is-wrong : tie.Need-array-copy-out-is-wrong Inv-loop μ-loop
-array-copy-out-is-wrong c = omega arith
-
-is-wrong-requires : tie.Need-is-wrong-requires Inv-loop μ-loop
-is-wrong-requires c κs = search needs
-
-add-t : tie.Need-add-t Inv-loop μ-loop
-add-t c = omega arith
-
-loop-less : tie.Need-loop-less Inv-loop μ-loop
-loop-less c = omega arith
-
 loop-again : tie.Need-loop-again Inv-loop μ-loop
 loop-again c =
     let i = c .before .before in
@@ -52,16 +34,6 @@ returns c = λ r h. let l = c .before in weights-by r _ _ h _ (noted-all (wrongW
 
 pub wrong-weights-spec : {M : Type 1} → statement M
 wrong-weights-spec =
-    tie.close
-    (tie.spec
-    Inv-loop
-    μ-loop
-    loop-holds
-    cast-at
-    mul-is-wrong
-    array-copy-out-is-wrong
-    is-wrong-requires
-    add-t
-    loop-less
-    loop-again
-    returns)
+    tie.close (tie.spec
+    Inv-loop μ-loop loop-holds (λ c. search needs) (λ c. omega arith) (λ c. omega arith)
+    (λ c κs. search needs) (λ c. omega arith) (λ c. omega arith) loop-again returns)

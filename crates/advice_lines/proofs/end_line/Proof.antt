@@ -6,23 +6,11 @@ use borrow.Author.Needs.{needs}
 use Rattle.advice_lines.proofs.end_line.Statement.{statement}
 use Rattle.advice_lines.proofs.end_line.Tie as tie
 
-slice-aggregate-spell-end : tie.Need-slice-aggregate-spell-end
-slice-aggregate-spell-end c = search needs
-
-spell-end-requires : tie.Need-spell-end-requires
-spell-end-requires c κs = search needs
-
 array-share-prefix-line : tie.Need-array-share-prefix-line
 array-share-prefix-line c = let p = c .before .spell-end in front-fits (p .ensures) (p .kept .0)
 
 slice-aggregate-put : tie.Need-slice-aggregate-put
 slice-aggregate-put c = let p = c .before .before .spell-end in front-cut (p .ensures) (p .kept .0)
-
-put-requires : tie.Need-put-requires
-put-requires c κs = search needs
-
-same-length : tie.Need-same-length
-same-length c = search needs
 
 returns : tie.Need-returns
 returns c =
@@ -33,12 +21,6 @@ returns c =
 
 pub end-line-spec : {M : Type 1} → statement M
 end-line-spec =
-    tie.close
-    (tie.spec
-    slice-aggregate-spell-end
-    spell-end-requires
-    array-share-prefix-line
-    slice-aggregate-put
-    put-requires
-    same-length
-    returns)
+    tie.close (tie.spec
+    (λ c. search needs) (λ c κs. search needs) array-share-prefix-line slice-aggregate-put
+    (λ c κs. search needs) (λ c. search needs) returns)

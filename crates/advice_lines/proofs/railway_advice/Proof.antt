@@ -4,21 +4,6 @@ use borrow.Author.Needs.{needs}
 use Rattle.advice_lines.proofs.railway_advice.Statement.{statement}
 use Rattle.advice_lines.proofs.railway_advice.Tie as tie
 
-slice-aggregate-advise : tie.Need-slice-aggregate-advise
-slice-aggregate-advise c = search needs
-
-slice-aggregate-advise-2 : tie.Need-slice-aggregate-advise-2
-slice-aggregate-advise-2 c = search needs
-
-advise-requires : tie.Need-advise-requires
-advise-requires c κs = search needs
-
-advice-line-requires : tie.Need-advice-line-requires
-advice-line-requires c κs = search needs
-
-same-length : tie.Need-same-length
-same-length c = search needs
-
 returns : tie.Need-returns
 returns c =
     let t = c .before .before in
@@ -27,11 +12,6 @@ returns c =
 
 pub railway-advice-spec : {M : Type 1} → statement M
 railway-advice-spec =
-    tie.close
-    (tie.spec
-    slice-aggregate-advise
-    slice-aggregate-advise-2
-    advise-requires
-    advice-line-requires
-    same-length
+    tie.close (tie.spec
+    (λ c. search needs) (λ c. search needs) (λ c κs. search needs) (λ c κs. search needs) (λ c. search needs)
     returns)

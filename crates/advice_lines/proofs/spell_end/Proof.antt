@@ -5,24 +5,6 @@ use borrow.Author.Needs.{needs}
 use Rattle.advice_lines.proofs.spell_end.Statement.{statement}
 use Rattle.advice_lines.proofs.spell_end.Tie as tie
 
-cast-number : tie.Need-cast-number
-cast-number c = search needs
-
-add-number : tie.Need-add-number
-add-number c = search needs
-
-side-byte-requires : tie.Need-side-byte-requires
-side-byte-requires c κs = search needs
-
-number-requires : tie.Need-number-requires
-number-requires c κs = search needs
-
-byte-requires : tie.Need-byte-requires
-byte-requires c κs = search needs
-
-same-length : tie.Need-same-length
-same-length c = search needs
-
 returns : tie.Need-returns
 returns c =
     let b = c .before .before in
@@ -33,12 +15,6 @@ returns c =
 
 pub spell-end-spec : {M : Type 1} → statement M
 spell-end-spec =
-    tie.close
-    (tie.spec
-    cast-number
-    add-number
-    side-byte-requires
-    number-requires
-    byte-requires
-    same-length
-    returns)
+    tie.close (tie.spec
+    (λ c. search needs) (λ c. search needs) (λ c κs. search needs) (λ c κs. search needs)
+    (λ c κs. search needs) (λ c. search needs) returns)

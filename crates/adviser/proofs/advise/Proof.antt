@@ -4,15 +4,6 @@ use borrow.Author.Needs.{needs}
 use Rattle.adviser.proofs.advise.Statement.{statement}
 use Rattle.adviser.proofs.advise.Tie as tie
 
-open-case-requires : tie.Need-open-case-requires
-open-case-requires c κs = search needs
-
-enum-known-tested : tie.Need-enum-known-tested
-enum-known-tested c = search needs
-
-enum-told : tie.Need-enum-told
-enum-told c = search needs
-
 advise-case-requires : tie.Need-advise-case-requires
 advise-case-requires c κs =
     let t = c .before .before in
@@ -20,23 +11,11 @@ advise-case-requires c κs =
     let a = o .before .before .before .before .before in
     few (a .args .r) (a .args .figures .now) (a .args .settings .now) _ (o .open-case .ensures) (t .enum-told .given .1)
 
-same-length : tie.Need-same-length
-same-length c = search needs
-
-same-length-2 : tie.Need-same-length-2
-same-length-2 c = search needs
-
 returns : tie.Need-returns
 returns c =
     let o = c .before .before .before in
     let a = o .before .before .before .before .before in
     told-refused (a .args .r) (a .args .figures .now) (a .args .settings .now) _ (o .open-case .ensures) _ (c .before .tested .given .1)
-
-same-length-3 : tie.Need-same-length-3
-same-length-3 c = search needs
-
-same-length-4 : tie.Need-same-length-4
-same-length-4 c = search needs
 
 returns-2 : tie.Need-returns-2
 returns-2 c =
@@ -48,15 +27,6 @@ returns-2 c =
 
 pub advise-spec : {M : Type 1} → statement M
 advise-spec =
-    tie.close
-    (tie.spec
-    open-case-requires
-    enum-known-tested
-    enum-told
-    advise-case-requires
-    same-length
-    same-length-2
-    returns
-    same-length-3
-    same-length-4
-    returns-2)
+    tie.close (tie.spec
+    (λ c κs. search needs) (λ c. search needs) (λ c. search needs) advise-case-requires (λ c. search needs)
+    (λ c. search needs) returns (λ c. search needs) (λ c. search needs) returns-2)

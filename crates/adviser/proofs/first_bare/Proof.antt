@@ -20,9 +20,6 @@ mul-ends c = omega (arith, c .before .pre)
 loop-holds : tie.Need-loop-holds Inv-loop μ-loop
 loop-holds c = (bare-start (c .before .args .r), omega arith)
 
-flag-at-requires : tie.Need-flag-at-requires Inv-loop μ-loop
-flag-at-requires c κs = search needs
-
 returns : tie.Need-returns Inv-loop μ-loop
 returns c =
     let n = c .before .before in
@@ -46,15 +43,5 @@ returns-2 c = let l = c .before in bare-over (l .before .before .args .r) (l .lo
 
 pub first-bare-spec : {M : Type 1} → statement M
 first-bare-spec =
-    tie.close
-    (tie.spec
-    Inv-loop
-    μ-loop
-    mul-ends
-    loop-holds
-    flag-at-requires
-    returns
-    add-i
-    loop-less
-    loop-again
-    returns-2)
+    tie.close (tie.spec
+    Inv-loop μ-loop mul-ends loop-holds (λ c κs. search needs) returns add-i loop-less loop-again returns-2)

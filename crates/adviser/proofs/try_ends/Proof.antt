@@ -19,12 +19,6 @@ mul-ends c = omega (arith, c .before .before .before .pre .0)
 loop-holds : tie.Need-loop-holds Inv-loop μ-loop
 loop-holds c = let a = c .before .before .before in trying-start (a .args .r) (a .args .first) (a .args .figures .now) (a .args .settings .now) (a .pre .1)
 
-try-end-requires : tie.Need-try-end-requires Inv-loop μ-loop
-try-end-requires c κs = search needs
-
-side-at-requires : tie.Need-side-at-requires Inv-loop μ-loop
-side-at-requires c κs = search needs
-
 same-length : tie.Need-same-length Inv-loop μ-loop
 same-length c = let t = c .before .before .before .before .before .before in t .try-end .kept .1 .1 .0 ∙ t .before .before .before .before .loop .inv .long-figs
 
@@ -69,20 +63,6 @@ returns-2 c =
 
 pub try-ends-spec : {M : Type 1} → statement M
 try-ends-spec =
-    tie.close
-    (tie.spec
-    Inv-loop
-    μ-loop
-    mul-ends
-    loop-holds
-    try-end-requires
-    side-at-requires
-    same-length
-    same-length-2
-    returns
-    add-i
-    loop-less
-    loop-again
-    same-length-3
-    same-length-4
-    returns-2)
+    tie.close (tie.spec
+    Inv-loop μ-loop mul-ends loop-holds (λ c κs. search needs) (λ c κs. search needs) same-length
+    same-length-2 returns add-i loop-less loop-again same-length-3 same-length-4 returns-2)

@@ -25,12 +25,6 @@ Inv-loop table ways behind figures marks n m k t₀ t = RestsTo (λ r. Looking r
 abbrev μ-loop : tie.MeasureT-loop
 μ-loop table ways behind figures marks n m k t₀ t = k - t
 
-placements-requires : tie.Need-placements-requires Inv-loop μ-loop
-placements-requires c κs = search needs
-
-trains-in-requires : tie.Need-trains-in-requires Inv-loop μ-loop
-trains-in-requires c κs = search needs
-
 -- before the loop, and what is given of a railway
 abbrev start : tie.After-trains-in Inv-loop μ-loop → tie.Start Inv-loop μ-loop
 start b = b .before .before .before .before
@@ -48,9 +42,6 @@ loop-holds : tie.Need-loop-holds Inv-loop μ-loop
 loop-holds b =
     let a = start b .args in
     rests-start (Given b) (a .n) (a .figures .now) (λ r i. Weighed r (a .n) (a .figures .now) 0 (b .before .placements .result) i) 0 (λ r q k. no-weight r (a .n) (a .figures .now) 0 (b .before .placements .result) q k)
-
-brings-by-requires : tie.Need-brings-by-requires Inv-loop μ-loop
-brings-by-requires c κs = search needs
 
 returns : tie.Need-returns Inv-loop μ-loop
 returns p =
@@ -94,16 +85,6 @@ returns-2 p =
 
 pub brings-spec : {M : Type 1} → statement M
 brings-spec =
-    tie.close
-    (tie.spec
-    Inv-loop
-    μ-loop
-    placements-requires
-    trains-in-requires
-    loop-holds
-    brings-by-requires
-    returns
-    add-t
-    loop-less
-    loop-again
-    returns-2)
+    tie.close (tie.spec
+    Inv-loop μ-loop (λ c κs. search needs) (λ c κs. search needs) loop-holds (λ c κs. search needs) returns
+    add-t loop-less loop-again returns-2)

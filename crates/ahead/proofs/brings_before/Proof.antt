@@ -20,12 +20,6 @@ Inv-loop table ways behind figures m n w c q k t₀ t = RestsTo (λ r. Looking r
 abbrev μ-loop : tie.MeasureT-loop
 μ-loop table ways behind figures m n w c q k t₀ t = k - t
 
-placement-of-requires : tie.Need-placement-of-requires Inv-loop μ-loop
-placement-of-requires c κs = search needs
-
-trains-in-requires : tie.Need-trains-in-requires Inv-loop μ-loop
-trains-in-requires c κs = search needs
-
 -- before the loop, and what is given of a railway
 abbrev start : tie.After-trains-in Inv-loop μ-loop → tie.Start Inv-loop μ-loop
 start b = b .before .before .before
@@ -35,12 +29,6 @@ Given b r = Looking r (start b .args .table .now) (start b .args .ways .now) (st
 
 loop-holds : tie.Need-loop-holds Inv-loop μ-loop
 loop-holds b = let a = start b .args in rests-start (Given b) (a .n) (a .figures .now) (λ r i. Comes r (a .w) (a .c) i) 0 (λ r q k. no-train r (a .w) (a .c) q k)
-
-weight-in-requires : tie.Need-weight-in-requires Inv-loop μ-loop
-weight-in-requires c κs = search needs
-
-brings-train-requires : tie.Need-brings-train-requires Inv-loop μ-loop
-brings-train-requires c κs = search needs
 
 returns : tie.Need-returns Inv-loop μ-loop
 returns p =
@@ -87,17 +75,6 @@ returns-2 p =
 
 pub brings-before-spec : {M : Type 1} → statement M
 brings-before-spec =
-    tie.close
-    (tie.spec
-    Inv-loop
-    μ-loop
-    placement-of-requires
-    trains-in-requires
-    loop-holds
-    weight-in-requires
-    brings-train-requires
-    returns
-    add-t
-    loop-less
-    loop-again
-    returns-2)
+    tie.close (tie.spec
+    Inv-loop μ-loop (λ c κs. search needs) (λ c κs. search needs) loop-holds (λ c κs. search needs)
+    (λ c κs. search needs) returns add-t loop-less loop-again returns-2)

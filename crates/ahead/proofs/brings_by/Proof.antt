@@ -22,18 +22,12 @@ Inv-loop table ways behind figures marks m n t w c₀ c =
 abbrev μ-loop : tie.MeasureT-loop
 μ-loop table ways behind figures marks m n t w c₀ c = m - c
 
-shares-weight-requires : tie.Need-shares-weight-requires Inv-loop μ-loop
-shares-weight-requires c κs = search needs
-
 returns : tie.Need-returns Inv-loop μ-loop
 returns p =
     let s = p .before in
     let a = s .before .before .before .args in
     λ r o k runs.
     told-none r (a .n) (a .figures .now) (Apart r (a .n) (a .figures .now) 0 (a .m) (a .t)) (λ q l k. clash (sym (s .shares-weight .ensures r (o .compiled)) ∙ p .if1 .taken) (k .first))
-
-weight-in-requires : tie.Need-weight-in-requires Inv-loop μ-loop
-weight-in-requires c κs = search needs
 
 -- before the loop, and what is given of a railway
 abbrev start : tie.After-weight-in Inv-loop μ-loop → tie.Start Inv-loop μ-loop
@@ -50,15 +44,6 @@ loop-holds : tie.Need-loop-holds Inv-loop μ-loop
 loop-holds b =
     let a = start b .args in
     rests-start (Given b) (a .n) (a .figures .now) (λ r i. Ahead r (a .n) (weightOf r (a .t)) (a .figures .now) 0 i) 0 (λ r q k. no-code r (a .n) (weightOf r (a .t)) (a .figures .now) 0 q k)
-
-stretch-end-requires : tie.Need-stretch-end-requires Inv-loop μ-loop
-stretch-end-requires c κs = search needs
-
-due-at-requires : tie.Need-due-at-requires Inv-loop μ-loop
-due-at-requires c κs = search needs
-
-brings-in-requires : tie.Need-brings-in-requires Inv-loop μ-loop
-brings-in-requires c κs = search needs
 
 returns-2 : tie.Need-returns-2 Inv-loop μ-loop
 returns-2 p =
@@ -113,20 +98,7 @@ returns-3 p =
 
 pub brings-by-spec : {M : Type 1} → statement M
 brings-by-spec =
-    tie.close
-    (tie.spec
-    Inv-loop
-    μ-loop
-    shares-weight-requires
-    returns
-    weight-in-requires
-    loop-holds
-    stretch-end-requires
-    due-at-requires
-    brings-in-requires
-    returns-2
-    loop-less
-    loop-again
-    loop-less-2
-    loop-again-2
+    tie.close (tie.spec
+    Inv-loop μ-loop (λ c κs. search needs) returns (λ c κs. search needs) loop-holds (λ c κs. search needs)
+    (λ c κs. search needs) (λ c κs. search needs) returns-2 loop-less loop-again loop-less-2 loop-again-2
     returns-3)

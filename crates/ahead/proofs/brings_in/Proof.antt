@@ -25,9 +25,6 @@ returns p =
     λ r o l.
     told-none r (a .n) (a .figures .now) (Ahead r (a .n) (a .w) (a .figures .now) (a .from) (a .upto)) (λ q lq k. too-heavy r (a .n) (a .w) (a .figures .now) (p .if1 .taken) (a .from) (a .upto) q k)
 
-sub-last : tie.Need-sub-last Inv-loop μ-loop
-sub-last c = search needs
-
 -- before the loop, and what is given of a railway
 abbrev start : tie.Else1 Inv-loop μ-loop → tie.Start Inv-loop μ-loop
 start b = b .before .before
@@ -39,12 +36,6 @@ loop-holds : tie.Need-loop-holds Inv-loop μ-loop
 loop-holds b =
     let a = start b .args in
     rests-start (Given b) (a .n) (a .figures .now) (λ r i. Ahead r (a .n) (a .w) (a .figures .now) (a .from) i) (a .from) (λ r q k. no-code r (a .n) (a .w) (a .figures .now) (a .from) q k)
-
-entry-at-requires : tie.Need-entry-at-requires Inv-loop μ-loop
-entry-at-requires c κs = search needs
-
-brings-before-requires : tie.Need-brings-before-requires Inv-loop μ-loop
-brings-before-requires c κs = search needs
 
 returns-2 : tie.Need-returns-2 Inv-loop μ-loop
 returns-2 p =
@@ -89,17 +80,6 @@ returns-3 p =
 
 pub brings-in-spec : {M : Type 1} → statement M
 brings-in-spec =
-    tie.close
-    (tie.spec
-    Inv-loop
-    μ-loop
-    returns
-    sub-last
-    loop-holds
-    entry-at-requires
-    brings-before-requires
-    returns-2
-    add-c
-    loop-less
-    loop-again
-    returns-3)
+    tie.close (tie.spec
+    Inv-loop μ-loop returns (λ c. search needs) loop-holds (λ c κs. search needs) (λ c κs. search needs)
+    returns-2 add-c loop-less loop-again returns-3)

@@ -13,27 +13,12 @@ returns p =
     λ r c behind o on lt there put.
     put-outside r (a .table .now) (a .ways .now) behind (a .m) (a .n) (a .figures .now) o c (a .t) (a .y) (a .p) there put (p .if1 .taken)
 
-entry-at-requires : tie.Need-entry-at-requires
-entry-at-requires c κs = search needs
-
 returns-2 : tie.Need-returns-2
 returns-2 p =
     let e = p .before in
     let a = e .before .before .before .args in
     λ r c behind o on lt there put.
     put-figured r (a .table .now) (a .ways .now) behind (a .m) (a .n) (a .figures .now) o c (a .t) (a .y) (a .p) there put _ (e .entry-at .ensures) (p .if2 .taken)
-
-put-on-requires : tie.Need-put-on-requires
-put-on-requires c κs = search needs
-
-find-in-requires : tie.Need-find-in-requires
-find-in-requires c κs = search needs
-
-enum-told : tie.Need-enum-told
-enum-told c = search needs
-
-enum-known-found : tie.Need-enum-known-found
-enum-known-found c = search needs
 
 returns-3 : tie.Need-returns-3
 returns-3 p =
@@ -59,14 +44,6 @@ returns-4 p =
 
 pub brings-put-spec : {M : Type 1} → statement M
 brings-put-spec =
-    tie.close
-    (tie.spec
-    returns
-    entry-at-requires
-    returns-2
-    put-on-requires
-    find-in-requires
-    enum-told
-    enum-known-found
-    returns-3
-    returns-4)
+    tie.close (tie.spec
+    returns (λ c κs. search needs) returns-2 (λ c κs. search needs) (λ c κs. search needs) (λ c. search needs)
+    (λ c. search needs) returns-3 returns-4)

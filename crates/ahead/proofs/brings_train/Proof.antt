@@ -23,18 +23,6 @@ Inv-loop table ways behind figures m n q c t x e stride j₀ j =
 abbrev μ-loop : tie.MeasureT-loop
 μ-loop table ways behind figures m n q c t x e stride j₀ j = mostWays - j
 
-section-at-requires : tie.Need-section-at-requires Inv-loop μ-loop
-section-at-requires c κs = search needs
-
-end-behind-requires : tie.Need-end-behind-requires Inv-loop μ-loop
-end-behind-requires c κs = search needs
-
-sections-in-requires : tie.Need-sections-in-requires Inv-loop μ-loop
-sections-in-requires c κs = search needs
-
-power-requires : tie.Need-power-requires Inv-loop μ-loop
-power-requires c κs = search needs
-
 -- before the loop
 abbrev start : tie.After-power Inv-loop μ-loop → tie.Start Inv-loop μ-loop
 start b = b .before .before .before .before .before
@@ -56,9 +44,6 @@ loop-holds b =
     rests-start (Given b) (a .n) (a .figures .now) (λ r i. BackBy r (a .c) (a .t) _ i) 0
     (λ r u k. no-way (a .table .now) (a .behind .now) (a .q) (a .c) (a .t) (b .power .result) _ _ (b .before .before .before .section-at .ensures) (b .before .before .end-behind .ensures) r u k)
 
-way-to-requires : tie.Need-way-to-requires Inv-loop μ-loop
-way-to-requires c κs = search needs
-
 returns : tie.Need-returns Inv-loop μ-loop
 returns p =
     let w = p .before in
@@ -72,12 +57,6 @@ returns p =
     (λ r. By r (a .c) (a .t))
     (λ r g u lu k. way-last (a .table .now) (a .behind .now) (a .q) (a .c) (a .t) _ _ _ here rear _ _ (w .way-to .ensures .0) r (g .1) (p .if1 .taken) u (by-ways (a .table .now) (a .behind .now) (a .q) (a .c) (a .t) _ _ _ here rear r (g .1) u lu k))
     r (given b r o on lc lt)
-
-code-put-requires : tie.Need-code-put-requires Inv-loop μ-loop
-code-put-requires c κs = search needs
-
-brings-put-requires : tie.Need-brings-put-requires Inv-loop μ-loop
-brings-put-requires c κs = search needs
 
 returns-2 : tie.Need-returns-2 Inv-loop μ-loop
 returns-2 p =
@@ -93,9 +72,6 @@ returns-2 p =
     let put =
     way-put (a .table .now) (a .behind .now) (a .q) (a .c) (a .t) _ _ _ (b .before .before .before .section-at .ensures) (b .before .before .end-behind .ensures) _ _ (w .way-to .ensures .0) r (g .1) (i .if1 .left) _ (z .code-put .ensures) in
     told-yes r (a .n) (a .figures .now) (One (z .code-put .result)) _ (v .brings-put .ensures r (a .c) (a .behind .now) o on lt (put .0) (put .1)) (p .if2 .taken) (By r (a .c) (a .t))
-
-add-j : tie.Need-add-j Inv-loop μ-loop
-add-j c = search needs
 
 loop-less : tie.Need-loop-less Inv-loop μ-loop
 loop-less c = omega (arith, c .before .before .before .before .before .loop-test .taken)
@@ -135,21 +111,7 @@ returns-3 p =
 
 pub brings-train-spec : {M : Type 1} → statement M
 brings-train-spec =
-    tie.close
-    (tie.spec
-    Inv-loop
-    μ-loop
-    section-at-requires
-    end-behind-requires
-    sections-in-requires
-    power-requires
-    loop-holds
-    way-to-requires
-    returns
-    code-put-requires
-    brings-put-requires
-    returns-2
-    add-j
-    loop-less
-    loop-again
-    returns-3)
+    tie.close (tie.spec
+    Inv-loop μ-loop (λ c κs. search needs) (λ c κs. search needs) (λ c κs. search needs)
+    (λ c κs. search needs) loop-holds (λ c κs. search needs) returns (λ c κs. search needs)
+    (λ c κs. search needs) returns-2 (λ c. search needs) loop-less loop-again returns-3)

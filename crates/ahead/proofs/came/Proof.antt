@@ -13,20 +13,8 @@ Inv-loop table figures marks n m c₀ c = NoneTo table figures marks n c
 abbrev μ-loop : tie.MeasureT-loop
 μ-loop table figures marks n m c₀ c = m - c
 
-placements-requires : tie.Need-placements-requires Inv-loop μ-loop
-placements-requires c κs = search needs
-
 loop-holds : tie.Need-loop-holds Inv-loop μ-loop
 loop-holds c = λ r d h k q l z. absurd (omega arith)
-
-stretch-end-requires : tie.Need-stretch-end-requires Inv-loop μ-loop
-stretch-end-requires c κs = search needs
-
-most-at-requires : tie.Need-most-at-requires Inv-loop μ-loop
-most-at-requires c κs = search needs
-
-stands-in-requires : tie.Need-stands-in-requires Inv-loop μ-loop
-stands-in-requires c κs = search needs
 
 returns : tie.Need-returns Inv-loop μ-loop
 returns p =
@@ -68,18 +56,6 @@ returns-2 p =
 
 pub came-spec : {M : Type 1} → statement M
 came-spec =
-    tie.close
-    (tie.spec
-    Inv-loop
-    μ-loop
-    placements-requires
-    loop-holds
-    stretch-end-requires
-    most-at-requires
-    stands-in-requires
-    returns
-    loop-less
-    loop-again
-    loop-less-2
-    loop-again-2
-    returns-2)
+    tie.close (tie.spec
+    Inv-loop μ-loop (λ c κs. search needs) loop-holds (λ c κs. search needs) (λ c κs. search needs)
+    (λ c κs. search needs) returns loop-less loop-again loop-less-2 loop-again-2 returns-2)

@@ -18,9 +18,6 @@ abbrev μ-loop : tie.MeasureT-loop
 loop-holds : tie.Need-loop-holds Inv-loop μ-loop
 loop-holds c = λ q l h. absurd (omega arith)
 
-entry-at-requires : tie.Need-entry-at-requires Inv-loop μ-loop
-entry-at-requires c κs = search needs
-
 returns : tie.Need-returns Inv-loop μ-loop
 returns p =
     let x = p .before in
@@ -44,14 +41,5 @@ returns-2 p = none-stands (λ q l h. p .before .loop .inv q l (omega (arith, p .
 
 pub stands-in-spec : {M : Type 1} → statement M
 stands-in-spec =
-    tie.close
-    (tie.spec
-    Inv-loop
-    μ-loop
-    loop-holds
-    entry-at-requires
-    returns
-    add-c
-    loop-less
-    loop-again
-    returns-2)
+    tie.close (tie.spec
+    Inv-loop μ-loop loop-holds (λ c κs. search needs) returns add-c loop-less loop-again returns-2)

@@ -8,14 +8,8 @@ use Rattle.answerlines.proofs.put.Tie as tie
 returns : tie.Need-returns
 returns c = put-refused _ _ (c .if1 .taken)
 
-bytes-requires : tie.Need-bytes-requires
-bytes-requires c κs = search needs
-
-same-length : tie.Need-same-length
-same-length c = search needs
-
 returns-2 : tie.Need-returns-2
 returns-2 c = let b = c .before .before in put-written _ _ (b .before .before .if1 .left) _ _ (b .bytes .ensures)
 
 pub put-spec : {M : Type 1} → statement M
-put-spec = tie.close (tie.spec returns bytes-requires same-length returns-2)
+put-spec = tie.close (tie.spec returns (λ c κs. search needs) (λ c. search needs) returns-2)

@@ -6,23 +6,11 @@ use Rattle.answerlines.proofs.Made.{refusal-short, made-put}
 use Rattle.answerlines.proofs.refusal_line.Statement.{statement}
 use Rattle.answerlines.proofs.refusal_line.Tie as tie
 
-slice-aggregate-spell-refusal : tie.Need-slice-aggregate-spell-refusal
-slice-aggregate-spell-refusal c = search needs
-
-spell-refusal-requires : tie.Need-spell-refusal-requires
-spell-refusal-requires c κs = search needs
-
 array-share-prefix-line : tie.Need-array-share-prefix-line
 array-share-prefix-line c = let p = c .before .spell-refusal in front-fits (p .ensures) (p .kept .0)
 
 slice-aggregate-put : tie.Need-slice-aggregate-put
 slice-aggregate-put c = let p = c .before .before .spell-refusal in front-cut (p .ensures) (p .kept .0)
-
-put-requires : tie.Need-put-requires
-put-requires c κs = search needs
-
-same-length : tie.Need-same-length
-same-length c = search needs
 
 returns : tie.Need-returns
 returns c =
@@ -32,12 +20,6 @@ returns c =
 
 pub refusal-line-spec : {M : Type 1} → statement M
 refusal-line-spec =
-    tie.close
-    (tie.spec
-    slice-aggregate-spell-refusal
-    spell-refusal-requires
-    array-share-prefix-line
-    slice-aggregate-put
-    put-requires
-    same-length
-    returns)
+    tie.close (tie.spec
+    (λ c. search needs) (λ c κs. search needs) array-share-prefix-line slice-aggregate-put
+    (λ c κs. search needs) (λ c. search needs) returns)

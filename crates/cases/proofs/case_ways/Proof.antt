@@ -5,13 +5,10 @@ use borrow.Author.Needs.{needs}
 use Rattle.cases.proofs.case_ways.Statement.{statement}
 use Rattle.cases.proofs.case_ways.Tie as tie
 
-ways-of-requires : tie.Need-ways-of-requires
-ways-of-requires c κs = search needs
-
 returns : tie.Need-returns
 returns c =
     let a = c .before .before .before .before .before in
     laid-closed (a .args .r) _ _ (own-closed (a .args .r) _ (a .good .0)) (c .ways-of .ensures (a .args .r) (own-links (a .args .r) _ (a .good .0)))
 
 pub case-ways-spec : {M : Type 1} → statement M
-case-ways-spec = tie.close (tie.spec ways-of-requires returns)
+case-ways-spec = tie.close (tie.spec (λ c κs. search needs) returns)

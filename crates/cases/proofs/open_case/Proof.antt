@@ -6,34 +6,13 @@ use Rattle.cases.proofs.Opening.{record-refused, too-short, opened}
 use Rattle.cases.proofs.open_case.Statement.{statement}
 use Rattle.cases.proofs.open_case.Tie as tie
 
-compile-requires : tie.Need-compile-requires
-compile-requires c κs = search needs
-
-enum-told : tie.Need-enum-told
-enum-told c = search needs
-
-enum-told-2 : tie.Need-enum-told-2
-enum-told-2 c = search needs
-
 returns : tie.Need-returns
 returns c = record-refused (c .before .before .before .before .before .args .r) _ _ _ _ (c .before .before .compile .ensures) (c .enum-told2 .given .1)
-
-placements-requires : tie.Need-placements-requires
-placements-requires c κs = search needs
-
-cast-n : tie.Need-cast-n
-cast-n c = search needs
-
-short-requires : tie.Need-short-requires
-short-requires c κs = search needs
 
 returns-2 : tie.Need-returns-2
 returns-2 c =
     too-short (c .before .before .before .before .before .before .before .before .before .before .args .r) _ _ _ (c .before .before .before .before .before .before .before .compile .ensures)
     (c .before .before .before .before .before .enum-told .given .1) _ (c .before .before .placements .ensures) (inl (c .before .if1 .taken)) _ (c .short .ensures)
-
-short-requires-2 : tie.Need-short-requires-2
-short-requires-2 c κs = search needs
 
 returns-3 : tie.Need-returns-3
 returns-3 c =
@@ -47,16 +26,6 @@ returns-4 c =
 
 pub open-case-spec : {M : Type 1} → statement M
 open-case-spec =
-    tie.close
-    (tie.spec
-    compile-requires
-    enum-told
-    enum-told-2
-    returns
-    placements-requires
-    cast-n
-    short-requires
-    returns-2
-    short-requires-2
-    returns-3
-    returns-4)
+    tie.close (tie.spec
+    (λ c κs. search needs) (λ c. search needs) (λ c. search needs) returns (λ c κs. search needs)
+    (λ c. search needs) (λ c κs. search needs) returns-2 (λ c κs. search needs) returns-3 returns-4)

@@ -6,30 +6,6 @@ use borrow.Author.Needs.{needs}
 use Rattle.check_io.proofs.check_input.Statement.{statement}
 use Rattle.check_io.proofs.check_input.Tie as tie
 
-slice-aggregate-open-read : tie.Need-slice-aggregate-open-read
-slice-aggregate-open-read c = search needs
-
-open-read-requires : tie.Need-open-read-requires
-open-read-requires c κs = search needs
-
-check-files-requires : tie.Need-check-files-requires
-check-files-requires c κs = search needs
-
-front-requires : tie.Need-front-requires
-front-requires c κs = search needs
-
-bytes-put-requires : tie.Need-bytes-put-requires
-bytes-put-requires c κs = search needs
-
-same-length : tie.Need-same-length
-same-length c = search needs
-
-same-length-2 : tie.Need-same-length-2
-same-length-2 c = search needs
-
-same-length-3 : tie.Need-same-length-3
-same-length-3 c = search needs
-
 returns : tie.Need-returns
 returns c =
     let k = c .before .before .before .before .before .before .before .before .before in
@@ -38,14 +14,6 @@ returns c =
 
 pub check-input-spec : {M : Type 1} → statement M
 check-input-spec =
-    tie.close
-    (tie.spec
-    slice-aggregate-open-read
-    open-read-requires
-    check-files-requires
-    front-requires
-    bytes-put-requires
-    same-length
-    same-length-2
-    same-length-3
-    returns)
+    tie.close (tie.spec
+    (λ c. search needs) (λ c κs. search needs) (λ c κs. search needs) (λ c κs. search needs)
+    (λ c κs. search needs) (λ c. search needs) (λ c. search needs) (λ c. search needs) returns)

@@ -7,27 +7,10 @@ use borrow.Author.Needs.{needs}
 use Rattle.check_io.proofs.write_verdict.Statement.{statement}
 use Rattle.check_io.proofs.write_verdict.Tie as tie
 
-slice-aggregate-check-input : tie.Need-slice-aggregate-check-input
-slice-aggregate-check-input c = search needs
-
-slice-aggregate-check-input-2 : tie.Need-slice-aggregate-check-input-2
-slice-aggregate-check-input-2 c = search needs
-
-slice-aggregate-check-input-3 : tie.Need-slice-aggregate-check-input-3
-slice-aggregate-check-input-3 c = search needs
-
 check-input-requires : tie.Need-check-input-requires
 check-input-requires c κs = (length-replicate {A = ℕ} 4097 0, length-replicate {A = ℕ} 368686 0, omega arith)
 
-returns : tie.Need-returns
-returns c = search needs
-
 pub write-verdict-spec : {M : Type 1} → statement M
 write-verdict-spec =
-    tie.close
-    (tie.spec
-    slice-aggregate-check-input
-    slice-aggregate-check-input-2
-    slice-aggregate-check-input-3
-    check-input-requires
-    returns)
+    tie.close (tie.spec
+    (λ c. search needs) (λ c. search needs) (λ c. search needs) check-input-requires (λ c. search needs))

@@ -6,15 +6,6 @@ use Rattle.checker.proofs.Calling.{verdict-early, verdict-pass, verdict
 use Rattle.checker.proofs.verdict.Statement.{statement}
 use Rattle.checker.proofs.verdict.Tie as tie
 
-enum-told : tie.Need-enum-told
-enum-told c = search needs
-
-enum-known-state : tie.Need-enum-known-state
-enum-known-state c = search needs
-
-test-holds-requires : tie.Need-test-holds-requires
-test-holds-requires c κs = search needs
-
 returns : tie.Need-returns
 returns c =
     λ r k h w.
@@ -36,4 +27,6 @@ returns-3 c =
     verdict-fault r (checking k (a .figures .now) (a .settings .now)) (a .state) _ _ (t .before .before .state .given .1) _ (t .test-holds .ensures r h w) (c .if1 .left)
 
 pub verdict-spec : {M : Type 1} → statement M
-verdict-spec = tie.close (tie.spec enum-told enum-known-state test-holds-requires returns returns-2 returns-3)
+verdict-spec =
+    tie.close (tie.spec
+    (λ c. search needs) (λ c. search needs) (λ c κs. search needs) returns returns-2 returns-3)

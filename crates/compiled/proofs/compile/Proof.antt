@@ -29,41 +29,11 @@ abbrev μ-loop2 : tie.MeasureT-loop2
 abbrev tested : tie.After-trains-of Inv-loop μ-loop Inv-loop2 μ-loop2 → tie.After-test-record Inv-loop μ-loop Inv-loop2 μ-loop2
 tested e = e .before .before .before .before
 
-test-record-requires : tie.Need-test-record-requires Inv-loop μ-loop Inv-loop2 μ-loop2
-test-record-requires c κs = search needs
-
-enum-told : tie.Need-enum-told Inv-loop μ-loop Inv-loop2 μ-loop2
-enum-told c = search needs
-
-enum-told-2 : tie.Need-enum-told-2 Inv-loop μ-loop Inv-loop2 μ-loop2
-enum-told-2 c = search needs
-
 returns : tie.Need-returns Inv-loop μ-loop Inv-loop2 μ-loop2
 returns c = post-refused (c .before .before .before .args .r) _ (c .before .before .test-record .ensures) _ (c .enum-told2 .given .1)
 
-trains-of-requires : tie.Need-trains-of-requires Inv-loop μ-loop Inv-loop2 μ-loop2
-trains-of-requires c κs = search needs
-
 loop-holds : tie.Need-loop-holds Inv-loop μ-loop Inv-loop2 μ-loop2
 loop-holds c = (omega arith, filled-none (tested c .before .args .r) 0 _ refl)
-
-cast-at : tie.Need-cast-at Inv-loop μ-loop Inv-loop2 μ-loop2
-cast-at c = search needs
-
-mul-fill-stands : tie.Need-mul-fill-stands Inv-loop μ-loop Inv-loop2 μ-loop2
-mul-fill-stands c = omega arith
-
-array-copy-out-fill-stands : tie.Need-array-copy-out-fill-stands Inv-loop μ-loop Inv-loop2 μ-loop2
-array-copy-out-fill-stands c = omega arith
-
-fill-stands-requires : tie.Need-fill-stands-requires Inv-loop μ-loop Inv-loop2 μ-loop2
-fill-stands-requires c κs = omega arith
-
-add-t : tie.Need-add-t Inv-loop μ-loop Inv-loop2 μ-loop2
-add-t c = omega arith
-
-loop-less : tie.Need-loop-less Inv-loop μ-loop Inv-loop2 μ-loop2
-loop-less c = omega arith
 
 loop-again : tie.Need-loop-again Inv-loop μ-loop Inv-loop2 μ-loop2
 loop-again c =
@@ -78,15 +48,6 @@ loop2-holds c = let l = c .before in (omega arith, filled-stands (tested (l .bef
 
 tail-byte-requires : tie.Need-tail-byte-requires Inv-loop μ-loop Inv-loop2 μ-loop2
 tail-byte-requires c κs = (c .before .loop2 .inv .0, omega arith)
-
-array-write-table : tie.Need-array-write-table Inv-loop μ-loop Inv-loop2 μ-loop2
-array-write-table c = omega arith
-
-add-i : tie.Need-add-i Inv-loop μ-loop Inv-loop2 μ-loop2
-add-i c = omega arith
-
-loop2-less : tie.Need-loop2-less Inv-loop μ-loop Inv-loop2 μ-loop2
-loop2-less c = omega arith
 
 loop2-again : tie.Need-loop2-again Inv-loop μ-loop Inv-loop2 μ-loop2
 loop2-again c =
@@ -108,29 +69,8 @@ returns-2 c =
 
 pub compile-spec : {M : Type 1} → statement M
 compile-spec =
-    tie.close
-    (tie.spec
-    Inv-loop
-    μ-loop
-    Inv-loop2
-    μ-loop2
-    test-record-requires
-    enum-told
-    enum-told-2
-    returns
-    trains-of-requires
-    loop-holds
-    cast-at
-    mul-fill-stands
-    array-copy-out-fill-stands
-    fill-stands-requires
-    add-t
-    loop-less
-    loop-again
-    loop2-holds
-    tail-byte-requires
-    array-write-table
-    add-i
-    loop2-less
-    loop2-again
-    returns-2)
+    tie.close (tie.spec
+    Inv-loop μ-loop Inv-loop2 μ-loop2 (λ c κs. search needs) (λ c. search needs) (λ c. search needs) returns
+    (λ c κs. search needs) loop-holds (λ c. search needs) (λ c. omega arith) (λ c. omega arith)
+    (λ c κs. omega arith) (λ c. omega arith) (λ c. omega arith) loop-again loop2-holds tail-byte-requires
+    (λ c. omega arith) (λ c. omega arith) (λ c. omega arith) loop2-again returns-2)

@@ -24,41 +24,11 @@ Inv-loop table₀ signals t side home first x₀ table x =
 abbrev μ-loop : tie.MeasureT-loop
 μ-loop table₀ signals t side home first x₀ table x = mostSections - x
 
-side-index-requires : tie.Need-side-index-requires Inv-loop μ-loop
-side-index-requires c κs = search needs
-
-mul-first : tie.Need-mul-first Inv-loop μ-loop
-mul-first c = search needs
-
 loop-holds : tie.Need-loop-holds Inv-loop μ-loop
 loop-holds c = (omega arith, λ r g s d f. filled-first r _ _ (c .before .pre) f)
 
-cast-at : tie.Need-cast-at Inv-loop μ-loop
-cast-at c = search needs
-
-add-at : tie.Need-add-at Inv-loop μ-loop
-add-at c = search needs
-
-mul-signal-in : tie.Need-mul-signal-in Inv-loop μ-loop
-mul-signal-in c = search needs
-
 add-signal-in : tie.Need-add-signal-in Inv-loop μ-loop
 add-signal-in c = let s = c .before .before in omega (arith, side-small (s .before .args .train .heading), s .side-index .ensures)
-
-signal-in-requires : tie.Need-signal-in-requires Inv-loop μ-loop
-signal-in-requires c κs = search needs
-
-stand-byte-requires : tie.Need-stand-byte-requires Inv-loop μ-loop
-stand-byte-requires c κs = search needs
-
-element-write-table : tie.Need-element-write-table Inv-loop μ-loop
-element-write-table c = omega arith
-
-add-x : tie.Need-add-x Inv-loop μ-loop
-add-x c = omega arith
-
-loop-less : tie.Need-loop-less Inv-loop μ-loop
-loop-less c = omega arith
 
 loop-again : tie.Need-loop-again Inv-loop μ-loop
 loop-again c =
@@ -80,21 +50,7 @@ returns c =
 
 pub fill-stands-spec : {M : Type 1} → statement M
 fill-stands-spec =
-    tie.close
-    (tie.spec
-    Inv-loop
-    μ-loop
-    side-index-requires
-    mul-first
-    loop-holds
-    cast-at
-    add-at
-    mul-signal-in
-    add-signal-in
-    signal-in-requires
-    stand-byte-requires
-    element-write-table
-    add-x
-    loop-less
-    loop-again
-    returns)
+    tie.close (tie.spec
+    Inv-loop μ-loop (λ c κs. search needs) (λ c. search needs) loop-holds (λ c. search needs)
+    (λ c. search needs) (λ c. search needs) add-signal-in (λ c κs. search needs) (λ c κs. search needs)
+    (λ c. omega arith) (λ c. omega arith) (λ c. omega arith) loop-again returns)

@@ -5,11 +5,8 @@ use Rattle.compiled.proofs.Table.{free-is}
 use Rattle.compiled.proofs.free_on.Statement.{statement}
 use Rattle.compiled.proofs.free_on.Tie as tie
 
-stand-in-requires : tie.Need-stand-in-requires
-stand-in-requires c κs = search needs
-
 returns : tie.Need-returns
 returns c = let a = c .before .args in λ r h. free-is r (a .t) (a .x) _ (c .stand-in .ensures r h)
 
 pub free-on-spec : {M : Type 1} → statement M
-free-on-spec = tie.close (tie.spec stand-in-requires returns)
+free-on-spec = tie.close (tie.spec (λ c κs. search needs) returns)

@@ -6,14 +6,8 @@ use Rattle.compiled.proofs.Table.{heading-is}
 use Rattle.compiled.proofs.heading_in.Statement.{statement}
 use Rattle.compiled.proofs.heading_in.Tie as tie
 
-roster-in-requires : tie.Need-roster-in-requires
-roster-in-requires c κs = search needs
-
-side-at-requires : tie.Need-side-at-requires
-side-at-requires c κs = search needs
-
 returns : tie.Need-returns
 returns c = λ r h. c .side-at .ensures ∙ heading-is r _ _ (c .before .roster-in .ensures r h)
 
 pub heading-in-spec : {M : Type 1} → statement M
-heading-in-spec = tie.close (tie.spec roster-in-requires side-at-requires returns)
+heading-in-spec = tie.close (tie.spec (λ c κs. search needs) (λ c κs. search needs) returns)

@@ -5,11 +5,8 @@ use Rattle.compiled.proofs.Table.{held-is}
 use Rattle.compiled.proofs.held_on.Statement.{statement}
 use Rattle.compiled.proofs.held_on.Tie as tie
 
-stand-in-requires : tie.Need-stand-in-requires
-stand-in-requires c κs = search needs
-
 returns : tie.Need-returns
 returns c = let a = c .before .args in λ r h. held-is r (a .t) (a .x) _ (c .stand-in .ensures r h)
 
 pub held-on-spec : {M : Type 1} → statement M
-held-on-spec = tie.close (tie.spec stand-in-requires returns)
+held-on-spec = tie.close (tie.spec (λ c κs. search needs) returns)

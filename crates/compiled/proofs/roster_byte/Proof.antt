@@ -5,9 +5,6 @@ use Rattle.compiled.proofs.Table.{roster-heading, roster-start, roster-
 use Rattle.compiled.proofs.roster_byte.Statement.{statement}
 use Rattle.compiled.proofs.roster_byte.Tie as tie
 
-side-index-requires : tie.Need-side-index-requires
-side-index-requires c κs = search needs
-
 returns : tie.Need-returns
 returns c = λ r t h. roster-heading r _ t _ h _ (c .before .if1 .taken) (c .side-index .ensures)
 
@@ -21,4 +18,4 @@ returns-4 : tie.Need-returns-4
 returns-4 c = λ r t h. roster-weight r _ t _ h (c .before .before .if1 .left) (c .before .if2 .left) (c .if3 .left)
 
 pub roster-byte-spec : {M : Type 1} → statement M
-roster-byte-spec = tie.close (tie.spec side-index-requires returns returns-2 returns-3 returns-4)
+roster-byte-spec = tie.close (tie.spec (λ c κs. search needs) returns returns-2 returns-3 returns-4)

@@ -5,18 +5,6 @@ use Rattle.compiled.proofs.Table.{roster-there, no-heading, no-section,
 use Rattle.compiled.proofs.roster_in.Statement.{statement}
 use Rattle.compiled.proofs.roster_in.Tie as tie
 
-mul-at : tie.Need-mul-at
-mul-at c = search needs
-
-add-at : tie.Need-add-at
-add-at c = search needs
-
-add-at-2 : tie.Need-add-at-2
-add-at-2 c = search needs
-
-element-copy-out-result : tie.Need-element-copy-out-result
-element-copy-out-result c = search needs
-
 returns : tie.Need-returns
 returns c = let s = c .before .before in λ r h. roster-there r _ h (s .args .i) (s .args .t) (s .pre) (c .before .if1 .taken)
 
@@ -31,4 +19,6 @@ returns-4 c = λ r h. no-section r _ _ _ h (c .before .before .if1 .left) (c .be
 
 pub roster-in-spec : {M : Type 1} → statement M
 roster-in-spec =
-    tie.close (tie.spec mul-at add-at add-at-2 element-copy-out-result returns returns-2 returns-3 returns-4)
+    tie.close (tie.spec
+    (λ c. search needs) (λ c. search needs) (λ c. search needs) (λ c. search needs) returns returns-2
+    returns-3 returns-4)

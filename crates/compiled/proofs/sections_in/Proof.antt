@@ -5,11 +5,8 @@ use Rattle.compiled.proofs.Table.{sections-there}
 use Rattle.compiled.proofs.sections_in.Statement.{statement}
 use Rattle.compiled.proofs.sections_in.Tie as tie
 
-element-copy-out-result : tie.Need-element-copy-out-result
-element-copy-out-result c = search needs
-
 returns : tie.Need-returns
 returns c = λ r h. sections-there r _ h
 
 pub sections-in-spec : {M : Type 1} → statement M
-sections-in-spec = tie.close (tie.spec element-copy-out-result returns)
+sections-in-spec = tie.close (tie.spec (λ c. search needs) returns)

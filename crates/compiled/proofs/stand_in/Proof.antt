@@ -11,18 +11,10 @@ returns c = let a = c .before .args in λ r h. stand-no-train r (a .t) (a .x) (c
 returns-2 : tie.Need-returns-2
 returns-2 c = let a = c .before .before .args in λ r h. stand-no-section r (a .t) (a .x) (c .before .if1 .left) (c .if2 .taken)
 
-mul-at : tie.Need-mul-at
-mul-at c = search needs
-
-add-at : tie.Need-add-at
-add-at c = search needs
-
-element-copy-out-result : tie.Need-element-copy-out-result
-element-copy-out-result c = search needs
-
 returns-3 : tie.Need-returns-3
 returns-3 c = let e = c .before in let a = e .before .before .args in λ r h. stand-there r _ h (a .t) (a .x) (e .before .if1 .left) (e .if2 .left)
 
 pub stand-in-spec : {M : Type 1} → statement M
 stand-in-spec =
-    tie.close (tie.spec returns returns-2 mul-at add-at element-copy-out-result returns-3)
+    tie.close (tie.spec
+    returns returns-2 (λ c. search needs) (λ c. search needs) (λ c. search needs) returns-3)

@@ -8,35 +8,14 @@ use Rattle.compiled.proofs.Table.{for-count, for-roster}
 use Rattle.compiled.proofs.tail_byte.Statement.{statement}
 use Rattle.compiled.proofs.tail_byte.Tie as tie
 
-sub-count-byte : tie.Need-sub-count-byte
-sub-count-byte c = search needs
-
-count-byte-requires : tie.Need-count-byte-requires
-count-byte-requires c κs = search needs
-
 returns : tie.Need-returns
 returns c = λ r h k. let s = c .before .before in for-count r _ _ (s .pre .0) (c .before .if1 .taken) (c .count-byte .ensures r h)
-
-mul-roster-byte : tie.Need-mul-roster-byte
-mul-roster-byte c = search needs
-
-array-copy-out-roster-byte : tie.Need-array-copy-out-roster-byte
-array-copy-out-roster-byte c = search needs
-
-roster-byte-requires : tie.Need-roster-byte-requires
-roster-byte-requires c κs = search needs
 
 returns-2 : tie.Need-returns-2
 returns-2 c = λ r h k. let e = c .before .before in let i = e .before .args .i in for-roster r _ _ (e .before .pre .0) (e .if1 .left) (c .roster-byte .ensures r ((i - countBytes) % 4) (k .each ((i - countBytes) % 4) _ (omega arith)))
 
 pub tail-byte-spec : {M : Type 1} → statement M
 tail-byte-spec =
-    tie.close
-    (tie.spec
-    sub-count-byte
-    count-byte-requires
-    returns
-    mul-roster-byte
-    array-copy-out-roster-byte
-    roster-byte-requires
-    returns-2)
+    tie.close (tie.spec
+    (λ c. search needs) (λ c κs. search needs) returns (λ c. search needs) (λ c. search needs)
+    (λ c κs. search needs) returns-2)

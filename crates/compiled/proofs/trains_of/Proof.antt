@@ -5,20 +5,10 @@ use Rattle.compiled.proofs.Table.{rostered}
 use Rattle.compiled.proofs.trains_of.Statement.{statement}
 use Rattle.compiled.proofs.trains_of.Tie as tie
 
-train-of-requires : tie.Need-train-of-requires
-train-of-requires c κs = search needs
-
-train-of-requires-2 : tie.Need-train-of-requires-2
-train-of-requires-2 c κs = search needs
-
-train-of-requires-3 : tie.Need-train-of-requires-3
-train-of-requires-3 c κs = search needs
-
-train-of-requires-4 : tie.Need-train-of-requires-4
-train-of-requires-4 c κs = search needs
-
 returns : tie.Need-returns
 returns c = let d = c .before in let e = d .before in let f = e .before in rostered (f .before .args .r) _ _ _ _ (f .train-of .ensures) (e .train-of2 .ensures) (d .train-of3 .ensures) (c .train-of4 .ensures)
 
 pub trains-of-spec : {M : Type 1} → statement M
-trains-of-spec = tie.close (tie.spec train-of-requires train-of-requires-2 train-of-requires-3 train-of-requires-4 returns)
+trains-of-spec =
+    tie.close (tie.spec
+    (λ c κs. search needs) (λ c κs. search needs) (λ c κs. search needs) (λ c κs. search needs) returns)

@@ -6,15 +6,6 @@ use borrow.Author.Needs.{needs}
 use Rattle.count_io.proofs.counted_text.Statement.{statement}
 use Rattle.count_io.proofs.counted_text.Tie as tie
 
-so-far-requires : tie.Need-so-far-requires
-so-far-requires c κs = search needs
-
-put-counts-requires : tie.Need-put-counts-requires
-put-counts-requires c κs = search needs
-
-same-length : tie.Need-same-length
-same-length c = search needs
-
 returns : tie.Need-returns
 returns c =
     let p = c .before .before in
@@ -23,4 +14,6 @@ returns c =
     told-counts (now (st .args .figures)) (now (st .args .counts)) (st .args .n) _ (s .so-far .ensures) (st .pre) (p .put-counts .kept .0) (p .put-counts .ensures)
 
 pub counted-text-spec : {M : Type 1} → statement M
-counted-text-spec = tie.close (tie.spec so-far-requires put-counts-requires same-length returns)
+counted-text-spec =
+    tie.close (tie.spec
+    (λ c κs. search needs) (λ c κs. search needs) (λ c. search needs) returns)

@@ -5,25 +5,10 @@ use borrow.Author.Needs.{needs}
 use Rattle.count_io.proofs.refused_text.Statement.{statement}
 use Rattle.count_io.proofs.refused_text.Tie as tie
 
-refusal-line-requires : tie.Need-refusal-line-requires
-refusal-line-requires c κs = search needs
-
-enum-known-n : tie.Need-enum-known-n
-enum-known-n c = search needs
-
-enum-told : tie.Need-enum-told
-enum-told c = search needs
-
-same-length : tie.Need-same-length
-same-length c = search needs
-
 returns : tie.Need-returns
 returns c =
     let p = c .before .before .before .before .before in
     refused-whole (p .before .before .before .args .f) (p .refusal-line .ensures) _ (c .before .n .given .1)
-
-same-length-2 : tie.Need-same-length-2
-same-length-2 c = search needs
 
 returns-2 : tie.Need-returns-2
 returns-2 c =
@@ -32,12 +17,6 @@ returns-2 c =
 
 pub refused-text-spec : {M : Type 1} → statement M
 refused-text-spec =
-    tie.close
-    (tie.spec
-    refusal-line-requires
-    enum-known-n
-    enum-told
-    same-length
-    returns
-    same-length-2
-    returns-2)
+    tie.close (tie.spec
+    (λ c κs. search needs) (λ c. search needs) (λ c. search needs) (λ c. search needs) returns
+    (λ c. search needs) returns-2)

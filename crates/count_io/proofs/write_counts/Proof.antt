@@ -6,19 +6,10 @@ use borrow.Author.Needs.{needs}
 use Rattle.count_io.proofs.write_counts.Statement.{statement}
 use Rattle.count_io.proofs.write_counts.Tie as tie
 
-slice-aggregate-counts-input : tie.Need-slice-aggregate-counts-input
-slice-aggregate-counts-input c = search needs
-
-slice-aggregate-counts-input-2 : tie.Need-slice-aggregate-counts-input-2
-slice-aggregate-counts-input-2 c = search needs
-
 counts-input-requires : tie.Need-counts-input-requires
 counts-input-requires c κs = (own-length _ _ refl, own-room _ refl)
 
-returns : tie.Need-returns
-returns c = search needs
-
 pub write-counts-spec : {M : Type 1} → statement M
 write-counts-spec =
-    tie.close
-    (tie.spec slice-aggregate-counts-input slice-aggregate-counts-input-2 counts-input-requires returns)
+    tie.close (tie.spec
+    (λ c. search needs) (λ c. search needs) counts-input-requires (λ c. search needs))

@@ -6,27 +6,6 @@ use borrow.Author.Needs.{needs}
 use Rattle.count_lines.proofs.put_counts.Statement.{statement}
 use Rattle.count_lines.proofs.put_counts.Tie as tie
 
-entry-at-requires : tie.Need-entry-at-requires
-entry-at-requires c κs = search needs
-
-entry-at-requires-2 : tie.Need-entry-at-requires-2
-entry-at-requires-2 c κs = search needs
-
-put-head-requires : tie.Need-put-head-requires
-put-head-requires c κs = search needs
-
-span-of-requires : tie.Need-span-of-requires
-span-of-requires c κs = search needs
-
-put-rows-requires : tie.Need-put-rows-requires
-put-rows-requires c κs = search needs
-
-put-more-requires : tie.Need-put-more-requires
-put-more-requires c κs = search needs
-
-same-length : tie.Need-same-length
-same-length c = search needs
-
 returns : tie.Need-returns
 returns c =
     let m = c .before .before in
@@ -40,13 +19,6 @@ returns c =
 
 pub put-counts-spec : {M : Type 1} → statement M
 put-counts-spec =
-    tie.close
-    (tie.spec
-    entry-at-requires
-    entry-at-requires-2
-    put-head-requires
-    span-of-requires
-    put-rows-requires
-    put-more-requires
-    same-length
-    returns)
+    tie.close (tie.spec
+    (λ c κs. search needs) (λ c κs. search needs) (λ c κs. search needs) (λ c κs. search needs)
+    (λ c κs. search needs) (λ c κs. search needs) (λ c. search needs) returns)

@@ -6,30 +6,12 @@ use borrow.Author.Needs.{needs}
 use Rattle.count_lines.proofs.put_label.Statement.{statement}
 use Rattle.count_lines.proofs.put_label.Tie as tie
 
-number-requires : tie.Need-number-requires
-number-requires c κs = search needs
-
-same-length : tie.Need-same-length
-same-length c = search needs
-
 returns : tie.Need-returns
 returns c =
     let p = c .before .before in
     let t = p .before .before in
     let a = t .before .before .args in
     label-one (a .s) (a .first) (t .if1 .taken) (p .number .ensures)
-
-number-requires-2 : tie.Need-number-requires-2
-number-requires-2 c κs = search needs
-
-add-number : tie.Need-add-number
-add-number c = search needs
-
-number-requires-3 : tie.Need-number-requires-3
-number-requires-3 c κs = search needs
-
-same-length-2 : tie.Need-same-length-2
-same-length-2 c = search needs
 
 returns-2 : tie.Need-returns-2
 unfolding bytes
@@ -42,13 +24,6 @@ returns-2 c =
 
 pub put-label-spec : {M : Type 1} → statement M
 put-label-spec =
-    tie.close
-    (tie.spec
-    number-requires
-    same-length
-    returns
-    number-requires-2
-    add-number
-    number-requires-3
-    same-length-2
-    returns-2)
+    tie.close (tie.spec
+    (λ c κs. search needs) (λ c. search needs) returns (λ c κs. search needs) (λ c. search needs)
+    (λ c κs. search needs) (λ c. search needs) returns-2)

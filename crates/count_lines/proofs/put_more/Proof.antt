@@ -9,18 +9,6 @@ use Rattle.count_lines.proofs.put_more.Tie as tie
 returns : tie.Need-returns
 returns c = let a = c .before .before .args in row-none (a .h) (bytes "more") (a .c) (c .if1 .taken)
 
-slice-aggregate-bytes : tie.Need-slice-aggregate-bytes
-slice-aggregate-bytes c = search needs
-
-bytes-requires : tie.Need-bytes-requires
-bytes-requires c κs = search needs
-
-put-count-requires : tie.Need-put-count-requires
-put-count-requires c κs = search needs
-
-same-length : tie.Need-same-length
-same-length c = search needs
-
 returns-2 : tie.Need-returns-2
 unfolding bytes
 returns-2 c =
@@ -32,11 +20,5 @@ returns-2 c =
 
 pub put-more-spec : {M : Type 1} → statement M
 put-more-spec =
-    tie.close
-    (tie.spec
-    returns
-    slice-aggregate-bytes
-    bytes-requires
-    put-count-requires
-    same-length
-    returns-2)
+    tie.close (tie.spec
+    returns (λ c. search needs) (λ c κs. search needs) (λ c κs. search needs) (λ c. search needs) returns-2)

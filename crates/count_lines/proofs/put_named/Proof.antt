@@ -5,18 +5,6 @@ use borrow.Author.Needs.{needs}
 use Rattle.count_lines.proofs.put_named.Statement.{statement}
 use Rattle.count_lines.proofs.put_named.Tie as tie
 
-bytes-requires : tie.Need-bytes-requires
-bytes-requires c κs = search needs
-
-byte-requires : tie.Need-byte-requires
-byte-requires c κs = search needs
-
-number-requires : tie.Need-number-requires
-number-requires c κs = search needs
-
-same-length : tie.Need-same-length
-same-length c = search needs
-
 returns : tie.Need-returns
 returns c =
     let n = c .before .before in
@@ -26,4 +14,5 @@ returns c =
 
 pub put-named-spec : {M : Type 1} → statement M
 put-named-spec =
-    tie.close (tie.spec bytes-requires byte-requires number-requires same-length returns)
+    tie.close (tie.spec
+    (λ c κs. search needs) (λ c κs. search needs) (λ c κs. search needs) (λ c. search needs) returns)

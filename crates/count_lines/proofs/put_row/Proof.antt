@@ -7,23 +7,11 @@ use borrow.Author.Needs.{needs}
 use Rattle.count_lines.proofs.put_row.Statement.{statement}
 use Rattle.count_lines.proofs.put_row.Tie as tie
 
-together-requires : tie.Need-together-requires
-together-requires c κs = search needs
-
 returns : tie.Need-returns
 returns c =
     let t = c .before in
     let a = t .before .before .before .args in
     row-of (a .h) (label (a .s) (a .first)) _ (together (now (a .counts)) (a .s) (a .first)) (t .together .ensures) (row-none (a .h) (label (a .s) (a .first)) _ (c .if1 .taken))
-
-put-label-requires : tie.Need-put-label-requires
-put-label-requires c κs = search needs
-
-put-count-requires : tie.Need-put-count-requires
-put-count-requires c κs = search needs
-
-same-length : tie.Need-same-length
-same-length c = search needs
 
 returns-2 : tie.Need-returns-2
 returns-2 c =
@@ -37,11 +25,5 @@ returns-2 c =
 
 pub put-row-spec : {M : Type 1} → statement M
 put-row-spec =
-    tie.close
-    (tie.spec
-    together-requires
-    returns
-    put-label-requires
-    put-count-requires
-    same-length
-    returns-2)
+    tie.close (tie.spec
+    (λ c κs. search needs) returns (λ c κs. search needs) (λ c κs. search needs) (λ c. search needs) returns-2)

@@ -23,12 +23,6 @@ abbrev μ-loop : tie.MeasureT-loop
 loop-holds : tie.Need-loop-holds Inv-loop μ-loop
 loop-holds c = let a = c .before .before .args in (pieces-none (figureRow (a .h) (a .s) (now (a .counts))), omega arith, refl)
 
-cast-put-row : tie.Need-cast-put-row Inv-loop μ-loop
-cast-put-row c = search needs
-
-add-put-row : tie.Need-add-put-row Inv-loop μ-loop
-add-put-row c = search needs
-
 mul-put-row : tie.Need-mul-put-row Inv-loop μ-loop
 mul-put-row c =
     let i = c .before in
@@ -42,12 +36,6 @@ put-row-requires c κs =
     let l = i .before in
     let st = l .before .before .before in
     first-small (st .args .s) (l .loop .b) (omega arith) (i .loop-test .taken)
-
-add-b : tie.Need-add-b Inv-loop μ-loop
-add-b c = omega arith
-
-loop-less : tie.Need-loop-less Inv-loop μ-loop
-loop-less c = omega arith
 
 loop-again : tie.Need-loop-again Inv-loop μ-loop
 loop-again c =
@@ -67,17 +55,6 @@ returns c =
 
 pub put-rows-spec : {M : Type 1} → statement M
 put-rows-spec =
-    tie.close
-    (tie.spec
-    Inv-loop
-    μ-loop
-    loop-holds
-    cast-put-row
-    add-put-row
-    mul-put-row
-    put-row-requires
-    add-b
-    loop-less
-    loop-again
-    same-length
-    returns)
+    tie.close (tie.spec
+    Inv-loop μ-loop loop-holds (λ c. search needs) (λ c. search needs) mul-put-row put-row-requires
+    (λ c. omega arith) (λ c. omega arith) loop-again same-length returns)

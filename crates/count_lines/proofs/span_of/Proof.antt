@@ -5,9 +5,6 @@ use borrow.Author.Needs.{needs}
 use Rattle.count_lines.proofs.span_of.Statement.{statement}
 use Rattle.count_lines.proofs.span_of.Tie as tie
 
-cast-result : tie.Need-cast-result
-cast-result c = search needs
-
 returns : tie.Need-returns
 returns c = span-small _ (c .if1 .taken)
 
@@ -15,4 +12,4 @@ returns-2 : tie.Need-returns-2
 returns-2 c = span-large _ (c .if1 .left)
 
 pub span-of-spec : {M : Type 1} → statement M
-span-of-spec = tie.close (tie.spec cast-result returns returns-2)
+span-of-spec = tie.close (tie.spec (λ c. search needs) returns returns-2)

@@ -20,12 +20,6 @@ loop-holds c = (sum-start _ _, omega arith)
 add-entry-at : tie.Need-add-entry-at Inv-loop μ-loop
 add-entry-at c = let l = c .before in omega (arith, l .loop .inv .1, c .loop-test .taken, l .before .before .pre)
 
-entry-at-requires : tie.Need-entry-at-requires Inv-loop μ-loop
-entry-at-requires c κs = search needs
-
-cast-sum : tie.Need-cast-sum Inv-loop μ-loop
-cast-sum c = search needs
-
 add-sum : tie.Need-add-sum Inv-loop μ-loop
 add-sum c = let l = c .before .before in omega (arith, l .loop .inv .0 .most, l .loop .inv .1)
 
@@ -60,18 +54,6 @@ returns-2 c =
 
 pub together-spec : {M : Type 1} → statement M
 together-spec =
-    tie.close
-    (tie.spec
-    Inv-loop
-    μ-loop
-    loop-holds
-    add-entry-at
-    entry-at-requires
-    cast-sum
-    add-sum
-    add-j
-    loop-less
-    loop-again
-    cast-result
-    returns
-    returns-2)
+    tie.close (tie.spec
+    Inv-loop μ-loop loop-holds add-entry-at (λ c κs. search needs) (λ c. search needs) add-sum add-j loop-less
+    loop-again cast-result returns returns-2)

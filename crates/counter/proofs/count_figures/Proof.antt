@@ -6,24 +6,6 @@ use Rattle.counter.proofs.Tallying.{record-due, stride-placements}
 use Rattle.counter.proofs.count_figures.Statement.{statement}
 use Rattle.counter.proofs.count_figures.Tie as tie
 
-test-record-requires : tie.Need-test-record-requires
-test-record-requires c κs = search needs
-
-enum-known-tested : tie.Need-enum-known-tested
-enum-known-tested c = search needs
-
-refused-requires : tie.Need-refused-requires
-refused-requires c κs = search needs
-
-enum-told : tie.Need-enum-told
-enum-told c = search needs
-
-power-requires : tie.Need-power-requires
-power-requires c κs = search needs
-
-counted-requires : tie.Need-counted-requires
-counted-requires c κs = search needs
-
 returns : tie.Need-returns
 returns c =
     let told = c .before .before in
@@ -40,13 +22,6 @@ returns-2 c =
 
 pub count-figures-spec : {M : Type 1} → statement M
 count-figures-spec =
-    tie.close
-    (tie.spec
-    test-record-requires
-    enum-known-tested
-    refused-requires
-    enum-told
-    power-requires
-    counted-requires
-    returns
-    returns-2)
+    tie.close (tie.spec
+    (λ c κs. search needs) (λ c. search needs) (λ c κs. search needs) (λ c. search needs)
+    (λ c κs. search needs) (λ c κs. search needs) returns returns-2)

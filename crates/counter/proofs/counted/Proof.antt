@@ -5,17 +5,11 @@ use Rattle.counter.proofs.Tallying.{space-due, all-counted}
 use Rattle.counter.proofs.counted.Statement.{statement}
 use Rattle.counter.proofs.counted.Tie as tie
 
-refused-requires : tie.Need-refused-requires
-refused-requires c κs = search needs
-
 returns : tie.Need-returns
 returns c r acc is = c .refused .ensures r _ (space-due r _ acc _ is (c .before .if1 .taken))
-
-tally-requires : tie.Need-tally-requires
-tally-requires c κs = search needs
 
 returns-2 : tie.Need-returns-2
 returns-2 c r acc is = all-counted r _ acc _ is (c .before .if1 .left) _ (c .tally .ensures)
 
 pub counted-spec : {M : Type 1} → statement M
-counted-spec = tie.close (tie.spec refused-requires returns tally-requires returns-2)
+counted-spec = tie.close (tie.spec (λ c κs. search needs) returns (λ c κs. search needs) returns-2)

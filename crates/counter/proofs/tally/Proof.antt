@@ -17,12 +17,6 @@ abbrev μ-loop : tie.MeasureT-loop
 loop-holds : tie.Need-loop-holds Inv-loop μ-loop
 loop-holds c = tally-start _ _ _ refl
 
-entry-at-requires : tie.Need-entry-at-requires Inv-loop μ-loop
-entry-at-requires c κs = search needs
-
-class-of-requires : tie.Need-class-of-requires Inv-loop μ-loop
-class-of-requires c κs = search needs
-
 mul-counts : tie.Need-mul-counts Inv-loop μ-loop
 mul-counts c = omega (arith, class-there (c .before .entry-at .result) _ (c .class-of .ensures))
 
@@ -35,9 +29,6 @@ add-counts c = omega (arith, tally-most (c .before .before .before .loop .inv) _
 array-write-counts : tie.Need-array-write-counts Inv-loop μ-loop
 array-write-counts c = omega (arith, class-there (c .before .entry-at .result) _ (c .class-of .ensures), c .before .before .before .loop .inv .sized)
 
-add-p : tie.Need-add-p Inv-loop μ-loop
-add-p c = search needs
-
 loop-less : tie.Need-loop-less Inv-loop μ-loop
 loop-less c = omega (arith, c .before .before .loop-test .taken)
 
@@ -49,18 +40,6 @@ returns c = tally-all (c .before .loop .inv) (c .loop-test .left)
 
 pub tally-spec : {M : Type 1} → statement M
 tally-spec =
-    tie.close
-    (tie.spec
-    Inv-loop
-    μ-loop
-    loop-holds
-    entry-at-requires
-    class-of-requires
-    mul-counts
-    array-read-counts
-    add-counts
-    array-write-counts
-    add-p
-    loop-less
-    loop-again
-    returns)
+    tie.close (tie.spec
+    Inv-loop μ-loop loop-holds (λ c κs. search needs) (λ c κs. search needs) mul-counts array-read-counts
+    add-counts array-write-counts (λ c. search needs) loop-less loop-again returns)

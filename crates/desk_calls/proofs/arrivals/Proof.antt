@@ -21,27 +21,9 @@ Inv-loop table q k n₀ t₀ n t = (n ≤ t) × (t ≤ k) × ((r : Railway) (p :
 abbrev μ-loop : tie.MeasureT-loop
 μ-loop table q k n₀ t₀ n t = k - t
 
-trains-in-requires : tie.Need-trains-in-requires Inv-loop μ-loop
-trains-in-requires c κs = search needs
-
 loop-holds : tie.Need-loop-holds Inv-loop μ-loop
 unfolding countBelow
 loop-holds c = (omega arith, omega arith, λ r p on. refl)
-
-section-at-requires : tie.Need-section-at-requires Inv-loop μ-loop
-section-at-requires c κs = search needs
-
-destination-in-requires : tie.Need-destination-in-requires Inv-loop μ-loop
-destination-in-requires c κs = search needs
-
-add-n : tie.Need-add-n Inv-loop μ-loop
-add-n c = omega arith
-
-add-t : tie.Need-add-t Inv-loop μ-loop
-add-t c = omega arith
-
-loop-less : tie.Need-loop-less Inv-loop μ-loop
-loop-less c = omega arith
 
 loop-again : tie.Need-loop-again Inv-loop μ-loop
 loop-again c =
@@ -68,16 +50,6 @@ returns c = let l = c .before in λ r p on. arrived-all r p _ _ (l .loop .inv .2
 
 pub arrivals-spec : {M : Type 1} → statement M
 arrivals-spec =
-    tie.close
-    (tie.spec
-    Inv-loop
-    μ-loop
-    trains-in-requires
-    loop-holds
-    section-at-requires
-    destination-in-requires
-    add-n
-    add-t
-    loop-less
-    loop-again
-    returns)
+    tie.close (tie.spec
+    Inv-loop μ-loop (λ c κs. search needs) loop-holds (λ c κs. search needs) (λ c κs. search needs)
+    (λ c. omega arith) (λ c. omega arith) (λ c. omega arith) loop-again returns)

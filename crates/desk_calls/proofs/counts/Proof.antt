@@ -7,20 +7,11 @@ use Rattle.desk_calls.proofs.Counting.{counts-home, counts-nowhere, cou
 use Rattle.desk_calls.proofs.counts.Statement.{statement}
 use Rattle.desk_calls.proofs.counts.Tie as tie
 
-home-in-requires : tie.Need-home-in-requires
-home-in-requires c κs = search needs
-
 returns : tie.Need-returns
 returns c = let h = c .before in let a = h .before .args in λ r p on laid. counts-home r p (a .v) (a .t) (a .x) _ (h .home-in .ensures r p on) (c .if1 .taken)
 
 returns-2 : tie.Need-returns-2
 returns-2 c = let a = c .before .before .before .args in λ r p on laid. counts-nowhere r p (a .v) (a .t) (a .x) (table-facts r _ (on .compiled)) (c .if2 .taken)
-
-trains-in-requires : tie.Need-trains-in-requires
-trains-in-requires c κs = search needs
-
-other-in-requires : tie.Need-other-in-requires
-other-in-requires c κs = search needs
 
 returns-3 : tie.Need-returns-3
 returns-3 c =
@@ -28,12 +19,6 @@ returns-3 c =
     let n = o .before in
     let a = n .before .before .before .before .args in
     λ r p on laid. counts-taken r p (a .v) (a .t) (a .x) _ (other-on r p _ (a .q) on (a .t) (a .x) _ _ (n .trains-in .ensures r (on .compiled)) (o .other-in .ensures)) (c .if3 .taken)
-
-may-in-requires : tie.Need-may-in-requires
-may-in-requires c κs = search needs
-
-leads-to-requires : tie.Need-leads-to-requires
-leads-to-requires c κs = search needs
 
 returns-4 : tie.Need-returns-4
 returns-4 c =
@@ -59,15 +44,6 @@ returns-5 c =
 
 pub counts-spec : {M : Type 1} → statement M
 counts-spec =
-    tie.close
-    (tie.spec
-    home-in-requires
-    returns
-    returns-2
-    trains-in-requires
-    other-in-requires
-    returns-3
-    may-in-requires
-    leads-to-requires
-    returns-4
-    returns-5)
+    tie.close (tie.spec
+    (λ c κs. search needs) returns returns-2 (λ c κs. search needs) (λ c κs. search needs) returns-3
+    (λ c κs. search needs) (λ c κs. search needs) returns-4 returns-5)

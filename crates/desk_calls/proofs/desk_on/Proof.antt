@@ -5,15 +5,6 @@ use Rattle.desk_calls.proofs.Desks.{carried}
 use Rattle.desk_calls.proofs.desk_on.Statement.{statement}
 use Rattle.desk_calls.proofs.desk_on.Tie as tie
 
-code-of-requires : tie.Need-code-of-requires
-code-of-requires c κs = search needs
-
-placement-of-requires : tie.Need-placement-of-requires
-placement-of-requires c κs = search needs
-
-arrivals-requires : tie.Need-arrivals-requires
-arrivals-requires c κs = search needs
-
 returns : tie.Need-returns
 returns c =
     let q = c .before in
@@ -21,4 +12,6 @@ returns c =
     λ r h. carried r (p .before .args .at) _ _ (p .code-of .ensures r h) (c .arrivals .ensures r _ (q .placement-of .ensures r h))
 
 pub desk-on-spec : {M : Type 1} → statement M
-desk-on-spec = tie.close (tie.spec code-of-requires placement-of-requires arrivals-requires returns)
+desk-on-spec =
+    tie.close (tie.spec
+    (λ c κs. search needs) (λ c κs. search needs) (λ c κs. search needs) returns)

@@ -20,23 +20,11 @@ Inv-loop old new k t₀ t = (t ≤ k) × ((r s : Railway) → Compiled r old →
 abbrev μ-loop : tie.MeasureT-loop
 μ-loop old new k t₀ t = k - t
 
-sections-in-requires : tie.Need-sections-in-requires Inv-loop μ-loop
-sections-in-requires c κs = search needs
-
-sections-in-requires-2 : tie.Need-sections-in-requires-2 Inv-loop μ-loop
-sections-in-requires-2 c κs = search needs
-
 returns : tie.Need-returns Inv-loop μ-loop
 returns c =
     let b = c .before in
     let a = b .before in
     λ r s old new. other-sections r s _ _ (a .sections-in .ensures r old) (b .sections-in2 .ensures s new) (c .if1 .taken)
-
-trains-in-requires : tie.Need-trains-in-requires Inv-loop μ-loop
-trains-in-requires c κs = search needs
-
-trains-in-requires-2 : tie.Need-trains-in-requires-2 Inv-loop μ-loop
-trains-in-requires-2 c κs = search needs
 
 returns-2 : tie.Need-returns-2 Inv-loop μ-loop
 returns-2 c =
@@ -47,18 +35,6 @@ returns-2 c =
 loop-holds : tie.Need-loop-holds Inv-loop μ-loop
 unfolding anyBelow
 loop-holds c = (omega arith, λ r s old new. refl)
-
-heading-in-requires : tie.Need-heading-in-requires Inv-loop μ-loop
-heading-in-requires c κs = search needs
-
-side-index-requires : tie.Need-side-index-requires Inv-loop μ-loop
-side-index-requires c κs = search needs
-
-heading-in-requires-2 : tie.Need-heading-in-requires-2 Inv-loop μ-loop
-heading-in-requires-2 c κs = search needs
-
-side-index-requires-2 : tie.Need-side-index-requires-2 Inv-loop μ-loop
-side-index-requires-2 c κs = search needs
 
 returns-3 : tie.Need-returns-3 Inv-loop μ-loop
 returns-3 c =
@@ -72,12 +48,6 @@ returns-3 c =
     λ r s old new.
     other-headings r s _ _ (n .before .trains-in .ensures r old) (n .trains-in2 .ensures s new) (l .loop .t) (i .loop-test .taken)
     (heads-other r s _ _ _ _ _ (h .heading-in .ensures r old) (k .heading-in2 .ensures s new) (b .side-index .ensures) (d .side-index2 .ensures) (c .if3 .taken))
-
-add-t : tie.Need-add-t Inv-loop μ-loop
-add-t c = omega arith
-
-loop-less : tie.Need-loop-less Inv-loop μ-loop
-loop-less c = omega arith
 
 loop-again : tie.Need-loop-again Inv-loop μ-loop
 loop-again c =
@@ -106,23 +76,8 @@ returns-4 c =
 
 pub mismatched-spec : {M : Type 1} → statement M
 mismatched-spec =
-    tie.close
-    (tie.spec
-    Inv-loop
-    μ-loop
-    sections-in-requires
-    sections-in-requires-2
-    returns
-    trains-in-requires
-    trains-in-requires-2
-    returns-2
-    loop-holds
-    heading-in-requires
-    side-index-requires
-    heading-in-requires-2
-    side-index-requires-2
-    returns-3
-    add-t
-    loop-less
-    loop-again
+    tie.close (tie.spec
+    Inv-loop μ-loop (λ c κs. search needs) (λ c κs. search needs) returns (λ c κs. search needs)
+    (λ c κs. search needs) returns-2 loop-holds (λ c κs. search needs) (λ c κs. search needs)
+    (λ c κs. search needs) (λ c κs. search needs) returns-3 (λ c. omega arith) (λ c. omega arith) loop-again
     returns-4)

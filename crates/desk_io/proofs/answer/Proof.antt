@@ -8,18 +8,6 @@ use borrow.Author.Needs.{needs}
 use Rattle.desk_io.proofs.answer.Statement.{statement}
 use Rattle.desk_io.proofs.answer.Tie as tie
 
-slice-aggregate-line-text : tie.Need-slice-aggregate-line-text
-slice-aggregate-line-text c = search needs
-
-line-text-requires : tie.Need-line-text-requires
-line-text-requires c κs = search needs
-
-slice-aggregate-write : tie.Need-slice-aggregate-write
-slice-aggregate-write c = search needs
-
-write-requires : tie.Need-write-requires
-write-requires c κs = search needs
-
 returns : tie.Need-returns
 returns c =
     let p = c .before .before .before in
@@ -27,10 +15,5 @@ returns c =
 
 pub answer-spec : {M : Type 1} → statement M
 answer-spec =
-    tie.close
-    (tie.spec
-    slice-aggregate-line-text
-    line-text-requires
-    slice-aggregate-write
-    write-requires
-    returns)
+    tie.close (tie.spec
+    (λ c. search needs) (λ c κs. search needs) (λ c. search needs) (λ c κs. search needs) returns)

@@ -5,21 +5,6 @@ use Rattle.reader.proofs.Answers.{by-refused, by-accepted}
 use Rattle.desk_io.proofs.follow_case.Statement.{statement}
 use Rattle.desk_io.proofs.follow_case.Tie as tie
 
-read-case-requires : tie.Need-read-case-requires
-read-case-requires c κs = search needs
-
-enum-known-answer : tie.Need-enum-known-answer
-enum-known-answer c = search needs
-
-write-refusal-requires : tie.Need-write-refusal-requires
-write-refusal-requires c κs = search needs
-
-enum-told : tie.Need-enum-told
-enum-told c = search needs
-
-follow-railway-requires : tie.Need-follow-railway-requires
-follow-railway-requires c κs = search needs
-
 returns : tie.Need-returns
 returns c = let a = c .before .before in by-refused _ _ _ _ (a .before .before .read-case .ensures) _ (a .answer .given .1) (c .write-refusal .ensures)
 
@@ -28,12 +13,6 @@ returns-2 c = let e = c .before in by-accepted _ _ _ _ (e .before .before .read-
 
 pub follow-case-spec : {M : Type 1} → statement M
 follow-case-spec =
-    tie.close
-    (tie.spec
-    read-case-requires
-    enum-known-answer
-    write-refusal-requires
-    enum-told
-    follow-railway-requires
-    returns
-    returns-2)
+    tie.close (tie.spec
+    (λ c κs. search needs) (λ c. search needs) (λ c κs. search needs) (λ c. search needs)
+    (λ c κs. search needs) returns returns-2)

@@ -6,27 +6,6 @@ use Rattle.desk_io.proofs.Following.{followed-by}
 use Rattle.desk_io.proofs.follow_file.Statement.{statement}
 use Rattle.desk_io.proofs.follow_file.Tie as tie
 
-slice-aggregate-open-read : tie.Need-slice-aggregate-open-read
-slice-aggregate-open-read c = search needs
-
-open-read-requires : tie.Need-open-read-requires
-open-read-requires c κs = search needs
-
-read-full-requires : tie.Need-read-full-requires
-read-full-requires c κs = search needs
-
-slice-reshare-prefix-follow-case : tie.Need-slice-reshare-prefix-follow-case
-slice-reshare-prefix-follow-case c = search needs
-
-slice-aggregate-follow-case : tie.Need-slice-aggregate-follow-case
-slice-aggregate-follow-case c = search needs
-
-follow-case-requires : tie.Need-follow-case-requires
-follow-case-requires c κs = search needs
-
-same-length : tie.Need-same-length
-same-length c = search needs
-
 returns : tie.Need-returns
 returns c =
     let f = c .before .before .before .before in
@@ -35,13 +14,6 @@ returns c =
 
 pub follow-file-spec : {M : Type 1} → statement M
 follow-file-spec =
-    tie.close
-    (tie.spec
-    slice-aggregate-open-read
-    open-read-requires
-    read-full-requires
-    slice-reshare-prefix-follow-case
-    slice-aggregate-follow-case
-    follow-case-requires
-    same-length
-    returns)
+    tie.close (tie.spec
+    (λ c. search needs) (λ c κs. search needs) (λ c κs. search needs) (λ c. search needs) (λ c. search needs)
+    (λ c κs. search needs) (λ c. search needs) returns)

@@ -20,20 +20,11 @@ Inv-loop figures₀ settings₀ railway₀ desk₀ bytes₀ going₀ turns₀ fi
 abbrev μ-loop : tie.MeasureT-loop
 μ-loop figures₀ settings₀ railway₀ desk₀ bytes₀ going₀ turns₀ figures settings railway desk bytes going turns = 72057594037927937 - turns
 
-open-requires : tie.Need-open-requires Inv-loop μ-loop
-open-requires c κs = search needs
-
 loop-holds : tie.Need-loop-holds Inv-loop μ-loop
 loop-holds c =
     let o = c .before in
     let s = o .before .before .before .before .before in
     (listened-opening _ _ _ _ _ _ (o .«open» .ensures), s .pre .0, s .pre .1)
-
-same-length : tie.Need-same-length Inv-loop μ-loop
-same-length c = search needs
-
-same-length-2 : tie.Need-same-length-2 Inv-loop μ-loop
-same-length-2 c = search needs
 
 returns : tie.Need-returns Inv-loop μ-loop
 returns c = listened-end _ _ _ _ _ _ _ (c .before .before .loop .inv .0)
@@ -65,31 +56,11 @@ loop-again c =
       t .turn .kept .1 .1 .1 .0 ∙ n .2,
     )
 
-same-length-3 : tie.Need-same-length-3 Inv-loop μ-loop
-same-length-3 c = search needs
-
-same-length-4 : tie.Need-same-length-4 Inv-loop μ-loop
-same-length-4 c = search needs
-
 returns-2 : tie.Need-returns-2 Inv-loop μ-loop
 returns-2 c = listened-end _ _ _ _ _ _ _ (c .before .loop .inv .0)
 
 pub follow-plan-spec : {M : Type 1} → statement M
 follow-plan-spec =
-    tie.close
-    (tie.spec
-    Inv-loop
-    μ-loop
-    open-requires
-    loop-holds
-    same-length
-    same-length-2
-    returns
-    turn-requires
-    add-bytes
-    add-turns
-    loop-less
-    loop-again
-    same-length-3
-    same-length-4
-    returns-2)
+    tie.close (tie.spec
+    Inv-loop μ-loop (λ c κs. search needs) loop-holds (λ c. search needs) (λ c. search needs) returns
+    turn-requires add-bytes add-turns loop-less loop-again (λ c. search needs) (λ c. search needs) returns-2)

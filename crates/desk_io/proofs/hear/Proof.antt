@@ -8,32 +8,11 @@ use borrow.Author.Needs.{needs}
 use Rattle.desk_io.proofs.hear.Statement.{statement}
 use Rattle.desk_io.proofs.hear.Tie as tie
 
-is-change-requires : tie.Need-is-change-requires
-is-change-requires c κs = search needs
-
-change-file-requires : tie.Need-change-file-requires
-change-file-requires c κs = search needs
-
-same-length : tie.Need-same-length
-same-length c = search needs
-
-same-length-2 : tie.Need-same-length-2
-same-length-2 c = search needs
-
 returns : tie.Need-returns
 returns c =
     let f = c .before .before .before .before in
     let t = f .before .before .before in
     f .change-file .ensures (sym (t .before .is-change .ensures) ∙ t .if1 .taken)
-
-answer-requires : tie.Need-answer-requires
-answer-requires c κs = search needs
-
-same-length-3 : tie.Need-same-length-3
-same-length-3 c = search needs
-
-same-length-4 : tie.Need-same-length-4
-same-length-4 c = search needs
 
 returns-2 : tie.Need-returns-2
 returns-2 c =
@@ -44,14 +23,6 @@ returns-2 c =
 
 pub hear-spec : {M : Type 1} → statement M
 hear-spec =
-    tie.close
-    (tie.spec
-    is-change-requires
-    change-file-requires
-    same-length
-    same-length-2
-    returns
-    answer-requires
-    same-length-3
-    same-length-4
-    returns-2)
+    tie.close (tie.spec
+    (λ c κs. search needs) (λ c κs. search needs) (λ c. search needs) (λ c. search needs) returns
+    (λ c κs. search needs) (λ c. search needs) (λ c. search needs) returns-2)

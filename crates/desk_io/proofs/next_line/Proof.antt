@@ -16,15 +16,6 @@ abbrev μ-loop : tie.MeasureT-loop
 loop-holds : tie.Need-loop-holds Inv-loop μ-loop
 loop-holds c = kept-none _
 
-next-byte-requires : tie.Need-next-byte-requires Inv-loop μ-loop
-next-byte-requires c κs = search needs
-
-enum-known-b : tie.Need-enum-known-b Inv-loop μ-loop
-enum-known-b c = search needs
-
-enum-told : tie.Need-enum-told Inv-loop μ-loop
-enum-told c = search needs
-
 same-length : tie.Need-same-length Inv-loop μ-loop
 same-length c = c .before .before .before .before .loop .inv .sized
 
@@ -36,9 +27,6 @@ same-length-2 c = c .before .before .before .before .before .before .loop .inv .
 
 returns-2 : tie.Need-returns-2 Inv-loop μ-loop
 returns-2 c = kept-counts (c .before .before .before .before .before .before .loop .inv)
-
-byte-requires : tie.Need-byte-requires Inv-loop μ-loop
-byte-requires c κs = search needs
 
 add-turns : tie.Need-add-turns Inv-loop μ-loop
 add-turns c = omega (arith, c .before .before .before .before .before .before .before .before .before .loop-test .taken)
@@ -59,21 +47,7 @@ returns-3 c = kept-counts (c .before .loop .inv)
 
 pub next-line-spec : {M : Type 1} → statement M
 next-line-spec =
-    tie.close
-    (tie.spec
-    Inv-loop
-    μ-loop
-    loop-holds
-    next-byte-requires
-    enum-known-b
-    enum-told
-    same-length
-    returns
-    same-length-2
-    returns-2
-    byte-requires
-    add-turns
-    loop-less
-    loop-again
-    same-length-3
+    tie.close (tie.spec
+    Inv-loop μ-loop loop-holds (λ c κs. search needs) (λ c. search needs) (λ c. search needs) same-length
+    returns same-length-2 returns-2 (λ c κs. search needs) add-turns loop-less loop-again same-length-3
     returns-3)

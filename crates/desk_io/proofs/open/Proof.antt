@@ -8,18 +8,6 @@ use borrow.Author.Needs.{needs}
 use Rattle.desk_io.proofs.open.Statement.{statement}
 use Rattle.desk_io.proofs.open.Tie as tie
 
-slice-aggregate-open-text : tie.Need-slice-aggregate-open-text
-slice-aggregate-open-text c = search needs
-
-open-text-requires : tie.Need-open-text-requires
-open-text-requires c κs = search needs
-
-slice-aggregate-write : tie.Need-slice-aggregate-write
-slice-aggregate-write c = search needs
-
-write-requires : tie.Need-write-requires
-write-requires c κs = search needs
-
 returns : tie.Need-returns
 returns c =
     let p = c .before .before .before in
@@ -27,10 +15,5 @@ returns c =
 
 pub open-spec : {M : Type 1} → statement M
 open-spec =
-    tie.close
-    (tie.spec
-    slice-aggregate-open-text
-    open-text-requires
-    slice-aggregate-write
-    write-requires
-    returns)
+    tie.close (tie.spec
+    (λ c. search needs) (λ c κs. search needs) (λ c. search needs) (λ c κs. search needs) returns)

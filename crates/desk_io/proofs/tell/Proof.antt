@@ -8,18 +8,6 @@ use borrow.Author.Needs.{needs}
 use Rattle.desk_io.proofs.tell.Statement.{statement}
 use Rattle.desk_io.proofs.tell.Tie as tie
 
-slice-aggregate-state-text : tie.Need-slice-aggregate-state-text
-slice-aggregate-state-text c = search needs
-
-state-text-requires : tie.Need-state-text-requires
-state-text-requires c κs = search needs
-
-slice-aggregate-write : tie.Need-slice-aggregate-write
-slice-aggregate-write c = search needs
-
-write-requires : tie.Need-write-requires
-write-requires c κs = search needs
-
 returns : tie.Need-returns
 returns c =
     let p = c .before .before .before in
@@ -27,10 +15,5 @@ returns c =
 
 pub tell-spec : {M : Type 1} → statement M
 tell-spec =
-    tie.close
-    (tie.spec
-    slice-aggregate-state-text
-    state-text-requires
-    slice-aggregate-write
-    write-requires
-    returns)
+    tie.close (tie.spec
+    (λ c. search needs) (λ c κs. search needs) (λ c. search needs) (λ c κs. search needs) returns)

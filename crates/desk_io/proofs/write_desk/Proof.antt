@@ -6,14 +6,8 @@ use Rattle.desk_io.proofs.Following.{own-length}
 use Rattle.desk_io.proofs.write_desk.Statement.{statement}
 use Rattle.desk_io.proofs.write_desk.Tie as tie
 
-slice-aggregate-follow-file : tie.Need-slice-aggregate-follow-file
-slice-aggregate-follow-file c = search needs
-
 follow-file-requires : tie.Need-follow-file-requires
 follow-file-requires c κs = own-length _ _ refl
 
-returns : tie.Need-returns
-returns c = search needs
-
 pub write-desk-spec : {M : Type 1} → statement M
-write-desk-spec = tie.close (tie.spec slice-aggregate-follow-file follow-file-requires returns)
+write-desk-spec = tie.close (tie.spec (λ c. search needs) follow-file-requires (λ c. search needs))

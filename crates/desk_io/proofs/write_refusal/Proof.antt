@@ -7,21 +7,6 @@ use borrow.Author.Needs.{needs}
 use Rattle.desk_io.proofs.write_refusal.Statement.{statement}
 use Rattle.desk_io.proofs.write_refusal.Tie as tie
 
-slice-aggregate-refusal-line : tie.Need-slice-aggregate-refusal-line
-slice-aggregate-refusal-line c = search needs
-
-refusal-line-requires : tie.Need-refusal-line-requires
-refusal-line-requires c κs = search needs
-
-slice-aggregate-front : tie.Need-slice-aggregate-front
-slice-aggregate-front c = search needs
-
-front-requires : tie.Need-front-requires
-front-requires c κs = search needs
-
-bytes-put-requires : tie.Need-bytes-put-requires
-bytes-put-requires c κs = search needs
-
 returns : tie.Need-returns
 returns c =
     let p = c .before .before .before .before in
@@ -29,11 +14,6 @@ returns c =
 
 pub write-refusal-spec : {M : Type 1} → statement M
 write-refusal-spec =
-    tie.close
-    (tie.spec
-    slice-aggregate-refusal-line
-    refusal-line-requires
-    slice-aggregate-front
-    front-requires
-    bytes-put-requires
-    returns)
+    tie.close (tie.spec
+    (λ c. search needs) (λ c κs. search needs) (λ c. search needs) (λ c κs. search needs)
+    (λ c κs. search needs) returns)

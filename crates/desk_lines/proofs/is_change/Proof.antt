@@ -10,15 +10,9 @@ use Rattle.desk_lines.proofs.is_change.Tie as tie
 returns : tie.Need-returns
 returns c = change-long _ (c .if1 .taken)
 
-slice-aggregate-starts-with : tie.Need-slice-aggregate-starts-with
-slice-aggregate-starts-with c = search needs
-
-starts-with-requires : tie.Need-starts-with-requires
-starts-with-requires c κs = search needs
-
 returns-2 : tie.Need-returns-2
 unfolding bytes
 returns-2 c = change-short _ (omega (arith, c .before .before .if1 .left)) _ (c .starts-with .ensures)
 
 pub is-change-spec : {M : Type 1} → statement M
-is-change-spec = tie.close (tie.spec returns slice-aggregate-starts-with starts-with-requires returns-2)
+is-change-spec = tie.close (tie.spec returns (λ c. search needs) (λ c κs. search needs) returns-2)

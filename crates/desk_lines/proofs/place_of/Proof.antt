@@ -11,14 +11,8 @@ returns c = place-none _ (c .if1 .taken)
 returns-2 : tie.Need-returns-2
 returns-2 c = place-beyond _ (c .before .if1 .left) (c .if2 .taken)
 
-sub-result : tie.Need-sub-result
-sub-result c = search needs
-
-cast-result : tie.Need-cast-result
-cast-result c = search needs
-
 returns-3 : tie.Need-returns-3
 returns-3 c = place-there _ (c .before .if1 .left) (c .if2 .left)
 
 pub place-of-spec : {M : Type 1} → statement M
-place-of-spec = tie.close (tie.spec returns returns-2 sub-result cast-result returns-3)
+place-of-spec = tie.close (tie.spec returns returns-2 (λ c. search needs) (λ c. search needs) returns-3)

@@ -6,36 +6,15 @@ use borrow.Author.Needs.{needs}
 use Rattle.desk_lines.proofs.put_points.Statement.{statement}
 use Rattle.desk_lines.proofs.put_points.Tie as tie
 
-slice-aggregate-bytes : tie.Need-slice-aggregate-bytes
-slice-aggregate-bytes c = search needs
-
-bytes-requires : tie.Need-bytes-requires
-bytes-requires c κs = search needs
-
-same-length : tie.Need-same-length
-same-length c = search needs
-
 returns : tie.Need-returns
 unfolding bytes
 returns c = let b = c .before .before in let i = b .before .before .before in points-none (i .before .before .args .m) (i .before .before .args .v) (i .if1 .taken) (b .bytes .ensures)
-
-put-signs-requires : tie.Need-put-signs-requires
-put-signs-requires c κs = search needs
-
-same-length-2 : tie.Need-same-length-2
-same-length-2 c = search needs
 
 returns-2 : tie.Need-returns-2
 returns-2 c = let s = c .before .before in let i = s .before .before in points-some (i .before .before .args .m) (i .before .before .args .v) (i .if1 .left) (s .put-signs .ensures)
 
 pub put-points-spec : {M : Type 1} → statement M
 put-points-spec =
-    tie.close
-    (tie.spec
-    slice-aggregate-bytes
-    bytes-requires
-    same-length
-    returns
-    put-signs-requires
-    same-length-2
-    returns-2)
+    tie.close (tie.spec
+    (λ c. search needs) (λ c κs. search needs) (λ c. search needs) returns (λ c κs. search needs)
+    (λ c. search needs) returns-2)

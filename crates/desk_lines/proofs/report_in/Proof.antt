@@ -7,41 +7,14 @@ use borrow.Author.Needs.{needs}
 use Rattle.desk_lines.proofs.report_in.Statement.{statement}
 use Rattle.desk_lines.proofs.report_in.Tie as tie
 
-number-at-requires : tie.Need-number-at-requires
-number-at-requires c κs = search needs
-
-enum-known-t : tie.Need-enum-known-t
-enum-known-t c = search needs
-
-enum-told : tie.Need-enum-told
-enum-told c = search needs
-
 returns : tie.Need-returns
 returns c = no-train _ (sym (c .before .before .number-at .ensures) ∙ ap numberGot (c .enum-told .given .1))
-
-byte-at-requires : tie.Need-byte-at-requires
-byte-at-requires c κs = search needs
-
-enum-known-field : tie.Need-enum-known-field
-enum-known-field c = search needs
-
-enum-told-2 : tie.Need-enum-told-2
-enum-told-2 c = search needs
 
 returns-2 : tie.Need-returns-2
 returns-2 c =
     let b = c .before .before in
     let t = b .before .before in
     no-tab _ _ _ (sym (t .before .before .number-at .ensures) ∙ ap numberGot (t .t .given .1)) _ (b .byte-at .ensures) (c .enum-told2 .given .1)
-
-number-at-requires-2 : tie.Need-number-at-requires-2
-number-at-requires-2 c κs = search needs
-
-enum-known-x : tie.Need-enum-known-x
-enum-known-x c = search needs
-
-enum-told-3 : tie.Need-enum-told-3
-enum-told-3 c = search needs
 
 returns-3 : tie.Need-returns-3
 returns-3 c =
@@ -74,19 +47,7 @@ returns-5 c =
 
 pub report-in-spec : {M : Type 1} → statement M
 report-in-spec =
-    tie.close
-    (tie.spec
-    number-at-requires
-    enum-known-t
-    enum-told
-    returns
-    byte-at-requires
-    enum-known-field
-    enum-told-2
-    returns-2
-    number-at-requires-2
-    enum-known-x
-    enum-told-3
-    returns-3
-    returns-4
-    returns-5)
+    tie.close (tie.spec
+    (λ c κs. search needs) (λ c. search needs) (λ c. search needs) returns (λ c κs. search needs)
+    (λ c. search needs) (λ c. search needs) returns-2 (λ c κs. search needs) (λ c. search needs)
+    (λ c. search needs) returns-3 returns-4 returns-5)

@@ -6,27 +6,6 @@ use Rattle.desk_lines.proofs.Spelling.{state-made}
 use Rattle.desk_lines.proofs.state_line.Statement.{statement}
 use Rattle.desk_lines.proofs.state_line.Tie as tie
 
-put-trains-requires : tie.Need-put-trains-requires
-put-trains-requires c κs = search needs
-
-number-requires : tie.Need-number-requires
-number-requires c κs = search needs
-
-slice-aggregate-bytes : tie.Need-slice-aggregate-bytes
-slice-aggregate-bytes c = search needs
-
-bytes-requires : tie.Need-bytes-requires
-bytes-requires c κs = search needs
-
-put-points-requires : tie.Need-put-points-requires
-put-points-requires c κs = search needs
-
-byte-requires : tie.Need-byte-requires
-byte-requires c κs = search needs
-
-same-length : tie.Need-same-length
-same-length c = search needs
-
 returns : tie.Need-returns
 unfolding bytes
 returns c =
@@ -40,13 +19,6 @@ returns c =
 
 pub state-line-spec : {M : Type 1} → statement M
 state-line-spec =
-    tie.close
-    (tie.spec
-    put-trains-requires
-    number-requires
-    slice-aggregate-bytes
-    bytes-requires
-    put-points-requires
-    byte-requires
-    same-length
-    returns)
+    tie.close (tie.spec
+    (λ c κs. search needs) (λ c κs. search needs) (λ c. search needs) (λ c κs. search needs)
+    (λ c κs. search needs) (λ c κs. search needs) (λ c. search needs) returns)

@@ -6,18 +6,6 @@ use borrow.Author.Needs.{needs}
 use Rattle.desk_script.proofs.run_script.Statement.{statement}
 use Rattle.desk_script.proofs.run_script.Tie as tie
 
-read-case-requires : tie.Need-read-case-requires
-read-case-requires c κs = search needs
-
-enum-told : tie.Need-enum-told
-enum-told c = search needs
-
-enum-told-2 : tie.Need-enum-told-2
-enum-told-2 c = search needs
-
-begin-requires : tie.Need-begin-requires
-begin-requires c κs = search needs
-
 returns : tie.Need-returns
 returns c = by-refused _ _ _ _ (c .before .before .read-case .ensures) _ (c .enum-told .given .1) refl
 
@@ -26,5 +14,5 @@ returns-2 c = by-accepted _ _ _ _ (c .before .before .before .read-case .ensures
 
 pub run-script-spec : {M : Type 1} → statement M
 run-script-spec =
-    tie.close
-    (tie.spec read-case-requires enum-told enum-told-2 begin-requires returns returns-2)
+    tie.close (tie.spec
+    (λ c κs. search needs) (λ c. search needs) (λ c. search needs) (λ c κs. search needs) returns returns-2)

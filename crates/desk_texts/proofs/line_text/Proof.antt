@@ -9,30 +9,6 @@ use borrow.Author.Needs.{needs}
 use Rattle.desk_texts.proofs.line_text.Statement.{statement}
 use Rattle.desk_texts.proofs.line_text.Tie as tie
 
-report-in-requires : tie.Need-report-in-requires
-report-in-requires c κs = search needs
-
-enum-told : tie.Need-enum-told
-enum-told c = search needs
-
-refusal-line-requires : tie.Need-refusal-line-requires
-refusal-line-requires c κs = search needs
-
-enum-known-t : tie.Need-enum-known-t
-enum-known-t c = search needs
-
-place-of-requires : tie.Need-place-of-requires
-place-of-requires c κs = search needs
-
-place-of-requires-2 : tie.Need-place-of-requires-2
-place-of-requires-2 c κs = search needs
-
-report-text-requires : tie.Need-report-text-requires
-report-text-requires c κs = search needs
-
-same-length : tie.Need-same-length
-same-length c = search needs
-
 returns : tie.Need-returns
 returns c =
     let w = c .before .before in
@@ -40,9 +16,6 @@ returns c =
     let i = m .before .before in
     let a = i .before .before .before .before .before .args in
     line-said (a .r) _ _ (deskAt (a .desk)) _ _ (sym (ap reportRead (m .enum-told .given .1)) ∙ i .report-in .ensures) (refused-said _ _ _ Report (deskAt (a .desk)) _ (w .refusal-line .ensures))
-
-same-length-2 : tie.Need-same-length-2
-same-length-2 c = search needs
 
 returns-2 : tie.Need-returns-2
 returns-2 c =
@@ -57,16 +30,7 @@ returns-2 c =
 
 pub line-text-spec : {M : Type 1} → statement M
 line-text-spec =
-    tie.close
-    (tie.spec
-    report-in-requires
-    enum-told
-    refusal-line-requires
-    enum-known-t
-    place-of-requires
-    place-of-requires-2
-    report-text-requires
-    same-length
-    returns
-    same-length-2
-    returns-2)
+    tie.close (tie.spec
+    (λ c κs. search needs) (λ c. search needs) (λ c κs. search needs) (λ c. search needs)
+    (λ c κs. search needs) (λ c κs. search needs) (λ c κs. search needs) (λ c. search needs) returns
+    (λ c. search needs) returns-2)

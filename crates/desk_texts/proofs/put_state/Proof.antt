@@ -7,23 +7,11 @@ use borrow.Author.Needs.{needs}
 use Rattle.desk_texts.proofs.put_state.Statement.{statement}
 use Rattle.desk_texts.proofs.put_state.Tie as tie
 
-slice-aggregate-state-line : tie.Need-slice-aggregate-state-line
-slice-aggregate-state-line c = search needs
-
-state-line-requires : tie.Need-state-line-requires
-state-line-requires c κs = search needs
-
 array-share-prefix-line : tie.Need-array-share-prefix-line
 array-share-prefix-line c = let p = c .before .state-line in front-fits (p .ensures) (p .kept .0)
 
 slice-aggregate-put : tie.Need-slice-aggregate-put
 slice-aggregate-put c = let p = c .before .before .state-line in front-cut (p .ensures) (p .kept .0)
-
-put-requires : tie.Need-put-requires
-put-requires c κs = search needs
-
-same-length : tie.Need-same-length
-same-length c = search needs
 
 returns : tie.Need-returns
 returns c =
@@ -34,12 +22,6 @@ returns c =
 
 pub put-state-spec : {M : Type 1} → statement M
 put-state-spec =
-    tie.close
-    (tie.spec
-    slice-aggregate-state-line
-    state-line-requires
-    array-share-prefix-line
-    slice-aggregate-put
-    put-requires
-    same-length
-    returns)
+    tie.close (tie.spec
+    (λ c. search needs) (λ c κs. search needs) array-share-prefix-line slice-aggregate-put
+    (λ c κs. search needs) (λ c. search needs) returns)

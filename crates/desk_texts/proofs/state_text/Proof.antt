@@ -6,24 +6,6 @@ use borrow.Author.Needs.{needs}
 use Rattle.desk_texts.proofs.state_text.Statement.{statement}
 use Rattle.desk_texts.proofs.state_text.Tie as tie
 
-setting-requires : tie.Need-setting-requires
-setting-requires c κs = search needs
-
-enum-known-v : tie.Need-enum-known-v
-enum-known-v c = search needs
-
-given-text-requires : tie.Need-given-text-requires
-given-text-requires c κs = search needs
-
-enum-known-f : tie.Need-enum-known-f
-enum-known-f c = search needs
-
-refusal-line-requires : tie.Need-refusal-line-requires
-refusal-line-requires c κs = search needs
-
-same-length : tie.Need-same-length
-same-length c = search needs
-
 returns : tie.Need-returns
 returns c =
     let g = c .before .before in
@@ -32,9 +14,6 @@ returns c =
     let a = s .before .before .before .before .args in
     let accepted = given-accepted (a .r) _ _ (deskAt (a .desk)) _ (s .setting .ensures) _ (v .v .given .1) in
     setting-said (a .r) _ _ (deskAt (a .desk)) _ (s .setting .ensures) _ (v .v .given .1) (g .given-text .ensures accepted)
-
-same-length-2 : tie.Need-same-length-2
-same-length-2 c = search needs
 
 returns-2 : tie.Need-returns-2
 returns-2 c =
@@ -46,14 +25,6 @@ returns-2 c =
 
 pub state-text-spec : {M : Type 1} → statement M
 state-text-spec =
-    tie.close
-    (tie.spec
-    setting-requires
-    enum-known-v
-    given-text-requires
-    enum-known-f
-    refusal-line-requires
-    same-length
-    returns
-    same-length-2
-    returns-2)
+    tie.close (tie.spec
+    (λ c κs. search needs) (λ c. search needs) (λ c κs. search needs) (λ c. search needs)
+    (λ c κs. search needs) (λ c. search needs) returns (λ c. search needs) returns-2)

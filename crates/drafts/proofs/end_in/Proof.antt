@@ -6,23 +6,11 @@ use Rattle.drafts.proofs.Parts.{section-there, section-not, port-there,
 use Rattle.drafts.proofs.end_in.Statement.{statement}
 use Rattle.drafts.proofs.end_in.Tie as tie
 
-enum-known-e : tie.Need-enum-known-e
-enum-known-e c = search needs
-
-within-requires : tie.Need-within-requires
-within-requires c κs = search needs
-
 sub-i : tie.Need-sub-i
 sub-i c = let k = c .before .within .ensures .small (c .if1 .taken) in omega arith
 
 cast-i : tie.Need-cast-i
 cast-i c = let k = c .before .within .ensures .small (c .if1 .taken) in omega arith
-
-enum-known-e-2 : tie.Need-enum-known-e-2
-enum-known-e-2 c = search needs
-
-within-requires-2 : tie.Need-within-requires-2
-within-requires-2 c κs = search needs
 
 sub-i-2 : tie.Need-sub-i-2
 sub-i-2 c = let k = c .before .within2 .ensures .small (c .if2 .taken) in omega arith
@@ -43,4 +31,7 @@ returns-4 : tie.Need-returns-4
 returns-4 c = let w = c .before in let g = w .before .before .e2 .given in port-not (w .before .before .before .before .args .r) _ _ (g .0 .0) (g .0 .1 .0) (g .1) (w .within2 .ensures .is) (c .if2 .left)
 
 pub end-in-spec : {M : Type 1} → statement M
-end-in-spec = tie.close (tie.spec enum-known-e within-requires sub-i cast-i enum-known-e-2 within-requires-2 sub-i-2 cast-i-2 returns returns-2 returns-3 returns-4)
+end-in-spec =
+    tie.close (tie.spec
+    (λ c. search needs) (λ c κs. search needs) sub-i cast-i (λ c. search needs) (λ c κs. search needs) sub-i-2
+    cast-i-2 returns returns-2 returns-3 returns-4)

@@ -7,23 +7,8 @@ use Rattle.drafts.proofs.Parts.{faulty-pair, faulty-free, faulty-second
 use Rattle.drafts.proofs.is_faulty.Statement.{statement}
 use Rattle.drafts.proofs.is_faulty.Tie as tie
 
-wrong-pair-requires : tie.Need-wrong-pair-requires
-wrong-pair-requires c κs = search needs
-
 returns : tie.Need-returns
 returns c = faulty-pair _ _ (sym (c .before .wrong-pair .ensures) ∙ c .if1 .taken)
-
-joined-requires : tie.Need-joined-requires
-joined-requires c κs = search needs
-
-is-unjoined-requires : tie.Need-is-unjoined-requires
-is-unjoined-requires c κs = search needs
-
-joined-requires-2 : tie.Need-joined-requires-2
-joined-requires-2 c κs = search needs
-
-is-unjoined-requires-2 : tie.Need-is-unjoined-requires-2
-is-unjoined-requires-2 c κs = search needs
 
 returns-2 : tie.Need-returns-2
 returns-2 c = let y = c .before in let x = y .before .before in let w = x .before .before .before in faulty-free _ _ _ (sym (w .before .wrong-pair .ensures) ∙ w .if1 .left) (ap unjoined (sym (x .before .before .joined .ensures)) ∙ sym (x .before .is-unjoined .ensures) ∙ x .if2 .taken) (ap unjoined (sym (y .before .joined2 .ensures)) ∙ sym (y .is-unjoined2 .ensures) ∙ c .if3 .taken)
@@ -35,4 +20,7 @@ returns-4 : tie.Need-returns-4
 returns-4 c = let w = c .before .before .before in faulty-first _ _ _ (sym (w .before .wrong-pair .ensures) ∙ w .if1 .left) (ap unjoined (sym (c .before .before .joined .ensures)) ∙ sym (c .before .is-unjoined .ensures) ∙ c .if2 .left)
 
 pub is-faulty-spec : {M : Type 1} → statement M
-is-faulty-spec = tie.close (tie.spec wrong-pair-requires returns joined-requires is-unjoined-requires joined-requires-2 is-unjoined-requires-2 returns-2 returns-3 returns-4)
+is-faulty-spec =
+    tie.close (tie.spec
+    (λ c κs. search needs) returns (λ c κs. search needs) (λ c κs. search needs) (λ c κs. search needs)
+    (λ c κs. search needs) returns-2 returns-3 returns-4)

@@ -5,17 +5,11 @@ use Rattle.drafts.proofs.Parts.{wrong-below, wrong-above}
 use Rattle.drafts.proofs.is_wrong.Statement.{statement}
 use Rattle.drafts.proofs.is_wrong.Tie as tie
 
-cast-if1 : tie.Need-cast-if1
-cast-if1 c = search needs
-
 returns : tie.Need-returns
 returns c = wrong-below _ (c .if1 .taken)
-
-cast-result : tie.Need-cast-result
-cast-result c = search needs
 
 returns-2 : tie.Need-returns-2
 returns-2 c = wrong-above _ (c .if1 .left)
 
 pub is-wrong-spec : {M : Type 1} → statement M
-is-wrong-spec = tie.close (tie.spec cast-if1 returns cast-result returns-2)
+is-wrong-spec = tie.close (tie.spec (λ c. search needs) returns (λ c. search needs) returns-2)

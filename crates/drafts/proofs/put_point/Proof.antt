@@ -6,17 +6,11 @@ use Rattle.drafts.proofs.Parts.{point-in, point-out}
 use Rattle.drafts.proofs.put_point.Statement.{statement}
 use Rattle.drafts.proofs.put_point.Tie as tie
 
-within-requires : tie.Need-within-requires
-within-requires c κs = search needs
-
 sub-i : tie.Need-sub-i
 sub-i c = let k = c .before .within .ensures .small (c .if1 .taken) in omega arith
 
 cast-i : tie.Need-cast-i
 cast-i c = let k = c .before .within .ensures .small (c .if1 .taken) in omega arith
-
-with-legs-requires : tie.Need-with-legs-requires
-with-legs-requires c κs = search needs
 
 returns : tie.Need-returns
 returns c = let w = c .before .before in let a = w .before .before .args in point-in (a .d) (a .n) (a .side) _ (w .within .ensures .is) (c .before .if1 .taken) _ (c .with-legs .ensures)
@@ -25,4 +19,6 @@ returns-2 : tie.Need-returns-2
 returns-2 c = let w = c .before in let a = w .before .before .args in point-out (a .d) (a .n) (a .side) _ (w .within .ensures .is) (c .if1 .left)
 
 pub put-point-spec : {M : Type 1} → statement M
-put-point-spec = tie.close (tie.spec within-requires sub-i cast-i with-legs-requires returns returns-2)
+put-point-spec =
+    tie.close (tie.spec
+    (λ c κs. search needs) sub-i cast-i (λ c κs. search needs) returns returns-2)

@@ -6,29 +6,14 @@ use Rattle.drafts.proofs.Parts.{signal-not, signal-in}
 use Rattle.drafts.proofs.put_signal.Statement.{statement}
 use Rattle.drafts.proofs.put_signal.Tie as tie
 
-end-in-requires : tie.Need-end-in-requires
-end-in-requires c κs = search needs
-
-enum-known-e : tie.Need-enum-known-e
-enum-known-e c = search needs
-
-enum-told : tie.Need-enum-told
-enum-told c = search needs
-
-noted-requires : tie.Need-noted-requires
-noted-requires c κs = search needs
-
 returns : tie.Need-returns
 returns c = let t = c .before in let x = t .before .before in let a = x .before .before .args in c .noted .ensures ∙ signal-not (a .d) (a .n) (a .side) _ (x .end-in .ensures) (t .enum-told .given .1)
-
-has-signal-requires : tie.Need-has-signal-requires
-has-signal-requires c κs = search needs
-
-with-signal-requires : tie.Need-with-signal-requires
-with-signal-requires c κs = search needs
 
 returns-2 : tie.Need-returns-2
 returns-2 c = let j = c .before in let f = j .before in let k = f .before in let x = k .before .before .before in let a = x .before .before .args in signal-in (a .d) (a .n) (a .side) _ (x .end-in .ensures) _ (k .before .e .given .1) _ (j .with-signal .ensures) _ (f .has-signal .ensures)
 
 pub put-signal-spec : {M : Type 1} → statement M
-put-signal-spec = tie.close (tie.spec end-in-requires enum-known-e enum-told noted-requires returns has-signal-requires with-signal-requires returns-2)
+put-signal-spec =
+    tie.close (tie.spec
+    (λ c κs. search needs) (λ c. search needs) (λ c. search needs) (λ c κs. search needs) returns
+    (λ c κs. search needs) (λ c κs. search needs) returns-2)

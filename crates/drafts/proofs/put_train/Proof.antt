@@ -9,21 +9,6 @@ use Rattle.drafts.proofs.Parts.{train-in, train-not, all-three}
 use Rattle.drafts.proofs.put_train.Statement.{statement}
 use Rattle.drafts.proofs.put_train.Tie as tie
 
-said-requires : tie.Need-said-requires
-said-requires c κs = search needs
-
-weighed-requires : tie.Need-weighed-requires
-weighed-requires c κs = search needs
-
-within-requires : tie.Need-within-requires
-within-requires c κs = search needs
-
-within-requires-2 : tie.Need-within-requires-2
-within-requires-2 c κs = search needs
-
-within-requires-3 : tie.Need-within-requires-3
-within-requires-3 c κs = search needs
-
 -- where all three are there
 there : (c : tie.Then1) → (c .before .before .before .within .result ≡ true) × (c .before .before .within2 .result ≡ true) × (c .before .within3 .result ≡ true)
 there c = all-three (c .before .before .before .within .result) (c .before .before .within2 .result) (c .before .within3 .result) (c .if1 .taken)
@@ -46,12 +31,6 @@ sub-to c = let k = c .before .within3 .ensures .small (there c .2) in omega arit
 cast-to : tie.Need-cast-to
 cast-to c = let k = c .before .within3 .ensures .small (there c .2) in omega arith
 
-cast-byte : tie.Need-cast-byte
-cast-byte c = search needs
-
-with-train-requires : tie.Need-with-train-requires
-with-train-requires c κs = search needs
-
 returns : tie.Need-returns
 returns c =
     let w3 = c .before .before in
@@ -61,9 +40,6 @@ returns c =
     let s = v .before in
     let a = s .before .args in
     train-in (a .d) (a .n) (trainNamed (a .heading) (a .start) (a .destination) (a .weight)) _ (s .said .ensures) _ (v .weighed .ensures) _ _ _ (w1 .within .ensures .is) (w2 .within2 .ensures .is) (w3 .within3 .ensures .is) (c .before .if1 .taken) _ (c .with-train .ensures)
-
-noted-requires : tie.Need-noted-requires
-noted-requires c κs = search needs
 
 returns-2 : tie.Need-returns-2
 returns-2 c =
@@ -77,21 +53,7 @@ returns-2 c =
 
 pub put-train-spec : {M : Type 1} → statement M
 put-train-spec =
-    tie.close
-    (tie.spec
-    said-requires
-    weighed-requires
-    within-requires
-    within-requires-2
-    within-requires-3
-    sub-t
-    cast-t
-    sub-from
-    cast-from
-    sub-to
-    cast-to
-    cast-byte
-    with-train-requires
-    returns
-    noted-requires
-    returns-2)
+    tie.close (tie.spec
+    (λ c κs. search needs) (λ c κs. search needs) (λ c κs. search needs) (λ c κs. search needs)
+    (λ c κs. search needs) sub-t cast-t sub-from cast-from sub-to cast-to (λ c. search needs)
+    (λ c κs. search needs) returns (λ c κs. search needs) returns-2)

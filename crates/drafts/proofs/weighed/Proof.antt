@@ -5,11 +5,8 @@ use Rattle.drafts.proofs.Parts.{noted-weight}
 use Rattle.drafts.proofs.weighed.Statement.{statement}
 use Rattle.drafts.proofs.weighed.Tie as tie
 
-is-wrong-requires : tie.Need-is-wrong-requires
-is-wrong-requires c κs = search needs
-
 returns : tie.Need-returns
 returns c = let k = c .before in let a = k .before .before .args in noted-weight (a .d) (a .w) _ (k .is-wrong .ensures)
 
 pub weighed-spec : {M : Type 1} → statement M
-weighed-spec = tie.close (tie.spec is-wrong-requires returns)
+weighed-spec = tie.close (tie.spec (λ c κs. search needs) returns)

@@ -5,24 +5,6 @@ use Rattle.dues.proofs.Laws.{due-none, due-after, due-least}
 use Rattle.dues.proofs.due_behind.Statement.{statement}
 use Rattle.dues.proofs.due_behind.Tie as tie
 
-weight-in-requires : tie.Need-weight-in-requires
-weight-in-requires c κs = search needs
-
-cast-w : tie.Need-cast-w
-cast-w c = search needs
-
-least-ahead-requires : tie.Need-least-ahead-requires
-least-ahead-requires c κs = search needs
-
-after-requires : tie.Need-after-requires
-after-requires c κs = search needs
-
-least-from-requires : tie.Need-least-from-requires
-least-from-requires c κs = search needs
-
-with-weight-requires : tie.Need-with-weight-requires
-with-weight-requires c κs = search needs
-
 returns : tie.Need-returns
 returns c =
     let f = c .before in
@@ -46,14 +28,6 @@ returns-3 c =
 
 pub due-behind-spec : {M : Type 1} → statement M
 due-behind-spec =
-    tie.close
-    (tie.spec
-    weight-in-requires
-    cast-w
-    least-ahead-requires
-    returns
-    after-requires
-    returns-2
-    least-from-requires
-    with-weight-requires
-    returns-3)
+    tie.close (tie.spec
+    (λ c κs. search needs) (λ c. search needs) (λ c κs. search needs) returns (λ c κs. search needs) returns-2
+    (λ c κs. search needs) (λ c κs. search needs) returns-3)

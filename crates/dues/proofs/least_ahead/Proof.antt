@@ -5,14 +5,8 @@ use native.Mathlib.Omega.{arith}
 use Rattle.dues.proofs.least_ahead.Statement.{statement}
 use Rattle.dues.proofs.least_ahead.Tie as tie
 
-returns : tie.Need-returns
-returns c = search needs
-
-after-requires : tie.Need-after-requires
-after-requires c κs = search needs
-
 returns-2 : tie.Need-returns-2
 returns-2 c = λ j h. c .after .ensures j (omega arith)
 
 pub least-ahead-spec : {M : Type 1} → statement M
-least-ahead-spec = tie.close (tie.spec returns after-requires returns-2)
+least-ahead-spec = tie.close (tie.spec (λ c. search needs) (λ c κs. search needs) returns-2)

@@ -17,24 +17,6 @@ abbrev μ-loop : tie.MeasureT-loop
 loop-holds : tie.Need-loop-holds Inv-loop μ-loop
 loop-holds c = λ x a b h. absurd (omega arith)
 
-cast-at : tie.Need-cast-at Inv-loop μ-loop
-cast-at c = search needs
-
-mul-from-on : tie.Need-mul-from-on Inv-loop μ-loop
-mul-from-on c = search needs
-
-shared-slice-read-from-on : tie.Need-shared-slice-read-from-on Inv-loop μ-loop
-shared-slice-read-from-on c = search needs
-
-from-on-requires : tie.Need-from-on-requires Inv-loop μ-loop
-from-on-requires c κs = search needs
-
-smaller-requires : tie.Need-smaller-requires Inv-loop μ-loop
-smaller-requires c κs = search needs
-
-add-q : tie.Need-add-q Inv-loop μ-loop
-add-q c = search needs
-
 loop-less : tie.Need-loop-less Inv-loop μ-loop
 loop-less c = omega (arith, c .before .before .before .loop-test .taken)
 
@@ -51,17 +33,6 @@ returns c = let l = c .before in λ x a b h. l .loop .inv x a (omega (arith, c .
 
 pub least-within-spec : {M : Type 1} → statement M
 least-within-spec =
-    tie.close
-    (tie.spec
-    Inv-loop
-    μ-loop
-    loop-holds
-    cast-at
-    mul-from-on
-    shared-slice-read-from-on
-    from-on-requires
-    smaller-requires
-    add-q
-    loop-less
-    loop-again
-    returns)
+    tie.close (tie.spec
+    Inv-loop μ-loop loop-holds (λ c. search needs) (λ c. search needs) (λ c. search needs)
+    (λ c κs. search needs) (λ c κs. search needs) (λ c. search needs) loop-less loop-again returns)

@@ -6,12 +6,6 @@ use Rattle.laws.proofs.Bools.{clash}
 use Rattle.dues.proofs.next_by.Statement.{statement}
 use Rattle.dues.proofs.next_by.Tie as tie
 
-shares-weight-requires : tie.Need-shares-weight-requires
-shares-weight-requires c κs = search needs
-
-next-due-requires : tie.Need-next-due-requires
-next-due-requires c κs = search needs
-
 returns : tie.Need-returns
 returns c = (λ l. l, λ r h first q i lq li due. clash (sym (c .before .shares-weight .ensures r h) ∙ c .if1 .taken) first)
 
@@ -19,4 +13,4 @@ returns-2 : tie.Need-returns-2
 returns-2 c = (c .next-due .ensures .0, λ r h first q i lq li due. c .next-due .ensures .1 q i lq li due)
 
 pub next-by-spec : {M : Type 1} → statement M
-next-by-spec = tie.close (tie.spec shares-weight-requires returns next-due-requires returns-2)
+next-by-spec = tie.close (tie.spec (λ c κs. search needs) returns (λ c κs. search needs) returns-2)

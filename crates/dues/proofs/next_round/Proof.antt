@@ -17,17 +17,8 @@ Inv-loop table marks m n k e₀ t₀ e t = (n < noFigure → n < e) × ((r : Rai
 abbrev μ-loop : tie.MeasureT-loop
 μ-loop table marks m n k e₀ t₀ e t = k - t
 
-trains-in-requires : tie.Need-trains-in-requires Inv-loop μ-loop
-trains-in-requires c κs = search needs
-
 loop-holds : tie.Need-loop-holds Inv-loop μ-loop
 loop-holds c = (λ l. l, λ r h t q i lt. absurd (omega arith))
-
-next-by-requires : tie.Need-next-by-requires Inv-loop μ-loop
-next-by-requires c κs = search needs
-
-smaller-requires : tie.Need-smaller-requires Inv-loop μ-loop
-smaller-requires c κs = search needs
 
 add-t : tie.Need-add-t Inv-loop μ-loop
 add-t c = omega (arith, c .before .before .loop-test .taken)
@@ -50,15 +41,6 @@ returns c =
 
 pub next-round-spec : {M : Type 1} → statement M
 next-round-spec =
-    tie.close
-    (tie.spec
-    Inv-loop
-    μ-loop
-    trains-in-requires
-    loop-holds
-    next-by-requires
-    smaller-requires
-    add-t
-    loop-less
-    loop-again
-    returns)
+    tie.close (tie.spec
+    Inv-loop μ-loop (λ c κs. search needs) loop-holds (λ c κs. search needs) (λ c κs. search needs) add-t
+    loop-less loop-again returns)

@@ -20,15 +20,9 @@ Inv-loop table t w u₀ u = (u ≤ t) × ((r : Railway) → Compiled r table →
 abbrev μ-loop : tie.MeasureT-loop
 μ-loop table t w u₀ u = t - u
 
-weight-in-requires : tie.Need-weight-in-requires Inv-loop μ-loop
-weight-in-requires c κs = search needs
-
 loop-holds : tie.Need-loop-holds Inv-loop μ-loop
 unfolding anyBelow
 loop-holds c = (omega arith, λ r h. refl)
-
-weight-in-requires-2 : tie.Need-weight-in-requires-2 Inv-loop μ-loop
-weight-in-requires-2 c κs = search needs
 
 returns : tie.Need-returns Inv-loop μ-loop
 returns c =
@@ -36,9 +30,6 @@ returns c =
     let i = v .before in
     let w = i .before .before in
     λ r h. any-one (sameWeight r _) _ _ (i .loop-test .taken) (eq-eqb _ _ (sym (v .weight-in2 .ensures r h) ∙ c .if1 .taken ∙ w .weight-in .ensures r h))
-
-add-u : tie.Need-add-u Inv-loop μ-loop
-add-u c = search needs
 
 loop-less : tie.Need-loop-less Inv-loop μ-loop
 loop-less c = omega (arith, c .before .before .loop-test .taken)
@@ -56,15 +47,6 @@ returns-2 c = let l = c .before in λ r h. any-none (sameWeight r _) _ _ (l .loo
 
 pub shares-weight-spec : {M : Type 1} → statement M
 shares-weight-spec =
-    tie.close
-    (tie.spec
-    Inv-loop
-    μ-loop
-    weight-in-requires
-    loop-holds
-    weight-in-requires-2
-    returns
-    add-u
-    loop-less
-    loop-again
-    returns-2)
+    tie.close (tie.spec
+    Inv-loop μ-loop (λ c κs. search needs) loop-holds (λ c κs. search needs) returns (λ c. search needs)
+    loop-less loop-again returns-2)

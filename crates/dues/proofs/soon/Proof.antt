@@ -7,18 +7,6 @@ use Rattle.dues.proofs.Laws.{soon-each}
 use Rattle.dues.proofs.soon.Statement.{statement}
 use Rattle.dues.proofs.soon.Tie as tie
 
-soon-by-requires : tie.Need-soon-by-requires
-soon-by-requires c κs = search needs
-
-soon-by-requires-2 : tie.Need-soon-by-requires-2
-soon-by-requires-2 c κs = search needs
-
-soon-by-requires-3 : tie.Need-soon-by-requires-3
-soon-by-requires-3 c κs = search needs
-
-soon-by-requires-4 : tie.Need-soon-by-requires-4
-soon-by-requires-4 c κs = search needs
-
 returns : tie.Need-returns
 returns p =
     let c = p .before in
@@ -28,4 +16,6 @@ returns p =
     soon-each r _ _ (accepted-facts r (h .accepted) .bounds .few-trains) (a .soon-by .ensures r h room) (b .soon-by2 .ensures r h room) (c .soon-by3 .ensures r h room) (p .soon-by4 .ensures r h room)
 
 pub soon-spec : {M : Type 1} → statement M
-soon-spec = tie.close (tie.spec soon-by-requires soon-by-requires-2 soon-by-requires-3 soon-by-requires-4 returns)
+soon-spec =
+    tie.close (tie.spec
+    (λ c κs. search needs) (λ c κs. search needs) (λ c κs. search needs) (λ c κs. search needs) returns)

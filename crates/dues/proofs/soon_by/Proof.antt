@@ -7,47 +7,20 @@ use Rattle.laws.proofs.Bools.{clash}
 use Rattle.dues.proofs.soon_by.Statement.{statement}
 use Rattle.dues.proofs.soon_by.Tie as tie
 
-trains-in-requires : tie.Need-trains-in-requires
-trains-in-requires c κs = search needs
-
-shares-weight-requires : tie.Need-shares-weight-requires
-shares-weight-requires c κs = search needs
-
-weight-in-requires : tie.Need-weight-in-requires
-weight-in-requires c κs = search needs
-
-cast-w : tie.Need-cast-w
-cast-w c = search needs
-
 returns : tie.Need-returns
 returns c = λ r h room lt first. absurd (omega (arith, c .before .trains-in .ensures r h, c .if1 .taken))
 
 returns-2 : tie.Need-returns-2
 returns-2 c = λ r h room lt first. clash (sym (c .before .shares-weight .ensures r h) ∙ c .if2 .taken) first
 
-sub-if3 : tie.Need-sub-if3
-sub-if3 c = search needs
-
 returns-3 : tie.Need-returns-3
 returns-3 c = λ r h room lt first. absurd (omega (arith, c .if3 .taken))
-
-add-result : tie.Need-add-result
-add-result c = search needs
 
 returns-4 : tie.Need-returns-4
 returns-4 c = λ r h room lt first. rw (← (c .before .weight-in .ensures r h)) refl
 
 pub soon-by-spec : {M : Type 1} → statement M
 soon-by-spec =
-    tie.close
-    (tie.spec
-    trains-in-requires
-    returns
-    shares-weight-requires
-    returns-2
-    weight-in-requires
-    cast-w
-    sub-if3
-    returns-3
-    add-result
-    returns-4)
+    tie.close (tie.spec
+    (λ c κs. search needs) returns (λ c κs. search needs) returns-2 (λ c κs. search needs) (λ c. search needs)
+    (λ c. search needs) returns-3 (λ c. search needs) returns-4)

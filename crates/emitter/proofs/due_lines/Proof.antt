@@ -26,30 +26,12 @@ no-line End h = refl
 no-line NoPlan h = refl
 no-line (Refused f) h = refl
 
-emit-due-requires : tie.Need-emit-due-requires
-emit-due-requires c κs = search needs
-
-enum-known-first : tie.Need-enum-known-first
-enum-known-first c = search needs
-
-same-length : tie.Need-same-length
-same-length c = search needs
-
 returns : tie.Need-returns
 returns c =
     λ r h ok.
     let d = c .before .before .before in
     let a = d .before .before .before .before .before .args in
     due-none r (now (a .figures)) (now (a .settings)) (a .place) (now (a .out)) ok (d .emit-due .ensures r h) (no-line (d .emit-due .result) (c .match .keys2))
-
-enum-known-next : tie.Need-enum-known-next
-enum-known-next c = search needs
-
-enum-told : tie.Need-enum-told
-enum-told c = search needs
-
-same-length-2 : tie.Need-same-length-2
-same-length-2 c = search needs
 
 returns-2 : tie.Need-returns-2
 returns-2 c =
@@ -58,12 +40,6 @@ returns-2 c =
     let d = k .before .before .before .before .before in
     let a = d .before .before .before .before .before .args in
     due-top r (now (a .figures)) (now (a .settings)) (a .place) (now (a .out)) ok (d .emit-due .ensures r h) _ _ (k .before .first .given .1) (c .enum-told .given .1)
-
-more-lines-requires : tie.Need-more-lines-requires
-more-lines-requires c κs = search needs
-
-same-length-3 : tie.Need-same-length-3
-same-length-3 c = search needs
 
 returns-3 : tie.Need-returns-3
 returns-3 c =
@@ -77,16 +53,6 @@ returns-3 c =
 
 pub due-lines-spec : {M : Type 1} → statement M
 due-lines-spec =
-    tie.close
-    (tie.spec
-    emit-due-requires
-    enum-known-first
-    same-length
-    returns
-    enum-known-next
-    enum-told
-    same-length-2
-    returns-2
-    more-lines-requires
-    same-length-3
-    returns-3)
+    tie.close (tie.spec
+    (λ c κs. search needs) (λ c. search needs) (λ c. search needs) returns (λ c. search needs)
+    (λ c. search needs) (λ c. search needs) returns-2 (λ c κs. search needs) (λ c. search needs) returns-3)

@@ -6,51 +6,17 @@ use Rattle.emitter.proofs.Emitting.{none-emitted, top-emitted, from-emi
 use Rattle.emitter.proofs.emit_due.Statement.{statement}
 use Rattle.emitter.proofs.emit_due.Tie as tie
 
-start-code-requires : tie.Need-start-code-requires
-start-code-requires c κs = search needs
-
-entry-at-requires : tie.Need-entry-at-requires
-entry-at-requires c κs = search needs
-
 returns : tie.Need-returns
 returns c = λ r h. let a = c .before .before .before .before .before .before .args in none-emitted r (now (a .figures)) (now (a .settings)) (a .place) (now (a .out)) _ _ (c .before .before .start-code .ensures r h) (c .before .entry-at .ensures) (c .if1 .taken)
 
-enum-told : tie.Need-enum-told
-enum-told c = search needs
-
-emit-start-requires : tie.Need-emit-start-requires
-emit-start-requires c κs = search needs
-
-enum-known-place : tie.Need-enum-known-place
-enum-known-place c = search needs
-
-emit-from-requires : tie.Need-emit-from-requires
-emit-from-requires c κs = search needs
-
-same-length : tie.Need-same-length
-same-length c = search needs
-
 returns-2 : tie.Need-returns-2
 returns-2 c = λ r h. let a = c .before .before .before .before .before .before .before .before .before .before .before .before .args in top-emitted r (now (a .figures)) (now (a .settings)) (a .place) (now (a .out)) _ _ (c .before .before .before .before .before .before .before .before .start-code .ensures r h) (c .before .before .before .before .before .before .before .entry-at .ensures) (c .before .before .before .before .before .before .if1 .left) (c .before .before .before .before .enum-told .given .1) (c .before .before .emit-start .ensures)
-
-same-length-2 : tie.Need-same-length-2
-same-length-2 c = search needs
 
 returns-3 : tie.Need-returns-3
 returns-3 c = λ r h. let a = c .before .before .before .before .before .before .before .before .before .before .before .before .before .args in from-emitted r (now (a .figures)) (now (a .settings)) (a .place) (now (a .out)) _ _ (c .before .before .before .before .before .before .before .before .before .start-code .ensures r h) (c .before .before .before .before .before .before .before .before .entry-at .ensures) (c .before .before .before .before .before .before .before .if1 .left) _ (c .before .before .before .before .before .place .given .1) (c .before .before .emit-from .ensures r h)
 
 pub emit-due-spec : {M : Type 1} → statement M
 emit-due-spec =
-    tie.close
-    (tie.spec
-    start-code-requires
-    entry-at-requires
-    returns
-    enum-told
-    emit-start-requires
-    enum-known-place
-    emit-from-requires
-    same-length
-    returns-2
-    same-length-2
-    returns-3)
+    tie.close (tie.spec
+    (λ c κs. search needs) (λ c κs. search needs) returns (λ c. search needs) (λ c κs. search needs)
+    (λ c. search needs) (λ c κs. search needs) (λ c. search needs) returns-2 (λ c. search needs) returns-3)

@@ -6,18 +6,6 @@ use Rattle.emitter.proofs.Emitting.{due-placement, due-end}
 use Rattle.emitter.proofs.emit_from.Statement.{statement}
 use Rattle.emitter.proofs.emit_from.Tie as tie
 
-placements-requires : tie.Need-placements-requires
-placements-requires c κs = search needs
-
-next-code-requires : tie.Need-next-code-requires
-next-code-requires c κs = search needs
-
-emit-placement-requires : tie.Need-emit-placement-requires
-emit-placement-requires c κs = search needs
-
-same-length : tie.Need-same-length
-same-length c = search needs
-
 returns : tie.Need-returns
 returns c = λ r h. let a = c .before .before .before .before .before .before .before .before .before .before .args in due-placement r (now (a .figures)) (now (a .settings)) (a .c) _ _ (now (a .out)) (c .before .before .before .before .before .next-code .ensures) (c .before .before .before .before .before .before .placements .ensures r h) (c .before .before .before .before .if1 .taken) (c .before .before .emit-placement .ensures r h)
 
@@ -26,11 +14,5 @@ returns-2 c = λ r h. let a = c .before .before .before .before .before .before 
 
 pub emit-from-spec : {M : Type 1} → statement M
 emit-from-spec =
-    tie.close
-    (tie.spec
-    placements-requires
-    next-code-requires
-    emit-placement-requires
-    same-length
-    returns
-    returns-2)
+    tie.close (tie.spec
+    (λ c κs. search needs) (λ c κs. search needs) (λ c κs. search needs) (λ c. search needs) returns returns-2)

@@ -6,35 +6,14 @@ use Rattle.emitter.proofs.Emitting.{case-refused, case-emitted}
 use Rattle.emitter.proofs.emit_line.Statement.{statement}
 use Rattle.emitter.proofs.emit_line.Tie as tie
 
-open-case-requires : tie.Need-open-case-requires
-open-case-requires c κs = search needs
-
-enum-known-tested : tie.Need-enum-known-tested
-enum-known-tested c = search needs
-
-enum-told : tie.Need-enum-told
-enum-told c = search needs
-
-emit-due-requires : tie.Need-emit-due-requires
-emit-due-requires c κs = search needs
-
 returns : tie.Need-returns
 returns c = let a = c .before .before .before .before .before .before .before .before .args in case-refused (a .r) (now (a .figures)) (now (a .settings)) (a .place) (now (a .out)) (c .before .before .before .before .open-case .ensures) (c .before .tested .given .0 .0) (c .before .tested .given .1)
-
-same-length : tie.Need-same-length
-same-length c = search needs
 
 returns-2 : tie.Need-returns-2
 returns-2 c = let a = c .before .before .before .before .before .before .before .before .before .before .before .before .args in case-emitted (a .r) (now (a .figures)) (now (a .settings)) (a .place) (now (a .out)) (c .before .before .before .before .before .before .before .before .open-case .ensures) (c .before .before .before .before .before .enum-told .given .1) (c .before .before .emit-due .ensures)
 
 pub emit-line-spec : {M : Type 1} → statement M
 emit-line-spec =
-    tie.close
-    (tie.spec
-    open-case-requires
-    enum-known-tested
-    enum-told
-    emit-due-requires
-    returns
-    same-length
-    returns-2)
+    tie.close (tie.spec
+    (λ c κs. search needs) (λ c. search needs) (λ c. search needs) (λ c κs. search needs) returns
+    (λ c. search needs) returns-2)

@@ -6,27 +6,12 @@ use borrow.Author.Needs.{needs}
 use Rattle.emitter.proofs.emit_lines.Statement.{statement}
 use Rattle.emitter.proofs.emit_lines.Tie as tie
 
-open-case-requires : tie.Need-open-case-requires
-open-case-requires c κs = search needs
-
-enum-known-tested : tie.Need-enum-known-tested
-enum-known-tested c = search needs
-
-enum-told : tie.Need-enum-told
-enum-told c = search needs
-
-due-lines-requires : tie.Need-due-lines-requires
-due-lines-requires c κs = search needs
-
 returns : tie.Need-returns
 returns c =
     let t = c .before in
     let o = t .before .before .before in
     let a = o .before .before .before .before .args in
     lines-refused (a .r) (now (a .figures)) (now (a .settings)) (a .place) (now (a .out)) (o .open-case .ensures) (t .tested .given .0 .0) (t .tested .given .1)
-
-same-length : tie.Need-same-length
-same-length c = search needs
 
 returns-2 : tie.Need-returns-2
 returns-2 c =
@@ -38,12 +23,6 @@ returns-2 c =
 
 pub emit-lines-spec : {M : Type 1} → statement M
 emit-lines-spec =
-    tie.close
-    (tie.spec
-    open-case-requires
-    enum-known-tested
-    enum-told
-    due-lines-requires
-    returns
-    same-length
-    returns-2)
+    tie.close (tie.spec
+    (λ c κs. search needs) (λ c. search needs) (λ c. search needs) (λ c κs. search needs) returns
+    (λ c. search needs) returns-2)

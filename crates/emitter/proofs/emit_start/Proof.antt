@@ -9,35 +9,17 @@ use Rattle.emitter.proofs.Copying.{own-written, start-short}
 use Rattle.emitter.proofs.emit_start.Statement.{statement}
 use Rattle.emitter.proofs.emit_start.Tie as tie
 
-slice-aggregate-start-line : tie.Need-slice-aggregate-start-line
-slice-aggregate-start-line c = search needs
-
-start-line-requires : tie.Need-start-line-requires
-start-line-requires c κs = search needs
-
 array-share-prefix-text : tie.Need-array-share-prefix-text
 array-share-prefix-text c = front-fits (c .before .before .start-line .ensures) (c .before .before .start-line .kept .0)
 
 slice-aggregate-put-line : tie.Need-slice-aggregate-put-line
 slice-aggregate-put-line c = front-cut (c .before .before .before .start-line .ensures) (c .before .before .before .start-line .kept .0)
 
-put-line-requires : tie.Need-put-line-requires
-put-line-requires c κs = search needs
-
-same-length : tie.Need-same-length
-same-length c = search needs
-
 returns : tie.Need-returns
 returns c = own-written refl (c .before .before .before .before .before .before .start-line .ensures) (From 0) (now (c .before .before .before .before .before .before .before .before .before .args .out)) (start-short (c .before .before .before .before .before .before .before .before .before .args .n)) (c .before .before .put-line .ensures)
 
 pub emit-start-spec : {M : Type 1} → statement M
 emit-start-spec =
-    tie.close
-    (tie.spec
-    slice-aggregate-start-line
-    start-line-requires
-    array-share-prefix-text
-    slice-aggregate-put-line
-    put-line-requires
-    same-length
-    returns)
+    tie.close (tie.spec
+    (λ c. search needs) (λ c κs. search needs) array-share-prefix-text slice-aggregate-put-line
+    (λ c κs. search needs) (λ c. search needs) returns)

@@ -6,9 +6,6 @@ use Rattle.emitter.proofs.Next.{none-there, figure-there}
 use Rattle.emitter.proofs.has_figure.Statement.{statement}
 use Rattle.emitter.proofs.has_figure.Tie as tie
 
-entry-at-requires : tie.Need-entry-at-requires
-entry-at-requires c κs = search needs
-
 returns : tie.Need-returns
 returns c = let a = c .before .before .before .args in none-there (now (a .figures)) (a .p) _ (c .before .entry-at .ensures) (c .if1 .taken)
 
@@ -16,4 +13,4 @@ returns-2 : tie.Need-returns-2
 returns-2 c = let a = c .before .before .before .args in figure-there (now (a .figures)) (a .p) _ (c .before .entry-at .ensures) (c .if1 .left)
 
 pub has-figure-spec : {M : Type 1} → statement M
-has-figure-spec = tie.close (tie.spec entry-at-requires returns returns-2)
+has-figure-spec = tie.close (tie.spec (λ c κs. search needs) returns returns-2)

@@ -25,14 +25,8 @@ Inv-loop table figures settings from behind out₀ total c₀ at₀ out c at =
 abbrev μ-loop : tie.MeasureT-loop
 μ-loop table figures settings from behind out₀ total c₀ at₀ out c at = total - c
 
-placements-requires : tie.Need-placements-requires Inv-loop μ-loop
-placements-requires c κs = search needs
-
 loop-holds : tie.Need-loop-holds Inv-loop μ-loop
 loop-holds c = (refl, λ r whole h p u. u)
-
-next-code-requires : tie.Need-next-code-requires Inv-loop μ-loop
-next-code-requires c κs = search needs
 
 same-length : tie.Need-same-length Inv-loop μ-loop
 same-length c = c .before .before .loop .inv .0
@@ -44,9 +38,6 @@ returns c =
     let l = n .before in
     let a = l .before .before .before .before .before .args in
     lines-over r (now (a .figures)) (now (a .settings)) p whole (l .loop .c) (l .loop .at) (l .loop .out) (l .loop .inv .1 r whole h p u) _ _ (n .next-code .ensures) (l .before .placements .ensures r h) (c .if1 .taken)
-
-put-placement-requires : tie.Need-put-placement-requires Inv-loop μ-loop
-put-placement-requires c κs = search needs
 
 same-length-2 : tie.Need-same-length-2 Inv-loop μ-loop
 same-length-2 c = let u = c .before .before .before in u .put-placement .kept .1 .1 .1 .1 .0 ∙ u .before .before .before .before .loop .inv .0
@@ -60,9 +51,6 @@ returns-2 c =
     let l = n .before in
     let a = l .before .before .before .before .before .args in
     lines-full r (now (a .figures)) (now (a .settings)) p whole (l .loop .c) (l .loop .at) (l .loop .out) (l .loop .inv .1 r whole h p u) _ _ (n .next-code .ensures) (l .before .placements .ensures r h) (e .if1 .left) (t .put-placement .ensures r h) (c .if2 .taken)
-
-add-c : tie.Need-add-c Inv-loop μ-loop
-add-c c = search needs
 
 loop-less : tie.Need-loop-less Inv-loop μ-loop
 loop-less c =
@@ -85,18 +73,6 @@ loop-again c =
 
 pub more-lines-spec : {M : Type 1} → statement M
 more-lines-spec =
-    tie.close
-    (tie.spec
-    Inv-loop
-    μ-loop
-    placements-requires
-    loop-holds
-    next-code-requires
-    same-length
-    returns
-    put-placement-requires
-    same-length-2
-    returns-2
-    add-c
-    loop-less
-    loop-again)
+    tie.close (tie.spec
+    Inv-loop μ-loop (λ c κs. search needs) loop-holds (λ c κs. search needs) same-length returns
+    (λ c κs. search needs) same-length-2 returns-2 (λ c. search needs) loop-less loop-again)

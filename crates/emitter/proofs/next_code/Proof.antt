@@ -21,17 +21,8 @@ abbrev μ-loop : tie.MeasureT-loop
 loop-holds : tie.Need-loop-holds Inv-loop μ-loop
 loop-holds c = let a = c .before .args in (omega arith, next-start (now (a .figures)) (a .c))
 
-has-figure-requires : tie.Need-has-figure-requires Inv-loop μ-loop
-has-figure-requires c κs = search needs
-
 returns : tie.Need-returns Inv-loop μ-loop
 returns c = let l = c .before .before .before in let a = l .before .before .args in next-found (now (a .figures)) (a .c) (l .loop .p) (l .loop .inv .0) (l .loop .inv .1) _ (c .before .has-figure .ensures) (a .total) (c .if1 .taken) (c .before .before .loop-test .taken)
-
-add-p : tie.Need-add-p Inv-loop μ-loop
-add-p c = omega arith
-
-loop-less : tie.Need-loop-less Inv-loop μ-loop
-loop-less c = omega arith
 
 loop-again : tie.Need-loop-again Inv-loop μ-loop
 loop-again c = let l = c .before .before .before in let a = l .before .before .args in (omega arith, next-step (now (a .figures)) (a .c) (l .loop .p) (l .loop .inv .0) (l .loop .inv .1) _ (c .before .has-figure .ensures) (c .if1 .left))
@@ -41,14 +32,6 @@ returns-2 c = let l = c .before in let a = l .before .before .args in next-none 
 
 pub next-code-spec : {M : Type 1} → statement M
 next-code-spec =
-    tie.close
-    (tie.spec
-    Inv-loop
-    μ-loop
-    loop-holds
-    has-figure-requires
-    returns
-    add-p
-    loop-less
-    loop-again
+    tie.close (tie.spec
+    Inv-loop μ-loop loop-holds (λ c κs. search needs) returns (λ c. omega arith) (λ c. omega arith) loop-again
     returns-2)

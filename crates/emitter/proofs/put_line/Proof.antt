@@ -9,14 +9,8 @@ use Rattle.emitter.proofs.put_line.Tie as tie
 returns : tie.Need-returns
 returns c = let a = c .before .before .before .args in line-short (now (a .line)) (a .next) (now (a .out)) (c .if1 .taken)
 
-bytes-requires : tie.Need-bytes-requires
-bytes-requires c κs = search needs
-
-same-length : tie.Need-same-length
-same-length c = search needs
-
 returns-2 : tie.Need-returns-2
 returns-2 c = let a = c .before .before .before .before .before .before .before .args in line-put (now (a .line)) (a .next) (now (a .out)) (c .before .before .before .before .if1 .left) (c .before .before .bytes .ensures)
 
 pub put-line-spec : {M : Type 1} → statement M
-put-line-spec = tie.close (tie.spec returns bytes-requires same-length returns-2)
+put-line-spec = tie.close (tie.spec returns (λ c κs. search needs) (λ c. search needs) returns-2)

@@ -10,30 +10,6 @@ use borrow.Author.Needs.{needs}
 use Rattle.emitter.proofs.put_placement.Statement.{statement}
 use Rattle.emitter.proofs.put_placement.Tie as tie
 
-entry-at-requires : tie.Need-entry-at-requires
-entry-at-requires c κs = search needs
-
-entry-at-requires-2 : tie.Need-entry-at-requires-2
-entry-at-requires-2 c κs = search needs
-
-placement-of-requires : tie.Need-placement-of-requires
-placement-of-requires c κs = search needs
-
-trains-in-requires : tie.Need-trains-in-requires
-trains-in-requires c κs = search needs
-
-points-in-requires : tie.Need-points-in-requires
-points-in-requires c κs = search needs
-
-has-room-requires : tie.Need-has-room-requires
-has-room-requires c κs = search needs
-
-placement-line-requires : tie.Need-placement-line-requires
-placement-line-requires c κs = search needs
-
-same-length : tie.Need-same-length
-same-length c = search needs
-
 returns : tie.Need-returns
 returns c =
     λ r h has.
@@ -45,23 +21,11 @@ returns c =
     let is = placement-is r (now (a .figures)) (now (a .settings)) (a .p) h has (o .before .entry-at .ensures) (omega arith) (o .entry-at2 .ensures) (m .before .before .placement-of .ensures r h) (m .before .trains-in .ensures r h) (m .points-in .ensures r h) in
     placed-in-place r (now (a .figures)) (now (a .settings)) (a .p) (now (a .out)) (a .at) is (t .before .has-room .ensures) (t .if1 .taken) (l .placement-line .ensures)
 
-slice-aggregate-placement-line : tie.Need-slice-aggregate-placement-line
-slice-aggregate-placement-line c = search needs
-
-placement-line-requires-2 : tie.Need-placement-line-requires-2
-placement-line-requires-2 c κs = search needs
-
 array-share-prefix-text : tie.Need-array-share-prefix-text
 array-share-prefix-text c = front-fits (c .before .before .placement-line2 .ensures) (c .before .before .placement-line2 .kept .0)
 
 slice-aggregate-put-behind : tie.Need-slice-aggregate-put-behind
 slice-aggregate-put-behind c = front-cut (c .before .before .before .placement-line2 .ensures) (c .before .before .before .placement-line2 .kept .0)
-
-put-behind-requires : tie.Need-put-behind-requires
-put-behind-requires c κs = search needs
-
-same-length-2 : tie.Need-same-length-2
-same-length-2 c = search needs
 
 returns-2 : tie.Need-returns-2
 returns-2 c =
@@ -76,21 +40,8 @@ returns-2 c =
 
 pub put-placement-spec : {M : Type 1} → statement M
 put-placement-spec =
-    tie.close
-    (tie.spec
-    entry-at-requires
-    entry-at-requires-2
-    placement-of-requires
-    trains-in-requires
-    points-in-requires
-    has-room-requires
-    placement-line-requires
-    same-length
-    returns
-    slice-aggregate-placement-line
-    placement-line-requires-2
-    array-share-prefix-text
-    slice-aggregate-put-behind
-    put-behind-requires
-    same-length-2
-    returns-2)
+    tie.close (tie.spec
+    (λ c κs. search needs) (λ c κs. search needs) (λ c κs. search needs) (λ c κs. search needs)
+    (λ c κs. search needs) (λ c κs. search needs) (λ c κs. search needs) (λ c. search needs) returns
+    (λ c. search needs) (λ c κs. search needs) array-share-prefix-text slice-aggregate-put-behind
+    (λ c κs. search needs) (λ c. search needs) returns-2)

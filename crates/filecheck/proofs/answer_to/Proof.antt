@@ -7,23 +7,8 @@ use borrow.Author.Needs.{needs}
 use Rattle.filecheck.proofs.answer_to.Statement.{statement}
 use Rattle.filecheck.proofs.answer_to.Tie as tie
 
-read-case-requires : tie.Need-read-case-requires
-read-case-requires c κs = search needs
-
-enum-known-answer : tie.Need-enum-known-answer
-enum-known-answer c = search needs
-
-enum-told : tie.Need-enum-told
-enum-told c = search needs
-
-check-plan-requires : tie.Need-check-plan-requires
-check-plan-requires c κs = search needs
-
 returns : tie.Need-returns
 returns c = let r = c .before .before .before in (omega arith, by-refused _ _ _ _ (r .read-case .ensures) _ (c .before .answer .given .1) refl)
-
-same-length : tie.Need-same-length
-same-length c = search needs
 
 returns-2 : tie.Need-returns-2
 returns-2 c =
@@ -33,12 +18,6 @@ returns-2 c =
 
 pub answer-to-spec : {M : Type 1} → statement M
 answer-to-spec =
-    tie.close
-    (tie.spec
-    read-case-requires
-    enum-known-answer
-    enum-told
-    check-plan-requires
-    returns
-    same-length
-    returns-2)
+    tie.close (tie.spec
+    (λ c κs. search needs) (λ c. search needs) (λ c. search needs) (λ c κs. search needs) returns
+    (λ c. search needs) returns-2)

@@ -5,11 +5,8 @@ use borrow.Author.Needs.{needs}
 use Rattle.filecheck.proofs.goes_on.Statement.{statement}
 use Rattle.filecheck.proofs.goes_on.Tie as tie
 
-returns : tie.Need-returns
-returns c = search needs
-
 returns-2 : tie.Need-returns-2
 returns-2 c = let a = c .before .args in still-stops (a .stopped) (a .n) (c .if1 .left)
 
 pub goes-on-spec : {M : Type 1} → statement M
-goes-on-spec = tie.close (tie.spec returns returns-2)
+goes-on-spec = tie.close (tie.spec (λ c. search needs) returns-2)

@@ -43,9 +43,6 @@ part-finish-start c = c .before .before .loop .inv .2 .behind
 part-finish-end : tie.Need-part-finish-end Inv-loop μ-loop
 part-finish-end c = c .before .before .loop .inv .2 .within
 
-finish-requires : tie.Need-finish-requires Inv-loop μ-loop
-finish-requires c κs = search needs
-
 same-length : tie.Need-same-length Inv-loop μ-loop
 same-length c = c .before .before .before .before .before .before .loop .inv .2 .sized
 
@@ -60,19 +57,6 @@ returns c = listening-end _ _ _ _ _ _ _ (c .before .before .before .before .befo
 
 pub hear-spec : {M : Type 1} → statement M
 hear-spec =
-    tie.close
-    (tie.spec
-    Inv-loop
-    μ-loop
-    loop-holds
-    turn-requires
-    loop-less
-    loop-again
-    sub-finish
-    part-finish-start
-    part-finish-end
-    finish-requires
-    same-length
-    same-length-2
-    same-length-3
-    returns)
+    tie.close (tie.spec
+    Inv-loop μ-loop loop-holds turn-requires loop-less loop-again sub-finish part-finish-start part-finish-end
+    (λ c κs. search needs) same-length same-length-2 same-length-3 returns)

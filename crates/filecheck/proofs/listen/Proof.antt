@@ -4,24 +4,6 @@ use borrow.Author.Needs.{needs}
 use Rattle.filecheck.proofs.listen.Statement.{statement}
 use Rattle.filecheck.proofs.listen.Tie as tie
 
-fresh-requires : tie.Need-fresh-requires
-fresh-requires c κs = search needs
-
-not-refused-requires : tie.Need-not-refused-requires
-not-refused-requires c κs = search needs
-
-hear-requires : tie.Need-hear-requires
-hear-requires c κs = search needs
-
-same-length : tie.Need-same-length
-same-length c = search needs
-
-same-length-2 : tie.Need-same-length-2
-same-length-2 c = search needs
-
-same-length-3 : tie.Need-same-length-3
-same-length-3 c = search needs
-
 returns : tie.Need-returns
 returns c =
     let h = c .before .before .before .before .before .before in
@@ -31,12 +13,6 @@ returns c =
 
 pub listen-spec : {M : Type 1} → statement M
 listen-spec =
-    tie.close
-    (tie.spec
-    fresh-requires
-    not-refused-requires
-    hear-requires
-    same-length
-    same-length-2
-    same-length-3
-    returns)
+    tie.close (tie.spec
+    (λ c κs. search needs) (λ c κs. search needs) (λ c κs. search needs) (λ c. search needs)
+    (λ c. search needs) (λ c. search needs) returns)

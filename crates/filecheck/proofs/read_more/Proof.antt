@@ -5,27 +5,6 @@ use borrow.Author.Needs.{needs}
 use Rattle.filecheck.proofs.read_more.Statement.{statement}
 use Rattle.filecheck.proofs.read_more.Tie as tie
 
-piece-end-requires : tie.Need-piece-end-requires
-piece-end-requires c κs = search needs
-
-sub-piece : tie.Need-sub-piece
-sub-piece c = search needs
-
-part-piece-start : tie.Need-part-piece-start
-part-piece-start c = search needs
-
-part-piece-end : tie.Need-part-piece-end
-part-piece-end c = search needs
-
-read-requires : tie.Need-read-requires
-read-requires c κs = search needs
-
-count-requires : tie.Need-count-requires
-count-requires c κs = search needs
-
-same-length : tie.Need-same-length
-same-length c = search needs
-
 returns : tie.Need-returns
 returns c =
     let n = c .before .before in
@@ -36,13 +15,6 @@ returns c =
 
 pub read-more-spec : {M : Type 1} → statement M
 read-more-spec =
-    tie.close
-    (tie.spec
-    piece-end-requires
-    sub-piece
-    part-piece-start
-    part-piece-end
-    read-requires
-    count-requires
-    same-length
-    returns)
+    tie.close (tie.spec
+    (λ c κs. search needs) (λ c. search needs) (λ c. search needs) (λ c. search needs) (λ c κs. search needs)
+    (λ c κs. search needs) (λ c. search needs) returns)

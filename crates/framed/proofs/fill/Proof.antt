@@ -39,23 +39,8 @@ module _ (old new : List ℕ) (n : ℕ) (in-old : n ≤ length old) (kept : leng
       go true = whole
       go false = ((omega arith, refl), (refl, as-long))
 
-returns : tie.Need-returns
-returns c = search needs
-
-slice-relend-prefix-read-full : tie.Need-slice-relend-prefix-read-full
-slice-relend-prefix-read-full c = search needs
-
 slice-aggregate-read-full : tie.Need-slice-aggregate-read-full
 slice-aggregate-read-full c = simp length-take (omega arith)
-
-read-full-requires : tie.Need-read-full-requires
-read-full-requires c κs = search needs
-
-record-of-requires : tie.Need-record-of-requires
-record-of-requires c κs = search needs
-
-same-length : tie.Need-same-length
-same-length c = search needs
 
 returns-2 : tie.Need-returns-2
 returns-2 c =
@@ -65,12 +50,6 @@ returns-2 c =
 
 pub fill-spec : {M : Type 1} → statement M
 fill-spec =
-    tie.close
-    (tie.spec
-    returns
-    slice-relend-prefix-read-full
-    slice-aggregate-read-full
-    read-full-requires
-    record-of-requires
-    same-length
-    returns-2)
+    tie.close (tie.spec
+    (λ c. search needs) (λ c. search needs) slice-aggregate-read-full (λ c κs. search needs)
+    (λ c κs. search needs) (λ c. search needs) returns-2)

@@ -11,36 +11,9 @@ use Rattle.lines.proofs.Chain.{mark-side, mark-leg, mark-none}
 use Rattle.lines.proofs.end_field.Statement.{statement}
 use Rattle.lines.proofs.end_field.Tie as tie
 
-number-at-requires : tie.Need-number-at-requires
-number-at-requires c κs = search needs
-
-enum-known-n : tie.Need-enum-known-n
-enum-known-n c = search needs
-
-enum-told : tie.Need-enum-told
-enum-told c = search needs
-
 returns : tie.Need-returns
 unfolding endFieldAt
 returns c = fails _ (sym (c .before .before .number-at .ensures) ∙ ap numberGot (c .enum-told .given .1))
-
-side-field-requires : tie.Need-side-field-requires
-side-field-requires c κs = search needs
-
-enum-known-side : tie.Need-enum-known-side
-enum-known-side c = search needs
-
-enum-told-2 : tie.Need-enum-told-2
-enum-told-2 c = search needs
-
-leg-field-requires : tie.Need-leg-field-requires
-leg-field-requires c κs = search needs
-
-enum-known-leg : tie.Need-enum-known-leg
-enum-known-leg c = search needs
-
-enum-told-3 : tie.Need-enum-told-3
-enum-told-3 c = search needs
 
 returns-2 : tie.Need-returns-2
 unfolding endFieldAt
@@ -56,18 +29,7 @@ returns-4 c = let k = c .before .before .before in let n = k .before in let s = 
 
 pub end-field-spec : {M : Type 1} → statement M
 end-field-spec =
-    tie.close
-    (tie.spec
-    number-at-requires
-    enum-known-n
-    enum-told
-    returns
-    side-field-requires
-    enum-known-side
-    enum-told-2
-    leg-field-requires
-    enum-known-leg
-    enum-told-3
-    returns-2
-    returns-3
-    returns-4)
+    tie.close (tie.spec
+    (λ c κs. search needs) (λ c. search needs) (λ c. search needs) returns (λ c κs. search needs)
+    (λ c. search needs) (λ c. search needs) (λ c κs. search needs) (λ c. search needs) (λ c. search needs)
+    returns-2 returns-3 returns-4)

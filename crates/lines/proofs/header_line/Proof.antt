@@ -34,66 +34,21 @@ abbrev past-end : tie.After-c5 → Left Counts
 unfolding headerAt
 past-end k = onward (past-trains (k .before .before .before .before)) (byte-goes _ 10 _ (omega arith) _ (k .before .before .byte-at2 .ensures) _ (k .c5 .given .1) _ refl)
 
-byte-at-requires : tie.Need-byte-at-requires
-byte-at-requires c κs = search needs
-
-enum-known-c1 : tie.Need-enum-known-c1
-enum-known-c1 c = search needs
-
-enum-told : tie.Need-enum-told
-enum-told c = search needs
-
 returns : tie.Need-returns
 unfolding headerAt
 returns c = byte-fails (now (c .before .before .before .before .args .text)) 72 _ (omega arith) _ (c .before .before .byte-at .ensures) (c .enum-told .given .1) _
-
-tab-number-requires : tie.Need-tab-number-requires
-tab-number-requires c κs = search needs
-
-enum-known-sections : tie.Need-enum-known-sections
-enum-known-sections c = search needs
-
-enum-told-2 : tie.Need-enum-told-2
-enum-told-2 c = search needs
 
 returns-2 : tie.Need-returns-2
 unfolding headerAt
 returns-2 c = tab-fails _ _ _ _ (sym (c .before .before .tab-number .ensures) ∙ ap numberGot (c .enum-told2 .given .1)) ∙ past-letter (c .before .before .before .before) .gives
 
-tab-number-requires-2 : tie.Need-tab-number-requires-2
-tab-number-requires-2 c κs = search needs
-
-enum-known-points : tie.Need-enum-known-points
-enum-known-points c = search needs
-
-enum-told-3 : tie.Need-enum-told-3
-enum-told-3 c = search needs
-
 returns-3 : tie.Need-returns-3
 unfolding headerAt
 returns-3 c = tab-fails _ _ _ _ (sym (c .before .before .tab-number2 .ensures) ∙ ap numberGot (c .enum-told3 .given .1)) ∙ past-sections (c .before .before .before .before) .gives
 
-tab-number-requires-3 : tie.Need-tab-number-requires-3
-tab-number-requires-3 c κs = search needs
-
-enum-known-trains : tie.Need-enum-known-trains
-enum-known-trains c = search needs
-
-enum-told-4 : tie.Need-enum-told-4
-enum-told-4 c = search needs
-
 returns-4 : tie.Need-returns-4
 unfolding headerAt
 returns-4 c = tab-fails _ _ _ _ (sym (c .before .before .tab-number3 .ensures) ∙ ap numberGot (c .enum-told4 .given .1)) ∙ past-points (c .before .before .before .before) .gives
-
-byte-at-requires-2 : tie.Need-byte-at-requires-2
-byte-at-requires-2 c κs = search needs
-
-enum-known-c5 : tie.Need-enum-known-c5
-enum-known-c5 c = search needs
-
-enum-told-5 : tie.Need-enum-told-5
-enum-told-5 c = search needs
 
 returns-5 : tie.Need-returns-5
 unfolding headerAt
@@ -105,26 +60,8 @@ returns-6 c = past-end (c .before) .gives
 
 pub header-line-spec : {M : Type 1} → statement M
 header-line-spec =
-    tie.close
-    (tie.spec
-    byte-at-requires
-    enum-known-c1
-    enum-told
-    returns
-    tab-number-requires
-    enum-known-sections
-    enum-told-2
-    returns-2
-    tab-number-requires-2
-    enum-known-points
-    enum-told-3
-    returns-3
-    tab-number-requires-3
-    enum-known-trains
-    enum-told-4
-    returns-4
-    byte-at-requires-2
-    enum-known-c5
-    enum-told-5
-    returns-5
-    returns-6)
+    tie.close (tie.spec
+    (λ c κs. search needs) (λ c. search needs) (λ c. search needs) returns (λ c κs. search needs)
+    (λ c. search needs) (λ c. search needs) returns-2 (λ c κs. search needs) (λ c. search needs)
+    (λ c. search needs) returns-3 (λ c κs. search needs) (λ c. search needs) (λ c. search needs) returns-4
+    (λ c κs. search needs) (λ c. search needs) (λ c. search needs) returns-5 returns-6)

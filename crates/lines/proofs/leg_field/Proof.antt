@@ -8,33 +8,6 @@ use Rattle.lines.proofs.Chain.{leg-stem, leg-plus, leg-minus, leg-none}
 use Rattle.lines.proofs.leg_field.Statement.{statement}
 use Rattle.lines.proofs.leg_field.Tie as tie
 
-byte-at-requires : tie.Need-byte-at-requires
-byte-at-requires c κs = search needs
-
-enum-known-stem : tie.Need-enum-known-stem
-enum-known-stem c = search needs
-
-enum-told : tie.Need-enum-told
-enum-told c = search needs
-
-byte-at-requires-2 : tie.Need-byte-at-requires-2
-byte-at-requires-2 c κs = search needs
-
-enum-known-plus : tie.Need-enum-known-plus
-enum-known-plus c = search needs
-
-enum-told-2 : tie.Need-enum-told-2
-enum-told-2 c = search needs
-
-byte-at-requires-3 : tie.Need-byte-at-requires-3
-byte-at-requires-3 c κs = search needs
-
-enum-known-minus : tie.Need-enum-known-minus
-enum-known-minus c = search needs
-
-enum-told-3 : tie.Need-enum-told-3
-enum-told-3 c = search needs
-
 returns : tie.Need-returns
 returns c = let b = c .before .before .before in let a = b .before .before .before in let s = now (a .before .before .before .before .args .text) in leg-none s _ (byte-miss s 115 _ (omega arith) _ (a .before .before .byte-at .ensures) (a .enum-told .given .1)) (byte-miss s 43 _ (omega arith) _ (b .before .before .byte-at2 .ensures) (b .enum-told2 .given .1)) (byte-miss s 45 _ (omega arith) _ (c .before .before .byte-at3 .ensures) (c .enum-told3 .given .1))
 
@@ -49,18 +22,7 @@ returns-4 c = let k = c .before .before .before in let s = now (k .before .befor
 
 pub leg-field-spec : {M : Type 1} → statement M
 leg-field-spec =
-    tie.close
-    (tie.spec
-    byte-at-requires
-    enum-known-stem
-    enum-told
-    byte-at-requires-2
-    enum-known-plus
-    enum-told-2
-    byte-at-requires-3
-    enum-known-minus
-    enum-told-3
-    returns
-    returns-2
-    returns-3
-    returns-4)
+    tie.close (tie.spec
+    (λ c κs. search needs) (λ c. search needs) (λ c. search needs) (λ c κs. search needs) (λ c. search needs)
+    (λ c. search needs) (λ c κs. search needs) (λ c. search needs) (λ c. search needs) returns returns-2
+    returns-3 returns-4)

@@ -8,24 +8,6 @@ use Rattle.lines.proofs.Chain.{side-up, side-down, side-none}
 use Rattle.lines.proofs.side_field.Statement.{statement}
 use Rattle.lines.proofs.side_field.Tie as tie
 
-byte-at-requires : tie.Need-byte-at-requires
-byte-at-requires c κs = search needs
-
-enum-known-up : tie.Need-enum-known-up
-enum-known-up c = search needs
-
-enum-told : tie.Need-enum-told
-enum-told c = search needs
-
-byte-at-requires-2 : tie.Need-byte-at-requires-2
-byte-at-requires-2 c κs = search needs
-
-enum-known-down : tie.Need-enum-known-down
-enum-known-down c = search needs
-
-enum-told-2 : tie.Need-enum-told-2
-enum-told-2 c = search needs
-
 returns : tie.Need-returns
 returns c = let a = c .before .before .before in let s = now (a .before .before .before .before .args .text) in side-none s _ (byte-miss s 117 _ (omega arith) _ (a .before .before .byte-at .ensures) (a .enum-told .given .1)) (byte-miss s 100 _ (omega arith) _ (c .before .before .byte-at2 .ensures) (c .enum-told2 .given .1))
 
@@ -37,14 +19,6 @@ returns-3 c = let k = c .before .before .before in let s = now (k .before .befor
 
 pub side-field-spec : {M : Type 1} → statement M
 side-field-spec =
-    tie.close
-    (tie.spec
-    byte-at-requires
-    enum-known-up
-    enum-told
-    byte-at-requires-2
-    enum-known-down
-    enum-told-2
-    returns
-    returns-2
-    returns-3)
+    tie.close (tie.spec
+    (λ c κs. search needs) (λ c. search needs) (λ c. search needs) (λ c κs. search needs) (λ c. search needs)
+    (λ c. search needs) returns returns-2 returns-3)

@@ -44,92 +44,29 @@ abbrev past-end : tie.After-c7 → Left TrainLine
 unfolding trainLineAt
 past-end k = onward (past-weight (k .before .before .before .before)) (byte-goes _ 10 _ (omega arith) _ (k .before .before .byte-at2 .ensures) _ (k .c7 .given .1) _ refl)
 
-byte-at-requires : tie.Need-byte-at-requires
-byte-at-requires c κs = search needs
-
-enum-known-c1 : tie.Need-enum-known-c1
-enum-known-c1 c = search needs
-
-enum-told : tie.Need-enum-told
-enum-told c = search needs
-
 returns : tie.Need-returns
 unfolding trainLineAt
 returns c = byte-fails (now (c .before .before .before .before .args .text)) 84 _ (omega arith) _ (c .before .before .byte-at .ensures) (c .enum-told .given .1) _
-
-tab-number-requires : tie.Need-tab-number-requires
-tab-number-requires c κs = search needs
-
-enum-known-m : tie.Need-enum-known-m
-enum-known-m c = search needs
-
-enum-told-2 : tie.Need-enum-told-2
-enum-told-2 c = search needs
 
 returns-2 : tie.Need-returns-2
 unfolding trainLineAt
 returns-2 c = tab-fails _ _ _ _ (sym (c .before .before .tab-number .ensures) ∙ ap numberGot (c .enum-told2 .given .1)) ∙ past-letter (c .before .before .before .before) .gives
 
-tab-side-requires : tie.Need-tab-side-requires
-tab-side-requires c κs = search needs
-
-enum-known-heading : tie.Need-enum-known-heading
-enum-known-heading c = search needs
-
-enum-told-3 : tie.Need-enum-told-3
-enum-told-3 c = search needs
-
 returns-3 : tie.Need-returns-3
 unfolding trainLineAt
 returns-3 c = tab-fails _ _ _ _ (sym (c .before .before .tab-side .ensures) ∙ ap sideGot (c .enum-told3 .given .1)) ∙ past-number (c .before .before .before .before) .gives
-
-tab-number-requires-2 : tie.Need-tab-number-requires-2
-tab-number-requires-2 c κs = search needs
-
-enum-known-start : tie.Need-enum-known-start
-enum-known-start c = search needs
-
-enum-told-4 : tie.Need-enum-told-4
-enum-told-4 c = search needs
 
 returns-4 : tie.Need-returns-4
 unfolding trainLineAt
 returns-4 c = tab-fails _ _ _ _ (sym (c .before .before .tab-number2 .ensures) ∙ ap numberGot (c .enum-told4 .given .1)) ∙ past-heading (c .before .before .before .before) .gives
 
-tab-number-requires-3 : tie.Need-tab-number-requires-3
-tab-number-requires-3 c κs = search needs
-
-enum-known-destination : tie.Need-enum-known-destination
-enum-known-destination c = search needs
-
-enum-told-5 : tie.Need-enum-told-5
-enum-told-5 c = search needs
-
 returns-5 : tie.Need-returns-5
 unfolding trainLineAt
 returns-5 c = tab-fails _ _ _ _ (sym (c .before .before .tab-number3 .ensures) ∙ ap numberGot (c .enum-told5 .given .1)) ∙ past-start (c .before .before .before .before) .gives
 
-weight-field-requires : tie.Need-weight-field-requires
-weight-field-requires c κs = search needs
-
-enum-known-weight : tie.Need-enum-known-weight
-enum-known-weight c = search needs
-
-enum-told-6 : tie.Need-enum-told-6
-enum-told-6 c = search needs
-
 returns-6 : tie.Need-returns-6
 unfolding trainLineAt
 returns-6 c = fails _ (sym (c .before .before .weight-field .ensures) ∙ ap weightGot (c .enum-told6 .given .1)) ∙ past-destination (c .before .before .before .before) .gives
-
-byte-at-requires-2 : tie.Need-byte-at-requires-2
-byte-at-requires-2 c κs = search needs
-
-enum-known-c7 : tie.Need-enum-known-c7
-enum-known-c7 c = search needs
-
-enum-told-7 : tie.Need-enum-told-7
-enum-told-7 c = search needs
 
 returns-7 : tie.Need-returns-7
 unfolding trainLineAt
@@ -145,35 +82,10 @@ returns-9 c = number-other _ _ _ (c .if1 .left) ∙ past-end (c .before .before)
 
 pub train-line-spec : {M : Type 1} → statement M
 train-line-spec =
-    tie.close
-    (tie.spec
-    byte-at-requires
-    enum-known-c1
-    enum-told
-    returns
-    tab-number-requires
-    enum-known-m
-    enum-told-2
-    returns-2
-    tab-side-requires
-    enum-known-heading
-    enum-told-3
-    returns-3
-    tab-number-requires-2
-    enum-known-start
-    enum-told-4
-    returns-4
-    tab-number-requires-3
-    enum-known-destination
-    enum-told-5
-    returns-5
-    weight-field-requires
-    enum-known-weight
-    enum-told-6
-    returns-6
-    byte-at-requires-2
-    enum-known-c7
-    enum-told-7
-    returns-7
-    returns-8
-    returns-9)
+    tie.close (tie.spec
+    (λ c κs. search needs) (λ c. search needs) (λ c. search needs) returns (λ c κs. search needs)
+    (λ c. search needs) (λ c. search needs) returns-2 (λ c κs. search needs) (λ c. search needs)
+    (λ c. search needs) returns-3 (λ c κs. search needs) (λ c. search needs) (λ c. search needs) returns-4
+    (λ c κs. search needs) (λ c. search needs) (λ c. search needs) returns-5 (λ c κs. search needs)
+    (λ c. search needs) (λ c. search needs) returns-6 (λ c κs. search needs) (λ c. search needs)
+    (λ c. search needs) returns-7 returns-8 returns-9)

@@ -10,29 +10,11 @@ use Rattle.lines.proofs.Chain.{weight-unsaid, weight-said, weight-none}
 use Rattle.lines.proofs.weight_field.Statement.{statement}
 use Rattle.lines.proofs.weight_field.Tie as tie
 
-byte-at-requires : tie.Need-byte-at-requires
-byte-at-requires c κs = search needs
-
-enum-known-field : tie.Need-enum-known-field
-enum-known-field c = search needs
-
-enum-told : tie.Need-enum-told
-enum-told c = search needs
-
 returns : tie.Need-returns
 returns c =
     let a = c .before .before in
     let s = now (a .before .before .args .text) in
     weight-unsaid s _ (byte-miss s 9 _ (omega arith) _ (a .byte-at .ensures) (c .enum-told .given .1))
-
-number-at-requires : tie.Need-number-at-requires
-number-at-requires c κs = search needs
-
-enum-known-w : tie.Need-enum-known-w
-enum-known-w c = search needs
-
-enum-told-2 : tie.Need-enum-told-2
-enum-told-2 c = search needs
 
 returns-2 : tie.Need-returns-2
 returns-2 c =
@@ -50,14 +32,6 @@ returns-3 c =
 
 pub weight-field-spec : {M : Type 1} → statement M
 weight-field-spec =
-    tie.close
-    (tie.spec
-    byte-at-requires
-    enum-known-field
-    enum-told
-    returns
-    number-at-requires
-    enum-known-w
-    enum-told-2
-    returns-2
-    returns-3)
+    tie.close (tie.spec
+    (λ c κs. search needs) (λ c. search needs) (λ c. search needs) returns (λ c κs. search needs)
+    (λ c. search needs) (λ c. search needs) returns-2 returns-3)

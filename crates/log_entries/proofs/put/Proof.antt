@@ -5,15 +5,6 @@ use borrow.Author.Needs.{needs}
 use Rattle.log_entries.proofs.put.Statement.{statement}
 use Rattle.log_entries.proofs.put.Tie as tie
 
-element-write-q : tie.Need-element-write-q
-element-write-q c = search needs
-
-element-write-q-2 : tie.Need-element-write-q-2
-element-write-q-2 c = search needs
-
-add-q : tie.Need-add-q
-add-q c = search needs
-
 returns : tie.Need-returns
 returns c = put-room (c .before .args .p) (c .before .args .e) (c .if1 .taken)
 
@@ -21,4 +12,4 @@ returns-2 : tie.Need-returns-2
 returns-2 c = put-full (c .before .args .p) (c .before .args .e) (c .if1 .left)
 
 pub put-spec : {M : Type 1} → statement M
-put-spec = tie.close (tie.spec element-write-q element-write-q-2 add-q returns returns-2)
+put-spec = tie.close (tie.spec (λ c. search needs) (λ c. search needs) (λ c. search needs) returns returns-2)

@@ -7,14 +7,8 @@ use lib.ListN.{List·getD-eq-default}
 use Rattle.log_judge.proofs.byte_in.Statement.{statement}
 use Rattle.log_judge.proofs.byte_in.Tie as tie
 
-shared-slice-read-result : tie.Need-shared-slice-read-result
-shared-slice-read-result c = search needs
-
-returns : tie.Need-returns
-returns c = search needs
-
 returns-2 : tie.Need-returns-2
 returns-2 c = sym (List·getD-eq-default (now (c .before .args .bytes)) 0 (c .if1 .left))
 
 pub byte-in-spec : {M : Type 1} → statement M
-byte-in-spec = tie.close (tie.spec shared-slice-read-result returns returns-2)
+byte-in-spec = tie.close (tie.spec (λ c. search needs) (λ c. search needs) returns-2)

@@ -20,15 +20,6 @@ room n xs l e = omega arith
 part : (n : ℕ) (xs : List ℕ) → n ≤ mostEntries → length xs ≡ mostEntries → n ≡ length (take n xs)
 part n xs l e = sym (length-take-le n xs (room n xs l e))
 
-test-record-requires : tie.Need-test-record-requires
-test-record-requires c κs = search needs
-
-enum-known-tested : tie.Need-enum-known-tested
-enum-known-tested c = search needs
-
-enum-told : tie.Need-enum-told
-enum-told c = search needs
-
 returns : tie.Need-returns
 returns c = λ panel axles p q.
     let told = c .before in
@@ -89,9 +80,6 @@ slice-aggregate-judge-entries-4 c =
     let start = two .before .before .before .before .before in
     part _ (start .args .b .sections) (two .if2 .left) (sections-length (start .args .b) _ (start .good .1 .1 .0))
 
-judge-entries-requires : tie.Need-judge-entries-requires
-judge-entries-requires c κs = search needs
-
 returns-3 : tie.Need-returns-3
 returns-3 c = λ panel axles p q.
     let known = c .before in
@@ -107,21 +95,8 @@ returns-4 c = λ panel axles p q.
 
 pub judge-spec : {M : Type 1} → statement M
 judge-spec =
-    tie.close
-    (tie.spec
-    test-record-requires
-    enum-known-tested
-    enum-told
-    returns
-    returns-2
-    array-share-prefix-ta
-    slice-aggregate-judge-entries
-    array-share-prefix-sa
-    slice-aggregate-judge-entries-2
-    array-share-prefix-tb
-    slice-aggregate-judge-entries-3
-    array-share-prefix-sb
-    slice-aggregate-judge-entries-4
-    judge-entries-requires
-    returns-3
-    returns-4)
+    tie.close (tie.spec
+    (λ c κs. search needs) (λ c. search needs) (λ c. search needs) returns returns-2 array-share-prefix-ta
+    slice-aggregate-judge-entries array-share-prefix-sa slice-aggregate-judge-entries-2 array-share-prefix-tb
+    slice-aggregate-judge-entries-3 array-share-prefix-sb slice-aggregate-judge-entries-4
+    (λ c κs. search needs) returns-3 returns-4)

@@ -6,20 +6,11 @@ use Rattle.log_judge.proofs.Judging.{first-log, second-log, neither-log
 use Rattle.log_judge.proofs.judge_entries.Statement.{statement}
 use Rattle.log_judge.proofs.judge_entries.Tie as tie
 
-names-none-requires : tie.Need-names-none-requires
-names-none-requires c κs = search needs
-
 returns : tie.Need-returns
 returns c = first-log _ _ _ _ (sym (c .if1 .taken) ∙ c .before .names-none .ensures)
 
-names-none-requires-2 : tie.Need-names-none-requires-2
-names-none-requires-2 c κs = search needs
-
 returns-2 : tie.Need-returns-2
 returns-2 c = let one = c .before .before in second-log _ _ _ _ (sym (one .if1 .left) ∙ one .before .names-none .ensures) (sym (c .if2 .taken) ∙ c .before .names-none2 .ensures)
-
-lowest-differing-requires : tie.Need-lowest-differing-requires
-lowest-differing-requires c κs = search needs
 
 returns-3 : tie.Need-returns-3
 returns-3 c =
@@ -29,11 +20,5 @@ returns-3 c =
 
 pub judge-entries-spec : {M : Type 1} → statement M
 judge-entries-spec =
-    tie.close
-    (tie.spec
-    names-none-requires
-    returns
-    names-none-requires-2
-    returns-2
-    lowest-differing-requires
-    returns-3)
+    tie.close (tie.spec
+    (λ c κs. search needs) returns (λ c κs. search needs) returns-2 (λ c κs. search needs) returns-3)

@@ -21,19 +21,10 @@ abbrev μ-loop : tie.MeasureT-loop
 loop-holds : tie.Need-loop-holds Inv-loop μ-loop
 loop-holds c = λ u l. absurd (not-suc-le-zero l)
 
-train-differs-requires : tie.Need-train-differs-requires Inv-loop μ-loop
-train-differs-requires c κs = search needs
-
 returns : tie.Need-returns Inv-loop μ-loop
 returns c =
     let i = c .before .before in
     lowest-here _ _ (i .before .loop .inv) _ (i .loop-test .taken) (sym (c .if1 .taken) ∙ c .before .train-differs .ensures)
-
-add-t : tie.Need-add-t Inv-loop μ-loop
-add-t c = search needs
-
-loop-less : tie.Need-loop-less Inv-loop μ-loop
-loop-less c = omega arith
 
 loop-again : tie.Need-loop-again Inv-loop μ-loop
 loop-again c = let i = c .before .before in below-next _ _ (i .before .loop .inv) (sym (c .if1 .left) ∙ c .before .train-differs .ensures)
@@ -43,14 +34,6 @@ returns-2 c = lowest-none _ _ (c .before .loop .inv) _ (c .loop-test .left)
 
 pub lowest-differing-spec : {M : Type 1} → statement M
 lowest-differing-spec =
-    tie.close
-    (tie.spec
-    Inv-loop
-    μ-loop
-    loop-holds
-    train-differs-requires
-    returns
-    add-t
-    loop-less
-    loop-again
-    returns-2)
+    tie.close (tie.spec
+    Inv-loop μ-loop loop-holds (λ c κs. search needs) returns (λ c. search needs) (λ c. omega arith)
+    loop-again returns-2)

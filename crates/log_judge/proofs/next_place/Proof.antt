@@ -17,17 +17,8 @@ abbrev μ-loop : tie.MeasureT-loop
 loop-holds : tie.Need-loop-holds Inv-loop μ-loop
 loop-holds c = passing-first _ _ _
 
-byte-in-requires : tie.Need-byte-in-requires Inv-loop μ-loop
-byte-in-requires c κs = search needs
-
 returns : tie.Need-returns Inv-loop μ-loop
 returns c = place-found _ _ _ _ (c .before .before .before .loop .inv) _ (c .before .byte-in .ensures) (c .if1 .taken)
-
-add-i : tie.Need-add-i Inv-loop μ-loop
-add-i c = search needs
-
-loop-less : tie.Need-loop-less Inv-loop μ-loop
-loop-less c = omega arith
 
 loop-again : tie.Need-loop-again Inv-loop μ-loop
 loop-again c = let i = c .before .before in passing-next _ _ _ _ (i .before .loop .inv) _ (i .loop-test .taken) (c .before .byte-in .ensures) (c .if1 .left)
@@ -37,14 +28,6 @@ returns-2 c = none-found _ _ _ _ (c .before .loop .inv) (c .loop-test .left)
 
 pub next-place-spec : {M : Type 1} → statement M
 next-place-spec =
-    tie.close
-    (tie.spec
-    Inv-loop
-    μ-loop
-    loop-holds
-    byte-in-requires
-    returns
-    add-i
-    loop-less
-    loop-again
-    returns-2)
+    tie.close (tie.spec
+    Inv-loop μ-loop loop-holds (λ c κs. search needs) returns (λ c. search needs) (λ c. omega arith)
+    loop-again returns-2)

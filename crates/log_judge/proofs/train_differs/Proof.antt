@@ -14,23 +14,11 @@ Inv-loop t ta sa tb sb i₀ j₀ i j = Standing t ta sa tb sb i j
 abbrev μ-loop : tie.MeasureT-loop
 μ-loop t ta sa tb sb i₀ j₀ i j = length ta - i
 
-next-place-requires : tie.Need-next-place-requires Inv-loop μ-loop
-next-place-requires c κs = search needs
-
-next-place-requires-2 : tie.Need-next-place-requires-2 Inv-loop μ-loop
-next-place-requires-2 c κs = search needs
-
 loop-holds : tie.Need-loop-holds Inv-loop μ-loop
 loop-holds c = pass-first _ _ _ _ _ _ _ (c .before .next-place .ensures) (c .next-place2 .ensures)
 
 returns : tie.Need-returns Inv-loop μ-loop
 returns c = let i = c .before in pass-short _ _ _ _ _ _ _ (i .before .loop .inv) (i .loop-test .taken) (c .if1 .taken)
-
-byte-in-requires : tie.Need-byte-in-requires Inv-loop μ-loop
-byte-in-requires c κs = search needs
-
-byte-in-requires-2 : tie.Need-byte-in-requires-2 Inv-loop μ-loop
-byte-in-requires-2 c κs = search needs
 
 returns-2 : tie.Need-returns-2 Inv-loop μ-loop
 returns-2 c =
@@ -38,18 +26,6 @@ returns-2 c =
     let one = two .before in
     let i = one .before .before in
     pass-other _ _ _ _ _ _ _ (i .before .loop .inv) _ _ (i .loop-test .taken) (one .before .if1 .left) (one .byte-in .ensures) (two .byte-in2 .ensures) (c .if2 .taken)
-
-add-next-place : tie.Need-add-next-place Inv-loop μ-loop
-add-next-place c = search needs
-
-next-place-requires-3 : tie.Need-next-place-requires-3 Inv-loop μ-loop
-next-place-requires-3 c κs = search needs
-
-add-next-place-2 : tie.Need-add-next-place-2 Inv-loop μ-loop
-add-next-place-2 c = search needs
-
-next-place-requires-4 : tie.Need-next-place-requires-4 Inv-loop μ-loop
-next-place-requires-4 c κs = search needs
 
 loop-less : tie.Need-loop-less Inv-loop μ-loop
 loop-less c =
@@ -70,21 +46,7 @@ returns-3 c = pass-end _ _ _ _ _ _ _ (c .before .loop .inv) (c .loop-test .left)
 
 pub train-differs-spec : {M : Type 1} → statement M
 train-differs-spec =
-    tie.close
-    (tie.spec
-    Inv-loop
-    μ-loop
-    next-place-requires
-    next-place-requires-2
-    loop-holds
-    returns
-    byte-in-requires
-    byte-in-requires-2
-    returns-2
-    add-next-place
-    next-place-requires-3
-    add-next-place-2
-    next-place-requires-4
-    loop-less
-    loop-again
-    returns-3)
+    tie.close (tie.spec
+    Inv-loop μ-loop (λ c κs. search needs) (λ c κs. search needs) loop-holds returns (λ c κs. search needs)
+    (λ c κs. search needs) returns-2 (λ c. search needs) (λ c κs. search needs) (λ c. search needs)
+    (λ c κs. search needs) loop-less loop-again returns-3)

@@ -9,21 +9,6 @@ use Rattle.marks.proofs.lower.Tie as tie
 returns : tie.Need-returns
 returns c = let a = c .before .args in mark-kept (a .marks .now) (a .i) (a .x) (λ l s. absurd (omega (arith, c .if1 .taken)))
 
-mul-if3 : tie.Need-mul-if3
-mul-if3 c = search needs
-
-slice-read-if3 : tie.Need-slice-read-if3
-slice-read-if3 c = search needs
-
-mul-marks : tie.Need-mul-marks
-mul-marks c = search needs
-
-slice-write-marks : tie.Need-slice-write-marks
-slice-write-marks c = search needs
-
-same-length : tie.Need-same-length
-same-length c = search needs
-
 returns-2 : tie.Need-returns-2
 returns-2 c = let t = c .before .before in let a = t .before .before .args in mark-lowered (a .marks .now) (a .i) (a .x) (t .if2 .taken) (c .if3 .taken)
 
@@ -35,14 +20,6 @@ returns-4 c = let a = c .before .before .args in mark-kept (a .marks .now) (a .i
 
 pub lower-spec : {M : Type 1} → statement M
 lower-spec =
-    tie.close
-    (tie.spec
-    returns
-    mul-if3
-    slice-read-if3
-    mul-marks
-    slice-write-marks
-    same-length
-    returns-2
-    returns-3
-    returns-4)
+    tie.close (tie.spec
+    returns (λ c. search needs) (λ c. search needs) (λ c. search needs) (λ c. search needs)
+    (λ c. search needs) returns-2 returns-3 returns-4)

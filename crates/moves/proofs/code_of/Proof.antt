@@ -5,11 +5,8 @@ use Rattle.moves.proofs.Placing.{code-unmoved}
 use Rattle.moves.proofs.code_of.Statement.{statement}
 use Rattle.moves.proofs.code_of.Tie as tie
 
-code-with-requires : tie.Need-code-with-requires
-code-with-requires c κs = search needs
-
 returns : tie.Need-returns
 returns c = λ r h. code-unmoved r _ h (c .before .args .q) _ (c .code-with .ensures r h)
 
 pub code-of-spec : {M : Type 1} → statement M
-code-of-spec = tie.close (tie.spec code-with-requires returns)
+code-of-spec = tie.close (tie.spec (λ c κs. search needs) returns)

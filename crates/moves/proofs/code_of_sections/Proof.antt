@@ -24,10 +24,7 @@ mul-result-3 c = let a = c .args in let f = c .fits in omega (arith, second-fits
 add-result-3 : tie.Need-add-result-3
 add-result-3 c = let a = c .args in let f = c .fits in omega (arith, second-fits (a .s) (omega arith) (a .b) (a .c) (a .d) (omega arith) (omega arith) (omega arith))
 
-returns : tie.Need-returns
-returns c = search needs
-
 pub code-of-sections-spec : {M : Type 1} → statement M
 code-of-sections-spec =
-    tie.close
-    (tie.spec mul-result add-result mul-result-2 add-result-2 mul-result-3 add-result-3 returns)
+    tie.close (tie.spec
+    mul-result add-result mul-result-2 add-result-2 mul-result-3 add-result-3 (λ c. search needs))

@@ -18,12 +18,6 @@ mul-less c = omega (arith, times-fits 255 4294967295 {a = c .args .x} {b = c .ar
 returns : tie.Need-returns
 returns c = let a = c .before .args in put-less (a .c) (a .stride) (a .x) (a .y) (c .if1 .taken)
 
-cast-if2 : tie.Need-cast-if2
-cast-if2 c = search needs
-
-cast-result : tie.Need-cast-result
-cast-result c = search needs
-
 returns-2 : tie.Need-returns-2
 returns-2 c = let a = c .before .before .args in put-code (a .c) (a .stride) (a .x) (a .y) (c .before .if1 .left) (c .if2 .taken)
 
@@ -32,5 +26,5 @@ returns-3 c = let a = c .before .before .args in put-large (a .c) (a .stride) (a
 
 pub code-put-spec : {M : Type 1} → statement M
 code-put-spec =
-    tie.close
-    (tie.spec mul-more add-more mul-less returns cast-if2 cast-result returns-2 returns-3)
+    tie.close (tie.spec
+    mul-more add-more mul-less returns (λ c. search needs) (λ c. search needs) returns-2 returns-3)

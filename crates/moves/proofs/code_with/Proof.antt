@@ -5,39 +5,11 @@ use Rattle.moves.proofs.Placing.{code-with-is}
 use Rattle.moves.proofs.code_with.Statement.{statement}
 use Rattle.moves.proofs.code_with.Tie as tie
 
-sections-in-requires : tie.Need-sections-in-requires
-sections-in-requires c κs = search needs
-
-trains-in-requires : tie.Need-trains-in-requires
-trains-in-requires c κs = search needs
-
-moved-to-requires : tie.Need-moved-to-requires
-moved-to-requires c κs = search needs
-
-moved-to-requires-2 : tie.Need-moved-to-requires-2
-moved-to-requires-2 c κs = search needs
-
-moved-to-requires-3 : tie.Need-moved-to-requires-3
-moved-to-requires-3 c κs = search needs
-
-moved-to-requires-4 : tie.Need-moved-to-requires-4
-moved-to-requires-4 c κs = search needs
-
-code-of-sections-requires : tie.Need-code-of-sections-requires
-code-of-sections-requires c κs = search needs
-
 returns : tie.Need-returns
 returns c = λ r h. code-with-is r _ h (c .before .before .before .before .before .before .before .args .q) _ _ _ _ _ _ _ _ _ (c .before .before .before .before .before .before .sections-in .ensures r h) (c .before .before .before .before .before .trains-in .ensures r h) (c .before .before .before .before .moved-to .ensures) (c .before .before .before .moved-to2 .ensures) (c .before .before .moved-to3 .ensures) (c .before .moved-to4 .ensures) (c .code-of-sections .ensures)
 
 pub code-with-spec : {M : Type 1} → statement M
 code-with-spec =
-    tie.close
-    (tie.spec
-    sections-in-requires
-    trains-in-requires
-    moved-to-requires
-    moved-to-requires-2
-    moved-to-requires-3
-    moved-to-requires-4
-    code-of-sections-requires
-    returns)
+    tie.close (tie.spec
+    (λ c κs. search needs) (λ c κs. search needs) (λ c κs. search needs) (λ c κs. search needs)
+    (λ c κs. search needs) (λ c κs. search needs) (λ c κs. search needs) returns)

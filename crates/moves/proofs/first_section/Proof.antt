@@ -7,14 +7,8 @@ use Rattle.railway.proofs.Lookups.{within, beyond}
 use Rattle.moves.proofs.first_section.Statement.{statement}
 use Rattle.moves.proofs.first_section.Tie as tie
 
-returns : tie.Need-returns
-returns c = search needs
-
 returns-2 : tie.Need-returns-2
 returns-2 c = λ some. beyond _ _ _ _ (c .if2 .taken)
-
-rem-result : tie.Need-rem-result
-rem-result c = search needs
 
 cast-result : tie.Need-cast-result
 cast-result c = record { fits = rest-small _ _ (omega (arith, c .before .if1 .left)) (c .before .before .fits .s .fits) }
@@ -23,4 +17,6 @@ returns-3 : tie.Need-returns-3
 returns-3 c = λ some. within _ _ _ _ (c .if2 .left)
 
 pub first-section-spec : {M : Type 1} → statement M
-first-section-spec = tie.close (tie.spec returns returns-2 rem-result cast-result returns-3)
+first-section-spec =
+    tie.close (tie.spec
+    (λ c. search needs) returns-2 (λ c. search needs) cast-result returns-3)

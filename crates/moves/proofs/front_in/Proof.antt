@@ -6,14 +6,8 @@ use Rattle.railway.specs.Ends.{endIndex}
 use Rattle.moves.proofs.front_in.Statement.{statement}
 use Rattle.moves.proofs.front_in.Tie as tie
 
-end-in-requires : tie.Need-end-in-requires
-end-in-requires c κs = search needs
-
-index-of-requires : tie.Need-index-of-requires
-index-of-requires c κs = search needs
-
 returns : tie.Need-returns
 returns c = λ r p h. c .index-of .ensures ∙ ap endIndex (c .before .end-in .ensures r p h)
 
 pub front-in-spec : {M : Type 1} → statement M
-front-in-spec = tie.close (tie.spec end-in-requires index-of-requires returns)
+front-in-spec = tie.close (tie.spec (λ c κs. search needs) (λ c κs. search needs) returns)

@@ -4,14 +4,8 @@ use borrow.Author.Needs.{needs}
 use Rattle.moves.proofs.heads_for.Statement.{statement}
 use Rattle.moves.proofs.heads_for.Tie as tie
 
-placement-of-requires : tie.Need-placement-of-requires
-placement-of-requires c κs = search needs
-
-end-in-requires : tie.Need-end-in-requires
-end-in-requires c κs = search needs
-
 returns : tie.Need-returns
 returns c = λ r h. c .end-in .ensures r _ (c .before .placement-of .ensures r h)
 
 pub heads-for-spec : {M : Type 1} → statement M
-heads-for-spec = tie.close (tie.spec placement-of-requires end-in-requires returns)
+heads-for-spec = tie.close (tie.spec (λ c κs. search needs) (λ c κs. search needs) returns)

@@ -5,14 +5,8 @@ use Rattle.moves.proofs.Moving.{held-is}
 use Rattle.moves.proofs.held_in.Statement.{statement}
 use Rattle.moves.proofs.held_in.Tie as tie
 
-section-at-requires : tie.Need-section-at-requires
-section-at-requires c κs = search needs
-
-held-on-requires : tie.Need-held-on-requires
-held-on-requires c κs = search needs
-
 returns : tie.Need-returns
 returns c = λ r p h. held-is r p _ _ h _ _ (c .before .section-at .ensures) _ (c .held-on .ensures r (h .compiled))
 
 pub held-in-spec : {M : Type 1} → statement M
-held-in-spec = tie.close (tie.spec section-at-requires held-on-requires returns)
+held-in-spec = tie.close (tie.spec (λ c κs. search needs) (λ c κs. search needs) returns)

@@ -7,21 +7,6 @@ use Rattle.moves.proofs.Placing.{code-each}
 use Rattle.moves.proofs.home_code.Statement.{statement}
 use Rattle.moves.proofs.home_code.Tie as tie
 
-destination-in-requires : tie.Need-destination-in-requires
-destination-in-requires c κs = search needs
-
-destination-in-requires-2 : tie.Need-destination-in-requires-2
-destination-in-requires-2 c κs = search needs
-
-destination-in-requires-3 : tie.Need-destination-in-requires-3
-destination-in-requires-3 c κs = search needs
-
-destination-in-requires-4 : tie.Need-destination-in-requires-4
-destination-in-requires-4 c κs = search needs
-
-code-of-requires : tie.Need-code-of-requires
-code-of-requires c κs = search needs
-
 returns : tie.Need-returns
 unfolding homeCode
 returns c =
@@ -32,5 +17,6 @@ returns c =
 
 pub home-code-spec : {M : Type 1} → statement M
 home-code-spec =
-    tie.close
-    (tie.spec destination-in-requires destination-in-requires-2 destination-in-requires-3 destination-in-requires-4 code-of-requires returns)
+    tie.close (tie.spec
+    (λ c κs. search needs) (λ c κs. search needs) (λ c κs. search needs) (λ c κs. search needs)
+    (λ c κs. search needs) returns)

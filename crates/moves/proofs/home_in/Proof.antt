@@ -21,24 +21,9 @@ Inv-loop table q k t₀ t = (t ≤ k) × ((r : Railway) (p : ℕ) → On r p tab
 abbrev μ-loop : tie.MeasureT-loop
 μ-loop table q k t₀ t = k - t
 
-trains-in-requires : tie.Need-trains-in-requires Inv-loop μ-loop
-trains-in-requires c κs = search needs
-
 loop-holds : tie.Need-loop-holds Inv-loop μ-loop
 unfolding allBelow
 loop-holds c = (omega arith, λ r p on. refl)
-
-section-at-requires : tie.Need-section-at-requires Inv-loop μ-loop
-section-at-requires c κs = search needs
-
-destination-in-requires : tie.Need-destination-in-requires Inv-loop μ-loop
-destination-in-requires c κs = search needs
-
-add-t : tie.Need-add-t Inv-loop μ-loop
-add-t c = omega arith
-
-loop-less : tie.Need-loop-less Inv-loop μ-loop
-loop-less c = omega arith
 
 loop-again : tie.Need-loop-again Inv-loop μ-loop
 loop-again c = let l = c .before .before .before .before in (omega arith, λ r p on. all-next (arrived r p) _ (l .loop .inv .1 r p on) (sym (arrived-is r _ _ _ on _ _ _ (c .before .before .section-at .ensures) (c .before .destination-in .ensures r (on .compiled))) ∙ eq-eqb _ _ (c .if1 .taken)))
@@ -51,16 +36,6 @@ returns-2 c = λ r p on. let l = c .before in is-home r _ _ (l .loop .t) (l .bef
 
 pub home-in-spec : {M : Type 1} → statement M
 home-in-spec =
-    tie.close
-    (tie.spec
-    Inv-loop
-    μ-loop
-    trains-in-requires
-    loop-holds
-    section-at-requires
-    destination-in-requires
-    add-t
-    loop-less
-    loop-again
-    returns
-    returns-2)
+    tie.close (tie.spec
+    Inv-loop μ-loop (λ c κs. search needs) loop-holds (λ c κs. search needs) (λ c κs. search needs)
+    (λ c. omega arith) (λ c. omega arith) loop-again returns returns-2)

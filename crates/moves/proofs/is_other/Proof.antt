@@ -8,11 +8,8 @@ use Rattle.moves.proofs.is_other.Tie as tie
 returns : tie.Need-returns
 returns c = not-other (c .before .args .q) _ _ _ (c .if1 .taken)
 
-section-at-requires : tie.Need-section-at-requires
-section-at-requires c κs = search needs
-
 returns-2 : tie.Need-returns-2
 returns-2 c = other-is (c .before .before .args .q) _ _ _ _ (c .before .if1 .left) (c .section-at .ensures)
 
 pub is-other-spec : {M : Type 1} → statement M
-is-other-spec = tie.close (tie.spec returns section-at-requires returns-2)
+is-other-spec = tie.close (tie.spec returns (λ c κs. search needs) returns-2)

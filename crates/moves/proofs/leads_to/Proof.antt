@@ -5,14 +5,8 @@ use Rattle.moves.proofs.Moving.{leads-is}
 use Rattle.moves.proofs.leads_to.Statement.{statement}
 use Rattle.moves.proofs.leads_to.Tie as tie
 
-front-in-requires : tie.Need-front-in-requires
-front-in-requires c κs = search needs
-
-section-by-requires : tie.Need-section-by-requires
-section-by-requires c κs = search needs
-
 returns : tie.Need-returns
 returns c = λ r p h ways. leads-is r p _ _ h _ _ _ _ (c .before .front-in .ensures r p h) (c .section-by .ensures .0 r ways)
 
 pub leads-to-spec : {M : Type 1} → statement M
-leads-to-spec = tie.close (tie.spec front-in-requires section-by-requires returns)
+leads-to-spec = tie.close (tie.spec (λ c κs. search needs) (λ c κs. search needs) returns)

@@ -20,27 +20,12 @@ Inv-loop table q k t₀ t = (t ≤ k) × ((r : Railway) (p : ℕ) → On r p tab
 abbrev μ-loop : tie.MeasureT-loop
 μ-loop table q k t₀ t = k - t
 
-trains-in-requires : tie.Need-trains-in-requires Inv-loop μ-loop
-trains-in-requires c κs = search needs
-
 loop-holds : tie.Need-loop-holds Inv-loop μ-loop
 unfolding anyBelow
 loop-holds c = (omega arith, λ r p h. refl)
 
-section-at-requires : tie.Need-section-at-requires Inv-loop μ-loop
-section-at-requires c κs = search needs
-
-other-in-requires : tie.Need-other-in-requires Inv-loop μ-loop
-other-in-requires c κs = search needs
-
 returns : tie.Need-returns Inv-loop μ-loop
 returns c = λ r p h. let l = c .before .before .before .before in is-lost r p _ (l .loop .t) (l .before .trains-in .ensures r (h .compiled)) (c .before .before .before .loop-test .taken) (sym (shares-is r p _ _ h _ _ _ (c .before .before .section-at .ensures) (c .before .other-in .ensures)) ∙ c .if1 .taken)
-
-add-t : tie.Need-add-t Inv-loop μ-loop
-add-t c = omega arith
-
-loop-less : tie.Need-loop-less Inv-loop μ-loop
-loop-less c = omega arith
 
 loop-again : tie.Need-loop-again Inv-loop μ-loop
 loop-again c = let l = c .before .before .before .before in (omega arith, λ r p h. any-next (sharesLower r p) _ (l .loop .inv .1 r p h) (sym (shares-is r p _ _ h _ _ _ (c .before .before .section-at .ensures) (c .before .other-in .ensures)) ∙ c .if1 .left))
@@ -50,16 +35,6 @@ returns-2 c = λ r p h. let l = c .before in not-lost r p _ (l .loop .t) (l .bef
 
 pub lost-in-spec : {M : Type 1} → statement M
 lost-in-spec =
-    tie.close
-    (tie.spec
-    Inv-loop
-    μ-loop
-    trains-in-requires
-    loop-holds
-    section-at-requires
-    other-in-requires
-    returns
-    add-t
-    loop-less
-    loop-again
-    returns-2)
+    tie.close (tie.spec
+    Inv-loop μ-loop (λ c κs. search needs) loop-holds (λ c κs. search needs) (λ c κs. search needs) returns
+    (λ c. omega arith) (λ c. omega arith) loop-again returns-2)

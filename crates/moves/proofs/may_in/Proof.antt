@@ -5,23 +5,11 @@ use Rattle.moves.proofs.Moving.{as-there, not-there, free-may, held-may
 use Rattle.moves.proofs.may_in.Statement.{statement}
 use Rattle.moves.proofs.may_in.Tie as tie
 
-trains-in-requires : tie.Need-trains-in-requires
-trains-in-requires c κs = search needs
-
 returns : tie.Need-returns
 returns c = λ r p h. not-there r p _ _ h _ _ _ (c .before .trains-in .ensures r (h .compiled)) (c .if1 .taken)
 
-free-in-requires : tie.Need-free-in-requires
-free-in-requires c κs = search needs
-
 returns-2 : tie.Need-returns-2
 returns-2 c = λ r p h. free-may r p _ _ h _ _ _ (c .before .before .before .trains-in .ensures r (h .compiled)) (c .before .before .if1 .left) _ (λ l. as-there r p _ _ h _ l _ _ (c .before .free-in .ensures r p h)) (c .if2 .taken)
-
-held-in-requires : tie.Need-held-in-requires
-held-in-requires c κs = search needs
-
-open-for-requires : tie.Need-open-for-requires
-open-for-requires c κs = search needs
 
 returns-3 : tie.Need-returns-3
 returns-3 c =
@@ -39,13 +27,6 @@ returns-4 c =
 
 pub may-in-spec : {M : Type 1} → statement M
 may-in-spec =
-    tie.close
-    (tie.spec
-    trains-in-requires
-    returns
-    free-in-requires
-    returns-2
-    held-in-requires
-    open-for-requires
-    returns-3
-    returns-4)
+    tie.close (tie.spec
+    (λ c κs. search needs) returns (λ c κs. search needs) returns-2 (λ c κs. search needs)
+    (λ c κs. search needs) returns-3 returns-4)

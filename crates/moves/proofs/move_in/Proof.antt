@@ -5,12 +5,6 @@ use Rattle.moves.proofs.Moving.{not-allowed, there-if, allowed}
 use Rattle.moves.proofs.move_in.Statement.{statement}
 use Rattle.moves.proofs.move_in.Tie as tie
 
-may-in-requires : tie.Need-may-in-requires
-may-in-requires c κs = search needs
-
-outcome-of-requires : tie.Need-outcome-of-requires
-outcome-of-requires c κs = search needs
-
 returns : tie.Need-returns
 returns c =
     let m = c .before .before in
@@ -23,4 +17,4 @@ returns-2 : tie.Need-returns-2
 returns-2 c = λ r p on ways. not-allowed r p _ _ on _ _ _ (c .before .may-in .ensures r p on) (c .if1 .left)
 
 pub move-in-spec : {M : Type 1} → statement M
-move-in-spec = tie.close (tie.spec may-in-requires outcome-of-requires returns returns-2)
+move-in-spec = tie.close (tie.spec (λ c κs. search needs) (λ c κs. search needs) returns returns-2)

@@ -4,14 +4,8 @@ use borrow.Author.Needs.{needs}
 use Rattle.moves.proofs.move_of.Statement.{statement}
 use Rattle.moves.proofs.move_of.Tie as tie
 
-placement-of-requires : tie.Need-placement-of-requires
-placement-of-requires c κs = search needs
-
-move-in-requires : tie.Need-move-in-requires
-move-in-requires c κs = search needs
-
 returns : tie.Need-returns
 returns c = λ r h. c .move-in .ensures r _ (c .before .placement-of .ensures r h)
 
 pub move-of-spec : {M : Type 1} → statement M
-move-of-spec = tie.close (tie.spec placement-of-requires move-in-requires returns)
+move-of-spec = tie.close (tie.spec (λ c κs. search needs) (λ c κs. search needs) returns)

@@ -11,11 +11,8 @@ returns c = moved-past (c .before .args .q) _ _ _ _ (c .if1 .taken)
 returns-2 : tie.Need-returns-2
 returns-2 c = moved-itself (c .before .before .args .q) _ _ _ _ (c .before .if1 .left) (c .if2 .taken)
 
-section-at-requires : tie.Need-section-at-requires
-section-at-requires c κs = search needs
-
 returns-3 : tie.Need-returns-3
 returns-3 c = moved-other (c .before .before .before .args .q) _ _ _ _ _ (c .before .before .if1 .left) (c .before .if2 .left) (c .section-at .ensures)
 
 pub moved-to-spec : {M : Type 1} → statement M
-moved-to-spec = tie.close (tie.spec returns returns-2 section-at-requires returns-3)
+moved-to-spec = tie.close (tie.spec returns returns-2 (λ c κs. search needs) returns-3)

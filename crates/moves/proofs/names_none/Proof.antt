@@ -15,17 +15,8 @@ Inv-loop table q s k t₀ t = (u : ℕ) → u < t → sectionIn q u < s
 abbrev μ-loop : tie.MeasureT-loop
 μ-loop table q s k t₀ t = k - t
 
-sections-in-requires : tie.Need-sections-in-requires Inv-loop μ-loop
-sections-in-requires c κs = search needs
-
-trains-in-requires : tie.Need-trains-in-requires Inv-loop μ-loop
-trains-in-requires c κs = search needs
-
 loop-holds : tie.Need-loop-holds Inv-loop μ-loop
 loop-holds c = λ u l. absurd (omega arith)
-
-section-at-requires : tie.Need-section-at-requires Inv-loop μ-loop
-section-at-requires c κs = search needs
 
 returns : tie.Need-returns Inv-loop μ-loop
 returns c =
@@ -54,16 +45,6 @@ returns-2 c =
 
 pub names-none-spec : {M : Type 1} → statement M
 names-none-spec =
-    tie.close
-    (tie.spec
-    Inv-loop
-    μ-loop
-    sections-in-requires
-    trains-in-requires
-    loop-holds
-    section-at-requires
-    returns
-    add-t
-    loop-less
-    loop-again
-    returns-2)
+    tie.close (tie.spec
+    Inv-loop μ-loop (λ c κs. search needs) (λ c κs. search needs) loop-holds (λ c κs. search needs) returns
+    add-t loop-less loop-again returns-2)

@@ -5,28 +5,17 @@ use Rattle.moves.proofs.Moving.{own-opens, nobody-opens, front-opens}
 use Rattle.moves.proofs.open_for.Statement.{statement}
 use Rattle.moves.proofs.open_for.Tie as tie
 
-add-bit-at : tie.Need-add-bit-at
-add-bit-at c = search needs
-
-bit-at-requires : tie.Need-bit-at-requires
-bit-at-requires c κs = search needs
-
 returns : tie.Need-returns
 returns c = λ r p h l. own-opens r p _ _ h (c .before .before .args .v) _ _ l (c .before .bit-at .ensures) (c .if1 .taken)
 
 returns-2 : tie.Need-returns-2
 returns-2 c = λ r p h l. nobody-opens r p _ _ h _ _ (c .if2 .taken)
 
-front-in-requires : tie.Need-front-in-requires
-front-in-requires c κs = search needs
-
-open-in-requires : tie.Need-open-in-requires
-open-in-requires c κs = search needs
-
 returns-3 : tie.Need-returns-3
 returns-3 c = λ r p h l. front-opens r p _ _ h _ _ _ _ (c .before .front-in .ensures r p h) (c .open-in .ensures r p h)
 
 pub open-for-spec : {M : Type 1} → statement M
 open-for-spec =
-    tie.close
-    (tie.spec add-bit-at bit-at-requires returns returns-2 front-in-requires open-in-requires returns-3)
+    tie.close (tie.spec
+    (λ c. search needs) (λ c κs. search needs) returns returns-2 (λ c κs. search needs) (λ c κs. search needs)
+    returns-3)

@@ -20,24 +20,12 @@ Inv-loop table q v i k u₀ u = (u ≤ k) × ((r : Railway) (p : ℕ) → On r p
 abbrev μ-loop : tie.MeasureT-loop
 μ-loop table q v i k u₀ u = k - u
 
-trains-in-requires : tie.Need-trains-in-requires Inv-loop μ-loop
-trains-in-requires c κs = search needs
-
 loop-holds : tie.Need-loop-holds Inv-loop μ-loop
 unfolding anyBelow
 loop-holds c = (omega arith, λ r p h. refl)
 
-opens-end-requires : tie.Need-opens-end-requires Inv-loop μ-loop
-opens-end-requires c κs = search needs
-
 returns : tie.Need-returns Inv-loop μ-loop
 returns c = λ r p h. let l = c .before .before .before in some-opens r p _ _ h (l .before .before .args .v) _ _ (l .loop .u) (l .before .trains-in .ensures r (h .compiled)) (c .before .before .loop-test .taken) (sym (c .before .opens-end .ensures r p h) ∙ c .if1 .taken)
-
-add-u : tie.Need-add-u Inv-loop μ-loop
-add-u c = omega arith
-
-loop-less : tie.Need-loop-less Inv-loop μ-loop
-loop-less c = omega arith
 
 loop-again : tie.Need-loop-again Inv-loop μ-loop
 loop-again c = let l = c .before .before .before in let a = l .before .before .args in (omega arith, λ r p h. any-next (opensEnd r p (opensIn (a .v)) (a .i)) _ (l .loop .inv .1 r p h) (sym (c .before .opens-end .ensures r p h) ∙ c .if1 .left))
@@ -47,15 +35,6 @@ returns-2 c = λ r p h. let l = c .before in none-opens r p _ _ h (l .before .be
 
 pub open-in-spec : {M : Type 1} → statement M
 open-in-spec =
-    tie.close
-    (tie.spec
-    Inv-loop
-    μ-loop
-    trains-in-requires
-    loop-holds
-    opens-end-requires
-    returns
-    add-u
-    loop-less
-    loop-again
-    returns-2)
+    tie.close (tie.spec
+    Inv-loop μ-loop (λ c κs. search needs) loop-holds (λ c κs. search needs) returns (λ c. omega arith)
+    (λ c. omega arith) loop-again returns-2)

@@ -5,15 +5,6 @@ use Rattle.moves.proofs.Moving.{opens-if, opens-not}
 use Rattle.moves.proofs.opens_end.Statement.{statement}
 use Rattle.moves.proofs.opens_end.Tie as tie
 
-add-bit-at : tie.Need-add-bit-at
-add-bit-at c = search needs
-
-bit-at-requires : tie.Need-bit-at-requires
-bit-at-requires c κs = search needs
-
-front-in-requires : tie.Need-front-in-requires
-front-in-requires c κs = search needs
-
 returns : tie.Need-returns
 returns c = λ r p h. opens-if r p _ _ h (c .before .before .before .args .v) _ _ _ _ (c .before .before .bit-at .ensures) (c .before .if1 .taken) (c .front-in .ensures r p h)
 
@@ -22,5 +13,5 @@ returns-2 c = λ r p h. opens-not r p _ _ h (c .before .before .args .v) _ _ _ (
 
 pub opens-end-spec : {M : Type 1} → statement M
 opens-end-spec =
-    tie.close
-    (tie.spec add-bit-at bit-at-requires front-in-requires returns returns-2)
+    tie.close (tie.spec
+    (λ c. search needs) (λ c κs. search needs) (λ c κs. search needs) returns returns-2)

@@ -21,17 +21,8 @@ loop-holds : tie.Need-loop-holds Inv-loop μ-loop
 unfolding anyBelow
 loop-holds c = (omega arith, refl)
 
-is-other-requires : tie.Need-is-other-requires Inv-loop μ-loop
-is-other-requires c κs = search needs
-
 returns : tie.Need-returns Inv-loop μ-loop
 returns c = let l = c .before .before .before in let a = l .before .args in any-one (otherIn (a .q) (a .t) (a .x)) _ (l .loop .u) (c .before .before .loop-test .taken) (sym (c .before .is-other .ensures) ∙ c .if1 .taken)
-
-add-u : tie.Need-add-u Inv-loop μ-loop
-add-u c = omega arith
-
-loop-less : tie.Need-loop-less Inv-loop μ-loop
-loop-less c = omega arith
 
 loop-again : tie.Need-loop-again Inv-loop μ-loop
 loop-again c = let l = c .before .before .before in let a = l .before .args in (omega arith, any-next (otherIn (a .q) (a .t) (a .x)) _ (l .loop .inv .1) (sym (c .before .is-other .ensures) ∙ c .if1 .left))
@@ -41,14 +32,6 @@ returns-2 c = let l = c .before in let a = l .before .args in any-none (otherIn 
 
 pub other-in-spec : {M : Type 1} → statement M
 other-in-spec =
-    tie.close
-    (tie.spec
-    Inv-loop
-    μ-loop
-    loop-holds
-    is-other-requires
-    returns
-    add-u
-    loop-less
-    loop-again
+    tie.close (tie.spec
+    Inv-loop μ-loop loop-holds (λ c κs. search needs) returns (λ c. omega arith) (λ c. omega arith) loop-again
     returns-2)

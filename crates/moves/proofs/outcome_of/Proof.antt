@@ -5,35 +5,17 @@ use Rattle.moves.proofs.Moving.{other-on, code-moved, derails, collides
 use Rattle.moves.proofs.outcome_of.Statement.{statement}
 use Rattle.moves.proofs.outcome_of.Tie as tie
 
-leads-to-requires : tie.Need-leads-to-requires
-leads-to-requires c κs = search needs
-
 returns : tie.Need-returns
 returns c = λ r p h ways l. derails r p _ _ h _ _ _ (c .before .leads-to .ensures r p h ways) (c .if1 .taken)
 
-trains-in-requires : tie.Need-trains-in-requires
-trains-in-requires c κs = search needs
-
-other-in-requires : tie.Need-other-in-requires
-other-in-requires c κs = search needs
-
 returns-2 : tie.Need-returns-2
 returns-2 c = λ r p h ways l. collides r p _ _ h _ _ _ (c .before .before .before .before .leads-to .ensures r p h ways) (c .before .before .before .if1 .left) _ (other-on r p _ _ h _ _ _ _ (c .before .before .trains-in .ensures r (h .compiled)) (c .before .other-in .ensures)) (c .if2 .taken)
-
-code-with-requires : tie.Need-code-with-requires
-code-with-requires c κs = search needs
 
 returns-3 : tie.Need-returns-3
 returns-3 c = λ r p h ways l. stands-at r p _ _ h _ _ _ (c .before .before .before .before .before .leads-to .ensures r p h ways) (c .before .before .before .before .if1 .left) _ (other-on r p _ _ h _ _ _ _ (c .before .before .before .trains-in .ensures r (h .compiled)) (c .before .before .other-in .ensures)) _ (c .before .if2 .left) (code-moved r p _ _ h _ _ _ l (c .code-with .ensures r (h .compiled)))
 
 pub outcome-of-spec : {M : Type 1} → statement M
 outcome-of-spec =
-    tie.close
-    (tie.spec
-    leads-to-requires
-    returns
-    trains-in-requires
-    other-in-requires
-    returns-2
-    code-with-requires
-    returns-3)
+    tie.close (tie.spec
+    (λ c κs. search needs) returns (λ c κs. search needs) (λ c κs. search needs) returns-2
+    (λ c κs. search needs) returns-3)

@@ -5,33 +5,6 @@ use borrow.Author.Needs.{needs}
 use Rattle.moves.proofs.placement_of.Statement.{statement}
 use Rattle.moves.proofs.placement_of.Tie as tie
 
-sections-in-requires : tie.Need-sections-in-requires
-sections-in-requires c κs = search needs
-
-trains-in-requires : tie.Need-trains-in-requires
-trains-in-requires c κs = search needs
-
-without-first-requires : tie.Need-without-first-requires
-without-first-requires c κs = search needs
-
-without-first-requires-2 : tie.Need-without-first-requires-2
-without-first-requires-2 c κs = search needs
-
-without-first-requires-3 : tie.Need-without-first-requires-3
-without-first-requires-3 c κs = search needs
-
-first-section-requires : tie.Need-first-section-requires
-first-section-requires c κs = search needs
-
-first-section-requires-2 : tie.Need-first-section-requires-2
-first-section-requires-2 c κs = search needs
-
-first-section-requires-3 : tie.Need-first-section-requires-3
-first-section-requires-3 c κs = search needs
-
-first-section-requires-4 : tie.Need-first-section-requires-4
-first-section-requires-4 c κs = search needs
-
 returns : tie.Need-returns
 returns c =
     let y = c .before in
@@ -48,15 +21,7 @@ returns c =
 
 pub placement-of-spec : {M : Type 1} → statement M
 placement-of-spec =
-    tie.close
-    (tie.spec
-    sections-in-requires
-    trains-in-requires
-    without-first-requires
-    without-first-requires-2
-    without-first-requires-3
-    first-section-requires
-    first-section-requires-2
-    first-section-requires-3
-    first-section-requires-4
-    returns)
+    tie.close (tie.spec
+    (λ c κs. search needs) (λ c κs. search needs) (λ c κs. search needs) (λ c κs. search needs)
+    (λ c κs. search needs) (λ c κs. search needs) (λ c κs. search needs) (λ c κs. search needs)
+    (λ c κs. search needs) returns)

@@ -7,17 +7,10 @@ use Rattle.moves.proofs.Placing.{placements-are, few-trains}
 use Rattle.moves.proofs.placements.Statement.{statement}
 use Rattle.moves.proofs.placements.Tie as tie
 
-sections-in-requires : tie.Need-sections-in-requires
-sections-in-requires c κs = search needs
-
-trains-in-requires : tie.Need-trains-in-requires
-trains-in-requires c κs = search needs
-
-power-requires : tie.Need-power-requires
-power-requires c κs = search needs
-
 returns : tie.Need-returns
 returns c = λ r h. placements-are r _ _ _ (c .before .before .sections-in .ensures r h) (c .before .trains-in .ensures r h) (c .power .ensures ∙ stride-is _ _ (few-trains r _ h _ (c .before .trains-in .ensures r h)))
 
 pub placements-spec : {M : Type 1} → statement M
-placements-spec = tie.close (tie.spec sections-in-requires trains-in-requires power-requires returns)
+placements-spec =
+    tie.close (tie.spec
+    (λ c κs. search needs) (λ c κs. search needs) (λ c κs. search needs) returns)

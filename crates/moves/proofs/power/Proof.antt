@@ -7,9 +7,6 @@ use borrow.Author.Needs.{needs}
 use Rattle.moves.proofs.power.Statement.{statement}
 use Rattle.moves.proofs.power.Tie as tie
 
-times-if-requires : tie.Need-times-if-requires
-times-if-requires c κs = search needs
-
 times-if-requires-2 : tie.Need-times-if-requires-2
 times-if-requires-2 c κs = let a = c .before .args in omega (arith, times-small 1 (a .s) 1 _ (ltb 0 (a .k)) (omega arith) (omega arith) (c .times-if .ensures))
 
@@ -36,10 +33,5 @@ returns c = let d = c .before in let b = d .before in let a = b .before .before 
 
 pub power-spec : {M : Type 1} → statement M
 power-spec =
-    tie.close
-    (tie.spec
-    times-if-requires
-    times-if-requires-2
-    times-if-requires-3
-    times-if-requires-4
-    returns)
+    tie.close (tie.spec
+    (λ c κs. search needs) times-if-requires-2 times-if-requires-3 times-if-requires-4 returns)

@@ -7,21 +7,6 @@ use Rattle.moves.proofs.Placing.{code-each}
 use Rattle.moves.proofs.start_code.Statement.{statement}
 use Rattle.moves.proofs.start_code.Tie as tie
 
-start-in-requires : tie.Need-start-in-requires
-start-in-requires c κs = search needs
-
-start-in-requires-2 : tie.Need-start-in-requires-2
-start-in-requires-2 c κs = search needs
-
-start-in-requires-3 : tie.Need-start-in-requires-3
-start-in-requires-3 c κs = search needs
-
-start-in-requires-4 : tie.Need-start-in-requires-4
-start-in-requires-4 c κs = search needs
-
-code-of-requires : tie.Need-code-of-requires
-code-of-requires c κs = search needs
-
 returns : tie.Need-returns
 unfolding startCode
 returns c =
@@ -32,5 +17,6 @@ returns c =
 
 pub start-code-spec : {M : Type 1} → statement M
 start-code-spec =
-    tie.close
-    (tie.spec start-in-requires start-in-requires-2 start-in-requires-3 start-in-requires-4 code-of-requires returns)
+    tie.close (tie.spec
+    (λ c κs. search needs) (λ c κs. search needs) (λ c κs. search needs) (λ c κs. search needs)
+    (λ c κs. search needs) returns)

@@ -12,8 +12,5 @@ mul-result c = omega (arith, times-fits 16581375 255 {a = c .before .args .w} {b
 returns : tie.Need-returns
 returns c = rw (c .if1 .taken)
 
-returns-2 : tie.Need-returns-2
-returns-2 c = search needs
-
 pub times-if-spec : {M : Type 1} → statement M
-times-if-spec = tie.close (tie.spec mul-result returns returns-2)
+times-if-spec = tie.close (tie.spec mul-result returns (λ c. search needs))

@@ -10,9 +10,6 @@ use Rattle.output.proofs.write_first.Tie as tie
 slice-aggregate-write-all : tie.Need-slice-aggregate-write-all
 slice-aggregate-write-all c = simp length-take (omega arith)
 
-write-all-requires : tie.Need-write-all-requires
-write-all-requires c κs = search needs
-
 returns : tie.Need-returns
 returns c = rw (le-leb _ _ (c .before .before .if1 .taken))
 
@@ -20,5 +17,4 @@ returns-2 : tie.Need-returns-2
 returns-2 c = rw (lt-leb _ _ (c .if1 .left))
 
 pub write-first-spec : {M : Type 1} → statement M
-write-first-spec =
-    tie.close (tie.spec slice-aggregate-write-all write-all-requires returns returns-2)
+write-first-spec = tie.close (tie.spec slice-aggregate-write-all (λ c κs. search needs) returns returns-2)

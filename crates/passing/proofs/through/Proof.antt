@@ -7,15 +7,6 @@ use borrow.Author.Needs.{needs}
 use Rattle.passing.proofs.through.Statement.{statement}
 use Rattle.passing.proofs.through.Tie as tie
 
-enum-told : tie.Need-enum-told
-enum-told c = search needs
-
-enum-told-2 : tie.Need-enum-told-2
-enum-told-2 c = search needs
-
-enum-told-3 : tie.Need-enum-told-3
-enum-told-3 c = search needs
-
 returns : tie.Need-returns
 returns c = through-is _ Stem _ true _ (c .before .enum-told .given .1) (c .if1 .taken) refl
 
@@ -25,25 +16,11 @@ returns-2 c = through-is _ Stem _ false _ (c .before .enum-told .given .1) (c .i
 returns-3 : tie.Need-returns-3
 returns-3 c = through-is _ Plus _ true _ (c .before .enum-told2 .given .1) (c .if2 .taken) refl
 
-returns-4 : tie.Need-returns-4
-returns-4 c = search needs
-
-returns-5 : tie.Need-returns-5
-returns-5 c = search needs
-
 returns-6 : tie.Need-returns-6
 returns-6 c = through-is _ Minus _ false _ (c .before .enum-told3 .given .1) (c .if3 .left) refl
 
 pub through-spec : {M : Type 1} → statement M
 through-spec =
-    tie.close
-    (tie.spec
-    enum-told
-    enum-told-2
-    enum-told-3
-    returns
-    returns-2
-    returns-3
-    returns-4
-    returns-5
-    returns-6)
+    tie.close (tie.spec
+    (λ c. search needs) (λ c. search needs) (λ c. search needs) returns returns-2 returns-3
+    (λ c. search needs) (λ c. search needs) returns-6)

@@ -9,11 +9,5 @@ use Rattle.placement.proofs.bit_at.Tie as tie
 returns : tie.Need-returns
 returns c = bit-high (c .before .args .v) _ (omega arith) (c .if1 .taken)
 
-shr-result : tie.Need-shr-result
-shr-result c = search needs
-
-returns-2 : tie.Need-returns-2
-returns-2 c = search needs
-
 pub bit-at-spec : {M : Type 1} → statement M
-bit-at-spec = tie.close (tie.spec returns shr-result returns-2)
+bit-at-spec = tie.close (tie.spec returns (λ c. search needs) (λ c. search needs))

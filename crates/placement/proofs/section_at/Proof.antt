@@ -6,14 +6,8 @@ use Rattle.placement.proofs.Places.{placement-length, section-past}
 use Rattle.placement.proofs.section_at.Statement.{statement}
 use Rattle.placement.proofs.section_at.Tie as tie
 
-element-copy-out-result : tie.Need-element-copy-out-result
-element-copy-out-result c = search needs
-
-returns : tie.Need-returns
-returns c = search needs
-
 returns-2 : tie.Need-returns-2
 returns-2 c = let a = c .before .args in section-past (a .t1) (a .t) (omega (arith, placement-length (a .t1) _ (c .before .good .0)))
 
 pub section-at-spec : {M : Type 1} → statement M
-section-at-spec = tie.close (tie.spec element-copy-out-result returns returns-2)
+section-at-spec = tie.close (tie.spec (λ c. search needs) (λ c. search needs) returns-2)

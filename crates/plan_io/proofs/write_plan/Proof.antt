@@ -6,19 +6,10 @@ use borrow.Author.Needs.{needs}
 use Rattle.plan_io.proofs.write_plan.Statement.{statement}
 use Rattle.plan_io.proofs.write_plan.Tie as tie
 
-slice-aggregate-plan-input : tie.Need-slice-aggregate-plan-input
-slice-aggregate-plan-input c = search needs
-
-slice-aggregate-plan-input-2 : tie.Need-slice-aggregate-plan-input-2
-slice-aggregate-plan-input-2 c = search needs
-
 plan-input-requires : tie.Need-plan-input-requires
 plan-input-requires c κs = (own-length _ _ refl, own-length _ _ refl)
 
-returns : tie.Need-returns
-returns c = search needs
-
 pub write-plan-spec : {M : Type 1} → statement M
 write-plan-spec =
-    tie.close
-    (tie.spec slice-aggregate-plan-input slice-aggregate-plan-input-2 plan-input-requires returns)
+    tie.close (tie.spec
+    (λ c. search needs) (λ c. search needs) plan-input-requires (λ c. search needs))

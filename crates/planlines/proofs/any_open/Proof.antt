@@ -21,23 +21,8 @@ loop-holds : tie.Need-loop-holds Inv-loop μ-loop
 unfolding anyBelow
 loop-holds c = (omega arith, refl)
 
-cast-bit-at : tie.Need-cast-bit-at Inv-loop μ-loop
-cast-bit-at c = search needs
-
-add-bit-at : tie.Need-add-bit-at Inv-loop μ-loop
-add-bit-at c = search needs
-
-bit-at-requires : tie.Need-bit-at-requires Inv-loop μ-loop
-bit-at-requires c κs = search needs
-
 returns : tie.Need-returns Inv-loop μ-loop
 returns c = let l = c .before .before .before in any-one (opensIn (l .before .args .v)) _ (l .loop .t) (c .before .before .loop-test .taken) (sym (c .before .bit-at .ensures) ∙ c .if1 .taken)
-
-add-t : tie.Need-add-t Inv-loop μ-loop
-add-t c = omega arith
-
-loop-less : tie.Need-loop-less Inv-loop μ-loop
-loop-less c = omega arith
 
 loop-again : tie.Need-loop-again Inv-loop μ-loop
 loop-again c = let l = c .before .before .before in (omega arith, any-next (opensIn (l .before .args .v)) (l .loop .t) (l .loop .inv .1) (sym (c .before .bit-at .ensures) ∙ c .if1 .left))
@@ -47,16 +32,6 @@ returns-2 c = let l = c .before in any-none (opensIn (l .before .args .v)) _ (l 
 
 pub any-open-spec : {M : Type 1} → statement M
 any-open-spec =
-    tie.close
-    (tie.spec
-    Inv-loop
-    μ-loop
-    loop-holds
-    cast-bit-at
-    add-bit-at
-    bit-at-requires
-    returns
-    add-t
-    loop-less
-    loop-again
-    returns-2)
+    tie.close (tie.spec
+    Inv-loop μ-loop loop-holds (λ c. search needs) (λ c. search needs) (λ c κs. search needs) returns
+    (λ c. omega arith) (λ c. omega arith) loop-again returns-2)

@@ -6,35 +6,14 @@ use Rattle.planlines.proofs.Pieces.{open-some, open-none}
 use Rattle.planlines.proofs.put_open.Statement.{statement}
 use Rattle.planlines.proofs.put_open.Tie as tie
 
-any-open-requires : tie.Need-any-open-requires
-any-open-requires c κs = search needs
-
-put-trains-requires : tie.Need-put-trains-requires
-put-trains-requires c κs = search needs
-
-byte-requires : tie.Need-byte-requires
-byte-requires c κs = search needs
-
-same-length : tie.Need-same-length
-same-length c = search needs
-
 returns : tie.Need-returns
 returns c = let l = c .before .before .before .before .before in let a = l .before .before .args in open-some (opensIn (a .v)) (a .k) _ (l .any-open .ensures) (c .before .before .before .before .if1 .taken) (c .before .before .put-trains .ensures)
-
-same-length-2 : tie.Need-same-length-2
-same-length-2 c = search needs
 
 returns-2 : tie.Need-returns-2
 returns-2 c = let l = c .before .before .before .before .before in let a = l .before .before .args in open-none (opensIn (a .v)) (a .k) _ (l .any-open .ensures) (c .before .before .before .before .if1 .left) (c .before .before .byte .ensures)
 
 pub put-open-spec : {M : Type 1} → statement M
 put-open-spec =
-    tie.close
-    (tie.spec
-    any-open-requires
-    put-trains-requires
-    byte-requires
-    same-length
-    returns
-    same-length-2
-    returns-2)
+    tie.close (tie.spec
+    (λ c κs. search needs) (λ c κs. search needs) (λ c κs. search needs) (λ c. search needs) returns
+    (λ c. search needs) returns-2)

@@ -22,24 +22,6 @@ abbrev μ-loop : tie.MeasureT-loop
 loop-holds : tie.Need-loop-holds Inv-loop μ-loop
 loop-holds c = let a = c .before .args in (pieces-none (sectionPiece (a .q)), omega arith, refl)
 
-section-at-requires : tie.Need-section-at-requires Inv-loop μ-loop
-section-at-requires c κs = search needs
-
-cast-number : tie.Need-cast-number Inv-loop μ-loop
-cast-number c = search needs
-
-add-number : tie.Need-add-number Inv-loop μ-loop
-add-number c = search needs
-
-number-requires : tie.Need-number-requires Inv-loop μ-loop
-number-requires c κs = search needs
-
-add-t : tie.Need-add-t Inv-loop μ-loop
-add-t c = omega arith
-
-loop-less : tie.Need-loop-less Inv-loop μ-loop
-loop-less c = omega arith
-
 loop-again : tie.Need-loop-again Inv-loop μ-loop
 loop-again c = let l = c .before .before .before .before .before .before in let a = l .before .before .args in (pieces-next (sectionPiece (a .q)) (l .loop .t) (l .loop .inv .0) (section-piece (a .q) (l .loop .t) _ (c .before .before .before .section-at .ensures) (c .before .before .number .ensures)), omega arith, c .before .before .number .kept .0 ∙ l .loop .inv .2)
 
@@ -51,17 +33,6 @@ returns c = let l = c .before in let a = l .before .before .args in pieces-all (
 
 pub put-sections-spec : {M : Type 1} → statement M
 put-sections-spec =
-    tie.close
-    (tie.spec
-    Inv-loop
-    μ-loop
-    loop-holds
-    section-at-requires
-    cast-number
-    add-number
-    number-requires
-    add-t
-    loop-less
-    loop-again
-    same-length
-    returns)
+    tie.close (tie.spec
+    Inv-loop μ-loop loop-holds (λ c κs. search needs) (λ c. search needs) (λ c. search needs)
+    (λ c κs. search needs) (λ c. omega arith) (λ c. omega arith) loop-again same-length returns)

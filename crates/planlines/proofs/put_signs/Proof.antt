@@ -23,24 +23,6 @@ abbrev μ-loop : tie.MeasureT-loop
 loop-holds : tie.Need-loop-holds Inv-loop μ-loop
 loop-holds c = let a = c .before .args in (pieces-none (pointPiece (bit (a .v))), omega arith, refl)
 
-cast-bit-at : tie.Need-cast-bit-at Inv-loop μ-loop
-cast-bit-at c = search needs
-
-bit-at-requires : tie.Need-bit-at-requires Inv-loop μ-loop
-bit-at-requires c κs = search needs
-
-sign-requires : tie.Need-sign-requires Inv-loop μ-loop
-sign-requires c κs = search needs
-
-byte-requires : tie.Need-byte-requires Inv-loop μ-loop
-byte-requires c κs = search needs
-
-add-n : tie.Need-add-n Inv-loop μ-loop
-add-n c = omega arith
-
-loop-less : tie.Need-loop-less Inv-loop μ-loop
-loop-less c = omega arith
-
 loop-again : tie.Need-loop-again Inv-loop μ-loop
 loop-again c = let l = c .before .before .before .before .before .before .before in let a = l .before .before .args in (pieces-next (pointPiece (bit (a .v))) (l .loop .n) (l .loop .inv .0) (sign-piece (bit (a .v)) (l .loop .n) _ _ (c .before .before .before .before .bit-at .ensures) (c .before .before .before .sign .ensures) (c .before .before .byte .ensures)), omega arith, c .before .before .byte .kept .0 ∙ l .loop .inv .2)
 
@@ -52,17 +34,6 @@ returns c = let l = c .before in let a = l .before .before .args in pieces-all (
 
 pub put-signs-spec : {M : Type 1} → statement M
 put-signs-spec =
-    tie.close
-    (tie.spec
-    Inv-loop
-    μ-loop
-    loop-holds
-    cast-bit-at
-    bit-at-requires
-    sign-requires
-    byte-requires
-    add-n
-    loop-less
-    loop-again
-    same-length
-    returns)
+    tie.close (tie.spec
+    Inv-loop μ-loop loop-holds (λ c. search needs) (λ c κs. search needs) (λ c κs. search needs)
+    (λ c κs. search needs) (λ c. omega arith) (λ c. omega arith) loop-again same-length returns)

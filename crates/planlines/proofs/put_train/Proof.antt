@@ -7,20 +7,8 @@ use Rattle.planlines.proofs.Pieces.{train-open, train-closed, open-digi
 use Rattle.planlines.proofs.put_train.Statement.{statement}
 use Rattle.planlines.proofs.put_train.Tie as tie
 
-add-bit-at : tie.Need-add-bit-at
-add-bit-at c = search needs
-
-bit-at-requires : tie.Need-bit-at-requires
-bit-at-requires c κs = search needs
-
 add-byte : tie.Need-add-byte
 add-byte c = let s = c .before .before .before .before in let h = open-digit (s .args .v) (s .args .t) _ (omega arith) (c .before .before .bit-at .ensures) (c .before .if1 .taken) in omega arith
-
-byte-requires : tie.Need-byte-requires
-byte-requires c κs = search needs
-
-same-length : tie.Need-same-length
-same-length c = search needs
 
 returns : tie.Need-returns
 returns c = let l = c .before .before .before .before .before in let a = l .before .before .args in train-open (opensIn (a .v)) (a .t) _ (l .bit-at .ensures) (c .before .before .before .before .if1 .taken) (c .before .before .byte .ensures)
@@ -30,5 +18,6 @@ returns-2 c = let a = c .before .before .before .args in train-closed (opensIn (
 
 pub put-train-spec : {M : Type 1} → statement M
 put-train-spec =
-    tie.close
-    (tie.spec add-bit-at bit-at-requires add-byte byte-requires same-length returns returns-2)
+    tie.close (tie.spec
+    (λ c. search needs) (λ c κs. search needs) add-byte (λ c κs. search needs) (λ c. search needs) returns
+    returns-2)

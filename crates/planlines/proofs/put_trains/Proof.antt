@@ -22,15 +22,6 @@ abbrev μ-loop : tie.MeasureT-loop
 loop-holds : tie.Need-loop-holds Inv-loop μ-loop
 loop-holds c = let a = c .before .args in (pieces-none (openPiece (opensIn (a .v))), omega arith, refl)
 
-put-train-requires : tie.Need-put-train-requires Inv-loop μ-loop
-put-train-requires c κs = search needs
-
-add-t : tie.Need-add-t Inv-loop μ-loop
-add-t c = omega arith
-
-loop-less : tie.Need-loop-less Inv-loop μ-loop
-loop-less c = omega arith
-
 loop-again : tie.Need-loop-again Inv-loop μ-loop
 loop-again c = let l = c .before .before .before .before .before in let a = l .before .before .args in (pieces-next (openPiece (opensIn (a .v))) (l .loop .t) (l .loop .inv .0) (c .before .before .put-train .ensures), omega arith, c .before .before .put-train .kept .0 ∙ l .loop .inv .2)
 
@@ -42,14 +33,6 @@ returns c = let l = c .before in let a = l .before .before .args in pieces-all (
 
 pub put-trains-spec : {M : Type 1} → statement M
 put-trains-spec =
-    tie.close
-    (tie.spec
-    Inv-loop
-    μ-loop
-    loop-holds
-    put-train-requires
-    add-t
-    loop-less
-    loop-again
-    same-length
-    returns)
+    tie.close (tie.spec
+    Inv-loop μ-loop loop-holds (λ c κs. search needs) (λ c. omega arith) (λ c. omega arith) loop-again
+    same-length returns)

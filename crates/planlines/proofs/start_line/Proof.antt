@@ -6,18 +6,6 @@ use Rattle.planlines.proofs.Pieces.{start-spelled}
 use Rattle.planlines.proofs.start_line.Statement.{statement}
 use Rattle.planlines.proofs.start_line.Tie as tie
 
-slice-aggregate-bytes : tie.Need-slice-aggregate-bytes
-slice-aggregate-bytes c = search needs
-
-bytes-requires : tie.Need-bytes-requires
-bytes-requires c κs = search needs
-
-number-requires : tie.Need-number-requires
-number-requires c κs = search needs
-
-same-length : tie.Need-same-length
-same-length c = search needs
-
 returns : tie.Need-returns
 unfolding bytes
 returns c =
@@ -26,4 +14,6 @@ returns c =
     start-spelled (b .before .before .before .before .args .n) (b .bytes .ensures) (n .number .ensures)
 
 pub start-line-spec : {M : Type 1} → statement M
-start-line-spec = tie.close (tie.spec slice-aggregate-bytes bytes-requires number-requires same-length returns)
+start-line-spec =
+    tie.close (tie.spec
+    (λ c. search needs) (λ c κs. search needs) (λ c κs. search needs) (λ c. search needs) returns)

@@ -11,11 +11,8 @@ returns c = entry-trains _ _ _ _ (c .if1 .taken)
 returns-2 : tie.Need-returns-2
 returns-2 c = entry-points _ _ _ _ (c .before .if1 .left) (c .if2 .taken)
 
-fields-at-requires : tie.Need-fields-at-requires
-fields-at-requires c κs = search needs
-
 returns-3 : tie.Need-returns-3
 returns-3 c = let e = c .before in entry-few _ _ _ _ (e .before .if1 .left) (e .if2 .left) (c .fields-at .ensures)
 
 pub entry-at-spec : {M : Type 1} → statement M
-entry-at-spec = tie.close (tie.spec returns returns-2 fields-at-requires returns-3)
+entry-at-spec = tie.close (tie.spec returns returns-2 (λ c κs. search needs) returns-3)

@@ -11,30 +11,12 @@ use Rattle.planreader.proofs.Sound.{opens-small, points-small}
 use Rattle.planreader.proofs.fields_at.Statement.{statement}
 use Rattle.planreader.proofs.fields_at.Tie as tie
 
-byte-at-requires : tie.Need-byte-at-requires
-byte-at-requires c κs = search needs
-
-enum-known-c1 : tie.Need-enum-known-c1
-enum-known-c1 c = search needs
-
-enum-told : tie.Need-enum-told
-enum-told c = search needs
-
 returns : tie.Need-returns
 unfolding fieldsAt
 returns c =
     let b1 = c .before .before in
     let text = now (b1 .before .before .args .text) in
     byte-fails text 9 _ (omega arith) _ (b1 .byte-at .ensures) (c .enum-told .given .1) _
-
-opens-at-requires : tie.Need-opens-at-requires
-opens-at-requires c κs = search needs
-
-enum-known-opens : tie.Need-enum-known-opens
-enum-known-opens c = search needs
-
-enum-told-2 : tie.Need-enum-told-2
-enum-told-2 c = search needs
 
 returns-2 : tie.Need-returns-2
 unfolding fieldsAt
@@ -45,15 +27,6 @@ returns-2 c =
     let text = now (b1 .before .before .args .text) in
     byte-goes text 9 _ (omega arith) _ (b1 .byte-at .ensures) _ (k1 .before .c1 .given .1) _
     (fails _ (sym (b2 .opens-at .ensures) ∙ ap numberGot (c .enum-told2 .given .1)))
-
-byte-at-requires-2 : tie.Need-byte-at-requires-2
-byte-at-requires-2 c κs = search needs
-
-enum-known-c3 : tie.Need-enum-known-c3
-enum-known-c3 c = search needs
-
-enum-told-3 : tie.Need-enum-told-3
-enum-told-3 c = search needs
 
 returns-3 : tie.Need-returns-3
 unfolding fieldsAt
@@ -67,15 +40,6 @@ returns-3 c =
     byte-goes text 9 _ (omega arith) _ (b1 .byte-at .ensures) _ (k1 .before .c1 .given .1) _
     (goes _ (sym (b2 .opens-at .ensures) ∙ ap numberGot (k2 .before .opens .given .1))
     (byte-fails text 9 _ (omega arith) _ (b3 .byte-at2 .ensures) (c .enum-told3 .given .1) _))
-
-points-at-requires : tie.Need-points-at-requires
-points-at-requires c κs = search needs
-
-enum-known-points : tie.Need-enum-known-points
-enum-known-points c = search needs
-
-enum-told-4 : tie.Need-enum-told-4
-enum-told-4 c = search needs
 
 returns-4 : tie.Need-returns-4
 unfolding fieldsAt
@@ -92,15 +56,6 @@ returns-4 c =
     (goes _ (sym (b2 .opens-at .ensures) ∙ ap numberGot (k2 .before .opens .given .1))
     (byte-goes text 9 _ (omega arith) _ (b3 .byte-at2 .ensures) _ (k3 .before .c3 .given .1) _
     (fails _ (sym (b4 .points-at .ensures) ∙ ap numberGot (c .enum-told4 .given .1)))))
-
-byte-at-requires-3 : tie.Need-byte-at-requires-3
-byte-at-requires-3 c κs = search needs
-
-enum-known-c5 : tie.Need-enum-known-c5
-enum-known-c5 c = search needs
-
-enum-told-5 : tie.Need-enum-told-5
-enum-told-5 c = search needs
 
 returns-5 : tie.Need-returns-5
 unfolding fieldsAt
@@ -157,27 +112,8 @@ returns-6 c =
 
 pub fields-at-spec : {M : Type 1} → statement M
 fields-at-spec =
-    tie.close
-    (tie.spec
-    byte-at-requires
-    enum-known-c1
-    enum-told
-    returns
-    opens-at-requires
-    enum-known-opens
-    enum-told-2
-    returns-2
-    byte-at-requires-2
-    enum-known-c3
-    enum-told-3
-    returns-3
-    points-at-requires
-    enum-known-points
-    enum-told-4
-    returns-4
-    byte-at-requires-3
-    enum-known-c5
-    enum-told-5
-    returns-5
-    add-t17
-    returns-6)
+    tie.close (tie.spec
+    (λ c κs. search needs) (λ c. search needs) (λ c. search needs) returns (λ c κs. search needs)
+    (λ c. search needs) (λ c. search needs) returns-2 (λ c κs. search needs) (λ c. search needs)
+    (λ c. search needs) returns-3 (λ c κs. search needs) (λ c. search needs) (λ c. search needs) returns-4
+    (λ c κs. search needs) (λ c. search needs) (λ c. search needs) returns-5 add-t17 returns-6)

@@ -8,20 +8,8 @@ use Rattle.planreader.proofs.Taking.{figure-none, figure-there, figure-
 use Rattle.planreader.proofs.figure_at.Statement.{statement}
 use Rattle.planreader.proofs.figure_at.Tie as tie
 
-number-at-requires : tie.Need-number-at-requires
-number-at-requires c κs = search needs
-
-enum-known-n : tie.Need-enum-known-n
-enum-known-n c = search needs
-
-enum-told : tie.Need-enum-told
-enum-told c = search needs
-
 returns : tie.Need-returns
 returns c = figure-none _ _ (sym (c .before .before .number-at .ensures) ∙ ap numberGot (c .enum-told .given .1))
-
-cast-if1 : tie.Need-cast-if1
-cast-if1 c = search needs
 
 returns-2 : tie.Need-returns-2
 returns-2 c = let n = c .before .before in figure-there _ _ (sym (n .before .before .number-at .ensures) ∙ ap numberGot (n .n .given .1)) (omega (arith, c .if1 .taken))
@@ -31,4 +19,6 @@ returns-3 c = let n = c .before .before in figure-high _ _ (sym (n .before .befo
 
 pub figure-at-spec : {M : Type 1} → statement M
 figure-at-spec =
-    tie.close (tie.spec number-at-requires enum-known-n enum-told returns cast-if1 returns-2 returns-3)
+    tie.close (tie.spec
+    (λ c κs. search needs) (λ c. search needs) (λ c. search needs) returns (λ c. search needs) returns-2
+    returns-3)

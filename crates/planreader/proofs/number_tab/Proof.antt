@@ -10,27 +10,9 @@ use Rattle.planreader.specs.Walk.{numberTab}
 use Rattle.planreader.proofs.number_tab.Statement.{statement}
 use Rattle.planreader.proofs.number_tab.Tie as tie
 
-number-at-requires : tie.Need-number-at-requires
-number-at-requires c κs = search needs
-
-enum-known-n : tie.Need-enum-known-n
-enum-known-n c = search needs
-
-enum-told : tie.Need-enum-told
-enum-told c = search needs
-
 returns : tie.Need-returns
 unfolding numberTab
 returns c = fails _ (sym (c .before .before .number-at .ensures) ∙ ap numberGot (c .enum-told .given .1))
-
-byte-at-requires : tie.Need-byte-at-requires
-byte-at-requires c κs = search needs
-
-enum-known-next : tie.Need-enum-known-next
-enum-known-next c = search needs
-
-enum-told-2 : tie.Need-enum-told-2
-enum-told-2 c = search needs
 
 returns-2 : tie.Need-returns-2
 unfolding numberTab
@@ -42,14 +24,6 @@ returns-3 c = let k = c .before .before .before .before in let n = k .before .be
 
 pub number-tab-spec : {M : Type 1} → statement M
 number-tab-spec =
-    tie.close
-    (tie.spec
-    number-at-requires
-    enum-known-n
-    enum-told
-    returns
-    byte-at-requires
-    enum-known-next
-    enum-told-2
-    returns-2
-    returns-3)
+    tie.close (tie.spec
+    (λ c κs. search needs) (λ c. search needs) (λ c. search needs) returns (λ c κs. search needs)
+    (λ c. search needs) (λ c. search needs) returns-2 returns-3)

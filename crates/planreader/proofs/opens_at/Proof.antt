@@ -17,9 +17,6 @@ Inv-loop text k at₀ v₀ t₀ at v t = OpensTo text k at₀ at v t
 abbrev μ-loop : tie.MeasureT-loop
 μ-loop text k at₀ v₀ t₀ at v t = k - t
 
-peek-requires : tie.Need-peek-requires Inv-loop μ-loop
-peek-requires c κs = search needs
-
 add-t9 : tie.Need-add-t9 Inv-loop μ-loop
 add-t9 c = omega (arith, byte-inside (now (c .before .before .before .args .text)) _ _ (c .before .peek .ensures) (omega (arith, c .if1 .taken)))
 
@@ -29,20 +26,8 @@ returns c = opens-zero _ _ _ (sym (c .before .peek .ensures) ∙ c .if1 .taken)
 loop-holds : tie.Need-loop-holds Inv-loop μ-loop
 loop-holds c = opens-start _ _ _
 
-peek-requires-2 : tie.Need-peek-requires-2 Inv-loop μ-loop
-peek-requires-2 c κs = search needs
-
 add-if2 : tie.Need-add-if2 Inv-loop μ-loop
 add-if2 c = let i = c .before in let l = i .before in omega (arith, l .before .before .before .before .pre, i .loop-test .taken)
-
-cast-v : tie.Need-cast-v Inv-loop μ-loop
-cast-v c = search needs
-
-cast-v-2 : tie.Need-cast-v-2 Inv-loop μ-loop
-cast-v-2 c = search needs
-
-add-v : tie.Need-add-v Inv-loop μ-loop
-add-v c = search needs
 
 shl-v : tie.Need-shl-v Inv-loop μ-loop
 shl-v c = let i = c .before .before in let l = i .before in omega (arith, l .before .before .before .before .pre, i .loop-test .taken)
@@ -56,12 +41,6 @@ add-v-2 c =
 
 add-at : tie.Need-add-at Inv-loop μ-loop
 add-at c = omega (arith, byte-inside (now (c .before .before .before .before .before .before .before .args .text)) _ _ (c .before .peek2 .ensures) (omega (arith, c .if2 .taken)))
-
-add-t : tie.Need-add-t Inv-loop μ-loop
-add-t c = omega arith
-
-loop-less : tie.Need-loop-less Inv-loop μ-loop
-loop-less c = omega arith
 
 loop-again : tie.Need-loop-again Inv-loop μ-loop
 loop-again c =
@@ -88,24 +67,7 @@ returns-3 c =
 
 pub opens-at-spec : {M : Type 1} → statement M
 opens-at-spec =
-    tie.close
-    (tie.spec
-    Inv-loop
-    μ-loop
-    peek-requires
-    add-t9
-    returns
-    loop-holds
-    peek-requires-2
-    add-if2
-    cast-v
-    cast-v-2
-    add-v
-    shl-v
-    add-v-2
-    add-at
-    add-t
-    loop-less
-    loop-again
-    returns-2
-    returns-3)
+    tie.close (tie.spec
+    Inv-loop μ-loop (λ c κs. search needs) add-t9 returns loop-holds (λ c κs. search needs) add-if2
+    (λ c. search needs) (λ c. search needs) (λ c. search needs) shl-v add-v-2 add-at (λ c. omega arith)
+    (λ c. omega arith) loop-again returns-2 returns-3)

@@ -11,27 +11,6 @@ use Rattle.planreader.proofs.Answered.{no-sections, no-figure, no-entry
 use Rattle.planreader.proofs.placement_at.Statement.{statement}
 use Rattle.planreader.proofs.placement_at.Tie as tie
 
-sections-in-requires : tie.Need-sections-in-requires
-sections-in-requires c κs = search needs
-
-points-in-requires : tie.Need-points-in-requires
-points-in-requires c κs = search needs
-
-trains-in-requires : tie.Need-trains-in-requires
-trains-in-requires c κs = search needs
-
-sections-at-requires : tie.Need-sections-at-requires
-sections-at-requires c κs = search needs
-
-enum-known-x : tie.Need-enum-known-x
-enum-known-x c = search needs
-
-enum-told : tie.Need-enum-told
-enum-told c = search needs
-
-none-at-requires : tie.Need-none-at-requires
-none-at-requires c κs = search needs
-
 returns : tie.Need-returns
 returns c =
     λ r h first.
@@ -39,18 +18,6 @@ returns c =
     let b1 = t .before .before in
     no-sections r (h .accepted) _ _ first (b1 .before .before .before .sections-in .ensures r h) (b1 .before .before .points-in .ensures r h) (b1 .before .trains-in .ensures r h) _
     (sym (b1 .sections-at .ensures) ∙ ap sectionsGot (t .enum-told .given .1)) (c .none-at .ensures)
-
-figure-at-requires : tie.Need-figure-at-requires
-figure-at-requires c κs = search needs
-
-enum-known-n : tie.Need-enum-known-n
-enum-known-n c = search needs
-
-enum-told-2 : tie.Need-enum-told-2
-enum-told-2 c = search needs
-
-none-at-requires-2 : tie.Need-none-at-requires-2
-none-at-requires-2 c κs = search needs
 
 returns-2 : tie.Need-returns-2
 returns-2 c =
@@ -62,18 +29,6 @@ returns-2 c =
     no-figure r (h .accepted) _ _ first (b1 .before .before .before .sections-in .ensures r h) (b1 .before .before .points-in .ensures r h) (b1 .before .trains-in .ensures r h) _
     (sym (b1 .sections-at .ensures) ∙ ap sectionsGot (k1 .before .x .given .1))
     (sym (b2 .figure-at .ensures) ∙ ap numberGot (t .enum-told2 .given .1)) (c .none-at2 .ensures)
-
-entry-at-requires : tie.Need-entry-at-requires
-entry-at-requires c κs = search needs
-
-enum-known-v : tie.Need-enum-known-v
-enum-known-v c = search needs
-
-enum-told-3 : tie.Need-enum-told-3
-enum-told-3 c = search needs
-
-none-at-requires-3 : tie.Need-none-at-requires-3
-none-at-requires-3 c κs = search needs
 
 returns-3 : tie.Need-returns-3
 returns-3 c =
@@ -88,9 +43,6 @@ returns-3 c =
     (sym (b1 .sections-at .ensures) ∙ ap sectionsGot (k1 .before .x .given .1))
     (sym (b2 .figure-at .ensures) ∙ ap numberGot (k2 .before .n .given .1))
     (sym (b3 .entry-at .ensures) ∙ ap numberGot (t .enum-told3 .given .1)) (c .none-at3 .ensures)
-
-code-of-requires : tie.Need-code-of-requires
-code-of-requires c κs = search needs
 
 cast-t23 : tie.Need-cast-t23
 cast-t23 c =
@@ -122,27 +74,9 @@ returns-4 c =
 
 pub placement-at-spec : {M : Type 1} → statement M
 placement-at-spec =
-    tie.close
-    (tie.spec
-    sections-in-requires
-    points-in-requires
-    trains-in-requires
-    sections-at-requires
-    enum-known-x
-    enum-told
-    none-at-requires
-    returns
-    figure-at-requires
-    enum-known-n
-    enum-told-2
-    none-at-requires-2
-    returns-2
-    entry-at-requires
-    enum-known-v
-    enum-told-3
-    none-at-requires-3
-    returns-3
-    code-of-requires
-    cast-t23
-    cast-t24
-    returns-4)
+    tie.close (tie.spec
+    (λ c κs. search needs) (λ c κs. search needs) (λ c κs. search needs) (λ c κs. search needs)
+    (λ c. search needs) (λ c. search needs) (λ c κs. search needs) returns (λ c κs. search needs)
+    (λ c. search needs) (λ c. search needs) (λ c κs. search needs) returns-2 (λ c κs. search needs)
+    (λ c. search needs) (λ c. search needs) (λ c κs. search needs) returns-3 (λ c κs. search needs) cast-t23
+    cast-t24 returns-4)

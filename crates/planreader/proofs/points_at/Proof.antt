@@ -10,15 +10,6 @@ use Rattle.planreader.proofs.Taking.{points-none, points-some}
 use Rattle.planreader.proofs.points_at.Statement.{statement}
 use Rattle.planreader.proofs.points_at.Tie as tie
 
-byte-at-requires : tie.Need-byte-at-requires
-byte-at-requires c κs = search needs
-
-enum-known-next : tie.Need-enum-known-next
-enum-known-next c = search needs
-
-enum-told : tie.Need-enum-told
-enum-told c = search needs
-
 returns : tie.Need-returns
 returns c =
     let b = c .before .before in
@@ -31,20 +22,11 @@ returns-2 c =
     let i = b .before in
     points-none _ _ _ (i .if1 .taken) (byte-goes (now (i .before .before .args .text)) (byte ".") _ (omega arith) _ (b .byte-at .ensures) _ (c .before .next .given .1) _ refl)
 
-signs-at-requires : tie.Need-signs-at-requires
-signs-at-requires c κs = search needs
-
 returns-3 : tie.Need-returns-3
 returns-3 c = points-some _ _ _ (c .before .if1 .left) (c .signs-at .ensures)
 
 pub points-at-spec : {M : Type 1} → statement M
 points-at-spec =
-    tie.close
-    (tie.spec
-    byte-at-requires
-    enum-known-next
-    enum-told
-    returns
-    returns-2
-    signs-at-requires
+    tie.close (tie.spec
+    (λ c κs. search needs) (λ c. search needs) (λ c. search needs) returns returns-2 (λ c κs. search needs)
     returns-3)

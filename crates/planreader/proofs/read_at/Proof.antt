@@ -5,21 +5,13 @@ use mathlib.Core.Path.{sym, _∙_}
 use Rattle.planreader.proofs.read_at.Statement.{statement}
 use Rattle.planreader.proofs.read_at.Tie as tie
 
-peek-requires : tie.Need-peek-requires
-peek-requires c κs = search needs
-
-start-at-requires : tie.Need-start-at-requires
-start-at-requires c κs = search needs
-
 returns : tie.Need-returns
 returns c = λ r h. let i = c .before in c .start-at .ensures r (h .accepted) (sym (i .before .peek .ensures) ∙ i .if1 .taken)
-
-placement-at-requires : tie.Need-placement-at-requires
-placement-at-requires c κs = search needs
 
 returns-2 : tie.Need-returns-2
 returns-2 c = λ r h. let i = c .before in c .placement-at .ensures r h (λ e. i .if1 .left (i .before .peek .ensures ∙ e))
 
 pub read-at-spec : {M : Type 1} → statement M
 read-at-spec =
-    tie.close (tie.spec peek-requires start-at-requires returns placement-at-requires returns-2)
+    tie.close (tie.spec
+    (λ c κs. search needs) (λ c κs. search needs) returns (λ c κs. search needs) returns-2)

@@ -5,9 +5,6 @@ use Rattle.planreader.proofs.Answered.{line-whole, line-part}
 use Rattle.planreader.proofs.read_line.Statement.{statement}
 use Rattle.planreader.proofs.read_line.Tie as tie
 
-read-at-requires : tie.Need-read-at-requires
-read-at-requires c κs = search needs
-
 returns : tie.Need-returns
 returns c = λ r h. let s = c .before in line-whole r (h .accepted) _ _ (s .before .read-at .ensures r h) (c .if1 .taken)
 
@@ -15,4 +12,4 @@ returns-2 : tie.Need-returns-2
 returns-2 c = λ r h. let s = c .before in line-part r (h .accepted) _ _ (s .before .read-at .ensures r h) (c .if1 .left)
 
 pub read-line-spec : {M : Type 1} → statement M
-read-line-spec = tie.close (tie.spec read-at-requires returns returns-2)
+read-line-spec = tie.close (tie.spec (λ c κs. search needs) returns returns-2)

@@ -11,23 +11,11 @@ use Rattle.planreader.proofs.section_at.Tie as tie
 returns : tie.Need-returns
 returns c = section-skip _ _ _ _ _ (c .if1 .taken)
 
-number-tab-requires : tie.Need-number-tab-requires
-number-tab-requires c κs = search needs
-
-enum-known-n : tie.Need-enum-known-n
-enum-known-n c = search needs
-
-enum-told : tie.Need-enum-told
-enum-told c = search needs
-
 returns-2 : tie.Need-returns-2
 returns-2 c = let m = c .before .before in section-none _ _ _ _ _ (m .before .if1 .left) (sym (m .number-tab .ensures) ∙ ap numberGot (c .enum-told .given .1))
 
 returns-3 : tie.Need-returns-3
 returns-3 c = let n = c .before .before in let m = n .before .before in section-zero _ _ _ _ _ (m .before .if1 .left) (sym (m .number-tab .ensures) ∙ ap numberGot (n .n .given .1)) (c .if2 .taken)
-
-sub-x : tie.Need-sub-x
-sub-x c = search needs
 
 returns-4 : tie.Need-returns-4
 returns-4 c = let n = c .before .before .before in let m = n .before .before in section-there _ _ _ _ _ (m .before .if1 .left) (sym (m .number-tab .ensures) ∙ ap numberGot (n .n .given .1)) (c .before .if2 .left) (omega (arith, c .if3 .taken))
@@ -37,14 +25,6 @@ returns-5 c = let n = c .before .before .before in let m = n .before .before in 
 
 pub section-at-spec : {M : Type 1} → statement M
 section-at-spec =
-    tie.close
-    (tie.spec
-    returns
-    number-tab-requires
-    enum-known-n
-    enum-told
-    returns-2
-    returns-3
-    sub-x
-    returns-4
-    returns-5)
+    tie.close (tie.spec
+    returns (λ c κs. search needs) (λ c. search needs) (λ c. search needs) returns-2 returns-3
+    (λ c. search needs) returns-4 returns-5)

@@ -10,53 +10,17 @@ use Rattle.planreader.proofs.Taking.{section-byte}
 use Rattle.planreader.proofs.sections_at.Statement.{statement}
 use Rattle.planreader.proofs.sections_at.Tie as tie
 
-section-at-requires : tie.Need-section-at-requires
-section-at-requires c κs = search needs
-
-enum-known-a : tie.Need-enum-known-a
-enum-known-a c = search needs
-
-enum-told : tie.Need-enum-told
-enum-told c = search needs
-
 returns : tie.Need-returns
 unfolding sectionsAt
 returns c = fails _ (sym (c .before .before .section-at .ensures) ∙ ap numberGot (c .enum-told .given .1))
-
-section-at-requires-2 : tie.Need-section-at-requires-2
-section-at-requires-2 c κs = search needs
-
-enum-known-b : tie.Need-enum-known-b
-enum-known-b c = search needs
-
-enum-told-2 : tie.Need-enum-told-2
-enum-told-2 c = search needs
 
 returns-2 : tie.Need-returns-2
 unfolding sectionsAt
 returns-2 c = let x = c .before .before .before in goes _ (sym (x .before .before .before .section-at .ensures) ∙ ap numberGot (x .before .a .given .1)) (fails _ (sym (c .before .before .section-at2 .ensures) ∙ ap numberGot (c .enum-told2 .given .1)))
 
-section-at-requires-3 : tie.Need-section-at-requires-3
-section-at-requires-3 c κs = search needs
-
-enum-known-c : tie.Need-enum-known-c
-enum-known-c c = search needs
-
-enum-told-3 : tie.Need-enum-told-3
-enum-told-3 c = search needs
-
 returns-3 : tie.Need-returns-3
 unfolding sectionsAt
 returns-3 c = let y = c .before .before .before in let x = y .before .before .before .before in goes _ (sym (x .before .before .before .section-at .ensures) ∙ ap numberGot (x .before .a .given .1)) (goes _ (sym (y .before .before .before .section-at2 .ensures) ∙ ap numberGot (y .before .b .given .1)) (fails _ (sym (c .before .before .section-at3 .ensures) ∙ ap numberGot (c .enum-told3 .given .1))))
-
-section-at-requires-4 : tie.Need-section-at-requires-4
-section-at-requires-4 c κs = search needs
-
-enum-known-d : tie.Need-enum-known-d
-enum-known-d c = search needs
-
-enum-told-4 : tie.Need-enum-told-4
-enum-told-4 c = search needs
 
 returns-4 : tie.Need-returns-4
 unfolding sectionsAt
@@ -80,26 +44,8 @@ returns-5 c = let z = c .before .before .before .before in let y = z .before .be
 
 pub sections-at-spec : {M : Type 1} → statement M
 sections-at-spec =
-    tie.close
-    (tie.spec
-    section-at-requires
-    enum-known-a
-    enum-told
-    returns
-    section-at-requires-2
-    enum-known-b
-    enum-told-2
-    returns-2
-    section-at-requires-3
-    enum-known-c
-    enum-told-3
-    returns-3
-    section-at-requires-4
-    enum-known-d
-    enum-told-4
-    returns-4
-    cast-t17
-    cast-t18
-    cast-t19
-    cast-t20
-    returns-5)
+    tie.close (tie.spec
+    (λ c κs. search needs) (λ c. search needs) (λ c. search needs) returns (λ c κs. search needs)
+    (λ c. search needs) (λ c. search needs) returns-2 (λ c κs. search needs) (λ c. search needs)
+    (λ c. search needs) returns-3 (λ c κs. search needs) (λ c. search needs) (λ c. search needs) returns-4
+    cast-t17 cast-t18 cast-t19 cast-t20 returns-5)

@@ -20,12 +20,6 @@ abbrev μ-loop : tie.MeasureT-loop
 loop-holds : tie.Need-loop-holds Inv-loop μ-loop
 loop-holds c = signs-start _ _ _
 
-peek-requires : tie.Need-peek-requires Inv-loop μ-loop
-peek-requires c κs = search needs
-
-cast-v : tie.Need-cast-v Inv-loop μ-loop
-cast-v c = search needs
-
 shl-v : tie.Need-shl-v Inv-loop μ-loop
 shl-v c = let i = c .before .before in omega (arith, i .before .before .before .pre, i .loop-test .taken)
 
@@ -52,12 +46,6 @@ add-at c =
     (λ w. omega (arith, byte-inside text _ _ (p .peek .ensures) (omega (arith, w .1 .left))))
     (c .if1 .came)
 
-add-i : tie.Need-add-i Inv-loop μ-loop
-add-i c = omega arith
-
-loop-less : tie.Need-loop-less Inv-loop μ-loop
-loop-less c = omega arith
-
 loop-again : tie.Need-loop-again Inv-loop μ-loop
 loop-again c =
     let p = c .before in
@@ -74,18 +62,6 @@ returns-2 c = let l = c .before in signs-end _ _ _ _ _ _ (l .loop .inv) (c .loop
 
 pub signs-at-spec : {M : Type 1} → statement M
 signs-at-spec =
-    tie.close
-    (tie.spec
-    Inv-loop
-    μ-loop
-    loop-holds
-    peek-requires
-    cast-v
-    shl-v
-    add-v
-    returns
-    add-at
-    add-i
-    loop-less
-    loop-again
-    returns-2)
+    tie.close (tie.spec
+    Inv-loop μ-loop loop-holds (λ c κs. search needs) (λ c. search needs) shl-v add-v returns add-at
+    (λ c. omega arith) (λ c. omega arith) loop-again returns-2)

@@ -12,39 +12,12 @@ use Rattle.planreader.proofs.Answered.{no-word, no-start-figure, no-sta
 use Rattle.planreader.proofs.start_at.Statement.{statement}
 use Rattle.planreader.proofs.start_at.Tie as tie
 
-slice-aggregate-word-at : tie.Need-slice-aggregate-word-at
-slice-aggregate-word-at c = search needs
-
-word-at-requires : tie.Need-word-at-requires
-word-at-requires c κs = search needs
-
-enum-known-c1 : tie.Need-enum-known-c1
-enum-known-c1 c = search needs
-
-enum-told : tie.Need-enum-told
-enum-told c = search needs
-
-none-at-requires : tie.Need-none-at-requires
-none-at-requires c κs = search needs
-
 returns : tie.Need-returns
 returns c =
     λ r ok first.
     let t = c .before in
     let b1 = t .before .before in
     no-word r ok _ _ first _ (sym (b1 .word-at .ensures) ∙ ap wordGot (t .enum-told .given .1)) (c .none-at .ensures)
-
-figure-at-requires : tie.Need-figure-at-requires
-figure-at-requires c κs = search needs
-
-enum-known-n : tie.Need-enum-known-n
-enum-known-n c = search needs
-
-enum-told-2 : tie.Need-enum-told-2
-enum-told-2 c = search needs
-
-none-at-requires-2 : tie.Need-none-at-requires-2
-none-at-requires-2 c κs = search needs
 
 returns-2 : tie.Need-returns-2
 returns-2 c =
@@ -54,18 +27,6 @@ returns-2 c =
     let k1 = b2 .before in
     let b1 = k1 .before .before .before in
     no-start-figure r ok _ _ first _ (sym (b1 .word-at .ensures) ∙ ap wordGot (k1 .before .c1 .given .1)) (sym (b2 .figure-at .ensures) ∙ ap numberGot (t .enum-told2 .given .1)) (c .none-at2 .ensures)
-
-byte-at-requires : tie.Need-byte-at-requires
-byte-at-requires c κs = search needs
-
-enum-known-c3 : tie.Need-enum-known-c3
-enum-known-c3 c = search needs
-
-enum-told-3 : tie.Need-enum-told-3
-enum-told-3 c = search needs
-
-none-at-requires-3 : tie.Need-none-at-requires-3
-none-at-requires-3 c κs = search needs
 
 returns-3 : tie.Need-returns-3
 returns-3 c =
@@ -97,23 +58,8 @@ returns-4 c =
 
 pub start-at-spec : {M : Type 1} → statement M
 start-at-spec =
-    tie.close
-    (tie.spec
-    slice-aggregate-word-at
-    word-at-requires
-    enum-known-c1
-    enum-told
-    none-at-requires
-    returns
-    figure-at-requires
-    enum-known-n
-    enum-told-2
-    none-at-requires-2
-    returns-2
-    byte-at-requires
-    enum-known-c3
-    enum-told-3
-    none-at-requires-3
-    returns-3
-    cast-t14
+    tie.close (tie.spec
+    (λ c. search needs) (λ c κs. search needs) (λ c. search needs) (λ c. search needs) (λ c κs. search needs)
+    returns (λ c κs. search needs) (λ c. search needs) (λ c. search needs) (λ c κs. search needs) returns-2
+    (λ c κs. search needs) (λ c. search needs) (λ c. search needs) (λ c κs. search needs) returns-3 cast-t14
     returns-4)

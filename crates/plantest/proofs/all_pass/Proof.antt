@@ -23,21 +23,9 @@ Inv-loop table ways figures settings m p₀ p = (p ≤ m) × ((r : Railway) → 
 abbrev μ-loop : tie.MeasureT-loop
 μ-loop table ways figures settings m p₀ p = m - p
 
-placements-requires : tie.Need-placements-requires Inv-loop μ-loop
-placements-requires c κs = search needs
-
 loop-holds : tie.Need-loop-holds Inv-loop μ-loop
 unfolding allBelow
 loop-holds c = (omega arith, λ r h w. refl)
-
-placement-passes-requires : tie.Need-placement-passes-requires Inv-loop μ-loop
-placement-passes-requires c κs = search needs
-
-add-p : tie.Need-add-p Inv-loop μ-loop
-add-p c = omega arith
-
-loop-less : tie.Need-loop-less Inv-loop μ-loop
-loop-less c = omega arith
 
 loop-again : tie.Need-loop-again Inv-loop μ-loop
 loop-again c = let l = c .before .before .before in (omega arith, λ r h w. all-next _ _ (l .loop .inv .1 r h w) (sym (c .before .placement-passes .ensures r h w) ∙ c .if1 .taken))
@@ -56,15 +44,6 @@ returns-2 c =
 
 pub all-pass-spec : {M : Type 1} → statement M
 all-pass-spec =
-    tie.close
-    (tie.spec
-    Inv-loop
-    μ-loop
-    placements-requires
-    loop-holds
-    placement-passes-requires
-    add-p
-    loop-less
-    loop-again
-    returns
-    returns-2)
+    tie.close (tie.spec
+    Inv-loop μ-loop (λ c κs. search needs) loop-holds (λ c κs. search needs) (λ c. omega arith)
+    (λ c. omega arith) loop-again returns returns-2)

@@ -25,21 +25,9 @@ Inv-loop table ways figures q v n k t₀ t = (t ≤ k) × ((r : Railway) (p : �
 abbrev μ-loop : tie.MeasureT-loop
 μ-loop table ways figures q v n k t₀ t = k - t
 
-trains-in-requires : tie.Need-trains-in-requires Inv-loop μ-loop
-trains-in-requires c κs = search needs
-
 loop-holds : tie.Need-loop-holds Inv-loop μ-loop
 unfolding allBelow
 loop-holds c = (omega arith, λ r p on w. refl)
-
-goes-within-requires : tie.Need-goes-within-requires Inv-loop μ-loop
-goes-within-requires c κs = search needs
-
-add-t : tie.Need-add-t Inv-loop μ-loop
-add-t c = omega arith
-
-loop-less : tie.Need-loop-less Inv-loop μ-loop
-loop-less c = omega arith
 
 loop-again : tie.Need-loop-again Inv-loop μ-loop
 loop-again c = let l = c .before .before .before in (omega arith, λ r p on w. all-next _ _ (l .loop .inv .1 r p on w) (sym (c .before .goes-within .ensures r p on w) ∙ c .if1 .taken))
@@ -58,15 +46,6 @@ returns-2 c =
 
 pub all-within-spec : {M : Type 1} → statement M
 all-within-spec =
-    tie.close
-    (tie.spec
-    Inv-loop
-    μ-loop
-    trains-in-requires
-    loop-holds
-    goes-within-requires
-    add-t
-    loop-less
-    loop-again
-    returns
-    returns-2)
+    tie.close (tie.spec
+    Inv-loop μ-loop (λ c κs. search needs) loop-holds (λ c κs. search needs) (λ c. omega arith)
+    (λ c. omega arith) loop-again returns returns-2)

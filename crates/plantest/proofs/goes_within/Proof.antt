@@ -26,18 +26,6 @@ moved Derails h = λ e. some-none refl e
 moved Collides h = λ e. some-none refl e
 moved (At q) h = λ e. some-none refl e
 
-move-in-requires : tie.Need-move-in-requires
-move-in-requires c κs = search needs
-
-enum-told : tie.Need-enum-told
-enum-told c = search needs
-
-weight-in-requires : tie.Need-weight-in-requires
-weight-in-requires c κs = search needs
-
-is-within-requires : tie.Need-is-within-requires
-is-within-requires c κs = search needs
-
 returns : tie.Need-returns
 returns c =
     λ r p on w.
@@ -56,4 +44,5 @@ returns-2 c =
 
 pub goes-within-spec : {M : Type 1} → statement M
 goes-within-spec =
-    tie.close (tie.spec move-in-requires enum-told weight-in-requires is-within-requires returns returns-2)
+    tie.close (tie.spec
+    (λ c κs. search needs) (λ c. search needs) (λ c κs. search needs) (λ c κs. search needs) returns returns-2)

@@ -5,24 +5,6 @@ use Rattle.plantest.proofs.Ending.{refused-within, derailed-within, col
 use Rattle.plantest.proofs.is_within.Statement.{statement}
 use Rattle.plantest.proofs.is_within.Tie as tie
 
-enum-told : tie.Need-enum-told
-enum-told c = search needs
-
-enum-told-2 : tie.Need-enum-told-2
-enum-told-2 c = search needs
-
-enum-told-3 : tie.Need-enum-told-3
-enum-told-3 c = search needs
-
-enum-known-m : tie.Need-enum-known-m
-enum-known-m c = search needs
-
-entry-at-requires : tie.Need-entry-at-requires
-entry-at-requires c κs = search needs
-
-is-within-requires : tie.Need-is-within-requires
-is-within-requires c κs = search needs
-
 returns : tie.Need-returns
 returns c = let a = c .before .before .before .args in refused-within (a .figures .now) (a .n) (a .weight) _ (c .enum-told .given .1)
 
@@ -41,15 +23,6 @@ returns-4 c =
 
 pub is-within-spec : {M : Type 1} → statement M
 is-within-spec =
-    tie.close
-    (tie.spec
-    enum-told
-    enum-told-2
-    enum-told-3
-    enum-known-m
-    entry-at-requires
-    is-within-requires
-    returns
-    returns-2
-    returns-3
-    returns-4)
+    tie.close (tie.spec
+    (λ c. search needs) (λ c. search needs) (λ c. search needs) (λ c. search needs) (λ c κs. search needs)
+    (λ c κs. search needs) returns returns-2 returns-3 returns-4)

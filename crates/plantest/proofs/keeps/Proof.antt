@@ -5,12 +5,6 @@ use Rattle.plantest.proofs.Testing.{none-keeps, some-keeps}
 use Rattle.plantest.proofs.keeps.Statement.{statement}
 use Rattle.plantest.proofs.keeps.Tie as tie
 
-some-may-requires : tie.Need-some-may-requires
-some-may-requires c κs = search needs
-
-all-within-requires : tie.Need-all-within-requires
-all-within-requires c κs = search needs
-
 returns : tie.Need-returns
 returns c =
     λ r p on w.
@@ -21,4 +15,4 @@ returns-2 : tie.Need-returns-2
 returns-2 c = λ r p on w. let a = c .before .before .before .args in none-keeps r (a .figures .now) p (a .v) (a .n) _ (c .before .some-may .ensures r p on) (c .if1 .left)
 
 pub keeps-spec : {M : Type 1} → statement M
-keeps-spec = tie.close (tie.spec some-may-requires all-within-requires returns returns-2)
+keeps-spec = tie.close (tie.spec (λ c κs. search needs) (λ c κs. search needs) returns returns-2)

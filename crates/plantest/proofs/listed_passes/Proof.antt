@@ -5,27 +5,12 @@ use Rattle.plantest.proofs.Testing.{lost-fails, unsignalled-fails, home
 use Rattle.plantest.proofs.listed_passes.Statement.{statement}
 use Rattle.plantest.proofs.listed_passes.Tie as tie
 
-placement-of-requires : tie.Need-placement-of-requires
-placement-of-requires c κs = search needs
-
-lost-in-requires : tie.Need-lost-in-requires
-lost-in-requires c κs = search needs
-
 returns : tie.Need-returns
 returns c =
     λ r h ways.
     let w = c .before in
     let a = w .before .before .before .before .args in
     lost-fails r (a .figures .now) (a .settings .now) (a .p) (a .n) _ (w .lost-in .ensures r _ (w .before .placement-of .ensures r h)) (c .if1 .taken)
-
-entry-at-requires : tie.Need-entry-at-requires
-entry-at-requires c κs = search needs
-
-opens-signalled-requires : tie.Need-opens-signalled-requires
-opens-signalled-requires c κs = search needs
-
-home-in-requires : tie.Need-home-in-requires
-home-in-requires c κs = search needs
 
 returns-2 : tie.Need-returns-2
 returns-2 c =
@@ -37,9 +22,6 @@ returns-2 c =
     let on = w .before .placement-of .ensures r h in
     home-passes r (a .figures .now) (a .settings .now) (a .p) (a .n) _ (w .lost-in .ensures r _ on) (e .before .if1 .left) _ (e .entry-at .ensures) _ (o .opens-signalled .ensures r _ on) (c .before .before .if2 .taken) _
     (c .before .home-in .ensures r _ on) (c .if3 .taken)
-
-keeps-requires : tie.Need-keeps-requires
-keeps-requires c κs = search needs
 
 returns-3 : tie.Need-returns-3
 returns-3 c =
@@ -65,15 +47,6 @@ returns-4 c =
 
 pub listed-passes-spec : {M : Type 1} → statement M
 listed-passes-spec =
-    tie.close
-    (tie.spec
-    placement-of-requires
-    lost-in-requires
-    returns
-    entry-at-requires
-    opens-signalled-requires
-    home-in-requires
-    returns-2
-    keeps-requires
-    returns-3
-    returns-4)
+    tie.close (tie.spec
+    (λ c κs. search needs) (λ c κs. search needs) returns (λ c κs. search needs) (λ c κs. search needs)
+    (λ c κs. search needs) returns-2 (λ c κs. search needs) returns-3 returns-4)

@@ -20,21 +20,9 @@ Inv-loop table q v k t₀ t = (t ≤ k) × ((r : Railway) (p : ℕ) → On r p t
 abbrev μ-loop : tie.MeasureT-loop
 μ-loop table q v k t₀ t = k - t
 
-trains-in-requires : tie.Need-trains-in-requires Inv-loop μ-loop
-trains-in-requires c κs = search needs
-
 loop-holds : tie.Need-loop-holds Inv-loop μ-loop
 unfolding allBelow
 loop-holds c = (omega arith, λ r p on. refl)
-
-train-signalled-requires : tie.Need-train-signalled-requires Inv-loop μ-loop
-train-signalled-requires c κs = search needs
-
-add-t : tie.Need-add-t Inv-loop μ-loop
-add-t c = omega arith
-
-loop-less : tie.Need-loop-less Inv-loop μ-loop
-loop-less c = omega arith
 
 loop-again : tie.Need-loop-again Inv-loop μ-loop
 loop-again c =
@@ -57,15 +45,6 @@ returns-2 c =
 
 pub opens-signalled-spec : {M : Type 1} → statement M
 opens-signalled-spec =
-    tie.close
-    (tie.spec
-    Inv-loop
-    μ-loop
-    trains-in-requires
-    loop-holds
-    train-signalled-requires
-    add-t
-    loop-less
-    loop-again
-    returns
-    returns-2)
+    tie.close (tie.spec
+    Inv-loop μ-loop (λ c κs. search needs) loop-holds (λ c κs. search needs) (λ c. omega arith)
+    (λ c. omega arith) loop-again returns returns-2)

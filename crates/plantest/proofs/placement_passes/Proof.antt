@@ -5,17 +5,11 @@ use Rattle.plantest.proofs.Testing.{unlisted-passes, listed-decides}
 use Rattle.plantest.proofs.placement_passes.Statement.{statement}
 use Rattle.plantest.proofs.placement_passes.Tie as tie
 
-entry-at-requires : tie.Need-entry-at-requires
-entry-at-requires c κs = search needs
-
 returns : tie.Need-returns
 returns c =
     λ r h w.
     let a = c .before .before .before .before .args in
     unlisted-passes r (a .figures .now) (a .settings .now) (a .p) _ (c .before .entry-at .ensures) (c .if1 .taken)
-
-listed-passes-requires : tie.Need-listed-passes-requires
-listed-passes-requires c κs = search needs
 
 returns-2 : tie.Need-returns-2
 returns-2 c =
@@ -24,4 +18,4 @@ returns-2 c =
     listed-decides r (a .figures .now) (a .settings .now) (a .p) _ (c .before .before .entry-at .ensures) _ (c .before .if1 .left) (c .listed-passes .ensures r h w)
 
 pub placement-passes-spec : {M : Type 1} → statement M
-placement-passes-spec = tie.close (tie.spec entry-at-requires returns listed-passes-requires returns-2)
+placement-passes-spec = tie.close (tie.spec (λ c κs. search needs) returns (λ c κs. search needs) returns-2)

@@ -22,27 +22,15 @@ Inv-loop table q v k t₀ t = (t ≤ k) × ((r : Railway) (p : ℕ) → On r p t
 abbrev μ-loop : tie.MeasureT-loop
 μ-loop table q v k t₀ t = k - t
 
-trains-in-requires : tie.Need-trains-in-requires Inv-loop μ-loop
-trains-in-requires c κs = search needs
-
 loop-holds : tie.Need-loop-holds Inv-loop μ-loop
 unfolding anyBelow
 loop-holds c = (omega arith, λ r p on. refl)
-
-may-in-requires : tie.Need-may-in-requires Inv-loop μ-loop
-may-in-requires c κs = search needs
 
 returns : tie.Need-returns Inv-loop μ-loop
 returns c =
     λ r p on.
     let l = c .before .before .before in
     one-of (l .before .trains-in .ensures r (on .compiled)) _ (l .loop .t) (c .before .before .loop-test .taken) (sym (c .before .may-in .ensures r p on) ∙ c .if1 .taken)
-
-add-t : tie.Need-add-t Inv-loop μ-loop
-add-t c = omega arith
-
-loop-less : tie.Need-loop-less Inv-loop μ-loop
-loop-less c = omega arith
 
 loop-again : tie.Need-loop-again Inv-loop μ-loop
 loop-again c = let l = c .before .before .before in (omega arith, λ r p on. any-next _ _ (l .loop .inv .1 r p on) (sym (c .before .may-in .ensures r p on) ∙ c .if1 .left))
@@ -55,15 +43,6 @@ returns-2 c =
 
 pub some-may-spec : {M : Type 1} → statement M
 some-may-spec =
-    tie.close
-    (tie.spec
-    Inv-loop
-    μ-loop
-    trains-in-requires
-    loop-holds
-    may-in-requires
-    returns
-    add-t
-    loop-less
-    loop-again
-    returns-2)
+    tie.close (tie.spec
+    Inv-loop μ-loop (λ c κs. search needs) loop-holds (λ c κs. search needs) returns (λ c. omega arith)
+    (λ c. omega arith) loop-again returns-2)

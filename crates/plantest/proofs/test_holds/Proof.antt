@@ -5,21 +5,12 @@ use Rattle.plantest.proofs.Testing.{start-unlisted, start-other, start-
 use Rattle.plantest.proofs.test_holds.Statement.{statement}
 use Rattle.plantest.proofs.test_holds.Tie as tie
 
-start-code-requires : tie.Need-start-code-requires
-start-code-requires c κs = search needs
-
-entry-at-requires : tie.Need-entry-at-requires
-entry-at-requires c κs = search needs
-
 returns : tie.Need-returns
 returns c =
     λ r h w.
     let f = c .before in
     let a = f .before .before .before .before .args in
     start-unlisted r (a .figures .now) (a .settings .now) (a .m) _ _ (f .before .start-code .ensures r h) (f .entry-at .ensures) (c .if1 .taken)
-
-all-pass-requires : tie.Need-all-pass-requires
-all-pass-requires c κs = search needs
 
 returns-2 : tie.Need-returns-2
 returns-2 c =
@@ -38,4 +29,6 @@ returns-3 c =
     start-other r (a .figures .now) (a .settings .now) (a .m) _ _ (f .before .start-code .ensures r h) (f .entry-at .ensures) (e .if1 .left) (c .if2 .left)
 
 pub test-holds-spec : {M : Type 1} → statement M
-test-holds-spec = tie.close (tie.spec start-code-requires entry-at-requires returns all-pass-requires returns-2 returns-3)
+test-holds-spec =
+    tie.close (tie.spec
+    (λ c κs. search needs) (λ c κs. search needs) returns (λ c κs. search needs) returns-2 returns-3)

@@ -6,15 +6,6 @@ use Rattle.plantest.proofs.Testing.{open-signalled, closed-signalled}
 use Rattle.plantest.proofs.train_signalled.Statement.{statement}
 use Rattle.plantest.proofs.train_signalled.Tie as tie
 
-add-bit-at : tie.Need-add-bit-at
-add-bit-at c = search needs
-
-bit-at-requires : tie.Need-bit-at-requires
-bit-at-requires c κs = search needs
-
-held-in-requires : tie.Need-held-in-requires
-held-in-requires c κs = search needs
-
 returns : tie.Need-returns
 returns c = λ r p on l. open-signalled r p _ _ _ (c .before .before .bit-at .ensures) _ (c .before .if1 .taken) (as-there r p _ _ on _ l _ _ (c .held-in .ensures r p on))
 
@@ -22,4 +13,6 @@ returns-2 : tie.Need-returns-2
 returns-2 c = λ r p on l. let a = c .before .before .args in closed-signalled r p (a .v) (a .t) _ (c .before .bit-at .ensures) (c .if1 .left)
 
 pub train-signalled-spec : {M : Type 1} → statement M
-train-signalled-spec = tie.close (tie.spec add-bit-at bit-at-requires held-in-requires returns returns-2)
+train-signalled-spec =
+    tie.close (tie.spec
+    (λ c. search needs) (λ c κs. search needs) (λ c κs. search needs) returns returns-2)

@@ -5,21 +5,6 @@ use borrow.Author.Needs.{needs}
 use Rattle.planwriter.proofs.plan_text.Statement.{statement}
 use Rattle.planwriter.proofs.plan_text.Tie as tie
 
-own-text-requires : tie.Need-own-text-requires
-own-text-requires c κs = search needs
-
-same-length : tie.Need-same-length
-same-length c = search needs
-
-returns : tie.Need-returns
-returns c = search needs
-
-plan-lines-requires : tie.Need-plan-lines-requires
-plan-lines-requires c κs = search needs
-
-same-length-2 : tie.Need-same-length-2
-same-length-2 c = search needs
-
 returns-2 : tie.Need-returns-2
 returns-2 c =
     let p = c .before .before in
@@ -29,5 +14,6 @@ returns-2 c =
 
 pub plan-text-spec : {M : Type 1} → statement M
 plan-text-spec =
-    tie.close
-    (tie.spec own-text-requires same-length returns plan-lines-requires same-length-2 returns-2)
+    tie.close (tie.spec
+    (λ c κs. search needs) (λ c. search needs) (λ c. search needs) (λ c κs. search needs) (λ c. search needs)
+    returns-2)

@@ -7,23 +7,11 @@ use Rattle.progress.proofs.Spelling.{line-short}
 use Rattle.progress.proofs.round_line.Statement.{statement}
 use Rattle.progress.proofs.round_line.Tie as tie
 
-slice-aggregate-spell-round : tie.Need-slice-aggregate-spell-round
-slice-aggregate-spell-round c = search needs
-
-spell-round-requires : tie.Need-spell-round-requires
-spell-round-requires c κs = search needs
-
 array-share-prefix-line : tie.Need-array-share-prefix-line
 array-share-prefix-line c = let p = c .before .spell-round in front-fits (p .ensures) (p .kept .0)
 
 slice-aggregate-put : tie.Need-slice-aggregate-put
 slice-aggregate-put c = let p = c .before .before .spell-round in front-cut (p .ensures) (p .kept .0)
-
-put-requires : tie.Need-put-requires
-put-requires c κs = search needs
-
-same-length : tie.Need-same-length
-same-length c = search needs
 
 returns : tie.Need-returns
 returns c =
@@ -34,12 +22,6 @@ returns c =
 
 pub round-line-spec : {M : Type 1} → statement M
 round-line-spec =
-    tie.close
-    (tie.spec
-    slice-aggregate-spell-round
-    spell-round-requires
-    array-share-prefix-line
-    slice-aggregate-put
-    put-requires
-    same-length
-    returns)
+    tie.close (tie.spec
+    (λ c. search needs) (λ c κs. search needs) array-share-prefix-line slice-aggregate-put
+    (λ c κs. search needs) (λ c. search needs) returns)

@@ -17,17 +17,8 @@ abbrev μ-loop : tie.MeasureT-loop
 loop-holds : tie.Need-loop-holds Inv-loop μ-loop
 loop-holds c = (tells-none _, omega arith)
 
-entry-at-requires : tie.Need-entry-at-requires Inv-loop μ-loop
-entry-at-requires c κs = search needs
-
 with-entry-requires : tie.Need-with-entry-requires Inv-loop μ-loop
 with-entry-requires c κs = let l = c .before .before in omega (arith, tells-within (l .loop .inv .0), c .before .loop-test .taken)
-
-add-p : tie.Need-add-p Inv-loop μ-loop
-add-p c = omega arith
-
-loop-less : tie.Need-loop-less Inv-loop μ-loop
-loop-less c = omega arith
 
 loop-again : tie.Need-loop-again Inv-loop μ-loop
 loop-again c = let e = c .before in (tells-next (c .with-entry .ensures _ _ (e .entry-at .ensures) (e .before .before .loop .inv .0)), omega arith)
@@ -37,14 +28,6 @@ returns c = let l = c .before .loop .inv in tells-all (l .0) (l .1) (c .loop-tes
 
 pub so-far-spec : {M : Type 1} → statement M
 so-far-spec =
-    tie.close
-    (tie.spec
-    Inv-loop
-    μ-loop
-    loop-holds
-    entry-at-requires
-    with-entry-requires
-    add-p
-    loop-less
-    loop-again
-    returns)
+    tie.close (tie.spec
+    Inv-loop μ-loop loop-holds (λ c κs. search needs) with-entry-requires (λ c. omega arith)
+    (λ c. omega arith) loop-again returns)

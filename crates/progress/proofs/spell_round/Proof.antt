@@ -6,24 +6,6 @@ use Rattle.progress.proofs.Spelling.{line-made}
 use Rattle.progress.proofs.spell_round.Statement.{statement}
 use Rattle.progress.proofs.spell_round.Tie as tie
 
-slice-aggregate-bytes : tie.Need-slice-aggregate-bytes
-slice-aggregate-bytes c = search needs
-
-bytes-requires : tie.Need-bytes-requires
-bytes-requires c κs = search needs
-
-number-requires : tie.Need-number-requires
-number-requires c κs = search needs
-
-number-requires-2 : tie.Need-number-requires-2
-number-requires-2 c κs = search needs
-
-number-requires-3 : tie.Need-number-requires-3
-number-requires-3 c κs = search needs
-
-same-length : tie.Need-same-length
-same-length c = search needs
-
 returns : tie.Need-returns
 unfolding bytes
 returns c =
@@ -36,12 +18,6 @@ returns c =
 
 pub spell-round-spec : {M : Type 1} → statement M
 spell-round-spec =
-    tie.close
-    (tie.spec
-    slice-aggregate-bytes
-    bytes-requires
-    number-requires
-    number-requires-2
-    number-requires-3
-    same-length
-    returns)
+    tie.close (tie.spec
+    (λ c. search needs) (λ c κs. search needs) (λ c κs. search needs) (λ c κs. search needs)
+    (λ c κs. search needs) (λ c. search needs) returns)

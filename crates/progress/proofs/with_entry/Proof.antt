@@ -8,17 +8,11 @@ use Rattle.progress.proofs.with_entry.Tie as tie
 returns : tie.Need-returns
 returns c figs n is t = tells-past figs n _ is _ t (c .if1 .taken)
 
-add-t4 : tie.Need-add-t4
-add-t4 c = search needs
-
 returns-2 : tie.Need-returns-2
 returns-2 c figs n is t = let b = c .before in tells-larger figs n _ is _ t (b .before .before .if1 .left) (b .if2 .taken)
-
-add-t5 : tie.Need-add-t5
-add-t5 c = search needs
 
 returns-3 : tie.Need-returns-3
 returns-3 c figs n is t = let b = c .before in tells-another figs n _ is _ t (b .before .before .if1 .left) (b .if2 .left)
 
 pub with-entry-spec : {M : Type 1} → statement M
-with-entry-spec = tie.close (tie.spec returns add-t4 returns-2 add-t5 returns-3)
+with-entry-spec = tie.close (tie.spec returns (λ c. search needs) returns-2 (λ c. search needs) returns-3)

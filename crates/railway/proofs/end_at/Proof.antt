@@ -7,12 +7,6 @@ use Rattle.railway.specs.Bounds.{sectionEnds}
 use Rattle.railway.proofs.end_at.Statement.{statement}
 use Rattle.railway.proofs.end_at.Tie as tie
 
-side-at-requires : tie.Need-side-at-requires
-side-at-requires c κs = search needs
-
-leg-at-requires : tie.Need-leg-at-requires
-leg-at-requires c κs = search needs
-
 returns : tie.Need-returns
 unfolding endAt
 returns c = rw (lt-ltb (c .before .before .args .i) sectionEnds (c .before .if1 .taken), c .side-at .ensures)
@@ -22,4 +16,4 @@ unfolding endAt
 returns-2 c = rw (le-ltb (c .before .before .args .i) sectionEnds (c .before .if1 .left), c .leg-at .ensures)
 
 pub end-at-spec : {M : Type 1} → statement M
-end-at-spec = tie.close (tie.spec side-at-requires leg-at-requires returns returns-2)
+end-at-spec = tie.close (tie.spec (λ c κs. search needs) (λ c κs. search needs) returns returns-2)

@@ -6,29 +6,8 @@ use Rattle.railway.proofs.Ends.{side-small, leg-small, section-index, s
 use Rattle.railway.proofs.index_of.Statement.{statement}
 use Rattle.railway.proofs.index_of.Tie as tie
 
-enum-known-e : tie.Need-enum-known-e
-enum-known-e c = search needs
-
-mul-result : tie.Need-mul-result
-mul-result c = search needs
-
-side-index-requires : tie.Need-side-index-requires
-side-index-requires c κs = search needs
-
 add-result : tie.Need-add-result
 add-result c = let n = c .before .before .before .e .given .0 in omega (arith, side-small (n .1 .0), c .side-index .ensures)
-
-enum-known-e-2 : tie.Need-enum-known-e-2
-enum-known-e-2 c = search needs
-
-mul-result-2 : tie.Need-mul-result-2
-mul-result-2 c = search needs
-
-add-result-2 : tie.Need-add-result-2
-add-result-2 c = search needs
-
-leg-index-requires : tie.Need-leg-index-requires
-leg-index-requires c κs = search needs
 
 add-result-3 : tie.Need-add-result-3
 add-result-3 c = let n = c .before .before .before .e2 .given .0 in omega (arith, leg-small (n .1 .0), c .leg-index .ensures)
@@ -47,18 +26,7 @@ returns-4 c = let g = c .before .before .e2 .given in port-past _ (g .0 .0) (g .
 
 pub index-of-spec : {M : Type 1} → statement M
 index-of-spec =
-    tie.close
-    (tie.spec
-    enum-known-e
-    mul-result
-    side-index-requires
-    add-result
-    enum-known-e-2
-    mul-result-2
-    add-result-2
-    leg-index-requires
-    add-result-3
-    returns
-    returns-2
-    returns-3
+    tie.close (tie.spec
+    (λ c. search needs) (λ c. search needs) (λ c κs. search needs) add-result (λ c. search needs)
+    (λ c. search needs) (λ c. search needs) (λ c κs. search needs) add-result-3 returns returns-2 returns-3
     returns-4)

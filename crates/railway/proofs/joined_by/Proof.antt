@@ -7,9 +7,6 @@ use Rattle.railway.proofs.Bytes.{byte-there, byte-past}
 use Rattle.railway.proofs.joined_by.Statement.{statement}
 use Rattle.railway.proofs.joined_by.Tie as tie
 
-end-at-requires : tie.Need-end-at-requires
-end-at-requires c κs = search needs
-
 returns : tie.Need-returns
 returns c = ap With (c .end-at .ensures) ∙ sym (byte-there (c .before .before .args .b) (c .before .if1 .taken))
 
@@ -17,4 +14,4 @@ returns-2 : tie.Need-returns-2
 returns-2 c = sym (byte-past (c .before .args .b) (c .if1 .left))
 
 pub joined-by-spec : {M : Type 1} → statement M
-joined-by-spec = tie.close (tie.spec end-at-requires returns returns-2)
+joined-by-spec = tie.close (tie.spec (λ c κs. search needs) returns returns-2)

@@ -5,9 +5,6 @@ use Rattle.railway.proofs.Lookups.{lent-flag, lent-no-flag}
 use Rattle.railway.proofs.signal_in.Statement.{statement}
 use Rattle.railway.proofs.signal_in.Tie as tie
 
-element-copy-out-result : tie.Need-element-copy-out-result
-element-copy-out-result c = search needs
-
 returns : tie.Need-returns
 returns c = λ r h. lent-flag r _ _ h
 
@@ -15,4 +12,4 @@ returns-2 : tie.Need-returns-2
 returns-2 c = λ r h. lent-no-flag r _ _ h (c .if1 .left)
 
 pub signal-in-spec : {M : Type 1} → statement M
-signal-in-spec = tie.close (tie.spec element-copy-out-result returns returns-2)
+signal-in-spec = tie.close (tie.spec (λ c. search needs) returns returns-2)

@@ -5,35 +5,15 @@ use Rattle.reader.proofs.Parts.{begin-out, begin-in}
 use Rattle.reader.proofs.begin.Statement.{statement}
 use Rattle.reader.proofs.begin.Tie as tie
 
-capped-requires : tie.Need-capped-requires
-capped-requires c κs = search needs
-
-capped-requires-2 : tie.Need-capped-requires-2
-capped-requires-2 c κs = search needs
-
-capped-requires-3 : tie.Need-capped-requires-3
-capped-requires-3 c κs = search needs
-
-counts-outside-requires : tie.Need-counts-outside-requires
-counts-outside-requires c κs = search needs
-
-empty-requires : tie.Need-empty-requires
-empty-requires c κs = search needs
-
-fresh-requires : tie.Need-fresh-requires
-fresh-requires c κs = search needs
-
 returns : tie.Need-returns
 returns c = let e = c .before in let o = e .before .before in let k3 = o .before in let k2 = k3 .before in let k1 = k2 .before in let a = k1 .before .args in begin-out (a .s) (a .p) (a .k) _ _ _ (k1 .capped .ensures) (k2 .capped2 .ensures) (k3 .capped3 .ensures) _ (o .counts-outside .ensures) (e .before .if1 .taken) _ (e .empty .ensures .0) _ (c .fresh .ensures)
-
-empty-requires-2 : tie.Need-empty-requires-2
-empty-requires-2 c κs = search needs
-
-fresh-requires-2 : tie.Need-fresh-requires-2
-fresh-requires-2 c κs = search needs
 
 returns-2 : tie.Need-returns-2
 returns-2 c = let e = c .before in let o = e .before .before in let k3 = o .before in let k2 = k3 .before in let k1 = k2 .before in let a = k1 .before .args in begin-in (a .s) (a .p) (a .k) _ _ _ (k1 .capped .ensures) (k2 .capped2 .ensures) (k3 .capped3 .ensures) _ (o .counts-outside .ensures) (e .before .if1 .left) _ (e .empty2 .ensures .0) _ (c .fresh2 .ensures)
 
 pub begin-spec : {M : Type 1} → statement M
-begin-spec = tie.close (tie.spec capped-requires capped-requires-2 capped-requires-3 counts-outside-requires empty-requires fresh-requires returns empty-requires-2 fresh-requires-2 returns-2)
+begin-spec =
+    tie.close (tie.spec
+    (λ c κs. search needs) (λ c κs. search needs) (λ c κs. search needs) (λ c κs. search needs)
+    (λ c κs. search needs) (λ c κs. search needs) returns (λ c κs. search needs) (λ c κs. search needs)
+    returns-2)

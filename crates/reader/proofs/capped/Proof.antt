@@ -5,9 +5,6 @@ use Rattle.reader.proofs.Parts.{cap-low, cap-high}
 use Rattle.reader.proofs.capped.Statement.{statement}
 use Rattle.reader.proofs.capped.Tie as tie
 
-cast-result : tie.Need-cast-result
-cast-result c = search needs
-
 returns : tie.Need-returns
 returns c = cap-low _ (c .if1 .taken)
 
@@ -15,4 +12,4 @@ returns-2 : tie.Need-returns-2
 returns-2 c = cap-high _ (c .if1 .left)
 
 pub capped-spec : {M : Type 1} → statement M
-capped-spec = tie.close (tie.spec cast-result returns returns-2)
+capped-spec = tie.close (tie.spec (λ c. search needs) returns returns-2)

@@ -9,20 +9,8 @@ use Rattle.drafts.proofs.Whole.{too-long, not-in-form, answered}
 use Rattle.reader.proofs.read_case.Statement.{statement}
 use Rattle.reader.proofs.read_case.Tie as tie
 
-refuse-requires : tie.Need-refuse-requires
-refuse-requires c κs = search needs
-
 returns : tie.Need-returns
 returns c = let text = now (c .before .before .before .args .text) in reader-answers text _ .0 (c .refuse .ensures ∙ too-long text (c .before .if1 .taken))
-
-read-lines-requires : tie.Need-read-lines-requires
-read-lines-requires c κs = search needs
-
-answer-requires : tie.Need-answer-requires
-answer-requires c κs = search needs
-
-refuse-requires-2 : tie.Need-refuse-requires-2
-refuse-requires-2 c κs = search needs
 
 returns-2 : tie.Need-returns-2
 returns-2 c = let t = c .before in let l = t .before in let e = l .before in let text = now (e .before .before .args .text) in reader-answers text _ .0 (c .answer .ensures ∙ answered text (e .if1 .left) _ _ (sym (l .read-lines .ensures) ∙ lines-got _ (t .if2 .taken)))
@@ -31,4 +19,7 @@ returns-3 : tie.Need-returns-3
 returns-3 c = let t = c .before in let l = t .before in let e = l .before in let text = now (e .before .before .args .text) in reader-answers text _ .0 (c .refuse2 .ensures ∙ not-in-form text (e .if1 .left) (sym (l .read-lines .ensures) ∙ lines-bad _ (t .if2 .left)))
 
 pub read-case-spec : {M : Type 1} → statement M
-read-case-spec = tie.close (tie.spec refuse-requires returns read-lines-requires answer-requires refuse-requires-2 returns-2 returns-3)
+read-case-spec =
+    tie.close (tie.spec
+    (λ c κs. search needs) returns (λ c κs. search needs) (λ c κs. search needs) (λ c κs. search needs)
+    returns-2 returns-3)

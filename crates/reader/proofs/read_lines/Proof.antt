@@ -11,47 +11,8 @@ use Rattle.reader.proofs.Parts.{header-bad, one-kind, all-kinds}
 use Rattle.reader.proofs.read_lines.Statement.{statement}
 use Rattle.reader.proofs.read_lines.Tie as tie
 
-first-line-requires : tie.Need-first-line-requires
-first-line-requires c κs = search needs
-
-enum-known-s : tie.Need-enum-known-s
-enum-known-s c = search needs
-
-enum-told : tie.Need-enum-told
-enum-told c = search needs
-
-begin-requires : tie.Need-begin-requires
-begin-requires c κs = search needs
-
-not-in-form-requires : tie.Need-not-in-form-requires
-not-in-form-requires c κs = search needs
-
 returns : tie.Need-returns
 returns c = let t = c .before .before in ap linesGot (c .not-in-form .ensures) ∙ header-bad _ (sym (t .before .before .first-line .ensures) ∙ ap countsGot (t .enum-told .given .1))
-
-begin-requires-2 : tie.Need-begin-requires-2
-begin-requires-2 c κs = search needs
-
-in-form-requires : tie.Need-in-form-requires
-in-form-requires c κs = search needs
-
-lines-of-requires : tie.Need-lines-of-requires
-lines-of-requires c κs = search needs
-
-lines-of-requires-2 : tie.Need-lines-of-requires-2
-lines-of-requires-2 c κs = search needs
-
-lines-of-requires-3 : tie.Need-lines-of-requires-3
-lines-of-requires-3 c κs = search needs
-
-lines-of-requires-4 : tie.Need-lines-of-requires-4
-lines-of-requires-4 c κs = search needs
-
-lines-of-requires-5 : tie.Need-lines-of-requires-5
-lines-of-requires-5 c κs = search needs
-
-to-end-requires : tie.Need-to-end-requires
-to-end-requires c κs = search needs
 
 returns-2 : tie.Need-returns-2
 returns-2 c =
@@ -75,4 +36,9 @@ returns-2 c =
     ∙ all-kinds s _ _ is _ (b .begin2 .ensures) _ (f .in-form .ensures)
 
 pub read-lines-spec : {M : Type 1} → statement M
-read-lines-spec = tie.close (tie.spec first-line-requires enum-known-s enum-told begin-requires not-in-form-requires returns begin-requires-2 in-form-requires lines-of-requires lines-of-requires-2 lines-of-requires-3 lines-of-requires-4 lines-of-requires-5 to-end-requires returns-2)
+read-lines-spec =
+    tie.close (tie.spec
+    (λ c κs. search needs) (λ c. search needs) (λ c. search needs) (λ c κs. search needs)
+    (λ c κs. search needs) returns (λ c κs. search needs) (λ c κs. search needs) (λ c κs. search needs)
+    (λ c κs. search needs) (λ c κs. search needs) (λ c κs. search needs) (λ c κs. search needs)
+    (λ c κs. search needs) returns-2)

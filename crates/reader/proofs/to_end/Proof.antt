@@ -8,9 +8,6 @@ use Rattle.reader.proofs.Parts.{more-left, all-read}
 use Rattle.reader.proofs.to_end.Statement.{statement}
 use Rattle.reader.proofs.to_end.Tie as tie
 
-not-in-form-requires : tie.Need-not-in-form-requires
-not-in-form-requires c κs = search needs
-
 returns : tie.Need-returns
 returns c = let t = c .before in let a = t .before .before .before .before .args in ap linesGot (c .not-in-form .ensures) ∙ more-left (now (a .text)) (a .all) (t .if1 .taken)
 
@@ -18,4 +15,4 @@ returns-2 : tie.Need-returns-2
 returns-2 c = let a = c .before .before .before .before .args in all-read (now (a .text)) (a .all) (c .if1 .left)
 
 pub to-end-spec : {M : Type 1} → statement M
-to-end-spec = tie.close (tie.spec not-in-form-requires returns returns-2)
+to-end-spec = tie.close (tie.spec (λ c κs. search needs) returns returns-2)

@@ -14,35 +14,17 @@ Inv-loop table figures₀ settings₀ m home p₀ figures settings p = Clearing 
 abbrev μ-loop : tie.MeasureT-loop
 μ-loop table figures₀ settings₀ m home p₀ figures settings p = m - p
 
-home-code-requires : tie.Need-home-code-requires Inv-loop μ-loop
-home-code-requires c κs = search needs
-
 loop-holds : tie.Need-loop-holds Inv-loop μ-loop
 loop-holds c = let a = c .before .before .before in clearing-start (a .args .table .now) (a .args .m) (a .args .figures .now) (a .args .settings .now)
 
-cast-at : tie.Need-cast-at Inv-loop μ-loop
-cast-at c = omega arith
-
-first-figure-requires : tie.Need-first-figure-requires Inv-loop μ-loop
-first-figure-requires c κs = search needs
-
-mul-figures : tie.Need-mul-figures Inv-loop μ-loop
-mul-figures c = search needs
-
 slice-write-figures : tie.Need-slice-write-figures Inv-loop μ-loop
 slice-write-figures c = let l = c .before .before in omega (arith, l .loop .inv .long-figs)
-
-mul-settings : tie.Need-mul-settings Inv-loop μ-loop
-mul-settings c = search needs
 
 slice-write-settings : tie.Need-slice-write-settings Inv-loop μ-loop
 slice-write-settings c = let l = c .before .before in omega (arith, l .loop .inv .long-sets)
 
 add-p : tie.Need-add-p Inv-loop μ-loop
 add-p c = let a = c .before .before .before .before .before .before in omega (arith, a .fits .m)
-
-loop-less : tie.Need-loop-less Inv-loop μ-loop
-loop-less c = omega arith
 
 loop-again : tie.Need-loop-again Inv-loop μ-loop
 loop-again c =
@@ -65,21 +47,7 @@ returns c =
 
 pub clear-spec : {M : Type 1} → statement M
 clear-spec =
-    tie.close
-    (tie.spec
-    Inv-loop
-    μ-loop
-    home-code-requires
-    loop-holds
-    cast-at
-    first-figure-requires
-    mul-figures
-    slice-write-figures
-    mul-settings
-    slice-write-settings
-    add-p
-    loop-less
-    loop-again
-    same-length
-    same-length-2
-    returns)
+    tie.close (tie.spec
+    Inv-loop μ-loop (λ c κs. search needs) loop-holds (λ c. omega arith) (λ c κs. search needs)
+    (λ c. search needs) slice-write-figures (λ c. search needs) slice-write-settings add-p (λ c. omega arith)
+    loop-again same-length same-length-2 returns)

@@ -12,9 +12,6 @@ mul-result c =
     let a = c .before in
     omega (arith, times-fits 4294967295 255 {a = a .args .stride} {b = a .args .s} (omega (arith, a .fits .stride)) (omega (arith, a .fits .s)))
 
-cast-result : tie.Need-cast-result
-cast-result c = search needs
-
 returns : tie.Need-returns
 returns c = let a = c .before in λ e. stride-next (a .args .s) (a .args .t) (a .args .stride) e (omega (arith, a .fits .s)) (c .if1 .taken)
 
@@ -22,4 +19,4 @@ returns-2 : tie.Need-returns-2
 returns-2 c = let a = c .before in λ e. stride-past (a .args .s) (a .args .t) (a .args .stride) e (c .if1 .left)
 
 pub next-stride-spec : {M : Type 1} → statement M
-next-stride-spec = tie.close (tie.spec mul-result cast-result returns returns-2)
+next-stride-spec = tie.close (tie.spec mul-result (λ c. search needs) returns returns-2)

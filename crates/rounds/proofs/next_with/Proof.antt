@@ -16,32 +16,14 @@ Inv-loop figures figure c upto e₀ e = Passed figures figure c upto e
 abbrev μ-loop : tie.MeasureT-loop
 μ-loop figures figure c upto e₀ e = upto - e
 
-pass-blocks-requires : tie.Need-pass-blocks-requires Inv-loop μ-loop
-pass-blocks-requires c κs = search needs
-
 loop-holds : tie.Need-loop-holds Inv-loop μ-loop
 loop-holds c = c .pass-blocks .ensures
-
-cast-at : tie.Need-cast-at Inv-loop μ-loop
-cast-at c = search needs
-
-mul-if1 : tie.Need-mul-if1 Inv-loop μ-loop
-mul-if1 c = search needs
-
-shared-slice-read-if1 : tie.Need-shared-slice-read-if1 Inv-loop μ-loop
-shared-slice-read-if1 c = search needs
 
 returns : tie.Need-returns Inv-loop μ-loop
 returns c =
     let l = c .before .before .before in
     let a = l .before .before .before in
     (l .loop .inv, λ h. getD-inside (a .args .figures .now) (l .loop .e) _ 0 (omega (arith, a .pre)) ∙ c .if1 .taken)
-
-add-e : tie.Need-add-e Inv-loop μ-loop
-add-e c = search needs
-
-loop-less : tie.Need-loop-less Inv-loop μ-loop
-loop-less c = search needs
 
 loop-again : tie.Need-loop-again Inv-loop μ-loop
 loop-again c =
@@ -55,17 +37,6 @@ returns-2 c = (c .before .loop .inv, λ h. absurd (omega (arith, c .loop-test .l
 
 pub next-with-spec : {M : Type 1} → statement M
 next-with-spec =
-    tie.close
-    (tie.spec
-    Inv-loop
-    μ-loop
-    pass-blocks-requires
-    loop-holds
-    cast-at
-    mul-if1
-    shared-slice-read-if1
-    returns
-    add-e
-    loop-less
-    loop-again
-    returns-2)
+    tie.close (tie.spec
+    Inv-loop μ-loop (λ c κs. search needs) loop-holds (λ c. search needs) (λ c. search needs)
+    (λ c. search needs) returns (λ c. search needs) (λ c. search needs) loop-again returns-2)

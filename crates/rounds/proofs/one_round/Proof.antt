@@ -15,12 +15,6 @@ Inv-loop table ways behind figures₀ settings₀ marks₀ m n soon k t₀ figur
 abbrev μ-loop : tie.MeasureT-loop
 μ-loop table ways behind figures₀ settings₀ marks₀ m n soon k t₀ figures settings marks t = k - t
 
-soon-requires : tie.Need-soon-requires Inv-loop μ-loop
-soon-requires c κs = search needs
-
-trains-in-requires : tie.Need-trains-in-requires Inv-loop μ-loop
-trains-in-requires c κs = search needs
-
 loop-holds : tie.Need-loop-holds Inv-loop μ-loop
 loop-holds c =
     let a = c .before .before .before .before .before .args in
@@ -49,9 +43,6 @@ loop-again c =
       omega (arith, i .loop-test .taken),
     )
 
-next-round-requires : tie.Need-next-round-requires Inv-loop μ-loop
-next-round-requires c κs = search needs
-
 same-length : tie.Need-same-length Inv-loop μ-loop
 same-length c = c .before .before .before .loop .inv .0 .long-figs
 
@@ -79,19 +70,6 @@ returns c =
 
 pub one-round-spec : {M : Type 1} → statement M
 one-round-spec =
-    tie.close
-    (tie.spec
-    Inv-loop
-    μ-loop
-    soon-requires
-    trains-in-requires
-    loop-holds
-    round-by-requires
-    add-t
-    loop-less
-    loop-again
-    next-round-requires
-    same-length
-    same-length-2
-    same-length-3
-    returns)
+    tie.close (tie.spec
+    Inv-loop μ-loop (λ c κs. search needs) (λ c κs. search needs) loop-holds round-by-requires add-t loop-less
+    loop-again (λ c κs. search needs) same-length same-length-2 same-length-3 returns)

@@ -17,26 +17,11 @@ abbrev μ-loop : tie.MeasureT-loop
 loop-holds : tie.Need-loop-holds Inv-loop μ-loop
 loop-holds c = let a = c .before in passed-start (a .args .figures .now) (a .args .figure) (a .args .c) (a .args .upto)
 
-sub-if1 : tie.Need-sub-if1 Inv-loop μ-loop
-sub-if1 c = search needs
-
 returns : tie.Need-returns Inv-loop μ-loop
 returns c = c .before .before .loop .inv
 
-add-has-figure : tie.Need-add-has-figure Inv-loop μ-loop
-add-has-figure c = search needs
-
-has-figure-requires : tie.Need-has-figure-requires Inv-loop μ-loop
-has-figure-requires c κs = search needs
-
 returns-2 : tie.Need-returns-2 Inv-loop μ-loop
 returns-2 c = c .before .before .before .before .loop .inv
-
-add-e : tie.Need-add-e Inv-loop μ-loop
-add-e c = search needs
-
-loop-less : tie.Need-loop-less Inv-loop μ-loop
-loop-less c = search needs
 
 loop-again : tie.Need-loop-again Inv-loop μ-loop
 loop-again c =
@@ -51,17 +36,6 @@ returns-3 c = c .before .loop .inv
 
 pub pass-blocks-spec : {M : Type 1} → statement M
 pass-blocks-spec =
-    tie.close
-    (tie.spec
-    Inv-loop
-    μ-loop
-    loop-holds
-    sub-if1
-    returns
-    add-has-figure
-    has-figure-requires
-    returns-2
-    add-e
-    loop-less
-    loop-again
-    returns-3)
+    tie.close (tie.spec
+    Inv-loop μ-loop loop-holds (λ c. search needs) returns (λ c. search needs) (λ c κs. search needs)
+    returns-2 (λ c. search needs) (λ c. search needs) loop-again returns-3)

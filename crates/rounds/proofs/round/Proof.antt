@@ -5,35 +5,14 @@ use borrow.Author.Needs.{needs}
 use Rattle.rounds.proofs.round.Statement.{statement}
 use Rattle.rounds.proofs.round.Tie as tie
 
-placements-requires : tie.Need-placements-requires
-placements-requires c κs = search needs
-
-cast-if1 : tie.Need-cast-if1
-cast-if1 c = search needs
-
 returns : tie.Need-returns
 returns c = (λ l. l, λ r k h w b lf ls. absurd (omega (arith, c .before .placements .ensures r h, c .if1 .taken, lf)))
-
-cast-if2 : tie.Need-cast-if2
-cast-if2 c = search needs
 
 returns-2 : tie.Need-returns-2
 returns-2 c = (λ l. l, λ r k h w b lf ls. absurd (omega (arith, c .before .before .placements .ensures r h, c .if2 .taken, ls)))
 
 returns-3 : tie.Need-returns-3
 returns-3 c = (λ l. l, λ r k h w b lf ls few. absurd (omega (arith, c .if3 .taken, few)))
-
-one-round-requires : tie.Need-one-round-requires
-one-round-requires c κs = search needs
-
-same-length : tie.Need-same-length
-same-length c = search needs
-
-same-length-2 : tie.Need-same-length-2
-same-length-2 c = search needs
-
-same-length-3 : tie.Need-same-length-3
-same-length-3 c = search needs
 
 returns-4 : tie.Need-returns-4
 returns-4 c =
@@ -43,16 +22,6 @@ returns-4 c =
 
 pub round-spec : {M : Type 1} → statement M
 round-spec =
-    tie.close
-    (tie.spec
-    placements-requires
-    cast-if1
-    returns
-    cast-if2
-    returns-2
-    returns-3
-    one-round-requires
-    same-length
-    same-length-2
-    same-length-3
-    returns-4)
+    tie.close (tie.spec
+    (λ c κs. search needs) (λ c. search needs) returns (λ c. search needs) returns-2 returns-3
+    (λ c κs. search needs) (λ c. search needs) (λ c. search needs) (λ c. search needs) returns-4)

@@ -18,9 +18,6 @@ Inv-loop table ways behind figures₀ settings₀ marks₀ m n soon t c₀ figur
 abbrev μ-loop : tie.MeasureT-loop
 μ-loop table ways behind figures₀ settings₀ marks₀ m n soon t c₀ figures settings marks c = m - c
 
-shares-weight-requires : tie.Need-shares-weight-requires Inv-loop μ-loop
-shares-weight-requires c κs = search needs
-
 returns : tie.Need-returns Inv-loop μ-loop
 returns p =
     let s = p .before in
@@ -36,15 +33,6 @@ returns-2 p =
     λ r h o runs.
     weight-rests r (a .table .now) (a .ways .now) (a .m) (a .n) (a .soon) (a .t) (a .figures .now) (a .settings .now) (a .marks .now) o
     (λ q l k. omega (arith, p .if2 .taken, k .ahead .makes, facts r (o .compiled .accepted) .weights (a .t) runs .0))
-
-sub-next-due : tie.Need-sub-next-due Inv-loop μ-loop
-sub-next-due c = search needs
-
-next-due-requires : tie.Need-next-due-requires Inv-loop μ-loop
-next-due-requires c κs = search needs
-
-same-length : tie.Need-same-length Inv-loop μ-loop
-same-length c = search needs
 
 returns-3 : tie.Need-returns-3 Inv-loop μ-loop
 returns-3 p =
@@ -114,23 +102,7 @@ returns-4 c =
 
 pub round-by-spec : {M : Type 1} → statement M
 round-by-spec =
-    tie.close
-    (tie.spec
-    Inv-loop
-    μ-loop
-    shares-weight-requires
-    returns
-    returns-2
-    sub-next-due
-    next-due-requires
-    same-length
-    returns-3
-    loop-holds
-    stretch-end-requires
-    visit-stretch-requires
-    loop-less
-    loop-again
-    same-length-2
-    same-length-3
-    same-length-4
-    returns-4)
+    tie.close (tie.spec
+    Inv-loop μ-loop (λ c κs. search needs) returns returns-2 (λ c. search needs) (λ c κs. search needs)
+    (λ c. search needs) returns-3 loop-holds stretch-end-requires visit-stretch-requires loop-less loop-again
+    same-length-2 same-length-3 same-length-4 returns-4)

@@ -8,18 +8,6 @@ use borrow.Author.Needs.{needs}
 use Rattle.rounds.proofs.visit.Statement.{statement}
 use Rattle.rounds.proofs.visit.Tie as tie
 
-find-in-requires : tie.Need-find-in-requires
-find-in-requires c κs = search needs
-
-enum-known-found : tie.Need-enum-known-found
-enum-known-found c = search needs
-
-enum-told : tie.Need-enum-told
-enum-told c = search needs
-
-same-length : tie.Need-same-length
-same-length c = search needs
-
 returns : tie.Need-returns
 returns c =
     let f = c .before .before in
@@ -27,30 +15,6 @@ returns c =
     λ r m d o on l empty.
     visit-rests r (a .args .table .now) (a .args .ways .now) m (a .args .n) (a .args .soon) d (a .args .p) (a .args .figures .now) (a .args .settings .now) (a .args .marks .now) o l empty _
     (f .find-in .ensures r _ on (o .laid) (sym (code-back r _ (o .compiled) _ _ on l))) (ap entryFound (c .enum-told .given .1))
-
-mul-figures : tie.Need-mul-figures
-mul-figures c = search needs
-
-slice-write-figures : tie.Need-slice-write-figures
-slice-write-figures c = search needs
-
-mul-settings : tie.Need-mul-settings
-mul-settings c = search needs
-
-slice-write-settings : tie.Need-slice-write-settings
-slice-write-settings c = search needs
-
-gain-requires : tie.Need-gain-requires
-gain-requires c κs = search needs
-
-same-length-2 : tie.Need-same-length-2
-same-length-2 c = search needs
-
-same-length-3 : tie.Need-same-length-3
-same-length-3 c = search needs
-
-same-length-4 : tie.Need-same-length-4
-same-length-4 c = search needs
 
 returns-2 : tie.Need-returns-2
 returns-2 c =
@@ -65,19 +29,7 @@ returns-2 c =
 
 pub visit-spec : {M : Type 1} → statement M
 visit-spec =
-    tie.close
-    (tie.spec
-    find-in-requires
-    enum-known-found
-    enum-told
-    same-length
-    returns
-    mul-figures
-    slice-write-figures
-    mul-settings
-    slice-write-settings
-    gain-requires
-    same-length-2
-    same-length-3
-    same-length-4
-    returns-2)
+    tie.close (tie.spec
+    (λ c κs. search needs) (λ c. search needs) (λ c. search needs) (λ c. search needs) returns
+    (λ c. search needs) (λ c. search needs) (λ c. search needs) (λ c. search needs) (λ c κs. search needs)
+    (λ c. search needs) (λ c. search needs) (λ c. search needs) returns-2)

@@ -20,15 +20,6 @@ Inv-loop table ways behind figures₀ settings₀ marks₀ m n soon w c q s k st
 abbrev μ-loop : tie.MeasureT-loop
 μ-loop table ways behind figures₀ settings₀ marks₀ m n soon w c q s k stride₀ t₀ figures settings marks stride t = k - t
 
-placement-of-requires : tie.Need-placement-of-requires Inv-loop μ-loop
-placement-of-requires c κs = search needs
-
-sections-in-requires : tie.Need-sections-in-requires Inv-loop μ-loop
-sections-in-requires c κs = search needs
-
-trains-in-requires : tie.Need-trains-in-requires Inv-loop μ-loop
-trains-in-requires c κs = search needs
-
 loop-holds : tie.Need-loop-holds Inv-loop μ-loop
 loop-holds c =
     let a = c .before .before .before .before .before .before in
@@ -39,9 +30,6 @@ visit-weighing-requires c κs =
     let l = c .before .before .before .before in
     let a = l .before .before .before .before .before .before .before in
     (omega (arith, a .pre .0, l .loop .inv .0 .long-figs), omega (arith, a .pre .1, l .loop .inv .0 .long-sets))
-
-next-stride-requires : tie.Need-next-stride-requires Inv-loop μ-loop
-next-stride-requires c κs = search needs
 
 add-t : tie.Need-add-t Inv-loop μ-loop
 add-t c = omega (arith, c .before .before .before .before .before .before .before .before .before .before .before .loop-test .taken)
@@ -86,20 +74,7 @@ returns c =
 
 pub visit-before-spec : {M : Type 1} → statement M
 visit-before-spec =
-    tie.close
-    (tie.spec
-    Inv-loop
-    μ-loop
-    placement-of-requires
-    sections-in-requires
-    trains-in-requires
-    loop-holds
-    visit-weighing-requires
-    next-stride-requires
-    add-t
-    loop-less
-    loop-again
-    same-length
-    same-length-2
-    same-length-3
-    returns)
+    tie.close (tie.spec
+    Inv-loop μ-loop (λ c κs. search needs) (λ c κs. search needs) (λ c κs. search needs) loop-holds
+    visit-weighing-requires (λ c κs. search needs) add-t loop-less loop-again same-length same-length-2
+    same-length-3 returns)

@@ -6,12 +6,6 @@ use borrow.Author.Needs.{needs}
 use Rattle.rounds.proofs.visit_put.Statement.{statement}
 use Rattle.rounds.proofs.visit_put.Tie as tie
 
-waits-requires : tie.Need-waits-requires
-waits-requires c κs = search needs
-
-put-on-requires : tie.Need-put-on-requires
-put-on-requires c κs = search needs
-
 visit-requires : tie.Need-visit-requires
 visit-requires c κs =
     let i = c .before .before .before .before in
@@ -19,15 +13,6 @@ visit-requires c κs =
     let a = w .before .before .before .before .before in
     let l = waits-inside (a .args .figures .now) (a .args .m) (a .args .p) _ (w .waits .ensures) (i .if1 .taken) in
     (omega (arith, l, a .pre .0), omega (arith, l, a .pre .1))
-
-same-length : tie.Need-same-length
-same-length c = search needs
-
-same-length-2 : tie.Need-same-length-2
-same-length-2 c = search needs
-
-same-length-3 : tie.Need-same-length-3
-same-length-3 c = search needs
 
 returns : tie.Need-returns
 returns p =
@@ -39,9 +24,6 @@ returns p =
     one-visit r (a .args .table .now) (a .args .ways .now) (a .args .m) (a .args .n) (a .args .soon) d c (a .args .t) (a .args .y) (a .args .p) (a .args .figures .now) (a .args .settings .now) (a .args .marks .now) o there put (a .args .q) _ on lt _ (w .waits .ensures) (i .if1 .taken)
     (v .before .put-on .ensures) _ _ _ (v .visit .ensures)
 
-same-length-4 : tie.Need-same-length-4
-same-length-4 c = search needs
-
 returns-2 : tie.Need-returns-2
 returns-2 p =
     let w = p .before in
@@ -51,14 +33,6 @@ returns-2 p =
 
 pub visit-put-spec : {M : Type 1} → statement M
 visit-put-spec =
-    tie.close
-    (tie.spec
-    waits-requires
-    put-on-requires
-    visit-requires
-    same-length
-    same-length-2
-    same-length-3
-    returns
-    same-length-4
-    returns-2)
+    tie.close (tie.spec
+    (λ c κs. search needs) (λ c κs. search needs) visit-requires (λ c. search needs) (λ c. search needs)
+    (λ c. search needs) returns (λ c. search needs) returns-2)

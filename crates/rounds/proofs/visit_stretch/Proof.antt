@@ -9,12 +9,6 @@ use Rattle.rounds.proofs.Turns.{not-due, turn-over, due-again}
 use Rattle.rounds.proofs.visit_stretch.Statement.{statement}
 use Rattle.rounds.proofs.visit_stretch.Tie as tie
 
-due-at-requires : tie.Need-due-at-requires
-due-at-requires c κs = search needs
-
-same-length : tie.Need-same-length
-same-length c = search needs
-
 returns : tie.Need-returns
 returns p =
     let d = p .before in
@@ -24,30 +18,6 @@ returns p =
     visited-none r (a .n) (record { train = a .t; code = a .upto }) (Ahead r (a .n) (weightOf r (a .t)) (a .figures .now) (a .from) (a .upto)) (a .figures .now) (a .settings .now) (a .marks .now)
     (turn-over r (a .n) (a .m) (a .t) (a .from) (a .upto) (o .counted) (s .pre .2) st (s .pre .3) runs first (a .table .now) (a .ways .now) (a .soon) (a .figures .now) (a .marks .now) o _ (d .due-at .ensures) (p .if1 .taken))
     (not-due r (a .n) (a .m) (a .t) (a .from) (a .upto) (o .counted) (s .pre .2) st (s .pre .3) runs first (a .table .now) (a .ways .now) (a .soon) (a .figures .now) (a .marks .now) o _ (d .due-at .ensures) (p .if1 .taken))
-
-weight-in-requires : tie.Need-weight-in-requires
-weight-in-requires c κs = search needs
-
-visit-codes-requires : tie.Need-visit-codes-requires
-visit-codes-requires c κs = search needs
-
-most-at-requires : tie.Need-most-at-requires
-most-at-requires c κs = search needs
-
-due-behind-requires : tie.Need-due-behind-requires
-due-behind-requires c κs = search needs
-
-set-due-requires : tie.Need-set-due-requires
-set-due-requires c κs = search needs
-
-same-length-2 : tie.Need-same-length-2
-same-length-2 c = search needs
-
-same-length-3 : tie.Need-same-length-3
-same-length-3 c = search needs
-
-same-length-4 : tie.Need-same-length-4
-same-length-4 c = search needs
 
 returns-2 : tie.Need-returns-2
 returns-2 p =
@@ -68,17 +38,7 @@ returns-2 p =
 
 pub visit-stretch-spec : {M : Type 1} → statement M
 visit-stretch-spec =
-    tie.close
-    (tie.spec
-    due-at-requires
-    same-length
-    returns
-    weight-in-requires
-    visit-codes-requires
-    most-at-requires
-    due-behind-requires
-    set-due-requires
-    same-length-2
-    same-length-3
-    same-length-4
-    returns-2)
+    tie.close (tie.spec
+    (λ c κs. search needs) (λ c. search needs) returns (λ c κs. search needs) (λ c κs. search needs)
+    (λ c κs. search needs) (λ c κs. search needs) (λ c κs. search needs) (λ c. search needs)
+    (λ c. search needs) (λ c. search needs) returns-2)

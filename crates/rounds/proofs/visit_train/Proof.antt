@@ -23,12 +23,6 @@ abbrev μ-loop : tie.MeasureT-loop
 μ-loop table ways behind figures₀ settings₀ marks₀ m n soon q c t stride x e j₀ figures settings marks j =
     mostWays - j
 
-section-at-requires : tie.Need-section-at-requires Inv-loop μ-loop
-section-at-requires c κs = search needs
-
-end-behind-requires : tie.Need-end-behind-requires Inv-loop μ-loop
-end-behind-requires c κs = search needs
-
 -- before the loop
 abbrev start : tie.After-end-behind Inv-loop μ-loop → tie.Start Inv-loop μ-loop
 start b = b .before .before .before .before .before
@@ -43,9 +37,6 @@ loop-holds c =
     let a = start c .args in
     visited-to-start (λ r. Standing r (a .table .now) (a .behind .now) (a .q) (a .c) (a .t) (a .stride)) (a .table .now) (a .ways .now) (a .m) (a .n) (a .soon) (λ r i. BackBy r (a .c) (a .t) _ i) (a .figures .now) (a .settings .now) (a .marks .now) 0
     (λ r u k. no-way (a .table .now) (a .behind .now) (a .q) (a .c) (a .t) (a .stride) _ _ (c .before .section-at .ensures) (c .end-behind .ensures) r u k)
-
-way-to-requires : tie.Need-way-to-requires Inv-loop μ-loop
-way-to-requires c κs = search needs
 
 same-length : tie.Need-same-length Inv-loop μ-loop
 same-length c = c .before .before .before .loop .inv .long-figs
@@ -69,17 +60,11 @@ returns c =
     (λ r d g o u lu k. way-last (a .table .now) (a .behind .now) (a .q) (a .c) (a .t) (a .stride) _ _ here (b .end-behind .ensures) _ _ (w .way-to .ensures .0) r g (c .if1 .taken) u (by-ways (a .table .now) (a .behind .now) (a .q) (a .c) (a .t) (a .stride) _ _ here (b .end-behind .ensures) r g u lu k))
     r d (given b r h on lc lt stride) o
 
-code-put-requires : tie.Need-code-put-requires Inv-loop μ-loop
-code-put-requires c κs = search needs
-
 visit-put-requires : tie.Need-visit-put-requires Inv-loop μ-loop
 visit-put-requires c κs =
     let l = c .before .before .before .before .before .before .before in
     let a = start (l .before) in
     (omega (arith, a .pre .0, l .loop .inv .long-figs), omega (arith, a .pre .1, l .loop .inv .long-sets))
-
-add-j : tie.Need-add-j Inv-loop μ-loop
-add-j c = search needs
 
 loop-less : tie.Need-loop-less Inv-loop μ-loop
 loop-less c = omega (arith, c .before .before .before .before .before .before .before .before .before .before .before .before .before .loop-test .taken)
@@ -126,24 +111,7 @@ returns-2 c =
 
 pub visit-train-spec : {M : Type 1} → statement M
 visit-train-spec =
-    tie.close
-    (tie.spec
-    Inv-loop
-    μ-loop
-    section-at-requires
-    end-behind-requires
-    loop-holds
-    way-to-requires
-    same-length
-    same-length-2
-    same-length-3
-    returns
-    code-put-requires
-    visit-put-requires
-    add-j
-    loop-less
-    loop-again
-    same-length-4
-    same-length-5
-    same-length-6
-    returns-2)
+    tie.close (tie.spec
+    Inv-loop μ-loop (λ c κs. search needs) (λ c κs. search needs) loop-holds (λ c κs. search needs)
+    same-length same-length-2 same-length-3 returns (λ c κs. search needs) visit-put-requires
+    (λ c. search needs) loop-less loop-again same-length-4 same-length-5 same-length-6 returns-2)

@@ -7,27 +7,12 @@ use Rattle.rounds.proofs.Visits.{visited-none, visited-less}
 use Rattle.rounds.proofs.visit_weighing.Statement.{statement}
 use Rattle.rounds.proofs.visit_weighing.Tie as tie
 
-weight-in-requires : tie.Need-weight-in-requires
-weight-in-requires c κs = search needs
-
 returns : tie.Need-returns
 returns p =
     let w = p .before in
     let a = w .before .before .before .before .args in
     λ r d h o on lc lt stride.
     visited-none r (a .n) d (ByWeight r (a .w) (a .c) (a .t)) (a .figures .now) (a .settings .now) (a .marks .now) (o .marked) (λ q l k. p .if1 .taken (w .weight-in .ensures r (o .compiled) ∙ k .weighs))
-
-visit-train-requires : tie.Need-visit-train-requires
-visit-train-requires c κs = search needs
-
-same-length : tie.Need-same-length
-same-length c = search needs
-
-same-length-2 : tie.Need-same-length-2
-same-length-2 c = search needs
-
-same-length-3 : tie.Need-same-length-3
-same-length-3 c = search needs
 
 returns-2 : tie.Need-returns-2
 returns-2 p =
@@ -38,12 +23,6 @@ returns-2 p =
 
 pub visit-weighing-spec : {M : Type 1} → statement M
 visit-weighing-spec =
-    tie.close
-    (tie.spec
-    weight-in-requires
-    returns
-    visit-train-requires
-    same-length
-    same-length-2
-    same-length-3
-    returns-2)
+    tie.close (tie.spec
+    (λ c κs. search needs) returns (λ c κs. search needs) (λ c. search needs) (λ c. search needs)
+    (λ c. search needs) returns-2)

@@ -10,12 +10,6 @@ use Rattle.rounds.proofs.waits.Tie as tie
 returns : tie.Need-returns
 returns c = outside (omega (arith, c .if1 .taken))
 
-mul-result : tie.Need-mul-result
-mul-result c = search needs
-
-shared-slice-read-result : tie.Need-shared-slice-read-result
-shared-slice-read-result c = search needs
-
 returns-2 : tie.Need-returns-2
 returns-2 c =
     let f = c .before in
@@ -23,4 +17,4 @@ returns-2 c =
     waits-read (a .args .figures .now) (a .args .m) (a .args .p) (f .if1 .left) (a .pre)
 
 pub waits-spec : {M : Type 1} → statement M
-waits-spec = tie.close (tie.spec returns mul-result shared-slice-read-result returns-2)
+waits-spec = tie.close (tie.spec returns (λ c. search needs) (λ c. search needs) returns-2)

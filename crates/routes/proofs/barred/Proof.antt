@@ -4,12 +4,6 @@ use Rattle.routes.proofs.Putting.{bar-free, bar-plus, bar-minus}
 use Rattle.routes.proofs.barred.Statement.{statement}
 use Rattle.routes.proofs.barred.Tie as tie
 
-shr-if1 : tie.Need-shr-if1
-shr-if1 c = search needs
-
-shr-lies : tie.Need-shr-lies
-shr-lies c = search needs
-
 returns : tie.Need-returns
 returns c = let s = c .before .before in let a = s .args in bar-plus (a .care) (a .want) (a .n) (a .plus) (s .pre) (c .before .if1 .taken) (c .if2 .taken)
 
@@ -20,4 +14,4 @@ returns-3 : tie.Need-returns-3
 returns-3 c = let s = c .before in let a = s .args in bar-free (a .care) (a .want) (a .n) (a .plus) (s .pre) (c .if1 .left)
 
 pub barred-spec : {M : Type 1} → statement M
-barred-spec = tie.close (tie.spec shr-if1 shr-lies returns returns-2 returns-3)
+barred-spec = tie.close (tie.spec (λ c. search needs) (λ c. search needs) returns returns-2 returns-3)

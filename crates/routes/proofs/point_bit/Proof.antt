@@ -4,11 +4,8 @@ use Rattle.routes.proofs.Putting.{power-fits}
 use Rattle.routes.proofs.point_bit.Statement.{statement}
 use Rattle.routes.proofs.point_bit.Tie as tie
 
-shl-result : tie.Need-shl-result
-shl-result c = search needs
-
 returns : tie.Need-returns
 returns c = power-fits (c .args .n) (c .pre)
 
 pub point-bit-spec : {M : Type 1} → statement M
-point-bit-spec = tie.close (tie.spec shl-result returns)
+point-bit-spec = tie.close (tie.spec (λ c. search needs) returns)

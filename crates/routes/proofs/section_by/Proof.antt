@@ -22,23 +22,8 @@ suit points e f s = ap (bitAnd points) (sym e) ∙ s ∙ f
 unsuit : (points : ℕ) {a b x y : ℕ} → x ≡ a → y ≡ b → bitAnd points a ≡ b → bitAnd points x ≡ y
 unsuit points e f s = ap (bitAnd points) e ∙ s ∙ sym f
 
-returns : tie.Need-returns Inv-loop μ-loop
-returns c = search needs
-
-mul-first : tie.Need-mul-first Inv-loop μ-loop
-mul-first c = search needs
-
 loop-holds : tie.Need-loop-holds Inv-loop μ-loop
 loop-holds c = (refl, omega arith, walked-start _ _ _)
-
-add-loop : tie.Need-add-loop Inv-loop μ-loop
-add-loop c = search needs
-
-mul-x : tie.Need-mul-x Inv-loop μ-loop
-mul-x c = search needs
-
-element-copy-out-x : tie.Need-element-copy-out-x Inv-loop μ-loop
-element-copy-out-x c = search needs
 
 returns-2 : tie.Need-returns-2 Inv-loop μ-loop
 returns-2 c =
@@ -47,38 +32,17 @@ returns-2 c =
     let w = l .loop .inv .2 in
     (λ r laid h. walked-none _ _ _ _ w r laid h (i .loop-test .taken) (c .if2 .taken), λ h. absurd (omega (arith, l .before .if1 .left)))
 
-add-wide : tie.Need-add-wide Inv-loop μ-loop
-add-wide c = search needs
-
-mul-wide : tie.Need-mul-wide Inv-loop μ-loop
-mul-wide c = search needs
-
 element-copy-out-wide : tie.Need-element-copy-out-wide Inv-loop μ-loop
 element-copy-out-wide c =
     let i = c .before .before in
     let l = i .before in
     omega (arith, l .before .if1 .left, walked-room _ _ _ _ (l .loop .inv .2) (i .loop-test .taken))
 
-wide-requires : tie.Need-wide-requires Inv-loop μ-loop
-wide-requires c κs = search needs
-
-add-wide-2 : tie.Need-add-wide-2 Inv-loop μ-loop
-add-wide-2 c = search needs
-
-mul-wide-2 : tie.Need-mul-wide-2 Inv-loop μ-loop
-mul-wide-2 c = search needs
-
 element-copy-out-wide-2 : tie.Need-element-copy-out-wide-2 Inv-loop μ-loop
 element-copy-out-wide-2 c =
     let i = c .before .before .before .before in
     let l = i .before in
     omega (arith, l .before .if1 .left, walked-room _ _ _ _ (l .loop .inv .2) (i .loop-test .taken))
-
-wide-requires-2 : tie.Need-wide-requires-2 Inv-loop μ-loop
-wide-requires-2 c κs = search needs
-
-cast-result : tie.Need-cast-result Inv-loop μ-loop
-cast-result c = search needs
 
 returns-3 : tie.Need-returns-3 Inv-loop μ-loop
 returns-3 c =
@@ -91,12 +55,6 @@ returns-3 c =
       λ r laid h. walked-hit _ _ _ _ w r laid h (i .loop-test .taken) (o .if2 .left) (suit (l .before .before .args .points) (a .wide .ensures) (b .wide2 .ensures) (c .if3 .taken)),
       λ h. absurd (omega (arith, l .before .if1 .left)),
     )
-
-add-at : tie.Need-add-at Inv-loop μ-loop
-add-at c = search needs
-
-loop-less : tie.Need-loop-less Inv-loop μ-loop
-loop-less c = search needs
 
 loop-again : tie.Need-loop-again Inv-loop μ-loop
 loop-again c =
@@ -116,28 +74,9 @@ returns-4 c =
 
 pub section-by-spec : {M : Type 1} → statement M
 section-by-spec =
-    tie.close
-    (tie.spec
-    Inv-loop
-    μ-loop
-    returns
-    mul-first
-    loop-holds
-    add-loop
-    mul-x
-    element-copy-out-x
-    returns-2
-    add-wide
-    mul-wide
-    element-copy-out-wide
-    wide-requires
-    add-wide-2
-    mul-wide-2
-    element-copy-out-wide-2
-    wide-requires-2
-    cast-result
-    returns-3
-    add-at
-    loop-less
-    loop-again
+    tie.close (tie.spec
+    Inv-loop μ-loop (λ c. search needs) (λ c. search needs) loop-holds (λ c. search needs) (λ c. search needs)
+    (λ c. search needs) returns-2 (λ c. search needs) (λ c. search needs) element-copy-out-wide
+    (λ c κs. search needs) (λ c. search needs) (λ c. search needs) element-copy-out-wide-2
+    (λ c κs. search needs) (λ c. search needs) returns-3 (λ c. search needs) (λ c. search needs) loop-again
     returns-4)

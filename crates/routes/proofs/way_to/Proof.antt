@@ -7,16 +7,10 @@ use Rattle.routes.proofs.Walking.{to-fits}
 use Rattle.routes.proofs.way_to.Statement.{statement}
 use Rattle.routes.proofs.way_to.Tie as tie
 
-word-requires : tie.Need-word-requires
-word-requires c κs = search needs
-
-cast-result : tie.Need-cast-result
-cast-result c = search needs
-
 returns : tie.Need-returns
 returns c =
     let a = c .before .args in
     (λ r shut h l. ap (λ (x : ℕ). x % 256) (c .word .ensures .0 r shut h l) ∙ to-fits r shut (endAt (a .e)) (a .j), λ l. ap (λ (x : ℕ). x % 256) (c .word .ensures .1 l))
 
 pub way-to-spec : {M : Type 1} → statement M
-way-to-spec = tie.close (tie.spec word-requires cast-result returns)
+way-to-spec = tie.close (tie.spec (λ c κs. search needs) (λ c. search needs) returns)

@@ -4,18 +4,6 @@ use Rattle.run_tables.proofs.Steps.{section-left, section-passed}
 use Rattle.run_tables.proofs.leave.Statement.{statement}
 use Rattle.run_tables.proofs.leave.Tie as tie
 
-element-copy-out-if1 : tie.Need-element-copy-out-if1
-element-copy-out-if1 c = search needs
-
-index-of-requires : tie.Need-index-of-requires
-index-of-requires c κs = search needs
-
-add-enter : tie.Need-add-enter
-add-enter c = search needs
-
-enter-requires : tie.Need-enter-requires
-enter-requires c κs = search needs
-
 returns : tie.Need-returns
 returns c =
     let e = c .before .before in
@@ -27,4 +15,6 @@ returns-2 : tie.Need-returns-2
 returns-2 c = let a = c .before .before .args in λ r x s h l k. section-passed r (a .heading) x s (a .ways .now) h (a .n) l (a .y) _ (c .before .before .pre .1) (c .if1 .left) k
 
 pub leave-spec : {M : Type 1} → statement M
-leave-spec = tie.close (tie.spec element-copy-out-if1 index-of-requires add-enter enter-requires returns returns-2)
+leave-spec =
+    tie.close (tie.spec
+    (λ c. search needs) (λ c κs. search needs) (λ c. search needs) (λ c κs. search needs) returns returns-2)

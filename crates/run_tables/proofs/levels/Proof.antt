@@ -18,15 +18,6 @@ abbrev μ-loop : tie.MeasureT-loop
 loop-holds : tie.Need-loop-holds Inv-loop μ-loop
 loop-holds c = (omega arith, λ r x h k. k)
 
-level-requires : tie.Need-level-requires Inv-loop μ-loop
-level-requires c κs = search needs
-
-add-n : tie.Need-add-n Inv-loop μ-loop
-add-n c = search needs
-
-loop-less : tie.Need-loop-less Inv-loop μ-loop
-loop-less c = search needs
-
 loop-again : tie.Need-loop-again Inv-loop μ-loop
 loop-again c =
     let i = c .before .before in
@@ -41,4 +32,7 @@ returns c =
     λ r x h k. let e : l .loop .n ≡ s = omega (arith, c .loop-test .left, l .loop .inv .0) in rw e at (l .loop .inv .1 r x h k)
 
 pub levels-spec : {M : Type 1} → statement M
-levels-spec = tie.close (tie.spec Inv-loop μ-loop loop-holds level-requires add-n loop-less loop-again returns)
+levels-spec =
+    tie.close (tie.spec
+    Inv-loop μ-loop loop-holds (λ c κs. search needs) (λ c. search needs) (λ c. search needs) loop-again
+    returns)

@@ -13,12 +13,6 @@ returns c = λ r h. row-none r _ _ _ _ h _ (c .if1 .taken) refl
 returns-2 : tie.Need-returns-2
 returns-2 c = λ r h. row-none r _ _ _ _ h _ (omega (arith, c .if2 .taken, few h)) refl
 
-array-write-row : tie.Need-array-write-row
-array-write-row c = search needs
-
-levels-requires : tie.Need-levels-requires
-levels-requires c κs = search needs
-
 returns-3 : tie.Need-returns-3
 returns-3 c =
     let i = c .before .before in
@@ -26,4 +20,4 @@ returns-3 c =
     λ r h. row-done r (a .heading) (a .x) (a .sections) (a .ways .now) h _ (c .levels .ensures r (a .x) h (row-begun r (a .heading) (a .x) (a .sections) (a .ways .now) h _ (omega (arith, i .before .if1 .left)) refl))
 
 pub row-from-spec : {M : Type 1} → statement M
-row-from-spec = tie.close (tie.spec returns returns-2 array-write-row levels-requires returns-3)
+row-from-spec = tie.close (tie.spec returns returns-2 (λ c. search needs) (λ c κs. search needs) returns-3)

@@ -5,27 +5,6 @@ use Rattle.run_tables.proofs.Steps.{refused, filled}
 use Rattle.run_tables.proofs.run_table.Statement.{statement}
 use Rattle.run_tables.proofs.run_table.Tie as tie
 
-test-record-requires : tie.Need-test-record-requires
-test-record-requires c κs = search needs
-
-enum-known-tested : tie.Need-enum-known-tested
-enum-known-tested c = search needs
-
-reply-requires : tie.Need-reply-requires
-reply-requires c κs = search needs
-
-enum-told : tie.Need-enum-told
-enum-told c = search needs
-
-case-ways-requires : tie.Need-case-ways-requires
-case-ways-requires c κs = search needs
-
-fill-requires : tie.Need-fill-requires
-fill-requires c κs = search needs
-
-reply-requires-2 : tie.Need-reply-requires-2
-reply-requires-2 c κs = search needs
-
 returns : tie.Need-returns
 returns c =
     let told = c .before .before in
@@ -44,14 +23,6 @@ returns-2 c =
 
 pub run-table-spec : {M : Type 1} → statement M
 run-table-spec =
-    tie.close
-    (tie.spec
-    test-record-requires
-    enum-known-tested
-    reply-requires
-    enum-told
-    case-ways-requires
-    fill-requires
-    reply-requires-2
-    returns
-    returns-2)
+    tie.close (tie.spec
+    (λ c κs. search needs) (λ c. search needs) (λ c κs. search needs) (λ c. search needs)
+    (λ c κs. search needs) (λ c κs. search needs) (λ c κs. search needs) returns returns-2)

@@ -4,18 +4,6 @@ use Rattle.runs_api.proofs.Tables.{both}
 use Rattle.runs_api.proofs.both_tables.Statement.{statement}
 use Rattle.runs_api.proofs.both_tables.Tie as tie
 
-run-table-requires : tie.Need-run-table-requires
-run-table-requires c κs = search needs
-
-run-table-requires-2 : tie.Need-run-table-requires-2
-run-table-requires-2 c κs = search needs
-
-table-in-requires : tie.Need-table-in-requires
-table-in-requires c κs = search needs
-
-table-in-requires-2 : tie.Need-table-in-requires-2
-table-in-requires-2 c κs = search needs
-
 returns : tie.Need-returns
 returns c =
     let up = c .before in
@@ -24,4 +12,6 @@ returns c =
     both (st .args .r) (st .pre) _ _ (down .before .run-table .result) (down .run-table2 .result) _ _ (down .before .run-table .ensures) (down .run-table2 .ensures) (up .table-in .ensures) (c .table-in2 .ensures)
 
 pub both-tables-spec : {M : Type 1} → statement M
-both-tables-spec = tie.close (tie.spec run-table-requires run-table-requires-2 table-in-requires table-in-requires-2 returns)
+both-tables-spec =
+    tie.close (tie.spec
+    (λ c κs. search needs) (λ c κs. search needs) (λ c κs. search needs) (λ c κs. search needs) returns)

@@ -4,18 +4,6 @@ use Rattle.runs_api.proofs.Tables.{read-accepted, text-refused, text-re
 use Rattle.runs_api.proofs.runs_case.Statement.{statement}
 use Rattle.runs_api.proofs.runs_case.Tie as tie
 
-read-case-requires : tie.Need-read-case-requires
-read-case-requires c κs = search needs
-
-enum-known-answer : tie.Need-enum-known-answer
-enum-known-answer c = search needs
-
-number-requires : tie.Need-number-requires
-number-requires c κs = search needs
-
-enum-told : tie.Need-enum-told
-enum-told c = search needs
-
 both-tables-requires : tie.Need-both-tables-requires
 both-tables-requires c κs = let told = c .before .before in read-accepted _ _ (told .before .before .read-case .ensures) (told .enum-told .given .1)
 
@@ -31,12 +19,6 @@ returns-2 c =
 
 pub runs-case-spec : {M : Type 1} → statement M
 runs-case-spec =
-    tie.close
-    (tie.spec
-    read-case-requires
-    enum-known-answer
-    number-requires
-    enum-told
-    both-tables-requires
-    returns
-    returns-2)
+    tie.close (tie.spec
+    (λ c κs. search needs) (λ c. search needs) (λ c κs. search needs) (λ c. search needs) both-tables-requires
+    returns returns-2)

@@ -8,18 +8,6 @@ use borrow.Author.Needs.{needs}
 use Rattle.runs_io.proofs.runs_input.Statement.{statement}
 use Rattle.runs_io.proofs.runs_input.Tie as tie
 
-read-full-requires : tie.Need-read-full-requires
-read-full-requires c κs = search needs
-
-slice-reshare-prefix-whole-runs : tie.Need-slice-reshare-prefix-whole-runs
-slice-reshare-prefix-whole-runs c = search needs
-
-slice-aggregate-whole-runs : tie.Need-slice-aggregate-whole-runs
-slice-aggregate-whole-runs c = search needs
-
-whole-runs-requires : tie.Need-whole-runs-requires
-whole-runs-requires c κs = search needs
-
 slice-reshare-prefix-write-all : tie.Need-slice-reshare-prefix-write-all
 slice-reshare-prefix-write-all c =
     let t = c .before .before in
@@ -33,15 +21,6 @@ slice-aggregate-write-all c =
     let h = t .whole-runs .ensures (omega (arith, st .pre .1)) .within in
     simp length-take (omega (arith, h))
 
-write-all-requires : tie.Need-write-all-requires
-write-all-requires c κs = search needs
-
-same-length : tie.Need-same-length
-same-length c = search needs
-
-same-length-2 : tie.Need-same-length-2
-same-length-2 c = search needs
-
 returns : tie.Need-returns
 returns c =
     let t = c .before .before .before .before in
@@ -51,15 +30,7 @@ returns c =
 
 pub runs-input-spec : {M : Type 1} → statement M
 runs-input-spec =
-    tie.close
-    (tie.spec
-    read-full-requires
-    slice-reshare-prefix-whole-runs
-    slice-aggregate-whole-runs
-    whole-runs-requires
-    slice-reshare-prefix-write-all
-    slice-aggregate-write-all
-    write-all-requires
-    same-length
-    same-length-2
-    returns)
+    tie.close (tie.spec
+    (λ c κs. search needs) (λ c. search needs) (λ c. search needs) (λ c κs. search needs)
+    slice-reshare-prefix-write-all slice-aggregate-write-all (λ c κs. search needs) (λ c. search needs)
+    (λ c. search needs) returns)

@@ -6,19 +6,10 @@ use borrow.Author.Needs.{needs}
 use Rattle.runs_io.proofs.write_runs.Statement.{statement}
 use Rattle.runs_io.proofs.write_runs.Tie as tie
 
-slice-aggregate-runs-input : tie.Need-slice-aggregate-runs-input
-slice-aggregate-runs-input c = search needs
-
-slice-aggregate-runs-input-2 : tie.Need-slice-aggregate-runs-input-2
-slice-aggregate-runs-input-2 c = search needs
-
 runs-input-requires : tie.Need-runs-input-requires
 runs-input-requires c κs = (own-length _ _ refl, own-length _ _ refl)
 
-returns : tie.Need-returns
-returns c = search needs
-
 pub write-runs-spec : {M : Type 1} → statement M
 write-runs-spec =
-    tie.close
-    (tie.spec slice-aggregate-runs-input slice-aggregate-runs-input-2 runs-input-requires returns)
+    tie.close (tie.spec
+    (λ c. search needs) (λ c. search needs) runs-input-requires (λ c. search needs))

@@ -22,17 +22,11 @@ loop-holds : tie.Need-loop-holds Inv-loop μ-loop
 unfolding anyBelow
 loop-holds c = (refl, omega arith)
 
-cast-at : tie.Need-cast-at Inv-loop μ-loop
-cast-at c = search needs
-
 array-read-if1 : tie.Need-array-read-if1 Inv-loop μ-loop
 array-read-if1 c = omega (arith, c .loop-test .taken, c .before .before .pre)
 
 returns : tie.Need-returns Inv-loop μ-loop
 returns c = any-one _ _ _ (c .before .loop-test .taken) (eq-eqb _ _ (c .if1 .taken))
-
-add-t : tie.Need-add-t Inv-loop μ-loop
-add-t c = search needs
 
 loop-less : tie.Need-loop-less Inv-loop μ-loop
 loop-less c = omega (arith, c .before .loop-test .taken)
@@ -44,4 +38,7 @@ returns-2 : tie.Need-returns-2 Inv-loop μ-loop
 returns-2 c = let l = c .before in any-none _ _ (l .loop .t) (l .loop .inv .0) (l .loop .inv .1) (c .loop-test .left)
 
 pub any-none-spec : {M : Type 1} → statement M
-any-none-spec = tie.close (tie.spec Inv-loop μ-loop loop-holds cast-at array-read-if1 returns add-t loop-less loop-again returns-2)
+any-none-spec =
+    tie.close (tie.spec
+    Inv-loop μ-loop loop-holds (λ c. search needs) array-read-if1 returns (λ c. search needs) loop-less
+    loop-again returns-2)

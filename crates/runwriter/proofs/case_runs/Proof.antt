@@ -4,32 +4,14 @@ use Rattle.runwriter.proofs.Cases.{case-refused, case-accepted, read-ac
 use Rattle.runwriter.proofs.case_runs.Statement.{statement}
 use Rattle.runwriter.proofs.case_runs.Tie as tie
 
-read-case-requires : tie.Need-read-case-requires
-read-case-requires c κs = search needs
-
-enum-known-answer : tie.Need-enum-known-answer
-enum-known-answer c = search needs
-
-refusal-line-requires : tie.Need-refusal-line-requires
-refusal-line-requires c κs = search needs
-
-enum-told : tie.Need-enum-told
-enum-told c = search needs
-
 railway-runs-requires : tie.Need-railway-runs-requires
 railway-runs-requires c κs = let told = c .before in read-accepted _ _ (told .before .before .read-case .ensures) (told .enum-told .given .1)
-
-same-length : tie.Need-same-length
-same-length c = search needs
 
 returns : tie.Need-returns
 returns c =
     let t = c .before .before in
     let m = t .before .before .before in
     case-refused _ _ (m .before .before .read-case .ensures) _ _ _ _ (m .answer .given .1) (t .refusal-line .ensures)
-
-same-length-2 : tie.Need-same-length-2
-same-length-2 c = search needs
 
 returns-2 : tie.Need-returns-2
 returns-2 c =
@@ -39,14 +21,6 @@ returns-2 c =
 
 pub case-runs-spec : {M : Type 1} → statement M
 case-runs-spec =
-    tie.close
-    (tie.spec
-    read-case-requires
-    enum-known-answer
-    refusal-line-requires
-    enum-told
-    railway-runs-requires
-    same-length
-    returns
-    same-length-2
-    returns-2)
+    tie.close (tie.spec
+    (λ c κs. search needs) (λ c. search needs) (λ c κs. search needs) (λ c. search needs)
+    railway-runs-requires (λ c. search needs) returns (λ c. search needs) returns-2)

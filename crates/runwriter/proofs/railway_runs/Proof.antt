@@ -9,12 +9,6 @@ use Rattle.runwriter.proofs.Spelling.{text-short, railway-put}
 use Rattle.runwriter.proofs.railway_runs.Statement.{statement}
 use Rattle.runwriter.proofs.railway_runs.Tie as tie
 
-runs-of-requires : tie.Need-runs-of-requires
-runs-of-requires c κs = search needs
-
-slice-aggregate-spell-runs : tie.Need-slice-aggregate-spell-runs
-slice-aggregate-spell-runs c = search needs
-
 spell-runs-requires : tie.Need-spell-runs-requires
 spell-runs-requires c κs = let st = c .before .before .before in facts (st .args .r) (st .pre) .few-trains
 
@@ -23,12 +17,6 @@ array-share-prefix-own c = let p = c .before .spell-runs in front-fits (p .ensur
 
 slice-aggregate-put : tie.Need-slice-aggregate-put
 slice-aggregate-put c = let p = c .before .before .spell-runs in front-cut (p .ensures) (p .kept .0)
-
-put-requires : tie.Need-put-requires
-put-requires c κs = search needs
-
-same-length : tie.Need-same-length
-same-length c = search needs
 
 returns : tie.Need-returns
 returns c =
@@ -42,13 +30,6 @@ returns c =
 
 pub railway-runs-spec : {M : Type 1} → statement M
 railway-runs-spec =
-    tie.close
-    (tie.spec
-    runs-of-requires
-    slice-aggregate-spell-runs
-    spell-runs-requires
-    array-share-prefix-own
-    slice-aggregate-put
-    put-requires
-    same-length
-    returns)
+    tie.close (tie.spec
+    (λ c κs. search needs) (λ c. search needs) spell-runs-requires array-share-prefix-own slice-aggregate-put
+    (λ c κs. search needs) (λ c. search needs) returns)

@@ -17,15 +17,6 @@ abbrev μ-loop : tie.MeasureT-loop
 loop-holds : tie.Need-loop-holds Inv-loop μ-loop
 loop-holds c = none-read _ _ _ _ refl
 
-cast-at : tie.Need-cast-at Inv-loop μ-loop
-cast-at c = search needs
-
-train-of-requires : tie.Need-train-of-requires Inv-loop μ-loop
-train-of-requires c κs = search needs
-
-run-of-requires : tie.Need-run-of-requires Inv-loop μ-loop
-run-of-requires c κs = search needs
-
 array-write-runs : tie.Need-array-write-runs Inv-loop μ-loop
 array-write-runs c = omega (arith, c .before .before .loop-test .taken)
 
@@ -44,4 +35,7 @@ returns : tie.Need-returns Inv-loop μ-loop
 returns c = λ t l a b. all-read _ _ _ _ _ t (c .loop-test .left) l a b (c .before .loop .inv)
 
 pub read-runs-spec : {M : Type 1} → statement M
-read-runs-spec = tie.close (tie.spec Inv-loop μ-loop loop-holds cast-at train-of-requires run-of-requires array-write-runs add-t loop-less loop-again returns)
+read-runs-spec =
+    tie.close (tie.spec
+    Inv-loop μ-loop loop-holds (λ c. search needs) (λ c κs. search needs) (λ c κs. search needs)
+    array-write-runs add-t loop-less loop-again returns)

@@ -4,21 +4,6 @@ use Rattle.runwriter.proofs.Reading.{trains-run}
 use Rattle.runwriter.proofs.runs_of.Statement.{statement}
 use Rattle.runwriter.proofs.runs_of.Tie as tie
 
-run-table-requires : tie.Need-run-table-requires
-run-table-requires c κs = search needs
-
-run-table-requires-2 : tie.Need-run-table-requires-2
-run-table-requires-2 c κs = search needs
-
-table-in-requires : tie.Need-table-in-requires
-table-in-requires c κs = search needs
-
-table-in-requires-2 : tie.Need-table-in-requires-2
-table-in-requires-2 c κs = search needs
-
-read-runs-requires : tie.Need-read-runs-requires
-read-runs-requires c κs = search needs
-
 returns : tie.Need-returns
 returns c =
     let down = c .before in
@@ -30,4 +15,6 @@ returns c =
 
 pub runs-of-spec : {M : Type 1} → statement M
 runs-of-spec =
-    tie.close (tie.spec run-table-requires run-table-requires-2 table-in-requires table-in-requires-2 read-runs-requires returns)
+    tie.close (tie.spec
+    (λ c κs. search needs) (λ c κs. search needs) (λ c κs. search needs) (λ c κs. search needs)
+    (λ c κs. search needs) returns)

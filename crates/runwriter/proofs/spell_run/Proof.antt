@@ -6,27 +6,6 @@ use Rattle.runwriter.proofs.Spelling.{run-none, run-some}
 use Rattle.runwriter.proofs.spell_run.Statement.{statement}
 use Rattle.runwriter.proofs.spell_run.Tie as tie
 
-slice-aggregate-bytes : tie.Need-slice-aggregate-bytes
-slice-aggregate-bytes c = search needs
-
-bytes-requires : tie.Need-bytes-requires
-bytes-requires c κs = search needs
-
-add-number : tie.Need-add-number
-add-number c = search needs
-
-number-requires : tie.Need-number-requires
-number-requires c κs = search needs
-
-slice-aggregate-bytes-2 : tie.Need-slice-aggregate-bytes-2
-slice-aggregate-bytes-2 c = search needs
-
-bytes-requires-2 : tie.Need-bytes-requires-2
-bytes-requires-2 c κs = search needs
-
-same-length : tie.Need-same-length
-same-length c = search needs
-
 returns : tie.Need-returns
 unfolding bytes
 returns c =
@@ -35,12 +14,6 @@ returns c =
     let number = none .before .before .before in
     let word = number .before .before .before .before in
     run-none _ _ _ refl (none .if1 .taken) (word .bytes .ensures) (number .number .ensures) (run .bytes2 .ensures)
-
-number-requires-2 : tie.Need-number-requires-2
-number-requires-2 c κs = search needs
-
-same-length-2 : tie.Need-same-length-2
-same-length-2 c = search needs
 
 returns-2 : tie.Need-returns-2
 unfolding bytes
@@ -53,16 +26,6 @@ returns-2 c =
 
 pub spell-run-spec : {M : Type 1} → statement M
 spell-run-spec =
-    tie.close
-    (tie.spec
-    slice-aggregate-bytes
-    bytes-requires
-    add-number
-    number-requires
-    slice-aggregate-bytes-2
-    bytes-requires-2
-    same-length
-    returns
-    number-requires-2
-    same-length-2
-    returns-2)
+    tie.close (tie.spec
+    (λ c. search needs) (λ c κs. search needs) (λ c. search needs) (λ c κs. search needs) (λ c. search needs)
+    (λ c κs. search needs) (λ c. search needs) returns (λ c κs. search needs) (λ c. search needs) returns-2)

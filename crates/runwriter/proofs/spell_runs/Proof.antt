@@ -6,21 +6,6 @@ use Rattle.runwriter.proofs.Spelling.{text-none, text-sum}
 use Rattle.runwriter.proofs.spell_runs.Statement.{statement}
 use Rattle.runwriter.proofs.spell_runs.Tie as tie
 
-spell-trains-requires : tie.Need-spell-trains-requires
-spell-trains-requires c κs = search needs
-
-any-none-requires : tie.Need-any-none-requires
-any-none-requires c κs = search needs
-
-slice-aggregate-bytes : tie.Need-slice-aggregate-bytes
-slice-aggregate-bytes c = search needs
-
-bytes-requires : tie.Need-bytes-requires
-bytes-requires c κs = search needs
-
-same-length : tie.Need-same-length
-same-length c = search needs
-
 returns : tie.Need-returns
 unfolding bytes
 returns c =
@@ -30,21 +15,6 @@ returns c =
     let trains = any .before .before .before in
     let a = trains .before .before .before .args in
     text-none (λ t. getD (a .runs) t 0) (a .k) (trains .spell-trains .ensures) _ (any .any-none .ensures) (none .if1 .taken) (last .bytes .ensures)
-
-slice-aggregate-bytes-2 : tie.Need-slice-aggregate-bytes-2
-slice-aggregate-bytes-2 c = search needs
-
-bytes-requires-2 : tie.Need-bytes-requires-2
-bytes-requires-2 c κs = search needs
-
-sum-of-requires : tie.Need-sum-of-requires
-sum-of-requires c κs = search needs
-
-number-requires : tie.Need-number-requires
-number-requires c κs = search needs
-
-same-length-2 : tie.Need-same-length-2
-same-length-2 c = search needs
 
 returns-2 : tie.Need-returns-2
 unfolding bytes
@@ -60,17 +30,7 @@ returns-2 c =
 
 pub spell-runs-spec : {M : Type 1} → statement M
 spell-runs-spec =
-    tie.close
-    (tie.spec
-    spell-trains-requires
-    any-none-requires
-    slice-aggregate-bytes
-    bytes-requires
-    same-length
-    returns
-    slice-aggregate-bytes-2
-    bytes-requires-2
-    sum-of-requires
-    number-requires
-    same-length-2
-    returns-2)
+    tie.close (tie.spec
+    (λ c κs. search needs) (λ c κs. search needs) (λ c. search needs) (λ c κs. search needs)
+    (λ c. search needs) returns (λ c. search needs) (λ c κs. search needs) (λ c κs. search needs)
+    (λ c κs. search needs) (λ c. search needs) returns-2)

@@ -20,17 +20,8 @@ abbrev μ-loop : tie.MeasureT-loop
 loop-holds : tie.Need-loop-holds Inv-loop μ-loop
 loop-holds c = let a = c .before .args in (pieces-none (λ i. runLine i (getD (a .t2) i 0)), omega arith, refl)
 
-cast-at : tie.Need-cast-at Inv-loop μ-loop
-cast-at c = search needs
-
 array-read-spell-run : tie.Need-array-read-spell-run Inv-loop μ-loop
 array-read-spell-run c = let i = c .before in omega (arith, i .loop-test .taken, i .before .before .before .pre)
-
-spell-run-requires : tie.Need-spell-run-requires Inv-loop μ-loop
-spell-run-requires c κs = search needs
-
-add-t : tie.Need-add-t Inv-loop μ-loop
-add-t c = search needs
 
 loop-less : tie.Need-loop-less Inv-loop μ-loop
 loop-less c = omega (arith, c .before .before .before .before .loop-test .taken)
@@ -54,5 +45,6 @@ returns c =
 
 pub spell-trains-spec : {M : Type 1} → statement M
 spell-trains-spec =
-    tie.close
-    (tie.spec Inv-loop μ-loop loop-holds cast-at array-read-spell-run spell-run-requires add-t loop-less loop-again same-length returns)
+    tie.close (tie.spec
+    Inv-loop μ-loop loop-holds (λ c. search needs) array-read-spell-run (λ c κs. search needs)
+    (λ c. search needs) loop-less loop-again same-length returns)

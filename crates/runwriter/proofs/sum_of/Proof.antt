@@ -19,20 +19,11 @@ loop-holds : tie.Need-loop-holds Inv-loop μ-loop
 unfolding sumBelow
 loop-holds c = (refl, omega arith, omega arith)
 
-cast-at : tie.Need-cast-at Inv-loop μ-loop
-cast-at c = search needs
-
 array-read-wide : tie.Need-array-read-wide Inv-loop μ-loop
 array-read-wide c = omega (arith, c .loop-test .taken, c .before .before .pre)
 
-wide-requires : tie.Need-wide-requires Inv-loop μ-loop
-wide-requires c = search needs
-
 add-sum : tie.Need-add-sum Inv-loop μ-loop
 add-sum c = let l = c .before .before in omega (arith, l .loop .inv .2, c .before .loop-test .taken, l .before .pre, c .wide .ensures .1)
-
-add-t : tie.Need-add-t Inv-loop μ-loop
-add-t c = search needs
 
 loop-less : tie.Need-loop-less Inv-loop μ-loop
 loop-less c = omega (arith, c .before .loop-test .taken)
@@ -46,4 +37,7 @@ returns : tie.Need-returns Inv-loop μ-loop
 returns c = let l = c .before in sum-all (l .before .args .t1) (l .before .args .k) (l .loop .t) _ (l .loop .inv .1) (c .loop-test .left) (l .loop .inv .0)
 
 pub sum-of-spec : {M : Type 1} → statement M
-sum-of-spec = tie.close (tie.spec Inv-loop μ-loop loop-holds cast-at array-read-wide wide-requires add-sum add-t loop-less loop-again returns)
+sum-of-spec =
+    tie.close (tie.spec
+    Inv-loop μ-loop loop-holds (λ c. search needs) array-read-wide (λ c. search needs) add-sum
+    (λ c. search needs) loop-less loop-again returns)

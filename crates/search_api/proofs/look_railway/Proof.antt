@@ -5,30 +5,6 @@ use borrow.Author.Needs.{needs}
 use Rattle.search_api.proofs.look_railway.Statement.{statement}
 use Rattle.search_api.proofs.look_railway.Tie as tie
 
-search-of-requires : tie.Need-search-of-requires
-search-of-requires c κs = search needs
-
-placement-of-requires : tie.Need-placement-of-requires
-placement-of-requires c κs = search needs
-
-look-up-requires : tie.Need-look-up-requires
-look-up-requires c κs = search needs
-
-enum-known-n : tie.Need-enum-known-n
-enum-known-n c = search needs
-
-enum-told : tie.Need-enum-told
-enum-told c = search needs
-
-enum-told-2 : tie.Need-enum-told-2
-enum-told-2 c = search needs
-
-enum-known-f : tie.Need-enum-known-f
-enum-known-f c = search needs
-
-number-requires : tie.Need-number-requires
-number-requires c κs = search needs
-
 returns : tie.Need-returns
 returns c =
     let m = c .before in
@@ -67,17 +43,7 @@ returns-4 c =
 
 pub look-railway-spec : {M : Type 1} → statement M
 look-railway-spec =
-    tie.close
-    (tie.spec
-    search-of-requires
-    placement-of-requires
-    look-up-requires
-    enum-known-n
-    enum-told
-    enum-told-2
-    enum-known-f
-    number-requires
-    returns
-    returns-2
-    returns-3
-    returns-4)
+    tie.close (tie.spec
+    (λ c κs. search needs) (λ c κs. search needs) (λ c κs. search needs) (λ c. search needs)
+    (λ c. search needs) (λ c. search needs) (λ c. search needs) (λ c κs. search needs) returns returns-2
+    returns-3 returns-4)

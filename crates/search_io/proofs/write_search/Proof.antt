@@ -6,23 +6,10 @@ use borrow.Author.Needs.{needs}
 use Rattle.search_io.proofs.write_search.Statement.{statement}
 use Rattle.search_io.proofs.write_search.Tie as tie
 
-slice-aggregate-search-input : tie.Need-slice-aggregate-search-input
-slice-aggregate-search-input c = search needs
-
-slice-aggregate-search-input-2 : tie.Need-slice-aggregate-search-input-2
-slice-aggregate-search-input-2 c = search needs
-
 search-input-requires : tie.Need-search-input-requires
 search-input-requires c κs = (own-length _ _ refl, own-length _ _ refl)
 
-returns : tie.Need-returns
-returns c = search needs
-
 pub write-search-spec : {M : Type 1} → statement M
 write-search-spec =
-    tie.close
-    (tie.spec
-    slice-aggregate-search-input
-    slice-aggregate-search-input-2
-    search-input-requires
-    returns)
+    tie.close (tie.spec
+    (λ c. search needs) (λ c. search needs) search-input-requires (λ c. search needs))

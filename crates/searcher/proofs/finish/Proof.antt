@@ -7,24 +7,6 @@ use Rattle.searcher.proofs.Finishing.{finished-next, finished-came, fin
 use Rattle.searcher.proofs.finish.Statement.{statement}
 use Rattle.searcher.proofs.finish.Tie as tie
 
-round-requires : tie.Need-round-requires
-round-requires c κs = search needs
-
-came-requires : tie.Need-came-requires
-came-requires c κs = search needs
-
-follows-requires : tie.Need-follows-requires
-follows-requires c κs = search needs
-
-same-length : tie.Need-same-length
-same-length c = search needs
-
-same-length-2 : tie.Need-same-length-2
-same-length-2 c = search needs
-
-same-length-3 : tie.Need-same-length-3
-same-length-3 c = search needs
-
 returns : tie.Need-returns
 returns c =
     let f = c .before in
@@ -37,18 +19,6 @@ returns c =
     let on = o .round .ensures .0 (omega (arith, few)) in
     let y = m .came .ensures r _ h (omega (arith, few)) (x .1) in
     finished-next r (h .accepted) (a .args .n) _ (a .args .figures .now) (a .args .settings .now) _ _ _ on (x .0) (x .1) _ y (i .if1 .taken) (f .follows .ensures (c .if2 .taken))
-
-look-ahead-requires : tie.Need-look-ahead-requires
-look-ahead-requires c κs = search needs
-
-same-length-4 : tie.Need-same-length-4
-same-length-4 c = search needs
-
-same-length-5 : tie.Need-same-length-5
-same-length-5 c = search needs
-
-same-length-6 : tie.Need-same-length-6
-same-length-6 c = search needs
 
 returns-2 : tie.Need-returns-2
 returns-2 c =
@@ -64,18 +34,6 @@ returns-2 c =
     let z =
     l .look-ahead .ensures r (a .args .n) (omega (arith, few)) h w b (omega (arith, lf, o .round .kept .1 .1 .1 .0)) (omega (arith, ls, o .round .kept .1 .1 .1 .1 .0)) (round-ready r (h .accepted) (a .args .n) _ (a .args .figures .now) (a .args .settings .now) _ _ _ on (x .0) (x .1)) in
     finished-came r (h .accepted) (a .args .n) _ (a .args .figures .now) (a .args .settings .now) _ _ _ on (x .0) (x .1) _ y _ (omega (arith, l .look-ahead .ok)) _ _ _ z (i .if1 .taken)
-
-look-ahead-requires-2 : tie.Need-look-ahead-requires-2
-look-ahead-requires-2 c κs = search needs
-
-same-length-7 : tie.Need-same-length-7
-same-length-7 c = search needs
-
-same-length-8 : tie.Need-same-length-8
-same-length-8 c = search needs
-
-same-length-9 : tie.Need-same-length-9
-same-length-9 c = search needs
 
 returns-3 : tie.Need-returns-3
 returns-3 c =
@@ -94,22 +52,8 @@ returns-3 c =
 
 pub finish-spec : {M : Type 1} → statement M
 finish-spec =
-    tie.close
-    (tie.spec
-    round-requires
-    came-requires
-    follows-requires
-    same-length
-    same-length-2
-    same-length-3
-    returns
-    look-ahead-requires
-    same-length-4
-    same-length-5
-    same-length-6
-    returns-2
-    look-ahead-requires-2
-    same-length-7
-    same-length-8
-    same-length-9
-    returns-3)
+    tie.close (tie.spec
+    (λ c κs. search needs) (λ c κs. search needs) (λ c κs. search needs) (λ c. search needs)
+    (λ c. search needs) (λ c. search needs) returns (λ c κs. search needs) (λ c. search needs)
+    (λ c. search needs) (λ c. search needs) returns-2 (λ c κs. search needs) (λ c. search needs)
+    (λ c. search needs) (λ c. search needs) returns-3)

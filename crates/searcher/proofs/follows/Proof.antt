@@ -9,9 +9,6 @@ use Rattle.laws.proofs.Bools.{clash}
 use Rattle.searcher.proofs.follows.Statement.{statement}
 use Rattle.searcher.proofs.follows.Tie as tie
 
-sub-result : tie.Need-sub-result
-sub-result c = search needs
-
 returns : tie.Need-returns
 returns c = let a = c .before .args in λ e. omega (arith, c .if1 .taken, eqb-true (a .d - a .n) 1 e)
 
@@ -19,4 +16,4 @@ returns-2 : tie.Need-returns-2
 returns-2 c = λ e. clash e refl
 
 pub follows-spec : {M : Type 1} → statement M
-follows-spec = tie.close (tie.spec sub-result returns returns-2)
+follows-spec = tie.close (tie.spec (λ c. search needs) returns returns-2)

@@ -19,9 +19,6 @@ loop-holds c =
     let a = c .before .before .before in
     looked-start (a .args .table .now) (a .args .ways .now) (a .args .behind .now) (a .args .figures .now) (a .args .settings .now) (a .args .marks .now) (a .args .from)
 
-brings-requires : tie.Need-brings-requires Inv-loop μ-loop
-brings-requires c κs = search needs
-
 same-length : tie.Need-same-length Inv-loop μ-loop
 same-length c = c .before .before .before .before .before .loop .inv .long-figs
 
@@ -38,9 +35,6 @@ returns c =
     let l = i .before in
     let a = l .before .before .before .before in
     λ r n room. looked-found (a .args .table .now) (a .args .ways .now) (a .args .behind .now) (a .args .figures .now) (a .args .settings .now) (a .args .marks .now) (a .args .from) (l .loop .figures) (l .loop .settings) (l .loop .marks) (l .loop .d) (l .loop .inv) _ (b .brings .ensures) (omega (arith, i .loop-test .taken)) (c .if1 .taken) r n
-
-round-requires : tie.Need-round-requires Inv-loop μ-loop
-round-requires c κs = search needs
 
 loop-less : tie.Need-loop-less Inv-loop μ-loop
 loop-less c =
@@ -76,20 +70,6 @@ returns-2 c =
 
 pub look-ahead-spec : {M : Type 1} → statement M
 look-ahead-spec =
-    tie.close
-    (tie.spec
-    Inv-loop
-    μ-loop
-    loop-holds
-    brings-requires
-    same-length
-    same-length-2
-    same-length-3
-    returns
-    round-requires
-    loop-less
-    loop-again
-    same-length-4
-    same-length-5
-    same-length-6
-    returns-2)
+    tie.close (tie.spec
+    Inv-loop μ-loop loop-holds (λ c κs. search needs) same-length same-length-2 same-length-3 returns
+    (λ c κs. search needs) loop-less loop-again same-length-4 same-length-5 same-length-6 returns-2)

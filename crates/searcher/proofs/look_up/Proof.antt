@@ -5,18 +5,6 @@ use Rattle.searcher.proofs.Showing.{looks-refused, looks-nowhere, looks
 use Rattle.searcher.proofs.look_up.Statement.{statement}
 use Rattle.searcher.proofs.look_up.Tie as tie
 
-open-case-requires : tie.Need-open-case-requires
-open-case-requires c κs = search needs
-
-enum-known-tested : tie.Need-enum-known-tested
-enum-known-tested c = search needs
-
-enum-told : tie.Need-enum-told
-enum-told c = search needs
-
-names-none-requires : tie.Need-names-none-requires
-names-none-requires c κs = search needs
-
 returns : tie.Need-returns
 returns c =
     let x = c .before in
@@ -24,15 +12,6 @@ returns c =
     let o = t .before .before .before in
     let a = o .before .before .before in
     looks-nowhere (a .args .r) (a .args .figures .now) (a .args .settings .now) _ (o .open-case .ensures) (a .args .search) _ (t .enum-told .given .1) _ (x .names-none .ensures) (c .if1 .taken)
-
-code-of-requires : tie.Need-code-of-requires
-code-of-requires c κs = search needs
-
-entry-at-requires : tie.Need-entry-at-requires
-entry-at-requires c κs = search needs
-
-shows-requires : tie.Need-shows-requires
-shows-requires c κs = search needs
 
 returns-2 : tie.Need-returns-2
 returns-2 c =
@@ -54,15 +33,6 @@ returns-3 c =
 
 pub look-up-spec : {M : Type 1} → statement M
 look-up-spec =
-    tie.close
-    (tie.spec
-    open-case-requires
-    enum-known-tested
-    enum-told
-    names-none-requires
-    returns
-    code-of-requires
-    entry-at-requires
-    shows-requires
-    returns-2
-    returns-3)
+    tie.close (tie.spec
+    (λ c κs. search needs) (λ c. search needs) (λ c. search needs) (λ c κs. search needs) returns
+    (λ c κs. search needs) (λ c κs. search needs) (λ c κs. search needs) returns-2 returns-3)

@@ -10,27 +10,6 @@ use Rattle.searcher.proofs.Standings.{room, round-refused, round-done, 
 use Rattle.searcher.proofs.round.Statement.{statement}
 use Rattle.searcher.proofs.round.Tie as tie
 
-open-case-requires : tie.Need-open-case-requires
-open-case-requires c κs = search needs
-
-enum-known-tested : tie.Need-enum-known-tested
-enum-known-tested c = search needs
-
-refused-requires : tie.Need-refused-requires
-refused-requires c κs = search needs
-
-enum-told : tie.Need-enum-told
-enum-told c = search needs
-
-as-it-was-requires : tie.Need-as-it-was-requires
-as-it-was-requires c κs = search needs
-
-same-length : tie.Need-same-length
-same-length c = search needs
-
-same-length-2 : tie.Need-same-length-2
-same-length-2 c = search needs
-
 returns : tie.Need-returns
 returns c =
     let i = c .before in
@@ -39,15 +18,6 @@ returns c =
     let a = o .before .before .before .before .before in
     round-done (a .args .r) (a .args .figures .now) (a .args .settings .now) (a .args .marks .now) _ (o .open-case .ensures) (t .enum-told .given .1) (a .args .search) _ _ (c .as-it-was .ensures) (i .if1 .taken)
 
-as-it-was-requires-2 : tie.Need-as-it-was-requires-2
-as-it-was-requires-2 c κs = search needs
-
-same-length-3 : tie.Need-same-length-3
-same-length-3 c = search needs
-
-same-length-4 : tie.Need-same-length-4
-same-length-4 c = search needs
-
 returns-2 : tie.Need-returns-2
 returns-2 c =
     let i = c .before in
@@ -55,21 +25,6 @@ returns-2 c =
     let o = t .before .before .before in
     let a = o .before .before .before .before .before in
     round-beyond (a .args .r) (a .args .figures .now) (a .args .settings .now) (a .args .marks .now) _ (o .open-case .ensures) (t .enum-told .given .1) (a .args .search) _ _ (c .as-it-was2 .ensures) (i .if2 .taken)
-
-add-n : tie.Need-add-n
-add-n c = search needs
-
-coming-before-last-requires : tie.Need-coming-before-last-requires
-coming-before-last-requires c κs = search needs
-
-standing-requires : tie.Need-standing-requires
-standing-requires c κs = search needs
-
-same-length-5 : tie.Need-same-length-5
-same-length-5 c = search needs
-
-same-length-6 : tie.Need-same-length-6
-same-length-6 c = search needs
 
 returns-3 : tie.Need-returns-3
 returns-3 c =
@@ -81,18 +36,6 @@ returns-3 c =
     let o = t .before .before .before in
     let a = o .before .before .before .before .before in
     round-counted (a .args .r) (a .args .figures .now) (a .args .settings .now) (a .args .marks .now) _ (o .open-case .ensures) (t .enum-told .given .1) (a .args .search) _ _ _ (omega (arith, j .if2 .left)) (omega (arith, b .coming-before-last .ok)) (b .coming-before-last .ensures) (k .if1 .left) (i .if3 .taken) (c .standing .ensures)
-
-case-ways-requires : tie.Need-case-ways-requires
-case-ways-requires c κs = search needs
-
-ways-behind-requires : tie.Need-ways-behind-requires
-ways-behind-requires c κs = search needs
-
-placements-requires : tie.Need-placements-requires
-placements-requires c κs = search needs
-
-cast-m : tie.Need-cast-m
-cast-m c = search needs
 
 -- both tables have an entry for each placement
 abbrev opened : (p : tie.After-placements) → tie.After-enum-told
@@ -117,30 +60,12 @@ slice-relend-prefix-finish-2 c = enough (c .before .before .before .before) .1
 slice-aggregate-finish-2 : tie.Need-slice-aggregate-finish-2
 slice-aggregate-finish-2 c = sym (length-take-le _ _ (enough (c .before .before .before .before .before) .1))
 
-finish-requires : tie.Need-finish-requires
-finish-requires c κs = search needs
-
-standing-requires-2 : tie.Need-standing-requires-2
-standing-requires-2 c κs = search needs
-
-same-length-7 : tie.Need-same-length-7
-same-length-7 c = search needs
-
-same-length-8 : tie.Need-same-length-8
-same-length-8 c = search needs
-
 returns-4 : tie.Need-returns-4
 returns-4 c =
     let t = c .before .before in
     let o = t .before .before .before in
     let a = o .before .before .before .before .before in
     round-refused (a .args .r) (a .args .figures .now) (a .args .settings .now) (a .args .marks .now) _ (o .open-case .ensures) _ (t .tested .given .1) _ (a .args .search) _ (c .refused .ensures)
-
-same-length-9 : tie.Need-same-length-9
-same-length-9 c = search needs
-
-same-length-10 : tie.Need-same-length-10
-same-length-10 c = search needs
 
 returns-5 : tie.Need-returns-5
 returns-5 c =
@@ -161,39 +86,12 @@ returns-5 c =
 
 pub round-spec : {M : Type 1} → statement M
 round-spec =
-    tie.close
-    (tie.spec
-    open-case-requires
-    enum-known-tested
-    refused-requires
-    enum-told
-    as-it-was-requires
-    same-length
-    same-length-2
-    returns
-    as-it-was-requires-2
-    same-length-3
-    same-length-4
-    returns-2
-    add-n
-    coming-before-last-requires
-    standing-requires
-    same-length-5
-    same-length-6
-    returns-3
-    case-ways-requires
-    ways-behind-requires
-    placements-requires
-    cast-m
-    slice-relend-prefix-finish
-    slice-aggregate-finish
-    slice-relend-prefix-finish-2
-    slice-aggregate-finish-2
-    finish-requires
-    standing-requires-2
-    same-length-7
-    same-length-8
-    returns-4
-    same-length-9
-    same-length-10
-    returns-5)
+    tie.close (tie.spec
+    (λ c κs. search needs) (λ c. search needs) (λ c κs. search needs) (λ c. search needs)
+    (λ c κs. search needs) (λ c. search needs) (λ c. search needs) returns (λ c κs. search needs)
+    (λ c. search needs) (λ c. search needs) returns-2 (λ c. search needs) (λ c κs. search needs)
+    (λ c κs. search needs) (λ c. search needs) (λ c. search needs) returns-3 (λ c κs. search needs)
+    (λ c κs. search needs) (λ c κs. search needs) (λ c. search needs) slice-relend-prefix-finish
+    slice-aggregate-finish slice-relend-prefix-finish-2 slice-aggregate-finish-2 (λ c κs. search needs)
+    (λ c κs. search needs) (λ c. search needs) (λ c. search needs) returns-4 (λ c. search needs)
+    (λ c. search needs) returns-5)

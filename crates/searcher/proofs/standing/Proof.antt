@@ -7,11 +7,8 @@ use Rattle.search.specs.Search.{goingOn}
 use Rattle.searcher.proofs.standing.Statement.{statement}
 use Rattle.searcher.proofs.standing.Tie as tie
 
-as-it-was-requires : tie.Need-as-it-was-requires
-as-it-was-requires c κs = search needs
-
 returns : tie.Need-returns
 returns c = let x = c .as-it-was .ensures in (x .0 ∙ ap (λ (s : Search). goingOn s) (sym (x .1)), x .1)
 
 pub standing-spec : {M : Type 1} → statement M
-standing-spec = tie.close (tie.spec as-it-was-requires returns)
+standing-spec = tie.close (tie.spec (λ c κs. search needs) returns)

@@ -23,15 +23,6 @@ loop-holds : tie.Need-loop-holds Inv-loop μ-loop
 unfolding allBelow
 loop-holds c = (omega arith, λ r p h. refl)
 
-free-good-requires : tie.Need-free-good-requires Inv-loop μ-loop
-free-good-requires c κs = search needs
-
-add-t : tie.Need-add-t Inv-loop μ-loop
-add-t c = omega arith
-
-loop-less : tie.Need-loop-less Inv-loop μ-loop
-loop-less c = omega arith
-
 loop-again : tie.Need-loop-again Inv-loop μ-loop
 loop-again c =
     let g = c .before in
@@ -56,14 +47,6 @@ returns-2 c =
 
 pub all-good-spec : {M : Type 1} → statement M
 all-good-spec =
-    tie.close
-    (tie.spec
-    Inv-loop
-    μ-loop
-    loop-holds
-    free-good-requires
-    add-t
-    loop-less
-    loop-again
-    returns
+    tie.close (tie.spec
+    Inv-loop μ-loop loop-holds (λ c κs. search needs) (λ c. omega arith) (λ c. omega arith) loop-again returns
     returns-2)

@@ -8,9 +8,6 @@ use Rattle.settings.proofs.by_way.Tie as tie
 returns : tie.Need-returns
 returns c = λ r p j w on code l is to want. by-more r p _ _ on _ _ _ j _ _ _ w is to want (c .if1 .taken)
 
-ends-good-requires : tie.Need-ends-good-requires
-ends-good-requires c κs = search needs
-
 returns-2 : tie.Need-returns-2
 returns-2 c =
     let g = c .before in
@@ -25,4 +22,4 @@ returns-3 c =
     by-bad r p _ _ on _ _ _ j _ _ _ w is to want _ (g .ends-good .ensures r p on code l (to-inside r p _ _ on _ j _ w is to)) (c .if2 .left)
 
 pub by-way-spec : {M : Type 1} → statement M
-by-way-spec = tie.close (tie.spec returns ends-good-requires returns-2 returns-3)
+by-way-spec = tie.close (tie.spec returns (λ c κs. search needs) returns-2 returns-3)

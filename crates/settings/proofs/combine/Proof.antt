@@ -6,9 +6,6 @@ use Rattle.settings.proofs.Trying.{nothing-placed, together-found, toge
 use Rattle.settings.proofs.combine.Statement.{statement}
 use Rattle.settings.proofs.combine.Tie as tie
 
-over-train-requires : tie.Need-over-train-requires
-over-train-requires c κs = search needs
-
 returns : tie.Need-returns
 returns c = λ r p h f. together-found r (facts r (h .looks .on .compiled .accepted)) p (h .apart) _ _ f _ (c .before .over-train .ensures r p h (nothing-placed r)) (c .if1 .taken)
 
@@ -16,4 +13,4 @@ returns-2 : tie.Need-returns-2
 returns-2 c = λ r p h f. together-none r (facts r (h .looks .on .compiled .accepted)) p (h .apart) _ _ f _ (c .before .over-train .ensures r p h (nothing-placed r)) (c .if1 .left)
 
 pub combine-spec : {M : Type 1} → statement M
-combine-spec = tie.close (tie.spec over-train-requires returns returns-2)
+combine-spec = tie.close (tie.spec (λ c κs. search needs) returns returns-2)

@@ -5,33 +5,6 @@ use Rattle.settings.proofs.Stepping.{ends-not, ends-unless}
 use Rattle.settings.proofs.ends_good.Statement.{statement}
 use Rattle.settings.proofs.ends_good.Tie as tie
 
-sections-in-requires : tie.Need-sections-in-requires
-sections-in-requires c κs = search needs
-
-power-requires : tie.Need-power-requires
-power-requires c κs = search needs
-
-section-at-requires : tie.Need-section-at-requires
-section-at-requires c κs = search needs
-
-code-put-requires : tie.Need-code-put-requires
-code-put-requires c κs = search needs
-
-entry-at-requires : tie.Need-entry-at-requires
-entry-at-requires c κs = search needs
-
-weight-in-requires : tie.Need-weight-in-requires
-weight-in-requires c κs = search needs
-
-is-within-requires : tie.Need-is-within-requires
-is-within-requires c κs = search needs
-
-trains-in-requires : tie.Need-trains-in-requires
-trains-in-requires c κs = search needs
-
-other-in-requires : tie.Need-other-in-requires
-other-in-requires c κs = search needs
-
 returns : tie.Need-returns
 returns c =
     let o = c .before in
@@ -63,16 +36,7 @@ returns-2 c =
 
 pub ends-good-spec : {M : Type 1} → statement M
 ends-good-spec =
-    tie.close
-    (tie.spec
-    sections-in-requires
-    power-requires
-    section-at-requires
-    code-put-requires
-    entry-at-requires
-    weight-in-requires
-    is-within-requires
-    trains-in-requires
-    other-in-requires
-    returns
-    returns-2)
+    tie.close (tie.spec
+    (λ c κs. search needs) (λ c κs. search needs) (λ c κs. search needs) (λ c κs. search needs)
+    (λ c κs. search needs) (λ c κs. search needs) (λ c κs. search needs) (λ c κs. search needs)
+    (λ c κs. search needs) returns returns-2)

@@ -6,20 +6,11 @@ use Rattle.settings.proofs.Trying.{lost-none, found-first}
 use Rattle.settings.proofs.find_in.Statement.{statement}
 use Rattle.settings.proofs.find_in.Tie as tie
 
-trains-in-requires : tie.Need-trains-in-requires
-trains-in-requires c κs = search needs
-
 returns : tie.Need-returns
 returns c = λ r p on ways e. trains-few r _ (on .compiled) _ (c .before .trains-in .ensures r (on .compiled)) (c .if1 .taken) _
 
-lost-in-requires : tie.Need-lost-in-requires
-lost-in-requires c κs = search needs
-
 returns-2 : tie.Need-returns-2
 returns-2 c = λ r p on ways e. lost-none r _ _ _ _ (c .before .lost-in .ensures r p on) (c .if2 .taken)
-
-look-requires : tie.Need-look-requires
-look-requires c κs = search needs
 
 returns-3 : tie.Need-returns-3
 returns-3 c =
@@ -32,5 +23,5 @@ returns-3 c =
 
 pub find-in-spec : {M : Type 1} → statement M
 find-in-spec =
-    tie.close
-    (tie.spec trains-in-requires returns lost-in-requires returns-2 look-requires returns-3)
+    tie.close (tie.spec
+    (λ c κs. search needs) returns (λ c κs. search needs) returns-2 (λ c κs. search needs) returns-3)

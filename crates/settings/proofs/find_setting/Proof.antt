@@ -4,17 +4,10 @@ use borrow.Author.Needs.{needs}
 use Rattle.settings.proofs.find_setting.Statement.{statement}
 use Rattle.settings.proofs.find_setting.Tie as tie
 
-placement-of-requires : tie.Need-placement-of-requires
-placement-of-requires c κs = search needs
-
-code-of-requires : tie.Need-code-of-requires
-code-of-requires c κs = search needs
-
-find-in-requires : tie.Need-find-in-requires
-find-in-requires c κs = search needs
-
 returns : tie.Need-returns
 returns c = λ r h ways. c .find-in .ensures r _ (c .before .before .placement-of .ensures r h) ways (c .before .code-of .ensures r h)
 
 pub find-setting-spec : {M : Type 1} → statement M
-find-setting-spec = tie.close (tie.spec placement-of-requires code-of-requires find-in-requires returns)
+find-setting-spec =
+    tie.close (tie.spec
+    (λ c κs. search needs) (λ c κs. search needs) (λ c κs. search needs) returns)

@@ -6,12 +6,6 @@ use Rattle.settings.proofs.Stepping.{not-free-good, nowhere-good, y-ins
 use Rattle.settings.proofs.free_good.Statement.{statement}
 use Rattle.settings.proofs.free_good.Tie as tie
 
-free-in-requires : tie.Need-free-in-requires
-free-in-requires c κs = search needs
-
-leads-to-requires : tie.Need-leads-to-requires
-leads-to-requires c κs = search needs
-
 returns : tie.Need-returns
 returns c =
     let y = c .before in
@@ -20,9 +14,6 @@ returns c =
     let a = f .before .before .args in
     λ r p h l.
     nowhere-good r p _ _ (h .on) (a .bits) (a .t) _ (y .leads-to .ensures r p (h .on) (h .laid)) _ (a .n) _ (as-there r p _ _ (h .on) _ l _ _ (f .free-in .ensures r p (h .on))) (i .if1 .taken) (c .if2 .taken)
-
-ends-good-requires : tie.Need-ends-good-requires
-ends-good-requires c κs = search needs
 
 returns-2 : tie.Need-returns-2
 returns-2 c =
@@ -45,5 +36,5 @@ returns-3 c =
 
 pub free-good-spec : {M : Type 1} → statement M
 free-good-spec =
-    tie.close
-    (tie.spec free-in-requires leads-to-requires returns ends-good-requires returns-2 returns-3)
+    tie.close (tie.spec
+    (λ c κs. search needs) (λ c κs. search needs) returns (λ c κs. search needs) returns-2 returns-3)

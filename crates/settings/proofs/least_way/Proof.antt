@@ -18,14 +18,8 @@ Inv-loop table ways figures q c n t e best₀ j₀ best j =
 abbrev μ-loop : tie.MeasureT-loop
 μ-loop table ways figures q c n t e best₀ j₀ best j = 16 - j
 
-front-in-requires : tie.Need-front-in-requires Inv-loop μ-loop
-front-in-requires c κs = search needs
-
 loop-holds : tie.Need-loop-holds Inv-loop μ-loop
 loop-holds c = (omega arith, λ r p h l. tried-start _ _ _ _)
-
-way-to-requires : tie.Need-way-to-requires Inv-loop μ-loop
-way-to-requires c κs = search needs
 
 returns : tie.Need-returns Inv-loop μ-loop
 returns c =
@@ -34,12 +28,6 @@ returns c =
     let f = l .before in
     λ r p h lt.
     ways-all r _ p _ _ _ _ _ (l .loop .j) (way-gone r p _ _ (h .on) _ _ (f .front-in .ensures r p (h .on)) _ _ (w .way-to .ensures .0 r _ (h .laid)) (c .if1 .taken)) (l .loop .inv .1 r p h lt)
-
-way-want-requires : tie.Need-way-want-requires Inv-loop μ-loop
-way-want-requires c κs = search needs
-
-by-way-requires : tie.Need-by-way-requires Inv-loop μ-loop
-by-way-requires c κs = search needs
 
 -- one way more
 abbrev at : tie.After-by-way Inv-loop μ-loop → tie.At-loop Inv-loop μ-loop
@@ -61,12 +49,6 @@ more b r p h l =
 returns-2 : tie.Need-returns-2 Inv-loop μ-loop
 returns-2 c = λ r p h l. ways-zero r _ p _ _ _ _ _ _ (c .if2 .taken) (omega arith) (more (c .before) r p h l)
 
-add-j : tie.Need-add-j Inv-loop μ-loop
-add-j c = omega arith
-
-loop-less : tie.Need-loop-less Inv-loop μ-loop
-loop-less c = omega arith
-
 loop-again : tie.Need-loop-again Inv-loop μ-loop
 loop-again c = (omega arith, more (c .before))
 
@@ -77,18 +59,6 @@ returns-3 c =
 
 pub least-way-spec : {M : Type 1} → statement M
 least-way-spec =
-    tie.close
-    (tie.spec
-    Inv-loop
-    μ-loop
-    front-in-requires
-    loop-holds
-    way-to-requires
-    returns
-    way-want-requires
-    by-way-requires
-    returns-2
-    add-j
-    loop-less
-    loop-again
-    returns-3)
+    tie.close (tie.spec
+    Inv-loop μ-loop (λ c κs. search needs) loop-holds (λ c κs. search needs) returns (λ c κs. search needs)
+    (λ c κs. search needs) returns-2 (λ c. omega arith) (λ c. omega arith) loop-again returns-3)

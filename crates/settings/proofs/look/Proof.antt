@@ -27,12 +27,6 @@ abbrev μ-loop : tie.MeasureT-loop
 loop-holds : tie.Need-loop-holds Inv-loop μ-loop
 loop-holds c = (omega arith, omega arith, λ r p h. seen-start r _ p _)
 
-free-in-requires : tie.Need-free-in-requires Inv-loop μ-loop
-free-in-requires c κs = search needs
-
-least-way-requires : tie.Need-least-way-requires Inv-loop μ-loop
-least-way-requires c κs = search needs
-
 returns : tie.Need-returns Inv-loop μ-loop
 returns c =
     let w = c .before in
@@ -42,18 +36,6 @@ returns c =
     let lt = rw (h .trains) at (f .before .loop-test .taken) in
     let is = sym (as-there r p _ _ on _ lt _ _ (f .free-in .ensures r p on)) ∙ w .before .if1 .taken in
     no-way r (facts r (on .compiled .accepted)) p (h .apart) _ _ (any-of (free r p) (r .trains) _ lt is) _ _ lt is (w .least-way .ensures r p (h .looks) lt) (c .if2 .taken)
-
-add-count : tie.Need-add-count Inv-loop μ-loop
-add-count c = omega arith
-
-larger-requires : tie.Need-larger-requires Inv-loop μ-loop
-larger-requires c κs = search needs
-
-add-t : tie.Need-add-t Inv-loop μ-loop
-add-t c = omega arith
-
-loop-less : tie.Need-loop-less Inv-loop μ-loop
-loop-less c = omega arith
 
 loop-again : tie.Need-loop-again Inv-loop μ-loop
 loop-again c =
@@ -80,9 +62,6 @@ loop-again c =
     ))
     (c .if1 .came)
 
-settle-requires : tie.Need-settle-requires Inv-loop μ-loop
-settle-requires c κs = search needs
-
 returns-2 : tie.Need-returns-2 Inv-loop μ-loop
 returns-2 c =
     let l = c .before .before in
@@ -90,18 +69,6 @@ returns-2 c =
 
 pub look-spec : {M : Type 1} → statement M
 look-spec =
-    tie.close
-    (tie.spec
-    Inv-loop
-    μ-loop
-    loop-holds
-    free-in-requires
-    least-way-requires
-    returns
-    add-count
-    larger-requires
-    add-t
-    loop-less
-    loop-again
-    settle-requires
-    returns-2)
+    tie.close (tie.spec
+    Inv-loop μ-loop loop-holds (λ c κs. search needs) (λ c κs. search needs) returns (λ c. omega arith)
+    (λ c κs. search needs) (λ c. omega arith) (λ c. omega arith) loop-again (λ c κs. search needs) returns-2)

@@ -35,15 +35,6 @@ loop-holds : tie.Need-loop-holds Inv-loop μ-loop
 unfolding firstFound
 loop-holds c = (omega arith, λ r p h f. refl)
 
-open-train-requires : tie.Need-open-train-requires Inv-loop μ-loop
-open-train-requires c κs = search needs
-
-enum-told : tie.Need-enum-told Inv-loop μ-loop
-enum-told c = search needs
-
-enum-told-2 : tie.Need-enum-told-2 Inv-loop μ-loop
-enum-told-2 c = search needs
-
 returns : tie.Need-returns Inv-loop μ-loop
 returns c =
     let t = c .before .before in
@@ -53,12 +44,6 @@ returns c =
     let k = facts r (h .looks .on .compiled .accepted) in
     let there = rw (h .trains) at (t .before .loop-test .taken) in
     e ∙ found-open r _ p _ _ (h .trains) (closed-none r k p (h .apart) _ _ f) (l .loop .u) _ (t .before .loop-test .taken) (l .loop .inv .1 r p h f) (sym e ∙ t .open-train .ensures r p (every h) f there)
-
-add-u : tie.Need-add-u Inv-loop μ-loop
-add-u c = omega arith
-
-loop-less : tie.Need-loop-less Inv-loop μ-loop
-loop-less c = omega arith
 
 loop-again : tie.Need-loop-again Inv-loop μ-loop
 loop-again c =
@@ -78,16 +63,6 @@ returns-2 c =
 
 pub open-one-spec : {M : Type 1} → statement M
 open-one-spec =
-    tie.close
-    (tie.spec
-    Inv-loop
-    μ-loop
-    loop-holds
-    open-train-requires
-    enum-told
-    enum-told-2
-    returns
-    add-u
-    loop-less
-    loop-again
-    returns-2)
+    tie.close (tie.spec
+    Inv-loop μ-loop loop-holds (λ c κs. search needs) (λ c. search needs) (λ c. search needs) returns
+    (λ c. omega arith) (λ c. omega arith) loop-again returns-2)

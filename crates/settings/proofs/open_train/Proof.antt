@@ -9,15 +9,6 @@ use Rattle.settings.proofs.Trying.{shifted-small, open-parked, opened-f
 use Rattle.settings.proofs.open_train.Statement.{statement}
 use Rattle.settings.proofs.open_train.Tie as tie
 
-held-in-requires : tie.Need-held-in-requires
-held-in-requires c κs = search needs
-
-least-way-requires : tie.Need-least-way-requires
-least-way-requires c κs = search needs
-
-shl-t14 : tie.Need-shl-t14
-shl-t14 c = search needs
-
 mul-t15 : tie.Need-mul-t15
 mul-t15 c = let s = c .before .before .before .before .before in omega (arith, shifted-small (s .args .u) (s .pre))
 
@@ -51,13 +42,6 @@ returns-3 c =
 
 pub open-train-spec : {M : Type 1} → statement M
 open-train-spec =
-    tie.close
-    (tie.spec
-    held-in-requires
-    least-way-requires
-    shl-t14
-    mul-t15
-    add-t16
-    returns
-    returns-2
+    tie.close (tie.spec
+    (λ c κs. search needs) (λ c κs. search needs) (λ c. search needs) mul-t15 add-t16 returns returns-2
     returns-3)

@@ -6,9 +6,6 @@ use Rattle.settings.proofs.Trying.{settled-single, settled-zero, settle
 use Rattle.settings.proofs.settle.Statement.{statement}
 use Rattle.settings.proofs.settle.Tie as tie
 
-open-one-requires : tie.Need-open-one-requires
-open-one-requires c κs = search needs
-
 returns : tie.Need-returns
 returns c = λ r p h s. c .open-one .ensures r p h (s .nobody (c .before .if1 .taken))
 
@@ -18,29 +15,16 @@ returns-2 c = λ r p h s. settled-single r (facts r (h .looks .on .compiled .acc
 returns-3 : tie.Need-returns-3
 returns-3 c = λ r p h s. settled-zero r (facts r (h .looks .on .compiled .accepted)) p (h .apart) _ _ (s .somebody (c .before .before .if1 .left)) _ _ _ s (c .if3 .taken)
 
-union-serves-requires : tie.Need-union-serves-requires
-union-serves-requires c κs = search needs
-
 returns-4 : tie.Need-returns-4
 returns-4 c =
     let u = c .before in
     λ r p h s. settled-union r (facts r (h .looks .on .compiled .accepted)) p (h .apart) _ _ (s .somebody (u .before .before .before .if1 .left)) _ _ _ s _ (u .union-serves .ensures r p h) (c .if4 .taken)
-
-combine-requires : tie.Need-combine-requires
-combine-requires c κs = search needs
 
 returns-5 : tie.Need-returns-5
 returns-5 c = λ r p h s. c .combine .ensures r p h (s .somebody (c .before .before .before .before .before .if1 .left))
 
 pub settle-spec : {M : Type 1} → statement M
 settle-spec =
-    tie.close
-    (tie.spec
-    open-one-requires
-    returns
-    returns-2
-    returns-3
-    union-serves-requires
-    returns-4
-    combine-requires
+    tie.close (tie.spec
+    (λ c κs. search needs) returns returns-2 returns-3 (λ c κs. search needs) returns-4 (λ c κs. search needs)
     returns-5)

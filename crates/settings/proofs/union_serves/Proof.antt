@@ -6,9 +6,6 @@ use borrow.Author.Needs.{needs}
 use Rattle.settings.proofs.union_serves.Statement.{statement}
 use Rattle.settings.proofs.union_serves.Tie as tie
 
-all-good-requires : tie.Need-all-good-requires
-all-good-requires c κs = search needs
-
 returns : tie.Need-returns
 returns c = let a = c .before .before .before .args in λ r p h. test-on _ _ _ (eq-eqb (a .all) (a .most) (c .before .if1 .taken)) (c .all-good .ensures r p h)
 
@@ -16,4 +13,4 @@ returns-2 : tie.Need-returns-2
 returns-2 c = let a = c .before .before .args in λ r p h. test-off _ _ (ne-eqb (a .all) (a .most) (c .if1 .left))
 
 pub union-serves-spec : {M : Type 1} → statement M
-union-serves-spec = tie.close (tie.spec all-good-requires returns returns-2)
+union-serves-spec = tie.close (tie.spec (λ c κs. search needs) returns returns-2)

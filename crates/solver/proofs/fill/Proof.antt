@@ -14,12 +14,6 @@ Inv-loop table ways behind figures₀ settings₀ m marks₀ last n₀ figures s
 abbrev μ-loop : tie.MeasureT-loop
 μ-loop table ways behind figures₀ settings₀ m marks₀ last n₀ figures settings marks n = last + 1 - n
 
-begin-requires : tie.Need-begin-requires Inv-loop μ-loop
-begin-requires c κs = search needs
-
-cast-last : tie.Need-cast-last Inv-loop μ-loop
-cast-last c = search needs
-
 mul-last : tie.Need-mul-last Inv-loop μ-loop
 mul-last c = let a = c .before .before .before .before .before .before .before .before .before in omega (arith, a .pre .0)
 
@@ -31,9 +25,6 @@ loop-holds c =
 
 slice-aggregate-round : tie.Need-slice-aggregate-round Inv-loop μ-loop
 slice-aggregate-round c = sym (c .before .before .before .before .loop .inv .long-marks)
-
-round-requires : tie.Need-round-requires Inv-loop μ-loop
-round-requires c κs = search needs
 
 loop-less : tie.Need-loop-less Inv-loop μ-loop
 loop-less c =
@@ -66,18 +57,6 @@ returns c =
 
 pub fill-spec : {M : Type 1} → statement M
 fill-spec =
-    tie.close
-    (tie.spec
-    Inv-loop
-    μ-loop
-    begin-requires
-    cast-last
-    mul-last
-    loop-holds
-    slice-aggregate-round
-    round-requires
-    loop-less
-    loop-again
-    same-length
-    same-length-2
-    returns)
+    tie.close (tie.spec
+    Inv-loop μ-loop (λ c κs. search needs) (λ c. search needs) mul-last loop-holds slice-aggregate-round
+    (λ c κs. search needs) loop-less loop-again same-length same-length-2 returns)

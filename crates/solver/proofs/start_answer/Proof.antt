@@ -6,12 +6,6 @@ use borrow.Author.Needs.{needs}
 use Rattle.solver.proofs.start_answer.Statement.{statement}
 use Rattle.solver.proofs.start_answer.Tie as tie
 
-start-code-requires : tie.Need-start-code-requires
-start-code-requires c κs = search needs
-
-entry-at-requires : tie.Need-entry-at-requires
-entry-at-requires c κs = search needs
-
 returns : tie.Need-returns
 returns c = λ r h. (refl, start-none r (c .before .before .before .before .args .figures .now) _ _ (c .before .before .start-code .ensures r h) (c .before .entry-at .ensures) (c .if1 .taken))
 
@@ -19,4 +13,4 @@ returns-2 : tie.Need-returns-2
 returns-2 c = λ r h. (refl, start-some r (c .before .before .before .before .args .figures .now) _ _ (c .before .before .start-code .ensures r h) (c .before .entry-at .ensures) (c .if1 .left))
 
 pub start-answer-spec : {M : Type 1} → statement M
-start-answer-spec = tie.close (tie.spec start-code-requires entry-at-requires returns returns-2)
+start-answer-spec = tie.close (tie.spec (λ c κs. search needs) (λ c κs. search needs) returns returns-2)

@@ -8,17 +8,8 @@ use borrow.Author.Needs.{needs}
 use Rattle.solver_api.proofs.checker_of.Statement.{statement}
 use Rattle.solver_api.proofs.checker_of.Tie as tie
 
-array-read-if1 : tie.Need-array-read-if1
-array-read-if1 c = search needs
-
 returns : tie.Need-returns
 returns c = simp (eq-eqb (getD (c .before .args .t1) 0 0) 0 (c .if1 .taken))
-
-array-read-t5 : tie.Need-array-read-t5
-array-read-t5 c = search needs
-
-array-read-t12 : tie.Need-array-read-t12
-array-read-t12 c = search needs
 
 returns-2 : tie.Need-returns-2
 returns-2 c =
@@ -27,4 +18,5 @@ returns-2 c =
 
 pub checker-of-spec : {M : Type 1} → statement M
 checker-of-spec =
-    tie.close (tie.spec array-read-if1 returns array-read-t5 array-read-t12 returns-2)
+    tie.close (tie.spec
+    (λ c. search needs) returns (λ c. search needs) (λ c. search needs) returns-2)

@@ -11,14 +11,8 @@ returns c = simp (eq-eqb (c .before .args .n) 0 (c .if1 .taken))
 returns-2 : tie.Need-returns-2
 returns-2 c = let n = c .before .before .args .n in simp (ne-eqb n 0 (c .before .if1 .left), lt-ltb noFigure n (c .if2 .taken))
 
-sub-t3 : tie.Need-sub-t3
-sub-t3 c = search needs
-
-cast-t4 : tie.Need-cast-t4
-cast-t4 c = search needs
-
 returns-3 : tie.Need-returns-3
 returns-3 c = let n = c .before .before .args .n in simp (ne-eqb n 0 (c .before .if1 .left), le-ltb noFigure n (c .if2 .left))
 
 pub place-at-spec : {M : Type 1} → statement M
-place-at-spec = tie.close (tie.spec returns returns-2 sub-t3 cast-t4 returns-3)
+place-at-spec = tie.close (tie.spec returns returns-2 (λ c. search needs) (λ c. search needs) returns-3)

@@ -5,17 +5,10 @@ use borrow.Author.Needs.{needs}
 use Rattle.solver_api.proofs.state_numbers.Statement.{statement}
 use Rattle.solver_api.proofs.state_numbers.Tie as tie
 
-enum-told : tie.Need-enum-told
-enum-told c = search needs
-
-enum-known-state : tie.Need-enum-known-state
-enum-known-state c = search needs
-
-returns : tie.Need-returns
-returns c = search needs
-
 returns-2 : tie.Need-returns-2
 returns-2 c = sym (ap stateNumbers (c .before .state .given .1))
 
 pub state-numbers-spec : {M : Type 1} → statement M
-state-numbers-spec = tie.close (tie.spec enum-told enum-known-state returns returns-2)
+state-numbers-spec =
+    tie.close (tie.spec
+    (λ c. search needs) (λ c. search needs) (λ c. search needs) returns-2)

@@ -4,21 +4,6 @@ use borrow.Author.Needs.{needs}
 use Rattle.solver_api.proofs.test_plan.Statement.{statement}
 use Rattle.solver_api.proofs.test_plan.Tie as tie
 
-read-case-requires : tie.Need-read-case-requires
-read-case-requires c κs = search needs
-
-enum-known-answer : tie.Need-enum-known-answer
-enum-known-answer c = search needs
-
-number-requires : tie.Need-number-requires
-number-requires c κs = search needs
-
-enum-told : tie.Need-enum-told
-enum-told c = search needs
-
-test-railway-requires : tie.Need-test-railway-requires
-test-railway-requires c κs = search needs
-
 returns : tie.Need-returns
 returns c =
     let m = c .before .before in
@@ -32,12 +17,6 @@ returns-2 c =
 
 pub test-plan-spec : {M : Type 1} → statement M
 test-plan-spec =
-    tie.close
-    (tie.spec
-    read-case-requires
-    enum-known-answer
-    number-requires
-    enum-told
-    test-railway-requires
-    returns
-    returns-2)
+    tie.close (tie.spec
+    (λ c κs. search needs) (λ c. search needs) (λ c κs. search needs) (λ c. search needs)
+    (λ c κs. search needs) returns returns-2)

@@ -5,21 +5,6 @@ use borrow.Author.Needs.{needs}
 use Rattle.solver_api.proofs.test_railway.Statement.{statement}
 use Rattle.solver_api.proofs.test_railway.Tie as tie
 
-checker-of-requires : tie.Need-checker-of-requires
-checker-of-requires c κs = search needs
-
-test-requires : tie.Need-test-requires
-test-requires c κs = search needs
-
-enum-known-answer : tie.Need-enum-known-answer
-enum-known-answer c = search needs
-
-number-requires : tie.Need-number-requires
-number-requires c κs = search needs
-
-enum-told : tie.Need-enum-told
-enum-told c = search needs
-
 returns : tie.Need-returns
 returns c =
     let m = c .before .before in
@@ -37,12 +22,6 @@ returns-2 c =
 
 pub test-railway-spec : {M : Type 1} → statement M
 test-railway-spec =
-    tie.close
-    (tie.spec
-    checker-of-requires
-    test-requires
-    enum-known-answer
-    number-requires
-    enum-told
-    returns
-    returns-2)
+    tie.close (tie.spec
+    (λ c κs. search needs) (λ c κs. search needs) (λ c. search needs) (λ c κs. search needs)
+    (λ c. search needs) returns returns-2)

@@ -7,12 +7,6 @@ use Rattle.laws.proofs.Lists.{getD-inside}
 use Rattle.tables.proofs.entry_at.Statement.{statement}
 use Rattle.tables.proofs.entry_at.Tie as tie
 
-mul-result : tie.Need-mul-result
-mul-result c = search needs
-
-shared-slice-read-result : tie.Need-shared-slice-read-result
-shared-slice-read-result c = search needs
-
 returns : tie.Need-returns
 returns c = getD-inside (c .before .before .args .entries .now) _ _ _ (c .before .if1 .taken)
 
@@ -20,4 +14,4 @@ returns-2 : tie.Need-returns-2
 returns-2 c = sym (List·getD-eq-default (c .before .args .entries .now) _ (c .if1 .left))
 
 pub entry-at-spec : {M : Type 1} → statement M
-entry-at-spec = tie.close (tie.spec mul-result shared-slice-read-result returns returns-2)
+entry-at-spec = tie.close (tie.spec (λ c. search needs) (λ c. search needs) returns returns-2)

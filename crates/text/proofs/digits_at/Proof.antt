@@ -22,12 +22,6 @@ abbrev μ-loop : tie.MeasureT-loop
 loop-holds : tie.Need-loop-holds Inv-loop μ-loop
 loop-holds c = let p = c .before .pre in (refl, p .0, p .1, p .2)
 
-peek-requires : tie.Need-peek-requires Inv-loop μ-loop
-peek-requires c κs = search needs
-
-is-digit-requires : tie.Need-is-digit-requires Inv-loop μ-loop
-is-digit-requires c κs = search needs
-
 mul-n : tie.Need-mul-n Inv-loop μ-loop
 mul-n c = let d = digit-is _ (sym (c .before .is-digit .ensures) ∙ c .if1 .taken) in let l = c .before .before .before .before in let q = small-enough _ _ (c .before .before .before .loop-test .taken) (l .loop .inv .1) in omega arith
 
@@ -42,12 +36,6 @@ add-n c = let d = digit-is _ (sym (c .before .is-digit .ensures) ∙ c .if1 .tak
 
 add-at : tie.Need-add-at Inv-loop μ-loop
 add-at c = let l = c .before .before .before .before in omega (arith, digit-inside (now (l .before .before .args .text)) _ _ (c .before .before .peek .ensures) (sym (c .before .is-digit .ensures) ∙ c .if1 .taken))
-
-sub-left : tie.Need-sub-left Inv-loop μ-loop
-sub-left c = omega arith
-
-loop-less : tie.Need-loop-less Inv-loop μ-loop
-loop-less c = omega arith
 
 loop-again : tie.Need-loop-again Inv-loop μ-loop
 loop-again c =
@@ -69,20 +57,6 @@ returns-2 c = let l = c .before in digits-out (now (l .before .before .args .tex
 
 pub digits-at-spec : {M : Type 1} → statement M
 digits-at-spec =
-    tie.close
-    (tie.spec
-    Inv-loop
-    μ-loop
-    loop-holds
-    peek-requires
-    is-digit-requires
-    mul-n
-    sub-n
-    cast-n
-    add-n
-    add-at
-    sub-left
-    loop-less
-    loop-again
-    returns
-    returns-2)
+    tie.close (tie.spec
+    Inv-loop μ-loop loop-holds (λ c κs. search needs) (λ c κs. search needs) mul-n sub-n cast-n add-n add-at
+    (λ c. omega arith) (λ c. omega arith) loop-again returns returns-2)

@@ -10,12 +10,6 @@ use borrow.Author.Needs.{needs}
 use Rattle.text.proofs.number_at.Statement.{statement}
 use Rattle.text.proofs.number_at.Tie as tie
 
-peek-requires : tie.Need-peek-requires
-peek-requires c κs = search needs
-
-is-digit-requires : tie.Need-is-digit-requires
-is-digit-requires c κs = search needs
-
 add-at : tie.Need-add-at
 add-at c = let t = c in let d = digit-inside (now (t .before .before .before .before .before .args .text)) _ _ (t .before .before .before .peek .ensures) (sym (t .before .before .is-digit .ensures) ∙ t .before .if1 .taken) in omega arith
 
@@ -24,12 +18,6 @@ returns c = let t = c .before in number-zero (now (t .before .before .before .be
 
 sub-digits-at : tie.Need-sub-digits-at
 sub-digits-at c = let t = c .before in let d = digit-is _ (sym (t .before .before .is-digit .ensures) ∙ t .before .if1 .taken) in omega arith
-
-cast-digits-at : tie.Need-cast-digits-at
-cast-digits-at c = search needs
-
-more-digits-requires : tie.Need-more-digits-requires
-more-digits-requires c κs = search needs
 
 digits-at-requires : tie.Need-digits-at-requires
 digits-at-requires c κs =
@@ -53,15 +41,6 @@ returns-3 c = number-none (now (c .before .before .before .before .args .text)) 
 
 pub number-at-spec : {M : Type 1} → statement M
 number-at-spec =
-    tie.close
-    (tie.spec
-    peek-requires
-    is-digit-requires
-    add-at
-    returns
-    sub-digits-at
-    cast-digits-at
-    more-digits-requires
-    digits-at-requires
-    returns-2
-    returns-3)
+    tie.close (tie.spec
+    (λ c κs. search needs) (λ c κs. search needs) add-at returns sub-digits-at (λ c. search needs)
+    (λ c κs. search needs) digits-at-requires returns-2 returns-3)

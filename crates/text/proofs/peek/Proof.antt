@@ -6,14 +6,8 @@ use denote.Ref.{now}
 use Rattle.text.proofs.peek.Statement.{statement}
 use Rattle.text.proofs.peek.Tie as tie
 
-shared-slice-read-result : tie.Need-shared-slice-read-result
-shared-slice-read-result c = search needs
-
-returns : tie.Need-returns
-returns c = search needs
-
 returns-2 : tie.Need-returns-2
 returns-2 c = past-end (now (c .before .args .text)) _ (c .if1 .left)
 
 pub peek-spec : {M : Type 1} → statement M
-peek-spec = tie.close (tie.spec shared-slice-read-result returns returns-2)
+peek-spec = tie.close (tie.spec (λ c. search needs) (λ c. search needs) returns-2)

@@ -6,23 +6,8 @@ use Rattle.answerlines.proofs.Puts.{puts-whole, puts-never}
 use Rattle.thin_io.proofs.whole_text.Statement.{statement}
 use Rattle.thin_io.proofs.whole_text.Tie as tie
 
-lean-text-requires : tie.Need-lean-text-requires
-lean-text-requires c κs = search needs
-
-enum-known-n : tie.Need-enum-known-n
-enum-known-n c = search needs
-
-enum-told : tie.Need-enum-told
-enum-told c = search needs
-
-same-length : tie.Need-same-length
-same-length c = search needs
-
 returns : tie.Need-returns
 returns c = puts-whole (c .before .before .before .before .before .lean-text .ensures) _ (c .before .n .given .1)
-
-same-length-2 : tie.Need-same-length-2
-same-length-2 c = search needs
 
 returns-2 : tie.Need-returns-2
 returns-2 c =
@@ -32,12 +17,6 @@ returns-2 c =
 
 pub whole-text-spec : {M : Type 1} → statement M
 whole-text-spec =
-    tie.close
-    (tie.spec
-    lean-text-requires
-    enum-known-n
-    enum-told
-    same-length
-    returns
-    same-length-2
-    returns-2)
+    tie.close (tie.spec
+    (λ c κs. search needs) (λ c. search needs) (λ c. search needs) (λ c. search needs) returns
+    (λ c. search needs) returns-2)

@@ -5,12 +5,6 @@ use Rattle.thinner.proofs.Entries.{entry-unlisted, entry-home, entry-le
 use Rattle.thinner.proofs.entry_at.Statement.{statement}
 use Rattle.thinner.proofs.entry_at.Tie as tie
 
-entry-at-requires : tie.Need-entry-at-requires
-entry-at-requires c κs = search needs
-
-entry-at-requires-2 : tie.Need-entry-at-requires-2
-entry-at-requires-2 c κs = search needs
-
 returns : tie.Need-returns
 returns c =
     λ r h.
@@ -18,12 +12,6 @@ returns c =
     let v = n .before in
     let a = v .before .before .before .args in
     entry-unlisted r (a .figures .now) (a .settings .now) (a .p) _ _ (v .entry-at .ensures) (n .entry-at2 .ensures) (c .if1 .taken)
-
-placement-of-requires : tie.Need-placement-of-requires
-placement-of-requires c κs = search needs
-
-home-in-requires : tie.Need-home-in-requires
-home-in-requires c κs = search needs
 
 returns-2 : tie.Need-returns-2
 returns-2 c =
@@ -34,9 +22,6 @@ returns-2 c =
     let v = n .before in
     let a = v .before .before .before .args in
     entry-home r (a .figures .now) (a .settings .now) (a .p) _ _ (v .entry-at .ensures) (n .entry-at2 .ensures) (e .if1 .left) _ (w .home-in .ensures r _ (w .before .placement-of .ensures r h)) (c .if2 .taken)
-
-lean-entry-requires : tie.Need-lean-entry-requires
-lean-entry-requires c κs = search needs
 
 returns-3 : tie.Need-returns-3
 returns-3 c =
@@ -52,13 +37,6 @@ returns-3 c =
 
 pub entry-at-spec : {M : Type 1} → statement M
 entry-at-spec =
-    tie.close
-    (tie.spec
-    entry-at-requires
-    entry-at-requires-2
-    returns
-    placement-of-requires
-    home-in-requires
-    returns-2
-    lean-entry-requires
-    returns-3)
+    tie.close (tie.spec
+    (λ c κs. search needs) (λ c κs. search needs) returns (λ c κs. search needs) (λ c κs. search needs)
+    returns-2 (λ c κs. search needs) returns-3)

@@ -6,14 +6,8 @@ use Rattle.thinner.proofs.Entries.{lean-free, lean-held}
 use Rattle.thinner.proofs.lean_entry.Statement.{statement}
 use Rattle.thinner.proofs.lean_entry.Tie as tie
 
-some-free-requires : tie.Need-some-free-requires
-some-free-requires c κs = search needs
-
 returns : tie.Need-returns
 returns c = λ r p on. lean-free r p (c .before .before .args .v) _ (c .before .some-free .ensures r p on) (c .if1 .taken)
-
-lowest-bit-requires : tie.Need-lowest-bit-requires
-lowest-bit-requires c κs = search needs
 
 add-result : tie.Need-add-result
 add-result c = omega (arith, c .lowest-bit .ensures .0)
@@ -26,4 +20,5 @@ returns-2 c =
 
 pub lean-entry-spec : {M : Type 1} → statement M
 lean-entry-spec =
-    tie.close (tie.spec some-free-requires returns lowest-bit-requires add-result returns-2)
+    tie.close (tie.spec
+    (λ c κs. search needs) returns (λ c κs. search needs) add-result returns-2)

@@ -23,18 +23,9 @@ Inv-loop table q v k t₀ t = (t ≤ k) × ((r : Railway) (p : ℕ) → On r p t
 abbrev μ-loop : tie.MeasureT-loop
 μ-loop table q v k t₀ t = k - t
 
-trains-in-requires : tie.Need-trains-in-requires Inv-loop μ-loop
-trains-in-requires c κs = search needs
-
 loop-holds : tie.Need-loop-holds Inv-loop μ-loop
 unfolding anyBelow
 loop-holds c = (omega arith, λ r p on. refl)
-
-may-in-requires : tie.Need-may-in-requires Inv-loop μ-loop
-may-in-requires c κs = search needs
-
-train-bit-requires : tie.Need-train-bit-requires Inv-loop μ-loop
-train-bit-requires c κs = search needs
 
 returns : tie.Need-returns Inv-loop μ-loop
 returns c =
@@ -45,12 +36,6 @@ returns c =
           first-bit _ (l .before .trains-in .ensures r (on .compiled)) (facts r (on .compiled .accepted) .few-trains) (l .loop .t) (l .loop .inv .1 r p on) (i .before .before .loop-test .taken)
           (sym (i .before .may-in .ensures r p on) ∙ i .if1 .taken) _ (c .train-bit .ensures .1),
     )
-
-add-t : tie.Need-add-t Inv-loop μ-loop
-add-t c = omega arith
-
-loop-less : tie.Need-loop-less Inv-loop μ-loop
-loop-less c = omega arith
 
 loop-again : tie.Need-loop-again Inv-loop μ-loop
 loop-again c = let l = c .before .before .before in (omega arith, λ r p on. any-next _ _ (l .loop .inv .1 r p on) (sym (c .before .may-in .ensures r p on) ∙ c .if1 .left))
@@ -65,16 +50,6 @@ returns-2 c =
 
 pub lowest-bit-spec : {M : Type 1} → statement M
 lowest-bit-spec =
-    tie.close
-    (tie.spec
-    Inv-loop
-    μ-loop
-    trains-in-requires
-    loop-holds
-    may-in-requires
-    train-bit-requires
-    returns
-    add-t
-    loop-less
-    loop-again
-    returns-2)
+    tie.close (tie.spec
+    Inv-loop μ-loop (λ c κs. search needs) loop-holds (λ c κs. search needs) (λ c κs. search needs) returns
+    (λ c. omega arith) (λ c. omega arith) loop-again returns-2)

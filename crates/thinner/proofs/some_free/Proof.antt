@@ -21,15 +21,9 @@ Inv-loop table q k t₀ t = (t ≤ k) × ((r : Railway) (p : ℕ) → On r p tab
 abbrev μ-loop : tie.MeasureT-loop
 μ-loop table q k t₀ t = k - t
 
-trains-in-requires : tie.Need-trains-in-requires Inv-loop μ-loop
-trains-in-requires c κs = search needs
-
 loop-holds : tie.Need-loop-holds Inv-loop μ-loop
 unfolding anyBelow
 loop-holds c = (omega arith, λ r p on. refl)
-
-free-in-requires : tie.Need-free-in-requires Inv-loop μ-loop
-free-in-requires c κs = search needs
 
 returns : tie.Need-returns Inv-loop μ-loop
 returns c =
@@ -37,12 +31,6 @@ returns c =
     let l = c .before .before .before in
     let e = l .before .trains-in .ensures r (on .compiled) in
     one-free r p e (l .loop .t) (c .before .before .loop-test .taken) (sym (as-there r p _ _ on _ (within e (l .loop .t) (c .before .before .loop-test .taken)) _ _ (c .before .free-in .ensures r p on)) ∙ c .if1 .taken)
-
-add-t : tie.Need-add-t Inv-loop μ-loop
-add-t c = omega arith
-
-loop-less : tie.Need-loop-less Inv-loop μ-loop
-loop-less c = omega arith
 
 loop-again : tie.Need-loop-again Inv-loop μ-loop
 loop-again c =
@@ -61,15 +49,6 @@ returns-2 c =
 
 pub some-free-spec : {M : Type 1} → statement M
 some-free-spec =
-    tie.close
-    (tie.spec
-    Inv-loop
-    μ-loop
-    trains-in-requires
-    loop-holds
-    free-in-requires
-    returns
-    add-t
-    loop-less
-    loop-again
-    returns-2)
+    tie.close (tie.spec
+    Inv-loop μ-loop (λ c κs. search needs) loop-holds (λ c κs. search needs) returns (λ c. omega arith)
+    (λ c. omega arith) loop-again returns-2)

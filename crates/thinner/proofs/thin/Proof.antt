@@ -7,32 +7,11 @@ use Rattle.thinner.proofs.Passes.{thin-refused, thin-accepted, thin-eno
 use Rattle.thinner.proofs.thin.Statement.{statement}
 use Rattle.thinner.proofs.thin.Tie as tie
 
-test-requires : tie.Need-test-requires
-test-requires c κs = search needs
-
-enum-known-answer : tie.Need-enum-known-answer
-enum-known-answer c = search needs
-
-enum-told : tie.Need-enum-told
-enum-told c = search needs
-
-compile-requires : tie.Need-compile-requires
-compile-requires c κs = search needs
-
-thin-table-requires : tie.Need-thin-table-requires
-thin-table-requires c κs = search needs
-
-same-length : tie.Need-same-length
-same-length c = search needs
-
 returns : tie.Need-returns
 returns c =
     let t = c .before .before .before .before in
     let a = t .before .before .before .before .args in
     thin-refused (a .r) (checking (a .checker) (a .figures .now) (a .settings .now)) _ _ (t .test .ensures) _ (c .before .answer .given .1) _ _ refl refl refl refl
-
-same-length-2 : tie.Need-same-length-2
-same-length-2 c = search needs
 
 returns-2 : tie.Need-returns-2
 returns-2 c =
@@ -47,14 +26,6 @@ returns-2 c =
 
 pub thin-spec : {M : Type 1} → statement M
 thin-spec =
-    tie.close
-    (tie.spec
-    test-requires
-    enum-known-answer
-    enum-told
-    compile-requires
-    thin-table-requires
-    same-length
-    returns
-    same-length-2
-    returns-2)
+    tie.close (tie.spec
+    (λ c κs. search needs) (λ c. search needs) (λ c. search needs) (λ c κs. search needs)
+    (λ c κs. search needs) (λ c. search needs) returns (λ c. search needs) returns-2)

@@ -19,23 +19,8 @@ Inv-loop table figures settings₀ n p₀ settings p =
 abbrev μ-loop : tie.MeasureT-loop
 μ-loop table figures settings₀ n p₀ settings p = n - p
 
-placements-requires : tie.Need-placements-requires Inv-loop μ-loop
-placements-requires c κs = search needs
-
 loop-holds : tie.Need-loop-holds Inv-loop μ-loop
 loop-holds c = (omega arith, refl, λ r h l. thin-none r _ _)
-
-entry-at-requires : tie.Need-entry-at-requires Inv-loop μ-loop
-entry-at-requires c κs = search needs
-
-put-requires : tie.Need-put-requires Inv-loop μ-loop
-put-requires c κs = search needs
-
-add-p : tie.Need-add-p Inv-loop μ-loop
-add-p c = omega arith
-
-loop-less : tie.Need-loop-less Inv-loop μ-loop
-loop-less c = omega arith
 
 loop-again : tie.Need-loop-again Inv-loop μ-loop
 loop-again c =
@@ -59,16 +44,6 @@ returns c =
 
 pub thin-table-spec : {M : Type 1} → statement M
 thin-table-spec =
-    tie.close
-    (tie.spec
-    Inv-loop
-    μ-loop
-    placements-requires
-    loop-holds
-    entry-at-requires
-    put-requires
-    add-p
-    loop-less
-    loop-again
-    same-length
-    returns)
+    tie.close (tie.spec
+    Inv-loop μ-loop (λ c κs. search needs) loop-holds (λ c κs. search needs) (λ c κs. search needs)
+    (λ c. omega arith) (λ c. omega arith) loop-again same-length returns)

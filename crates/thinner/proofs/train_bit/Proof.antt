@@ -6,12 +6,6 @@ use Rattle.thinner.proofs.Entries.{bit-small, bit-is}
 use Rattle.thinner.proofs.train_bit.Statement.{statement}
 use Rattle.thinner.proofs.train_bit.Tie as tie
 
-returns : tie.Need-returns
-returns c = search needs
-
-shl-result : tie.Need-shl-result
-shl-result c = search needs
-
 mul-result : tie.Need-mul-result
 mul-result c = omega (arith, bit-small (c .before .args .t) (c .if1 .left))
 
@@ -19,4 +13,4 @@ returns-2 : tie.Need-returns-2
 returns-2 c = (bit-small (c .before .args .t) (c .if1 .left), bit-is (c .before .args .t))
 
 pub train-bit-spec : {M : Type 1} → statement M
-train-bit-spec = tie.close (tie.spec returns shl-result mul-result returns-2)
+train-bit-spec = tie.close (tie.spec (λ c. search needs) (λ c. search needs) mul-result returns-2)

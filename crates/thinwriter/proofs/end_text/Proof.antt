@@ -7,18 +7,6 @@ use Rattle.thinwriter.proofs.Outputs.{thinned-listable, left-put, thin-
 use Rattle.thinwriter.proofs.end_text.Statement.{statement}
 use Rattle.thinwriter.proofs.end_text.Tie as tie
 
-finish-requires : tie.Need-finish-requires
-finish-requires c κs = search needs
-
-test-line-requires : tie.Need-test-line-requires
-test-line-requires c κs = search needs
-
-same-length : tie.Need-same-length
-same-length c = search needs
-
-same-length-2 : tie.Need-same-length-2
-same-length-2 c = search needs
-
 returns : tie.Need-returns
 returns c =
     let t = c .before .before in
@@ -27,18 +15,6 @@ returns c =
     let a = i .before .before .before .before .before .args in
     left-put _ _ _ _ _ (a .rest .now) (i .if1 .taken) _ (f .finish .ensures) (t .test-line .ensures)
 
-thin-requires : tie.Need-thin-requires
-thin-requires c κs = search needs
-
-enum-known-answer : tie.Need-enum-known-answer
-enum-known-answer c = search needs
-
-refusal-line-requires : tie.Need-refusal-line-requires
-refusal-line-requires c κs = search needs
-
-enum-told : tie.Need-enum-told
-enum-told c = search needs
-
 plan-text-requires : tie.Need-plan-text-requires
 plan-text-requires c κs =
     let e = c .before .before in
@@ -46,12 +22,6 @@ plan-text-requires c κs =
     let k = t .before .before .before .before .before in
     let s = k .before .before in
     thinned-listable _ _ _ _ (t .thin .ensures) (e .enum-told .given .1) (s .pre) (λ i. omega (arith, k .shared-slice-known2 .given i))
-
-same-length-3 : tie.Need-same-length-3
-same-length-3 c = search needs
-
-same-length-4 : tie.Need-same-length-4
-same-length-4 c = search needs
 
 returns-2 : tie.Need-returns-2
 returns-2 c =
@@ -62,12 +32,6 @@ returns-2 c =
     let s = k .before .before in
     let a = s .args in
     thin-put-refused _ _ _ _ _ (a .rest .now) (t .before .before .if1 .left) _ _ (t .thin .ensures) (s .pre) (λ i. omega (arith, k .shared-slice-known2 .given i)) _ (m .answer .given .1) (l .refusal-line .ensures)
-
-same-length-5 : tie.Need-same-length-5
-same-length-5 c = search needs
-
-same-length-6 : tie.Need-same-length-6
-same-length-6 c = search needs
 
 returns-3 : tie.Need-returns-3
 returns-3 c =
@@ -81,21 +45,7 @@ returns-3 c =
 
 pub end-text-spec : {M : Type 1} → statement M
 end-text-spec =
-    tie.close
-    (tie.spec
-    finish-requires
-    test-line-requires
-    same-length
-    same-length-2
-    returns
-    thin-requires
-    enum-known-answer
-    refusal-line-requires
-    enum-told
-    plan-text-requires
-    same-length-3
-    same-length-4
-    returns-2
-    same-length-5
-    same-length-6
-    returns-3)
+    tie.close (tie.spec
+    (λ c κs. search needs) (λ c κs. search needs) (λ c. search needs) (λ c. search needs) returns
+    (λ c κs. search needs) (λ c. search needs) (λ c κs. search needs) (λ c. search needs) plan-text-requires
+    (λ c. search needs) (λ c. search needs) returns-2 (λ c. search needs) (λ c. search needs) returns-3)

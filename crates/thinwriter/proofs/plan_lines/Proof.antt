@@ -24,24 +24,6 @@ other c no-line =
     let a = st .args in
     no-other (a .r) (now (a .figures)) (now (a .settings)) (now (a .out)) _ _ (st .pre .0) (st .pre .1) (e .emit-lines .ensures) no-line
 
-emit-lines-requires : tie.Need-emit-lines-requires
-emit-lines-requires c κs = search needs
-
-enum-known-n : tie.Need-enum-known-n
-enum-known-n c = search needs
-
-enum-told : tie.Need-enum-told
-enum-told c = search needs
-
-enum-told-2 : tie.Need-enum-told-2
-enum-told-2 c = search needs
-
-enum-told-3 : tie.Need-enum-told-3
-enum-told-3 c = search needs
-
-same-length : tie.Need-same-length
-same-length c = search needs
-
 returns : tie.Need-returns
 returns c =
     let e = emitted (c .before .before .before) in
@@ -49,38 +31,18 @@ returns c =
     let a = st .args in
     at-once (a .r) (now (a .figures)) (now (a .settings)) (now (a .out)) _ _ (st .pre .0) (st .pre .1) (e .emit-lines .ensures) _ _ (c .before .n .given .1)
 
-same-length-2 : tie.Need-same-length-2
-same-length-2 c = search needs
-
 returns-2 : tie.Need-returns-2
 returns-2 c = other (c .before .before) (ap isLine (c .enum-told .given .1))
 
-same-length-3 : tie.Need-same-length-3
-same-length-3 c = search needs
-
 returns-3 : tie.Need-returns-3
 returns-3 c = other (c .before .before) (ap isLine (c .enum-told2 .given .1))
-
-same-length-4 : tie.Need-same-length-4
-same-length-4 c = search needs
 
 returns-4 : tie.Need-returns-4
 returns-4 c = other (c .before .before) (ap isLine (c .enum-told3 .given .1))
 
 pub plan-lines-spec : {M : Type 1} → statement M
 plan-lines-spec =
-    tie.close
-    (tie.spec
-    emit-lines-requires
-    enum-known-n
-    enum-told
-    enum-told-2
-    enum-told-3
-    same-length
-    returns
-    same-length-2
-    returns-2
-    same-length-3
-    returns-3
-    same-length-4
-    returns-4)
+    tie.close (tie.spec
+    (λ c κs. search needs) (λ c. search needs) (λ c. search needs) (λ c. search needs) (λ c. search needs)
+    (λ c. search needs) returns (λ c. search needs) returns-2 (λ c. search needs) returns-3
+    (λ c. search needs) returns-4)

@@ -7,17 +7,11 @@ use Rattle.verdict.proofs.Pieces.{ends-left, ends-tested}
 use Rattle.verdict.proofs.finish.Statement.{statement}
 use Rattle.verdict.proofs.finish.Tie as tie
 
-not-taken-requires : tie.Need-not-taken-requires
-not-taken-requires c κs = search needs
-
 returns : tie.Need-returns
 returns c =
     let t = c .before in
     let a = t .before .before .before .before .args in
     ends-left (a .r) (checking (a .checker) (now (a .figures)) (now (a .settings))) (now (a .rest)) _ (t .if1 .taken) (c .not-taken .ensures)
-
-test-requires : tie.Need-test-requires
-test-requires c κs = search needs
 
 returns-2 : tie.Need-returns-2
 returns-2 c =
@@ -26,4 +20,4 @@ returns-2 c =
     ends-tested (a .r) (checking (a .checker) (now (a .figures)) (now (a .settings))) (now (a .rest)) _ _ (t .if1 .left) (c .test .ensures)
 
 pub finish-spec : {M : Type 1} → statement M
-finish-spec = tie.close (tie.spec not-taken-requires returns test-requires returns-2)
+finish-spec = tie.close (tie.spec (λ c κs. search needs) returns (λ c κs. search needs) returns-2)

@@ -7,15 +7,6 @@ use Rattle.verdict.specs.Pieces.{formRefused}
 use Rattle.verdict.proofs.not_taken.Statement.{statement}
 use Rattle.verdict.proofs.not_taken.Tie as tie
 
-open-case-requires : tie.Need-open-case-requires
-open-case-requires c κs = search needs
-
-enum-known-tested : tie.Need-enum-known-tested
-enum-known-tested c = search needs
-
-enum-told : tie.Need-enum-told
-enum-told c = search needs
-
 returns : tie.Need-returns
 returns c = let t = c .before in ap formRefused (sym (opened-refused (t .before .before .open-case .ensures) (t .tested .given .1)))
 
@@ -23,4 +14,6 @@ returns-2 : tie.Need-returns-2
 returns-2 c = ap formRefused (sym (opened-none (c .before .before .open-case .ensures) (c .enum-told .given .1)))
 
 pub not-taken-spec : {M : Type 1} → statement M
-not-taken-spec = tie.close (tie.spec open-case-requires enum-known-tested enum-told returns returns-2)
+not-taken-spec =
+    tie.close (tie.spec
+    (λ c κs. search needs) (λ c. search needs) (λ c. search needs) returns returns-2)

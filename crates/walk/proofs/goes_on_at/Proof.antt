@@ -8,12 +8,6 @@ use Rattle.walk.proofs.Turns.{on-not, on-due, on-letter}
 use Rattle.walk.proofs.goes_on_at.Statement.{statement}
 use Rattle.walk.proofs.goes_on_at.Tie as tie
 
-mark-requires : tie.Need-mark-requires
-mark-requires c κs = search needs
-
-peek-requires : tie.Need-peek-requires
-peek-requires c κs = search needs
-
 returns : tie.Need-returns
 returns c =
     let t = c .before in
@@ -35,4 +29,6 @@ returns-3 : tie.Need-returns-3
 returns-3 c = let a = c .before .before .args in on-not (now (a .text)) _ (a .w) (c .if1 .left)
 
 pub goes-on-at-spec : {M : Type 1} → statement M
-goes-on-at-spec = tie.close (tie.spec mark-requires peek-requires returns returns-2 returns-3)
+goes-on-at-spec =
+    tie.close (tie.spec
+    (λ c κs. search needs) (λ c κs. search needs) returns returns-2 returns-3)

@@ -6,14 +6,8 @@ use Rattle.walk.proofs.Turns.{line-due}
 use Rattle.walk.proofs.line_at.Statement.{statement}
 use Rattle.walk.proofs.line_at.Tie as tie
 
-number-due-requires : tie.Need-number-due-requires
-number-due-requires c κs = search needs
-
-one-line-requires : tie.Need-one-line-requires
-one-line-requires c κs = search needs
-
 returns : tie.Need-returns
 returns c = let n = c .before in let a = n .before .before .before .args in line-due (now (a .text)) _ (a .w) _ (n .number-due .ensures) (c .one-line .ensures)
 
 pub line-at-spec : {M : Type 1} → statement M
-line-at-spec = tie.close (tie.spec number-due-requires one-line-requires returns)
+line-at-spec = tie.close (tie.spec (λ c κs. search needs) (λ c κs. search needs) returns)

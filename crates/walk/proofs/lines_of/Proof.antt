@@ -7,14 +7,8 @@ use Rattle.walk.proofs.Turns.{rest-all, as-good, as-bad}
 use Rattle.walk.proofs.lines_of.Statement.{statement}
 use Rattle.walk.proofs.lines_of.Tie as tie
 
-walk-lines-requires : tie.Need-walk-lines-requires
-walk-lines-requires c κs = search needs
-
 returns : tie.Need-returns
 returns c = let w = c .before in let a = w .before .before .before .before .args in as-good (a .earlier) _ _ (c .if1 .taken) (w .walk-lines .ensures ∙ rest-all (now (a .text)) (a .kind) (a .count) (a .earlier))
-
-not-in-form-requires : tie.Need-not-in-form-requires
-not-in-form-requires c κs = search needs
 
 returns-2 : tie.Need-returns-2
 returns-2 c =
@@ -24,4 +18,4 @@ returns-2 c =
     c .not-in-form .ensures ∙ as-bad (a .earlier) _ _ (e .if1 .left) (w .walk-lines .ensures ∙ rest-all (now (a .text)) (a .kind) (a .count) (a .earlier))
 
 pub lines-of-spec : {M : Type 1} → statement M
-lines-of-spec = tie.close (tie.spec walk-lines-requires returns not-in-form-requires returns-2)
+lines-of-spec = tie.close (tie.spec (λ c κs. search needs) returns (λ c κs. search needs) returns-2)

@@ -5,9 +5,6 @@ use Rattle.walk.proofs.Turns.{due-more, due-none}
 use Rattle.walk.proofs.number_due.Statement.{statement}
 use Rattle.walk.proofs.number_due.Tie as tie
 
-add-result : tie.Need-add-result
-add-result c = search needs
-
 returns : tie.Need-returns
 returns c = due-more (c .before .before .before .args .w) (c .before .if1 .taken)
 
@@ -15,4 +12,4 @@ returns-2 : tie.Need-returns-2
 returns-2 c = due-none (c .before .before .args .w) (c .if1 .left)
 
 pub number-due-spec : {M : Type 1} → statement M
-number-due-spec = tie.close (tie.spec add-result returns returns-2)
+number-due-spec = tie.close (tie.spec (λ c. search needs) returns returns-2)

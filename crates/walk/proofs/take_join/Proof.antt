@@ -9,29 +9,14 @@ use Rattle.text.proofs.Chain.{fails, goes}
 use Rattle.walk.proofs.take_join.Statement.{statement}
 use Rattle.walk.proofs.take_join.Tie as tie
 
-join-line-requires : tie.Need-join-line-requires
-join-line-requires c κs = search needs
-
-enum-known-one : tie.Need-enum-known-one
-enum-known-one c = search needs
-
-enum-told : tie.Need-enum-told
-enum-told c = search needs
-
-not-in-form-requires : tie.Need-not-in-form-requires
-not-in-form-requires c κs = search needs
-
 returns : tie.Need-returns
 returns c = let t = c .before in ap linesGot (c .not-in-form .ensures) ∙ fails _ (sym (t .before .before .join-line .ensures) ∙ ap joinGot (t .enum-told .given .1))
-
-put-join-requires : tie.Need-put-join-requires
-put-join-requires c κs = search needs
-
-in-form-requires : tie.Need-in-form-requires
-in-form-requires c κs = search needs
 
 returns-2 : tie.Need-returns-2
 returns-2 c = let p = c .before in let k = p .before in ap linesGot (c .in-form .ensures) ∙ goes _ (sym (k .before .before .before .join-line .ensures) ∙ ap joinGot (k .before .one .given .1)) (put-same (p .put-join .ensures))
 
 pub take-join-spec : {M : Type 1} → statement M
-take-join-spec = tie.close (tie.spec join-line-requires enum-known-one enum-told not-in-form-requires returns put-join-requires in-form-requires returns-2)
+take-join-spec =
+    tie.close (tie.spec
+    (λ c κs. search needs) (λ c. search needs) (λ c. search needs) (λ c κs. search needs) returns
+    (λ c κs. search needs) (λ c κs. search needs) returns-2)

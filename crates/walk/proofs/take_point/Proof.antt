@@ -9,29 +9,14 @@ use Rattle.text.proofs.Chain.{fails, goes}
 use Rattle.walk.proofs.take_point.Statement.{statement}
 use Rattle.walk.proofs.take_point.Tie as tie
 
-point-line-requires : tie.Need-point-line-requires
-point-line-requires c κs = search needs
-
-enum-known-side : tie.Need-enum-known-side
-enum-known-side c = search needs
-
-enum-told : tie.Need-enum-told
-enum-told c = search needs
-
-not-in-form-requires : tie.Need-not-in-form-requires
-not-in-form-requires c κs = search needs
-
 returns : tie.Need-returns
 returns c = let t = c .before in ap linesGot (c .not-in-form .ensures) ∙ fails _ (sym (t .before .before .point-line .ensures) ∙ ap sideGot (t .enum-told .given .1))
-
-put-point-requires : tie.Need-put-point-requires
-put-point-requires c κs = search needs
-
-in-form-requires : tie.Need-in-form-requires
-in-form-requires c κs = search needs
 
 returns-2 : tie.Need-returns-2
 returns-2 c = let p = c .before in let k = p .before in ap linesGot (c .in-form .ensures) ∙ goes _ (sym (k .before .before .before .point-line .ensures) ∙ ap sideGot (k .before .side .given .1)) (put-same (p .put-point .ensures))
 
 pub take-point-spec : {M : Type 1} → statement M
-take-point-spec = tie.close (tie.spec point-line-requires enum-known-side enum-told not-in-form-requires returns put-point-requires in-form-requires returns-2)
+take-point-spec =
+    tie.close (tie.spec
+    (λ c κs. search needs) (λ c. search needs) (λ c. search needs) (λ c κs. search needs) returns
+    (λ c κs. search needs) (λ c κs. search needs) returns-2)

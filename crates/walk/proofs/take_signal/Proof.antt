@@ -9,29 +9,14 @@ use Rattle.text.proofs.Chain.{fails, goes}
 use Rattle.walk.proofs.take_signal.Statement.{statement}
 use Rattle.walk.proofs.take_signal.Tie as tie
 
-signal-line-requires : tie.Need-signal-line-requires
-signal-line-requires c κs = search needs
-
-enum-known-n : tie.Need-enum-known-n
-enum-known-n c = search needs
-
-enum-told : tie.Need-enum-told
-enum-told c = search needs
-
-not-in-form-requires : tie.Need-not-in-form-requires
-not-in-form-requires c κs = search needs
-
 returns : tie.Need-returns
 returns c = let t = c .before in ap linesGot (c .not-in-form .ensures) ∙ fails _ (sym (t .before .before .signal-line .ensures) ∙ ap signalGot (t .enum-told .given .1))
-
-put-signal-requires : tie.Need-put-signal-requires
-put-signal-requires c κs = search needs
-
-in-form-requires : tie.Need-in-form-requires
-in-form-requires c κs = search needs
 
 returns-2 : tie.Need-returns-2
 returns-2 c = let p = c .before in let k = p .before in ap linesGot (c .in-form .ensures) ∙ goes _ (sym (k .before .before .before .signal-line .ensures) ∙ ap signalGot (k .before .n .given .1)) (put-same (p .put-signal .ensures))
 
 pub take-signal-spec : {M : Type 1} → statement M
-take-signal-spec = tie.close (tie.spec signal-line-requires enum-known-n enum-told not-in-form-requires returns put-signal-requires in-form-requires returns-2)
+take-signal-spec =
+    tie.close (tie.spec
+    (λ c κs. search needs) (λ c. search needs) (λ c. search needs) (λ c κs. search needs) returns
+    (λ c κs. search needs) (λ c κs. search needs) returns-2)

@@ -9,29 +9,14 @@ use Rattle.text.proofs.Chain.{fails, goes}
 use Rattle.walk.proofs.take_train.Statement.{statement}
 use Rattle.walk.proofs.take_train.Tie as tie
 
-train-line-requires : tie.Need-train-line-requires
-train-line-requires c κs = search needs
-
-enum-known-heading : tie.Need-enum-known-heading
-enum-known-heading c = search needs
-
-enum-told : tie.Need-enum-told
-enum-told c = search needs
-
-not-in-form-requires : tie.Need-not-in-form-requires
-not-in-form-requires c κs = search needs
-
 returns : tie.Need-returns
 returns c = let t = c .before in ap linesGot (c .not-in-form .ensures) ∙ fails _ (sym (t .before .before .train-line .ensures) ∙ ap trainGot (t .enum-told .given .1))
-
-put-train-requires : tie.Need-put-train-requires
-put-train-requires c κs = search needs
-
-in-form-requires : tie.Need-in-form-requires
-in-form-requires c κs = search needs
 
 returns-2 : tie.Need-returns-2
 returns-2 c = let p = c .before in let k = p .before in ap linesGot (c .in-form .ensures) ∙ goes _ (sym (k .before .before .before .train-line .ensures) ∙ ap trainGot (k .before .heading .given .1)) (put-same (p .put-train .ensures))
 
 pub take-train-spec : {M : Type 1} → statement M
-take-train-spec = tie.close (tie.spec train-line-requires enum-known-heading enum-told not-in-form-requires returns put-train-requires in-form-requires returns-2)
+take-train-spec =
+    tie.close (tie.spec
+    (λ c κs. search needs) (λ c. search needs) (λ c. search needs) (λ c κs. search needs) returns
+    (λ c κs. search needs) (λ c κs. search needs) returns-2)

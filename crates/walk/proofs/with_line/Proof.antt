@@ -5,11 +5,8 @@ use Rattle.walk.proofs.Turns.{line-with}
 use Rattle.walk.proofs.with_line.Statement.{statement}
 use Rattle.walk.proofs.with_line.Tie as tie
 
-number-due-requires : tie.Need-number-due-requires
-number-due-requires c κs = search needs
-
 returns : tie.Need-returns
 returns c = let a = c .before .before .args in line-with (a .w) (a .line) _ (c .number-due .ensures)
 
 pub with-line-spec : {M : Type 1} → statement M
-with-line-spec = tie.close (tie.spec number-due-requires returns)
+with-line-spec = tie.close (tie.spec (λ c κs. search needs) returns)

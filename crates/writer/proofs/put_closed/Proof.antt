@@ -5,18 +5,6 @@ use Rattle.writer.proofs.Lines.{closed-none, closed-line}
 use Rattle.writer.proofs.put_closed.Statement.{statement}
 use Rattle.writer.proofs.put_closed.Tie as tie
 
-two-requires : tie.Need-two-requires
-two-requires c κs = search needs
-
-add-number : tie.Need-add-number
-add-number c = search needs
-
-number-requires : tie.Need-number-requires
-number-requires c κs = search needs
-
-same-length : tie.Need-same-length
-same-length c = search needs
-
 returns : tie.Need-returns
 returns c =
     let number = c .before .before in
@@ -29,4 +17,6 @@ returns-2 : tie.Need-returns-2
 returns-2 c = let a = c .before .before .args in closed-none (a .i) (a .shut) (c .if1 .left)
 
 pub put-closed-spec : {M : Type 1} → statement M
-put-closed-spec = tie.close (tie.spec two-requires add-number number-requires same-length returns returns-2)
+put-closed-spec =
+    tie.close (tie.spec
+    (λ c κs. search needs) (λ c. search needs) (λ c κs. search needs) (λ c. search needs) returns returns-2)

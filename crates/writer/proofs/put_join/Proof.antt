@@ -5,32 +5,8 @@ use Rattle.writer.proofs.Lines.{join-none, join-earlier, join-line}
 use Rattle.writer.proofs.put_join.Statement.{statement}
 use Rattle.writer.proofs.put_join.Tie as tie
 
-enum-told : tie.Need-enum-told
-enum-told c = search needs
-
-enum-known-j : tie.Need-enum-known-j
-enum-known-j c = search needs
-
-index-of-requires : tie.Need-index-of-requires
-index-of-requires c κs = search needs
-
-two-requires : tie.Need-two-requires
-two-requires c κs = search needs
-
-end-at-requires : tie.Need-end-at-requires
-end-at-requires c κs = search needs
-
-put-end-requires : tie.Need-put-end-requires
-put-end-requires c κs = search needs
-
-put-end-requires-2 : tie.Need-put-end-requires-2
-put-end-requires-2 c κs = search needs
-
 returns : tie.Need-returns
 returns c = let a = c .before .before .before .args in join-none (a .i) (a .j) (c .enum-told .given .1)
-
-same-length : tie.Need-same-length
-same-length c = search needs
 
 returns-2 : tie.Need-returns-2
 returns-2 c =
@@ -49,16 +25,7 @@ returns-3 c = let a = c .before .before .before .before .before .before .args in
 
 pub put-join-spec : {M : Type 1} → statement M
 put-join-spec =
-    tie.close
-    (tie.spec
-    enum-told
-    enum-known-j
-    index-of-requires
-    two-requires
-    end-at-requires
-    put-end-requires
-    put-end-requires-2
-    returns
-    same-length
-    returns-2
+    tie.close (tie.spec
+    (λ c. search needs) (λ c. search needs) (λ c κs. search needs) (λ c κs. search needs)
+    (λ c κs. search needs) (λ c κs. search needs) (λ c κs. search needs) returns (λ c. search needs) returns-2
     returns-3)

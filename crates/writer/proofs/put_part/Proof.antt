@@ -21,15 +21,6 @@ abbrev μ-loop : tie.MeasureT-loop
 loop-holds : tie.Need-loop-holds Inv-loop μ-loop
 loop-holds c = let a = c .before .args in (pieces-none (pieceOf (a .r) (a .part)), omega arith, refl)
 
-put-piece-requires : tie.Need-put-piece-requires Inv-loop μ-loop
-put-piece-requires c κs = search needs
-
-add-i : tie.Need-add-i Inv-loop μ-loop
-add-i c = omega arith
-
-loop-less : tie.Need-loop-less Inv-loop μ-loop
-loop-less c = omega arith
-
 loop-again : tie.Need-loop-again Inv-loop μ-loop
 loop-again c = let a = c .before .before .before .before .before .before .before .args in let l = c .before .before .before .before .before .loop in (pieces-next (pieceOf (a .r) (a .part)) (l .i) (l .inv .0) (c .before .before .put-piece .ensures), omega arith, c .before .before .put-piece .kept .0 ∙ l .inv .2)
 
@@ -41,14 +32,6 @@ returns c = let a = c .before .before .before .args in let l = c .before .loop i
 
 pub put-part-spec : {M : Type 1} → statement M
 put-part-spec =
-    tie.close
-    (tie.spec
-    Inv-loop
-    μ-loop
-    loop-holds
-    put-piece-requires
-    add-i
-    loop-less
-    loop-again
-    same-length
-    returns)
+    tie.close (tie.spec
+    Inv-loop μ-loop loop-holds (λ c κs. search needs) (λ c. omega arith) (λ c. omega arith) loop-again
+    same-length returns)

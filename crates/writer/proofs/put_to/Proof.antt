@@ -5,33 +5,12 @@ use Rattle.writer.proofs.Lines.{weight-omitted, weight-put}
 use Rattle.writer.proofs.put_to.Statement.{statement}
 use Rattle.writer.proofs.put_to.Tie as tie
 
-add-number : tie.Need-add-number
-add-number c = search needs
-
-number-requires : tie.Need-number-requires
-number-requires c κs = search needs
-
-add-number-2 : tie.Need-add-number-2
-add-number-2 c = search needs
-
-number-requires-2 : tie.Need-number-requires-2
-number-requires-2 c κs = search needs
-
-number-requires-3 : tie.Need-number-requires-3
-number-requires-3 c κs = search needs
-
-same-length : tie.Need-same-length
-same-length c = search needs
-
 returns : tie.Need-returns
 returns c =
     let end = c .before .before in
     let t = end .before .before in
     let a = t .before .before .args in
     weight-omitted (a .to) (a .weight) (t .if1 .taken) (end .number .ensures)
-
-same-length-2 : tie.Need-same-length-2
-same-length-2 c = search needs
 
 returns-2 : tie.Need-returns-2
 returns-2 c =
@@ -43,14 +22,6 @@ returns-2 c =
 
 pub put-to-spec : {M : Type 1} → statement M
 put-to-spec =
-    tie.close
-    (tie.spec
-    add-number
-    number-requires
-    add-number-2
-    number-requires-2
-    number-requires-3
-    same-length
-    returns
-    same-length-2
-    returns-2)
+    tie.close (tie.spec
+    (λ c. search needs) (λ c κs. search needs) (λ c. search needs) (λ c κs. search needs)
+    (λ c κs. search needs) (λ c. search needs) returns (λ c. search needs) returns-2)

@@ -6,18 +6,6 @@ use Rattle.checker.proofs.Entering.{start-first, start-again}
 use Rattle.checker.proofs.Checker.begin.Statement.{statement}
 use Rattle.checker.proofs.Checker.begin.Tie as tie
 
-enum-told : tie.Need-enum-told
-enum-told c = search needs
-
-begun-requires : tie.Need-begun-requires
-begun-requires c κs = search needs
-
-enum-told-2 : tie.Need-enum-told-2
-enum-told-2 c = search needs
-
-refused-requires : tie.Need-refused-requires
-refused-requires c κs = search needs
-
 returns : tie.Need-returns
 returns c =
     λ figs sets.
@@ -31,4 +19,6 @@ returns-2 c =
     start-again (checking (a .self) figs sets) (a .self .state) _ (a .n) _ _ (c .before .enum-told2 .given .1) (c .refused .ensures figs sets)
 
 pub begin-spec : {M : Type 1} → statement M
-begin-spec = tie.close (tie.spec enum-told begun-requires enum-told-2 refused-requires returns returns-2)
+begin-spec =
+    tie.close (tie.spec
+    (λ c. search needs) (λ c κs. search needs) (λ c. search needs) (λ c κs. search needs) returns returns-2)

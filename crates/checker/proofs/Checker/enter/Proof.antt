@@ -6,21 +6,6 @@ use Rattle.checker.proofs.Entering.{read-nothing, read-start, read-plac
 use Rattle.checker.proofs.Checker.enter.Statement.{statement}
 use Rattle.checker.proofs.Checker.enter.Tie as tie
 
-enum-told : tie.Need-enum-told
-enum-told c = search needs
-
-refused-requires : tie.Need-refused-requires
-refused-requires c κs = search needs
-
-enum-known-line : tie.Need-enum-known-line
-enum-known-line c = search needs
-
-begin-requires : tie.Need-begin-requires
-begin-requires c κs = search needs
-
-enum-known-line-2 : tie.Need-enum-known-line-2
-enum-known-line-2 c = search needs
-
 list-requires : tie.Need-list-requires
 list-requires c κs = let l = c .before .before .before in let s = l .before .before .before .before in small-code (s .args .line) _ _ _ (l .line2 .given .1) (s .pre)
 
@@ -35,12 +20,6 @@ returns-2 c =
     let a = l .before .before .before .before .args in
     read-start (checking (a .self) (a .figures .now) (a .settings .now)) (a .self .state) _ (a .line) _ (l .line .given .1) (c .begin .ensures (a .figures .now) (a .settings .now))
 
-same-length : tie.Need-same-length
-same-length c = search needs
-
-same-length-2 : tie.Need-same-length-2
-same-length-2 c = search needs
-
 returns-3 : tie.Need-returns-3
 returns-3 c =
     let t = c .before .before .before .before in
@@ -50,16 +29,6 @@ returns-3 c =
 
 pub enter-spec : {M : Type 1} → statement M
 enter-spec =
-    tie.close
-    (tie.spec
-    enum-told
-    refused-requires
-    enum-known-line
-    begin-requires
-    enum-known-line-2
-    list-requires
-    returns
-    returns-2
-    same-length
-    same-length-2
-    returns-3)
+    tie.close (tie.spec
+    (λ c. search needs) (λ c κs. search needs) (λ c. search needs) (λ c κs. search needs) (λ c. search needs)
+    list-requires returns returns-2 (λ c. search needs) (λ c. search needs) returns-3)

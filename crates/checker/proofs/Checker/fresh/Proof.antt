@@ -6,21 +6,6 @@ use Rattle.checker.proofs.Freshening.{enough, fresh-refused, fresh-fill
 use Rattle.checker.proofs.Checker.fresh.Statement.{statement}
 use Rattle.checker.proofs.Checker.fresh.Tie as tie
 
-open-case-requires : tie.Need-open-case-requires
-open-case-requires c κs = search needs
-
-enum-known-tested : tie.Need-enum-known-tested
-enum-known-tested c = search needs
-
-unbegun-requires : tie.Need-unbegun-requires
-unbegun-requires c κs = search needs
-
-enum-told : tie.Need-enum-told
-enum-told c = search needs
-
-placements-requires : tie.Need-placements-requires
-placements-requires c κs = search needs
-
 fill-requires : tie.Need-fill-requires
 fill-requires c κs =
     let n = c .before in
@@ -37,27 +22,12 @@ fill-requires-2 c κs =
     let a = o .before .before .before .before .before .args in
     enough (a .r) (a .figures .now) (a .settings .now) (o .open-case .ensures) (t .enum-told .given .1) _ (n .placements .ensures) .1
 
-unbegun-requires-2 : tie.Need-unbegun-requires-2
-unbegun-requires-2 c κs = search needs
-
-same-length : tie.Need-same-length
-same-length c = search needs
-
-same-length-2 : tie.Need-same-length-2
-same-length-2 c = search needs
-
 returns : tie.Need-returns
 returns c =
     let t = c .before .before in
     let o = t .before .before in
     let a = o .before .before .before .before .before .args in
     fresh-refused (a .r) (a .figures .now) (a .settings .now) (o .open-case .ensures) _ (t .tested .given .1) _ _ (c .unbegun .ensures .0) (c .unbegun .ensures .1) refl refl
-
-same-length-3 : tie.Need-same-length-3
-same-length-3 c = search needs
-
-same-length-4 : tie.Need-same-length-4
-same-length-4 c = search needs
 
 returns-2 : tie.Need-returns-2
 returns-2 c =
@@ -72,19 +42,7 @@ returns-2 c =
 
 pub fresh-spec : {M : Type 1} → statement M
 fresh-spec =
-    tie.close
-    (tie.spec
-    open-case-requires
-    enum-known-tested
-    unbegun-requires
-    enum-told
-    placements-requires
-    fill-requires
-    fill-requires-2
-    unbegun-requires-2
-    same-length
-    same-length-2
-    returns
-    same-length-3
-    same-length-4
-    returns-2)
+    tie.close (tie.spec
+    (λ c κs. search needs) (λ c. search needs) (λ c κs. search needs) (λ c. search needs)
+    (λ c κs. search needs) fill-requires fill-requires-2 (λ c κs. search needs) (λ c. search needs)
+    (λ c. search needs) returns (λ c. search needs) (λ c. search needs) returns-2)

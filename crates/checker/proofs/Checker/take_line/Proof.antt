@@ -6,17 +6,8 @@ use borrow.Author.Needs.{needs}
 use Rattle.checker.proofs.Checker.take_line.Statement.{statement}
 use Rattle.checker.proofs.Checker.take_line.Tie as tie
 
-read-line-requires : tie.Need-read-line-requires
-read-line-requires c κs = search needs
-
 enter-requires : tie.Need-enter-requires
 enter-requires c κs = let l = c .before .before in let s = l .before .before .before .before in some-small (s .pre) (s .args .text .now) _ (l .read-line .ensures)
-
-same-length : tie.Need-same-length
-same-length c = search needs
-
-same-length-2 : tie.Need-same-length-2
-same-length-2 c = search needs
 
 returns : tie.Need-returns
 returns c =
@@ -28,4 +19,5 @@ returns c =
 
 pub take-line-spec : {M : Type 1} → statement M
 take-line-spec =
-    tie.close (tie.spec read-line-requires enter-requires same-length same-length-2 returns)
+    tie.close (tie.spec
+    (λ c κs. search needs) enter-requires (λ c. search needs) (λ c. search needs) returns)

@@ -38,18 +38,12 @@ line i = line-at (now (start (i .before) .args .text)) (i .before .loop .at) (i 
 loop-holds : tie.Need-loop-holds Inv-loop μ-loop
 loop-holds c = let a = c .before .before .before .args in (refl, refl, λ r h fine. fronting-start r (now (a .text)) (checking (a .self) (a .figures .now) (a .settings .now)) fine)
 
-read-at-requires : tie.Need-read-at-requires Inv-loop μ-loop
-read-at-requires c κs = search needs
-
 enter-requires : tie.Need-enter-requires Inv-loop μ-loop
 enter-requires c κs =
     let n = c .before .before in
     let l = n .before .before in
     let s = start l in
     some-small (s .pre) (firstOf (drop (l .loop .at) (now (s .args .text)))) _ (λ r h. n .read-at .ensures r h .line)
-
-enum-told : tie.Need-enum-told Inv-loop μ-loop
-enum-told c = search needs
 
 same-length : tie.Need-same-length Inv-loop μ-loop
 same-length c = let t = c .before .before .before .before .before .before .before in t .enter .kept .1 .1 .0 ∙ t .before .before .before .before .before .loop .inv .0
@@ -68,9 +62,6 @@ returns c =
     let f = l .loop .inv .2 r h fine in
     let w = line-taken r k (firstOf (drop (l .loop .at) text)) _ _ (f .fine) (n .read-at .ensures r h .line) (t .enter .ensures) in
     fronting-stop r text _ (l .loop .at) k f (line (n .before)) _ w _ (c .enum-told .given .1)
-
-enum-told-2 : tie.Need-enum-told-2 Inv-loop μ-loop
-enum-told-2 c = search needs
 
 loop-less : tie.Need-loop-less Inv-loop μ-loop
 loop-less c =
@@ -116,20 +107,6 @@ returns-2 c =
 
 pub take-lines-spec : {M : Type 1} → statement M
 take-lines-spec =
-    tie.close
-    (tie.spec
-    Inv-loop
-    μ-loop
-    loop-holds
-    read-at-requires
-    enter-requires
-    enum-told
-    same-length
-    same-length-2
-    returns
-    enum-told-2
-    loop-less
-    loop-again
-    same-length-3
-    same-length-4
-    returns-2)
+    tie.close (tie.spec
+    Inv-loop μ-loop loop-holds (λ c κs. search needs) enter-requires (λ c. search needs) same-length
+    same-length-2 returns (λ c. search needs) loop-less loop-again same-length-3 same-length-4 returns-2)

@@ -7,27 +7,6 @@ use Rattle.checker.proofs.Calling.{test-refused, test-judged, test-hand
 use Rattle.checker.proofs.Checker.test.Statement.{statement}
 use Rattle.checker.proofs.Checker.test.Tie as tie
 
-open-case-requires : tie.Need-open-case-requires
-open-case-requires c κs = search needs
-
-enum-known-tested : tie.Need-enum-known-tested
-enum-known-tested c = search needs
-
-tested-requires : tie.Need-tested-requires
-tested-requires c κs = search needs
-
-enum-told : tie.Need-enum-told
-enum-told c = search needs
-
-case-ways-requires : tie.Need-case-ways-requires
-case-ways-requires c κs = search needs
-
-verdict-requires : tie.Need-verdict-requires
-verdict-requires c κs = search needs
-
-tested-requires-2 : tie.Need-tested-requires-2
-tested-requires-2 c κs = search needs
-
 returns : tie.Need-returns
 returns c =
     let t = c .before .before in
@@ -49,14 +28,6 @@ returns-2 c =
 
 pub test-spec : {M : Type 1} → statement M
 test-spec =
-    tie.close
-    (tie.spec
-    open-case-requires
-    enum-known-tested
-    tested-requires
-    enum-told
-    case-ways-requires
-    verdict-requires
-    tested-requires-2
-    returns
-    returns-2)
+    tie.close (tie.spec
+    (λ c κs. search needs) (λ c. search needs) (λ c κs. search needs) (λ c. search needs)
+    (λ c κs. search needs) (λ c κs. search needs) (λ c κs. search needs) returns returns-2)

@@ -5,36 +5,6 @@ use Rattle.desk_calls.proofs.Changing.{change-not-read, change-not-left
 use Rattle.desk_calls.proofs.Desk.change.Statement.{statement}
 use Rattle.desk_calls.proofs.Desk.change.Tie as tie
 
-compile-requires : tie.Need-compile-requires
-compile-requires c κs = search needs
-
-read-case-requires : tie.Need-read-case-requires
-read-case-requires c κs = search needs
-
-enum-known-answer : tie.Need-enum-known-answer
-enum-known-answer c = search needs
-
-sooner-requires : tie.Need-sooner-requires
-sooner-requires c κs = search needs
-
-unchanged-requires : tie.Need-unchanged-requires
-unchanged-requires c κs = search needs
-
-enum-told : tie.Need-enum-told
-enum-told c = search needs
-
-enum-known-tested : tie.Need-enum-known-tested
-enum-known-tested c = search needs
-
-unchanged-requires-2 : tie.Need-unchanged-requires-2
-unchanged-requires-2 c κs = search needs
-
-enum-told-2 : tie.Need-enum-told-2
-enum-told-2 c = search needs
-
-go-over-requires : tie.Need-go-over-requires
-go-over-requires c κs = search needs
-
 returns : tie.Need-returns
 returns c =
     let s = c .before in
@@ -67,18 +37,7 @@ returns-3 c =
 
 pub change-spec : {M : Type 1} → statement M
 change-spec =
-    tie.close
-    (tie.spec
-    compile-requires
-    read-case-requires
-    enum-known-answer
-    sooner-requires
-    unchanged-requires
-    enum-told
-    enum-known-tested
-    unchanged-requires-2
-    enum-told-2
-    go-over-requires
-    returns
-    returns-2
-    returns-3)
+    tie.close (tie.spec
+    (λ c κs. search needs) (λ c κs. search needs) (λ c. search needs) (λ c κs. search needs)
+    (λ c κs. search needs) (λ c. search needs) (λ c. search needs) (λ c κs. search needs) (λ c. search needs)
+    (λ c κs. search needs) returns returns-2 returns-3)

@@ -5,15 +5,6 @@ use Rattle.desk_calls.proofs.Changing.{over-mismatch, over-short, over-
 use Rattle.desk_calls.proofs.Desk.go_over.Statement.{statement}
 use Rattle.desk_calls.proofs.Desk.go_over.Tie as tie
 
-compile-requires : tie.Need-compile-requires
-compile-requires c κs = search needs
-
-mismatched-requires : tie.Need-mismatched-requires
-mismatched-requires c κs = search needs
-
-unchanged-requires : tie.Need-unchanged-requires
-unchanged-requires c κs = search needs
-
 returns : tie.Need-returns
 returns c =
     let i = c .before in
@@ -23,24 +14,6 @@ returns c =
     λ r h new.
     over-mismatch r (g .s) (g .self) (g .figures .now) (g .settings .now) (h .accepted) _ (m .mismatched .ensures r (g .s) h (k .compile .ensures .accepted new)) (i .if1 .taken) _
     (c .unchanged .ensures)
-
-open-case-requires : tie.Need-open-case-requires
-open-case-requires c κs = search needs
-
-enum-known-tested : tie.Need-enum-known-tested
-enum-known-tested c = search needs
-
-unchanged-requires-2 : tie.Need-unchanged-requires-2
-unchanged-requires-2 c κs = search needs
-
-enum-told : tie.Need-enum-told
-enum-told c = search needs
-
-stopped-requires : tie.Need-stopped-requires
-stopped-requires c κs = search needs
-
-unchanged-requires-3 : tie.Need-unchanged-requires-3
-unchanged-requires-3 c κs = search needs
 
 returns-2 : tie.Need-returns-2
 returns-2 c =
@@ -55,15 +28,6 @@ returns-2 c =
     λ r h new.
     over-stopped r (g .s) (g .self) (g .figures .now) (g .settings .now) (h .accepted) _ (m .mismatched .ensures r (g .s) h (k .compile .ensures .accepted new)) (i .if1 .left) new _
     (o .open-case .ensures) (t .enum-told .given .1) _ (s .stopped .ensures r h) (j .if2 .taken) _ (c .unchanged3 .ensures)
-
-code-of-requires : tie.Need-code-of-requires
-code-of-requires c κs = search needs
-
-entry-at-requires : tie.Need-entry-at-requires
-entry-at-requires c κs = search needs
-
-unchanged-requires-4 : tie.Need-unchanged-requires-4
-unchanged-requires-4 c κs = search needs
 
 returns-3 : tie.Need-returns-3
 returns-3 c =
@@ -82,9 +46,6 @@ returns-3 c =
     over-stranded r (g .s) (g .self) (g .figures .now) (g .settings .now) (h .accepted) _ (m .mismatched .ensures r (g .s) h (k .compile .ensures .accepted new)) (i .if1 .left) new _
     (o .open-case .ensures) (t .enum-told .given .1) _ (s .stopped .ensures r h) (j .if2 .left) _ _ (p .code-of .ensures (g .s) (k .compile .ensures .accepted new)) (v .entry-at .ensures)
     (l .if3 .taken) _ (c .unchanged4 .ensures)
-
-desk-on-requires : tie.Need-desk-on-requires
-desk-on-requires c κs = search needs
 
 returns-4 : tie.Need-returns-4
 returns-4 c =
@@ -118,23 +79,8 @@ returns-5 c =
 
 pub go-over-spec : {M : Type 1} → statement M
 go-over-spec =
-    tie.close
-    (tie.spec
-    compile-requires
-    mismatched-requires
-    unchanged-requires
-    returns
-    open-case-requires
-    enum-known-tested
-    unchanged-requires-2
-    enum-told
-    stopped-requires
-    unchanged-requires-3
-    returns-2
-    code-of-requires
-    entry-at-requires
-    unchanged-requires-4
-    returns-3
-    desk-on-requires
-    returns-4
-    returns-5)
+    tie.close (tie.spec
+    (λ c κs. search needs) (λ c κs. search needs) (λ c κs. search needs) returns (λ c κs. search needs)
+    (λ c. search needs) (λ c κs. search needs) (λ c. search needs) (λ c κs. search needs)
+    (λ c κs. search needs) returns-2 (λ c κs. search needs) (λ c κs. search needs) (λ c κs. search needs)
+    returns-3 (λ c κs. search needs) returns-4 returns-5)

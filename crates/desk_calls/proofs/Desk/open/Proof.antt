@@ -6,27 +6,6 @@ use Rattle.desk_calls.proofs.Calling.{open-refused, open-none, open-sta
 use Rattle.desk_calls.proofs.Desk.open.Statement.{statement}
 use Rattle.desk_calls.proofs.Desk.open.Tie as tie
 
-open-case-requires : tie.Need-open-case-requires
-open-case-requires c κs = search needs
-
-enum-known-tested : tie.Need-enum-known-tested
-enum-known-tested c = search needs
-
-nowhere-requires : tie.Need-nowhere-requires
-nowhere-requires c κs = search needs
-
-enum-told : tie.Need-enum-told
-enum-told c = search needs
-
-start-code-requires : tie.Need-start-code-requires
-start-code-requires c κs = search needs
-
-entry-at-requires : tie.Need-entry-at-requires
-entry-at-requires c κs = search needs
-
-nowhere-requires-2 : tie.Need-nowhere-requires-2
-nowhere-requires-2 c κs = search needs
-
 returns : tie.Need-returns
 returns c =
     let i = c .before in
@@ -38,12 +17,6 @@ returns c =
     let g = a .args in
     open-none (g .r) (g .figures .now) (g .settings .now) _ (o .open-case .ensures) (t .enum-told .given .1) _ _ (s .start-code .ensures)
     (v .entry-at .ensures) (i .if1 .taken) _ (c .nowhere2 .ensures)
-
-placement-of-requires : tie.Need-placement-of-requires
-placement-of-requires c κs = search needs
-
-desk-on-requires : tie.Need-desk-on-requires
-desk-on-requires c κs = search needs
 
 returns-2 : tie.Need-returns-2
 returns-2 c =
@@ -68,17 +41,7 @@ returns-3 c =
 
 pub open-spec : {M : Type 1} → statement M
 open-spec =
-    tie.close
-    (tie.spec
-    open-case-requires
-    enum-known-tested
-    nowhere-requires
-    enum-told
-    start-code-requires
-    entry-at-requires
-    nowhere-requires-2
-    returns
-    placement-of-requires
-    desk-on-requires
-    returns-2
-    returns-3)
+    tie.close (tie.spec
+    (λ c κs. search needs) (λ c. search needs) (λ c κs. search needs) (λ c. search needs)
+    (λ c κs. search needs) (λ c κs. search needs) (λ c κs. search needs) returns (λ c κs. search needs)
+    (λ c κs. search needs) returns-2 returns-3)

@@ -5,18 +5,6 @@ use Rattle.desk_calls.proofs.Calling.{setting-refused, setting-stopped,
 use Rattle.desk_calls.proofs.Desk.setting.Statement.{statement}
 use Rattle.desk_calls.proofs.Desk.setting.Tie as tie
 
-open-case-requires : tie.Need-open-case-requires
-open-case-requires c κs = search needs
-
-enum-known-tested : tie.Need-enum-known-tested
-enum-known-tested c = search needs
-
-enum-told : tie.Need-enum-told
-enum-told c = search needs
-
-stopped-requires : tie.Need-stopped-requires
-stopped-requires c κs = search needs
-
 returns : tie.Need-returns
 returns c =
     let m = c .before in
@@ -25,9 +13,6 @@ returns c =
     let a = o .before .before .before in
     let g = a .args in
     setting-stopped (g .r) (g .figures .now) (g .settings .now) _ (o .open-case .ensures) (t .enum-told .given .1) (g .self) _ (m .stopped .ensures) (c .if1 .taken)
-
-entry-at-requires : tie.Need-entry-at-requires
-entry-at-requires c κs = search needs
 
 returns-2 : tie.Need-returns-2
 returns-2 c =
@@ -50,13 +35,6 @@ returns-3 c =
 
 pub setting-spec : {M : Type 1} → statement M
 setting-spec =
-    tie.close
-    (tie.spec
-    open-case-requires
-    enum-known-tested
-    enum-told
-    stopped-requires
-    returns
-    entry-at-requires
-    returns-2
-    returns-3)
+    tie.close (tie.spec
+    (λ c κs. search needs) (λ c. search needs) (λ c. search needs) (λ c κs. search needs) returns
+    (λ c κs. search needs) returns-2 returns-3)

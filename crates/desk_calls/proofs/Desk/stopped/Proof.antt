@@ -6,14 +6,8 @@ use Rattle.desk_calls.proofs.Desks.{stopped-named, stopped-code, stoppe
 use Rattle.desk_calls.proofs.Desk.stopped.Statement.{statement}
 use Rattle.desk_calls.proofs.Desk.stopped.Tie as tie
 
-names-none-requires : tie.Need-names-none-requires
-names-none-requires c κs = search needs
-
 returns : tie.Need-returns
 returns c = let x = c .before in λ r h. stopped-named r (deskAt (x .before .before .args .self)) _ (x .names-none .ensures r h) (c .if1 .taken)
-
-code-of-requires : tie.Need-code-of-requires
-code-of-requires c κs = search needs
 
 returns-2 : tie.Need-returns-2
 returns-2 c =
@@ -21,12 +15,6 @@ returns-2 c =
     let e = y .before in
     let x = e .before in
     λ r h. stopped-code r (deskAt (x .before .before .args .self)) _ (x .names-none .ensures r h) _ (e .if1 .left) (y .code-of .ensures r h) (c .if2 .taken)
-
-placement-of-requires : tie.Need-placement-of-requires
-placement-of-requires c κs = search needs
-
-lost-in-requires : tie.Need-lost-in-requires
-lost-in-requires c κs = search needs
 
 returns-3 : tie.Need-returns-3
 returns-3 c =
@@ -39,9 +27,6 @@ returns-3 c =
     λ r h.
     stopped-lost r (deskAt (x .before .before .args .self)) _ (x .names-none .ensures r h) _ (e .if1 .left) (y .code-of .ensures r h) (g .if2 .left)
     _ (m .lost-in .ensures r _ (q .placement-of .ensures r h)) (c .if3 .taken)
-
-arrivals-requires : tie.Need-arrivals-requires
-arrivals-requires c κs = search needs
 
 returns-4 : tie.Need-returns-4
 returns-4 c =
@@ -60,14 +45,6 @@ returns-4 c =
 
 pub stopped-spec : {M : Type 1} → statement M
 stopped-spec =
-    tie.close
-    (tie.spec
-    names-none-requires
-    returns
-    code-of-requires
-    returns-2
-    placement-of-requires
-    lost-in-requires
-    returns-3
-    arrivals-requires
-    returns-4)
+    tie.close (tie.spec
+    (λ c κs. search needs) returns (λ c κs. search needs) returns-2 (λ c κs. search needs)
+    (λ c κs. search needs) returns-3 (λ c κs. search needs) returns-4)

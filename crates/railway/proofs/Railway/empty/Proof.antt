@@ -5,11 +5,8 @@ use borrow.Author.Needs.{needs}
 use Rattle.railway.proofs.Railway.empty.Statement.{statement}
 use Rattle.railway.proofs.Railway.empty.Tie as tie
 
-no-train-requires : tie.Need-no-train-requires
-no-train-requires c κs = search needs
-
 returns : tie.Need-returns
 returns c = (rw (c .no-train .ensures), ((refl, refl), (refl, ((refl, refl, refl, refl), (refl, refl, refl)))))
 
 pub empty-spec : {M : Type 1} → statement M
-empty-spec = tie.close (tie.spec no-train-requires returns)
+empty-spec = tie.close (tie.spec (λ c κs. search needs) returns)

@@ -7,14 +7,8 @@ use Rattle.railway.proofs.Lookups.{signal-read}
 use Rattle.railway.proofs.Railway.has_signal.Statement.{statement}
 use Rattle.railway.proofs.Railway.has_signal.Tie as tie
 
-index-of-requires : tie.Need-index-of-requires
-index-of-requires c κs = search needs
-
-flag-at-requires : tie.Need-flag-at-requires
-flag-at-requires c κs = search needs
-
 returns : tie.Need-returns
 returns c = let i = c .before in let a = i .before in c .flag-at .ensures ∙ signal-read (a .args .self) (a .args .e) _ (i .index-of .ensures) (signals-length (a .args .self) _ (a .good .0))
 
 pub has-signal-spec : {M : Type 1} → statement M
-has-signal-spec = tie.close (tie.spec index-of-requires flag-at-requires returns)
+has-signal-spec = tie.close (tie.spec (λ c κs. search needs) (λ c κs. search needs) returns)

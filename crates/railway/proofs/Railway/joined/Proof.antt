@@ -7,14 +7,8 @@ use Rattle.railway.proofs.Lookups.{joined-read}
 use Rattle.railway.proofs.Railway.joined.Statement.{statement}
 use Rattle.railway.proofs.Railway.joined.Tie as tie
 
-index-of-requires : tie.Need-index-of-requires
-index-of-requires c κs = search needs
-
-link-at-requires : tie.Need-link-at-requires
-link-at-requires c κs = search needs
-
 returns : tie.Need-returns
 returns c = let i = c .before in let a = i .before in c .link-at .ensures ∙ joined-read (a .args .self) (a .args .e) _ (i .index-of .ensures) (links-length (a .args .self) _ (a .good .0))
 
 pub joined-spec : {M : Type 1} → statement M
-joined-spec = tie.close (tie.spec index-of-requires link-at-requires returns)
+joined-spec = tie.close (tie.spec (λ c κs. search needs) (λ c κs. search needs) returns)

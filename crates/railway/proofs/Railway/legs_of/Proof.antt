@@ -7,14 +7,8 @@ use Rattle.railway.proofs.Lookups.{legs-there, legs-none, legs-past}
 use Rattle.railway.proofs.Railway.legs_of.Statement.{statement}
 use Rattle.railway.proofs.Railway.legs_of.Tie as tie
 
-cast-at : tie.Need-cast-at
-cast-at c = search needs
-
 returns : tie.Need-returns
 returns c = legs-none (c .before .args .t1) _ (c .if1 .taken)
-
-element-copy-out-l : tie.Need-element-copy-out-l
-element-copy-out-l c = search needs
 
 returns-2 : tie.Need-returns-2
 returns-2 c = let a = c .before .before .before .args in legs-there (a .t1) _ (c .before .before .if1 .left)
@@ -23,4 +17,4 @@ returns-3 : tie.Need-returns-3
 returns-3 c = let b = c .before .before in legs-past (b .args .t1) _ (omega (arith, legs-length (b .args .t1) _ (b .good .0)))
 
 pub legs-of-spec : {M : Type 1} → statement M
-legs-of-spec = tie.close (tie.spec cast-at returns element-copy-out-l returns-2 returns-3)
+legs-of-spec = tie.close (tie.spec (λ c. search needs) returns (λ c. search needs) returns-2 returns-3)

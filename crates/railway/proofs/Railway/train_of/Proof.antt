@@ -8,20 +8,8 @@ use Rattle.railway.proofs.Lookups.{roster-there, roster-none, roster-pa
 use Rattle.railway.proofs.Railway.train_of.Statement.{statement}
 use Rattle.railway.proofs.Railway.train_of.Tie as tie
 
-no-train-requires : tie.Need-no-train-requires
-no-train-requires c κs = search needs
-
 returns : tie.Need-returns
 returns c = c .no-train .ensures ∙ roster-none (c .before .before .args .t1) _ (c .before .if1 .taken)
-
-mul-result : tie.Need-mul-result
-mul-result c = search needs
-
-element-copy-out-result : tie.Need-element-copy-out-result
-element-copy-out-result c = search needs
-
-no-train-requires-2 : tie.Need-no-train-requires-2
-no-train-requires-2 c κs = search needs
 
 returns-2 : tie.Need-returns-2
 returns-2 c =
@@ -33,12 +21,6 @@ returns-3 c = let b = c .before .before .before in c .no-train2 .ensures ∙ ros
 
 pub train-of-spec : {M : Type 1} → statement M
 train-of-spec =
-    tie.close
-    (tie.spec
-    no-train-requires
-    returns
-    mul-result
-    element-copy-out-result
-    no-train-requires-2
-    returns-2
+    tie.close (tie.spec
+    (λ c κs. search needs) returns (λ c. search needs) (λ c. search needs) (λ c κs. search needs) returns-2
     returns-3)

@@ -6,9 +6,6 @@ use Rattle.railway.proofs.Updates.{closed-set, closed-out}
 use Rattle.railway.proofs.Railway.with_closed.Statement.{statement}
 use Rattle.railway.proofs.Railway.with_closed.Tie as tie
 
-element-write-next : tie.Need-element-write-next
-element-write-next c = search needs
-
 returns : tie.Need-returns
 returns c = closed-set (c .before .args .self) _ _ (c .if1 .taken) refl
 
@@ -16,4 +13,4 @@ returns-2 : tie.Need-returns-2
 returns-2 c = closed-out (c .before .args .self) _ (c .if1 .left)
 
 pub with-closed-spec : {M : Type 1} → statement M
-with-closed-spec = tie.close (tie.spec element-write-next returns returns-2)
+with-closed-spec = tie.close (tie.spec (λ c. search needs) returns returns-2)

@@ -6,24 +6,6 @@ use Rattle.railway.proofs.Updates.{join-both, join-first-out, join-seco
 use Rattle.railway.proofs.Railway.with_join.Statement.{statement}
 use Rattle.railway.proofs.Railway.with_join.Tie as tie
 
-index-of-requires : tie.Need-index-of-requires
-index-of-requires c κs = search needs
-
-index-of-requires-2 : tie.Need-index-of-requires-2
-index-of-requires-2 c κs = search needs
-
-cast-at : tie.Need-cast-at
-cast-at c = search needs
-
-cast-back : tie.Need-cast-back
-cast-back c = search needs
-
-element-write-next : tie.Need-element-write-next
-element-write-next c = search needs
-
-element-write-next-2 : tie.Need-element-write-next-2
-element-write-next-2 c = search needs
-
 returns : tie.Need-returns
 returns c = let x = c .before .before in let a = x .before .before .args in join-both (a .self) (a .a) (a .b) _ _ (x .before .index-of .ensures) (x .index-of2 .ensures) _ (c .before .if1 .taken) (c .if2 .taken) refl
 
@@ -35,14 +17,6 @@ returns-3 c = let x = c .before in let a = x .before .before .args in join-first
 
 pub with-join-spec : {M : Type 1} → statement M
 with-join-spec =
-    tie.close
-    (tie.spec
-    index-of-requires
-    index-of-requires-2
-    cast-at
-    cast-back
-    element-write-next
-    element-write-next-2
-    returns
-    returns-2
-    returns-3)
+    tie.close (tie.spec
+    (λ c κs. search needs) (λ c κs. search needs) (λ c. search needs) (λ c. search needs) (λ c. search needs)
+    (λ c. search needs) returns returns-2 returns-3)

@@ -6,12 +6,6 @@ use Rattle.railway.proofs.Updates.{legs-set, legs-out}
 use Rattle.railway.proofs.Railway.with_legs.Statement.{statement}
 use Rattle.railway.proofs.Railway.with_legs.Tie as tie
 
-cast-at : tie.Need-cast-at
-cast-at c = search needs
-
-element-set-from-legs : tie.Need-element-set-from-legs
-element-set-from-legs c = search needs
-
 returns : tie.Need-returns
 returns c = legs-set (c .before .args .self) _ (c .before .args .side) _ (c .if1 .taken) refl
 
@@ -19,4 +13,4 @@ returns-2 : tie.Need-returns-2
 returns-2 c = legs-out (c .before .args .self) _ (c .before .args .side) (c .if1 .left)
 
 pub with-legs-spec : {M : Type 1} → statement M
-with-legs-spec = tie.close (tie.spec cast-at element-set-from-legs returns returns-2)
+with-legs-spec = tie.close (tie.spec (λ c. search needs) (λ c. search needs) returns returns-2)

@@ -6,15 +6,6 @@ use Rattle.railway.proofs.Updates.{signal-added, signal-out}
 use Rattle.railway.proofs.Railway.with_signal.Statement.{statement}
 use Rattle.railway.proofs.Railway.with_signal.Tie as tie
 
-index-of-requires : tie.Need-index-of-requires
-index-of-requires c κs = search needs
-
-cast-at : tie.Need-cast-at
-cast-at c = search needs
-
-element-write-next : tie.Need-element-write-next
-element-write-next c = search needs
-
 returns : tie.Need-returns
 returns c = let a = c .before .before .args in signal-added (a .self) (a .e) _ (c .before .index-of .ensures) _ (c .if1 .taken) refl
 
@@ -23,4 +14,5 @@ returns-2 c = let a = c .before .before .args in signal-out (a .self) (a .e) _ (
 
 pub with-signal-spec : {M : Type 1} → statement M
 with-signal-spec =
-    tie.close (tie.spec index-of-requires cast-at element-write-next returns returns-2)
+    tie.close (tie.spec
+    (λ c κs. search needs) (λ c. search needs) (λ c. search needs) returns returns-2)

@@ -6,12 +6,6 @@ use Rattle.railway.proofs.Updates.{train-set, train-out}
 use Rattle.railway.proofs.Railway.with_train.Statement.{statement}
 use Rattle.railway.proofs.Railway.with_train.Tie as tie
 
-mul-train : tie.Need-mul-train
-mul-train c = search needs
-
-element-set-from-train : tie.Need-element-set-from-train
-element-set-from-train c = search needs
-
 returns : tie.Need-returns
 returns c = train-set (c .before .args .self) _ (c .before .args .train) _ (c .if1 .taken) refl
 
@@ -19,4 +13,4 @@ returns-2 : tie.Need-returns-2
 returns-2 c = train-out (c .before .args .self) _ (c .before .args .train) (c .if1 .left)
 
 pub with-train-spec : {M : Type 1} → statement M
-with-train-spec = tie.close (tie.spec mul-train element-set-from-train returns returns-2)
+with-train-spec = tie.close (tie.spec (λ c. search needs) (λ c. search needs) returns returns-2)

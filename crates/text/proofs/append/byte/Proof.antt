@@ -6,15 +6,6 @@ use Rattle.text.proofs.Appending.{append-room, append-full}
 use Rattle.text.proofs.append.byte.Statement.{statement}
 use Rattle.text.proofs.append.byte.Tie as tie
 
-slice-write-out : tie.Need-slice-write-out
-slice-write-out c = search needs
-
-add-result : tie.Need-add-result
-add-result c = search needs
-
-same-length : tie.Need-same-length
-same-length c = search needs
-
 returns : tie.Need-returns
 returns c = let a = c .before .args in append-room (now (a .out)) (a .at) (a .b) (c .if1 .taken)
 
@@ -22,4 +13,4 @@ returns-2 : tie.Need-returns-2
 returns-2 c = let a = c .before .args in append-full (now (a .out)) (a .at) (a .b) (c .if1 .left)
 
 pub byte-spec : {M : Type 1} → statement M
-byte-spec = tie.close (tie.spec slice-write-out add-result same-length returns returns-2)
+byte-spec = tie.close (tie.spec (λ c. search needs) (λ c. search needs) (λ c. search needs) returns returns-2)
