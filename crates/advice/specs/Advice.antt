@@ -114,7 +114,7 @@ Earlier m d n s = (m .0 < n .0) ⊎ ((m .0 ≡ n .0) × (d ≡ Down) × (s ≡ U
 abbrev pub signalled : Railway → SectionNo → Side → Railway
 signalled r n s = withSignal r (Section n s)
 
--- The first end at which one signal more gives the start a figure: it has no signal, with one there home can be forced, and with one at any end before it, that has none, it cannot.
+-- The first end that helps: it has no signal, with one there home can be forced from the start, and with one at any end before it, that has none, it cannot.
 pub record FirstHelping (r : Railway) (n : SectionNo) (s : Side) : Type 0 where
   pub bare : Bare r n s
   pub helps : HasFigure (signalled r n s)

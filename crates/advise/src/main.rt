@@ -1,4 +1,4 @@
-// A case text on standard input; on standard output a line: that no signal is needed, the first section end where one signal more gives the start a figure, that no single one does, or `refused`, a tab and the number.
+// A case text on standard input; on standard output a line: that no signal is needed, the first section end at which a signal would help, that there is no such end, or `refused`, a tab and the number.
 ghost use mathlib.Core.Path.{_≡_};
 ghost use Prim.Native.Nat.{suc, _≤_};
 ghost use lib.ListN.{length};

@@ -348,7 +348,7 @@ sorts : writtenText (caseAnswer (bytes "H\t5\t1\t1\nP\t1\tu\nJ\t1s\t3u\nJ\t1-\t1
 unfolding bytes first digits line isDigit byteAt digitsAt numberAt counted while sideFieldAt legFieldAt endFieldAt headerAt pointLineAt joinLineAt signalLineAt closedLineAt weightFieldAt trainLineAt walk read caseAnswer anyBelow listBelow gatherBelow any repeats joinEnds weightRow weightOf unknownRow joinRow looseRow doubleRow placeRow partner railwayOf endAt joinedBy joined hasSignal legsOf trainOf flatMap rising spell descriptionOf writtenText isClosed R.chainRow R.longer
 sorts = refl
 
--- Joins between points come last, in each the lower point first, and by first port in the order 1s, 1+, 1-, 2s.
+-- Joins between points come last, each with its lower point in front; they rise by that point, and of one point by stem, plus and minus.
 sorts-points : writtenText (caseAnswer (bytes "H\t7\t5\t1\nP\t1\tu\nP\t2\tu\nP\t3\tu\nP\t4\tu\nP\t5\tu\nJ\t5s\t2+\nJ\t2s\t1-\nJ\t3s\t1+\nJ\t4+\t1s\nJ\t5-\t7d\nJ\t6d\t5+\nJ\t5d\t2-\nJ\t4d\t3-\nJ\t3d\t3+\nJ\t2d\t4-\nJ\t1u\t4s\nT\t1\tu\t1\t2\n") .railway)
     ≡ bytes "H\t7\t5\t1\nP\t1\tu\nP\t2\tu\nP\t3\tu\nP\t4\tu\nP\t5\tu\nJ\t1u\t4s\nJ\t2d\t4-\nJ\t3d\t3+\nJ\t4d\t3-\nJ\t5d\t2-\nJ\t6d\t5+\nJ\t7d\t5-\nJ\t1s\t4+\nJ\t1+\t3s\nJ\t1-\t2s\nJ\t2+\t5s\nT\t1\tu\t1\t2\n"
 unfolding bytes first digits line isDigit byteAt digitsAt numberAt counted while sideFieldAt legFieldAt endFieldAt headerAt pointLineAt joinLineAt signalLineAt closedLineAt weightFieldAt trainLineAt walk read caseAnswer anyBelow listBelow gatherBelow any repeats joinEnds weightRow weightOf unknownRow joinRow looseRow doubleRow placeRow partner railwayOf endAt joinedBy joined hasSignal legsOf trainOf flatMap rising spell descriptionOf writtenText isClosed R.chainRow R.longer

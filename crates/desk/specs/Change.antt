@@ -97,7 +97,7 @@ pub record SameShape (r s : Railway) : Type 0 where
   pub trains : r .trains ≡ s .trains
   pub headings : (t : ℕ) → t < r .trains → trainOf r t .heading ≡ trainOf s t .heading
 
--- The new text is read, its tables are long enough, it has the old case's shape, and the desk's placement has a figure in it.
+-- The new text is accepted, both tables have room for its placements, it has the old case's shape, and the desk's placement has a figure in it.
 pub record CanChange (r : Railway) (text : List ℕ) (d : Desk) (figs sets : List ℕ) : Type 0 where
   pub railway : Railway
   pub read : AcceptedWith text railway
@@ -200,8 +200,8 @@ pub record AtWork (w : Working) : Type 0 where
 
 -- WITH THE SOLVER'S TABLES of the new case, s, lent with the change and from there on: of any desk d, whatever its old case r and the tables that it had there.
 pub record ChangeSolved (r : Railway) (d : Desk) (text : List ℕ) (s : Railway) (figs sets : List ℕ) : Type 0 where
-  -- where 12 does not stop it in its accepted old case: the change is made exactly when the shape agrees and its placement bears a figure in the new case, and 15 is given exactly
-  -- when the shape agrees and it bears none
+  -- where the old record is accepted and 12 does not stop it there: it goes over exactly if the shape agrees and its placement has a figure in the new case, and 15 is given exactly
+  -- if the shape agrees and there is none
   pub made-exactly : recordRefusal r ≡ none → deskRow r d ≡ false → (y : Changing) → ChangePost r text d figs sets y
       → (y .answer ≡ Changed) ↔ (SameShape r s × ((n : ℕ) × IsFigure (gameOf s) (deskCode s d) (some n)))
   pub stranded-exactly : recordRefusal r ≡ none → deskRow r d ≡ false → (y : Changing) → ChangePost r text d figs sets y
@@ -212,7 +212,7 @@ pub record ChangeSolved (r : Railway) (d : Desk) (text : List ℕ) (s : Railway)
 
 -- Q-11.
 pub record ChangeHolds : Type 0 where
-  -- for a desk that 12 does not stop in its accepted old case: the change is made exactly when it can be
+  -- if the old record is accepted and 12 does not stop the desk there, it goes over exactly if it can
   pub exactly : (r : Railway) (d : Desk) → recordRefusal r ≡ none → deskRow r d ≡ false → (text figs sets : List ℕ) (y : Changing) → ChangePost r text d figs sets y
       → (y .answer ≡ Changed) ↔ CanChange r text d figs sets
   -- then the trains stand where they stood, and what the desk carries is right in the new case

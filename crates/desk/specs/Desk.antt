@@ -40,7 +40,7 @@ pub record Desk : Type 0 where
 abbrev pub deskCode : Railway → Desk → ℕ
 deskCode r d = codeOn r (sectionIn (d .at))
 
--- A placement that cannot be: it names a section that is not there, or puts two trains on one.
+-- A placement that cannot be: a train stands on no section of the case, or two stand on the same.
 unfoldable pub misplaced : Railway → Placement → Bool
 misplaced r q = namesNone r (sectionIn q) || shared r (codeOn r (sectionIn q))
 
@@ -109,7 +109,7 @@ comesTo (some y) x = eqb y x
 unfoldable pub allows : Railway → Desk → List ℕ → ℕ → ℕ → Bool
 allows r d sets t x = may (gameOf r) (deskCode r d) (present r d sets) t && comesTo (passes r (present r d sets .plus) (headsFor r (deskCode r d) t) .reached) x
 
--- 12, report: the desk's own row; the trains are home; the setting does not allow the move; it ends on another train; it ends in a closed section.
+-- 12, report: the desk's own row; or all trains are home; or the move is not one that the setting allows, or comes onto another train, or into a closed section.
 unfoldable pub reportRow : Railway → Desk → List ℕ → ℕ → ℕ → Bool
 reportRow r d sets t x = deskRow r d || (atHome r (deskCode r d) || (not (allows r d sets t x) || (occupied r (deskCode r d) t x || isClosed r x)))
 

@@ -119,7 +119,7 @@ pub record DeskRuns (r : Railway) (figs sets : List ℕ) : Type 0 where
   pub none-exactly : (x : Opening) → OpenPost r figs sets x → (x .answer ≡ NoFigure) ↔ IsFigure (gameOf r) (startCode r) none
   pub opened-exactly : (x : Opening) → OpenPost r figs sets x → (x .answer ≡ Opened) ↔ ((n : ℕ) × IsFigure (gameOf r) (startCode r) (some n))
   pub at-start : (x : Opening) → OpenPost r figs sets x → x .answer ≡ Opened → (deskCode r (x .desk) ≡ startCode r) × ((t : ℕ) → t < r .trains → sectionIn (x .desk .at) t ≡ trainOf r t .start .0)
-  -- from there on the trains come home within as many reports as the start's figure
+  -- from there on no more reports count than the start's figure says, and with them the trains come home
   pub runs : (x : Opening) → OpenPost r figs sets x → (n : ℕ) → IsFigure (gameOf r) (startCode r) (some n) → RunsFrom r figs sets (x .desk) n
 
 -- OF ANY DESK, whatever is lent. When a report counts, in the game's words: no number stops the case, nor 12 the desk; the trains are not home; the train may move under the present

@@ -1,5 +1,5 @@
-// A desk for live running: one call opens it at the start, one gives the setting for the placement where it stands, each report of a train's movement yields the next desk, and a
-// change takes it over to another case, its trains where they stand. It carries the code of its placement and the number of trains on their destinations, and what it carries is
+// A desk at which a plan is followed: one call opens it at the start, one gives the setting for the placement where it stands, one is told that a train has moved and makes the next
+// desk of it, and a change takes it over to another case, its trains where they stand. It carries the code of its placement and how many trains have arrived, and what it carries is
 // tested before it is used. The desk goes from call to call by value; the record is tested again at every call, and the two tables, which are lent, are only read. A report or a change
 // that is refused hands the desk back as it was.
 ghost use mathlib.Core.Path.{_≡_};
@@ -192,7 +192,7 @@ impl Desk {
         }
     }
 
-    // The placement names a section that is not there, or puts two trains on one, or what the desk carries is wrong. No code is made of sections that are not there.
+    // Some train is on no section of the case, or two are on the same, or what the desk carries is wrong. No code is made of sections that are not there.
     fn stopped(self, table: &Table) -> bool
         ensures { λ b. ⌜ ((r : Railway) → Compiled r (now (table .entry)) → b ≡ deskRow r (deskAt self)) ⌝ }
     {

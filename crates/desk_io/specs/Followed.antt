@@ -86,7 +86,7 @@ abbrev pub CutFollows : Type 0
 CutFollows = (case : List ℕ) (n m : ℕ) → mostBytes < m → CaseFollowed (take m case) n → CaseFollowed case n
 
 -- THE PANEL behind some lines is one that calls for reports and changes lead to, one after the other (`Works`). So what is promised of those holds of its desk: with the solver's tables,
--- from the opening on and from each change on, the trains are home within as many reports that count as the figure there (`DeskRuns` in desk/Following, `ChangeHolds` in desk/Change).
+-- from the opening on and from each change on, no more reports count before home than the figure there says (`DeskRuns` in desk/Following, `ChangeHolds` in desk/Change).
 abbrev pub ByCalls : Type 0
 ByCalls = (r : Railway) (figs sets : List ℕ) (d : Desk) (xs : List Input) → Every Came xs
     → (w : Working) × Works (beginningWith r figs sets d) w × (panelOf (w .railway) (w .figs) (w .sets) (w .desk) ≡ panelBehind (panelOf r figs sets d) xs)

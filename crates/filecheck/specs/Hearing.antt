@@ -24,7 +24,7 @@ pub record HeardPost (case plan line : List ℕ) (n m : ℕ) (w : Written) (line
   pub plan-within : m ≤ length plan
   pub put : Puts (CheckOutput (take n case) (take m plan)) mostAnswerBytes line w line′
 
--- A plan that is heard from a checker that has taken no line, with fresh tables: the answer is that of the bytes that came.
+-- A plan that is heard from its first line on, by a checker with fresh tables: the answer is that of the bytes that came.
 abbrev pub HeardPlan : Railway → Checking → List ℕ → ℕ → TestAnswer → Type 0
 HeardPlan r start plan n a =
     (n ≤ length plan)

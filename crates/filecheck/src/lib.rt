@@ -104,7 +104,7 @@ fn listen(
     hear(fresh.checker, going, r, file, plan, figures, settings)
 }
 
-// They, from a checker that has taken no line.
+// They, by a checker that no line has come to yet.
 fn hear(
     start: Checker,
     goes: bool,

@@ -53,7 +53,7 @@ lines =
     (lineJ (sec 1 Up) (sec 2 Down)
     (yardH 9 0 3))))))))))
 
--- One line of three sections: train 1 is to go up from 1 to 2, and train 2 down from 3 to 1. (2, 3) has code 7, and train 1 is parked there.
+-- One line of three sections: the first train heads up, from 1 to 2, and the second down, from 3 to 1. (2, 3) has code 7, and train 1 is parked there.
 abbrev inTheWay : Railway
 inTheWay = lineT 2 Down 3 1 (lineT 1 Up 1 2 (lineJ (sec 2 Up) (sec 3 Down) (lineJ (sec 1 Up) (sec 2 Down) (yardH 3 0 2))))
 

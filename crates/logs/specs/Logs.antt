@@ -27,7 +27,7 @@ unfoldable pub sectionsFor : ℕ → List Entry → List ℕ
 sectionsFor t [] = []
 sectionsFor t (e ∷ es) = cond (eqb (e .train) t) (e .section ∷ sectionsFor t es) (sectionsFor t es)
 
--- For train t two logs give the same sections in the same order.
+-- Of train t two logs tell the same: the sections that it entered, one after the other.
 abbrev pub SameFor : List Entry → List Entry → ℕ → Type 0
 SameFor a b t = sectionsFor t a ≡ sectionsFor t b
 
@@ -40,7 +40,7 @@ pub record LowestDiffering (a b : List Entry) (t : ℕ) : Type 0 where
   pub differs : SameFor a b t → ⊥
   pub below : (u : ℕ) → u < t → SameFor a b u
 
--- The one log is turned into the other by SWAPPING neighbouring entries of different trains, one pair after the other.
+-- SWAPS turn the one log into the other: two entries side by side, of different trains, change places, one pair after the other.
 pub data Swaps : List Entry → List Entry → Type 0 where
   done : {a : List Entry} → Swaps a a
   swap : {b : List Entry} (before : List Entry) (x y : Entry) (after : List Entry) → (x .train ≡ y .train → ⊥) → Swaps (before ++ (y ∷ x ∷ after)) b → Swaps (before ++ (x ∷ y ∷ after)) b
@@ -97,7 +97,7 @@ AtFault r es = (256 < length es) ⊎ ((e : Entry) × List·Memᴰ e es × ((r .t
 
 -- Of an answer that keeps the promise.
 pub record LogClaims (r : Railway) (a b : List Entry) (x : LogAnswer) : Type 0 where
-  -- agree exactly if nothing is refused and for every train both logs give the same sections in the same order
+  -- agree exactly if nothing is refused and both logs tell the same of every train
   pub agree : (x ≡ Agree) ↔ (Taken r a b × Agreeing a b)
   -- agree exactly if nothing is refused and the one log becomes the other by swaps
   pub swaps : (x ≡ Agree) ↔ (Taken r a b × Swaps a b)

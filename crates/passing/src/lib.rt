@@ -1,4 +1,4 @@
-// Following a train from an end, the points lying as given: an end leads to a point, and a point leads on to the next end, through at most four points.
+// Following a train from an end, the points lying as given: from an end to the point that it is joined to, from there to the end by which the train leaves, over four points at most.
 // `pass` takes a record, tests it, and tells the section that the train comes to and the points that it meets. That a section is closed makes no difference
 // here.
 ghost use mathlib.Core.Path.{_≡_};

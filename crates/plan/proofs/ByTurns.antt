@@ -1,4 +1,4 @@
--- With all weights 1 every plan is as before: the same settings keep a figure, so the same plans pass the test; tables with figures in turns are filled tables, and
+-- Where all weights are 1 plans are those that count turns: the same settings keep a figure, so the same plans pass the test; tables with figures in turns are filled tables, and
 -- all filled tables make the same plan. Assumes nothing.
 use mathlib.Core.Path.{_≡_}
 use Prim.Native.Nat.{ℕ}

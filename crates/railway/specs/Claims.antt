@@ -29,7 +29,7 @@ pub record RecordNumbers : Type 0 where
   -- where two cases are judged together, it goes by the place of each number in the order
   pub ranked : (f : Refusal) → getD numbersInOrder (rank f) 0 ≡ number f
 
--- BYTES FOR ENDS. Each end that a railway can have has a byte of its own, and comes back from it.
+-- BYTES FOR ENDS. No two ends that a railway can have share a byte, and each byte tells its end.
 pub record EndBytes : Type 0 where
   -- its byte is below the number of all ends
   pub below : (e : End) → Numbered e → endIndex e < allEnds

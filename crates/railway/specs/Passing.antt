@@ -1,5 +1,5 @@
--- Following a train (document 01, "A turn", second paragraph; document 02, Q-6): an end leads to a point, and a point leads on to the next end, through at
--- most four points. Where a move comes to is `passes`. Assumes nothing.
+-- Following a train (document 01, "A turn", second paragraph; document 02, Q-6): past the join of an end to a section or a point, over the point to the end
+-- by which it is left, and so on, over four points at most. Where a move comes to is `passes`. Assumes nothing.
 use mathlib.Core.Bool.{Bool, true, false, cond}
 use mathlib.Core.List.{List, [], _∷_}
 use mathlib.Core.Option.{Option, none, some}
@@ -44,7 +44,7 @@ nowhere = record { met = []; reached = none }
 abbrev pub meeting : PointNo → Passage → Passage
 meeting n w = record { met = n .0 ∷ w .met; reached = w .reached }
 
--- A point leads on to the next end: out by the port given, and on past what that is joined to; none: the train derails on the point.
+-- Over a point: out by the port given, and on past what that is joined to; none: the train derails on the point.
 abbrev pub pastPoint : Railway → (Joined → Passage) → PointNo → Option Leg → Passage
 pastPoint r on n none = meeting n nowhere
 pastPoint r on n (some l) = meeting n (on (joined r (Port n l)))

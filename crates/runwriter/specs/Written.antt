@@ -1,4 +1,4 @@
--- What program `showruns` writes for a case text, refused or not (document 02, Q-3: how far a train has to go, before any search; the form is the program's own). Assumes nothing.
+-- What program `showruns` writes for a case text, refused or not (document 02, Q-3, for planners who have not searched yet; the form is the program's own). Assumes nothing.
 use mathlib.Core.Path.{_≡_}
 use mathlib.Core.Bool.{Bool, cond}
 use mathlib.Core.List.{List, [], _∷_, _++_}

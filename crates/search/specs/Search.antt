@@ -160,7 +160,7 @@ pub record SearchAt (r : Railway) (figs sets : List ℕ) (k : ℕ) (s : State) :
   -- each has finished a round, unless the search had ended before
   pub rounds : s .search .rounds ≤ k
   pub each-call : s .search .ended ≡ false → s .search .rounds ≡ k
-  -- it has ended exactly when a round is finished whose number is above the largest figure, and not before
+  -- it has ended exactly if all figures are below the number of a round that is finished, and with the first such round
   pub ended : (s .search .ended ≡ true) ↔ AllBelow r k
   pub finished : s .search .ended ≡ true → AllBelow r (s .search .rounds)
   pub at-once : (n : ℕ) → AllBelow r n → s .search .rounds ≤ n
@@ -171,7 +171,7 @@ pub record SearchAt (r : Railway) (figs sets : List ℕ) (k : ℕ) (s : State) :
   pub none-yet : (section : ℕ → ℕ) → namesNone r section ≡ false → IsFigure (gameOf r) (codeOn r section) none → lookUp r section s ≡ cond (s .search .ended) NoFigure NotYet
   -- one that names a section that is not there shows none, always
   pub nowhere : (section : ℕ → ℕ) → namesNone r section ≡ true → lookUp r section s ≡ NoFigure
-  -- the tables hold the figures shown with their settings, and at the other codes none and zero
+  -- what stands in the tables: where a figure is shown, that figure and its setting; everywhere else none and zero
   pub tables : (figs₁ sets₁ : List ℕ) → Filled r figs₁ sets₁ → UpToRound r (s .search .rounds) (s .figs) (s .sets) figs₁ sets₁
   pub kept-figs : Kept r figs (s .figs)
   pub kept-sets : Kept r sets (s .sets)

@@ -66,7 +66,7 @@ pub record EndPost (r : Railway) (c : Checking) (rest : List ℕ) (a : TestAnswe
   pub answer : a ≡ testAnswer (first (endRows r c rest))
   pub numbered : testNumber a ≡ numberOf (first (endRows r c rest))
 
--- ALL CALLS, from a checker that has taken no line: the text that has come so far, how many bytes of it were taken, what the calls have left, and
+-- ALL CALLS, with a checker that has no line before the first of them: the text that has come so far, how many bytes of it were taken, what the calls have left, and
 -- whether the last of them stopped. Each is handed what the last one left, and what has come behind the bytes taken.
 pub data Coming (r : Railway) (start : Checking) : List ℕ → ℕ → Checking → Bool → Type 0 where
   nothing-yet : Coming r start [] 0 start false
