@@ -9,16 +9,47 @@ returns : tie.Need-returns
 returns c = let a = c .before .args in simp (lt-ltb (a .s) 1 (c .if1 .taken))
 
 returns-2 : tie.Need-returns-2
-returns-2 c = let a = c .before .before .args in simp (le-ltb (a .s) 1 (c .before .if1 .left), lt-ltb mostSections (a .s) (c .if2 .taken))
+returns-2 c =
+    let some = c .before in
+    let a = some .before .args in
+    simp (le-ltb (a .s) 1 (some .if1 .left), lt-ltb mostSections (a .s) (c .if2 .taken))
 
 returns-3 : tie.Need-returns-3
-returns-3 c = let a = c .before .before .before .args in simp (le-ltb (a .s) 1 (c .before .before .if1 .left), le-ltb mostSections (a .s) (c .before .if2 .left), lt-ltb mostPoints (a .p) (c .if3 .taken))
+returns-3 c =
+    let few = c .before in
+    let some = few .before in
+    let a = some .before .args in
+    simp (
+      le-ltb (a .s) 1 (some .if1 .left),
+      le-ltb mostSections (a .s) (few .if2 .left),
+      lt-ltb mostPoints (a .p) (c .if3 .taken),
+    )
 
 returns-4 : tie.Need-returns-4
-returns-4 c = let a = c .before .before .before .before .args in simp (le-ltb (a .s) 1 (c .before .before .before .if1 .left), le-ltb mostSections (a .s) (c .before .before .if2 .left), le-ltb mostPoints (a .p) (c .before .if3 .left), lt-ltb (a .k) 1 (c .if4 .taken))
+returns-4 c =
+    let points = c .before in
+    let few = points .before in
+    let some = few .before in
+    let a = some .before .args in
+    simp (
+      le-ltb (a .s) 1 (some .if1 .left),
+      le-ltb mostSections (a .s) (few .if2 .left),
+      le-ltb mostPoints (a .p) (points .if3 .left),
+      lt-ltb (a .k) 1 (c .if4 .taken),
+    )
 
 returns-5 : tie.Need-returns-5
-returns-5 c = let a = c .before .before .before .before .args in simp (le-ltb (a .s) 1 (c .before .before .before .if1 .left), le-ltb mostSections (a .s) (c .before .before .if2 .left), le-ltb mostPoints (a .p) (c .before .if3 .left), le-ltb (a .k) 1 (c .if4 .left))
+returns-5 c =
+    let points = c .before in
+    let few = points .before in
+    let some = few .before in
+    let a = some .before .args in
+    simp (
+      le-ltb (a .s) 1 (some .if1 .left),
+      le-ltb mostSections (a .s) (few .if2 .left),
+      le-ltb mostPoints (a .p) (points .if3 .left),
+      le-ltb (a .k) 1 (c .if4 .left),
+    )
 
 pub counts-outside-spec : {M : Type 1} → statement M
 counts-outside-spec = tie.close (tie.spec returns returns-2 returns-3 returns-4 returns-5)
