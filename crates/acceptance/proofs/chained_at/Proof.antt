@@ -6,7 +6,11 @@ use Rattle.acceptance.proofs.chained_at.Statement.{statement}
 use Rattle.acceptance.proofs.chained_at.Tie as tie
 
 returns : tie.Need-returns
-returns c = λ r h. let s = c .before .before in port-chained r _ (s .before .if1 .taken) _ _ _ (s .is-long .ensures r h) (c .before .is-long2 .ensures r h) (c .is-long3 .ensures r h)
+returns c =
+    λ r h.
+    let s = c .before .before in
+    port-chained r _ (s .before .if1 .taken) _ _ _ (s .is-long .ensures r h) (c .before .is-long2 .ensures r h)
+    (c .is-long3 .ensures r h)
 
 returns-2 : tie.Need-returns-2
 returns-2 c = λ r h. no-port-chained r _ (c .if1 .left)

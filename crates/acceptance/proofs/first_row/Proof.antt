@@ -8,7 +8,8 @@ use Rattle.railway.specs.Bounds.{mostTrains}
 use Rattle.railway.specs.Refusals.{Row}
 use Rattle.railway.specs.Rows.{rowsBy, countRow, looseRow, chainRow, placeRow}
 use Rattle.railway.proofs.Arrays.{own-links, own-closed, roster-length}
-use Rattle.acceptance.proofs.Testing.{passed, given-by, all-passed, Asked, none-asked, judged, few-counted, own-roster}
+use Rattle.acceptance.proofs.Testing.{passed, given-by, all-passed, Asked, none-asked, judged, few-counted}
+use Rattle.acceptance.proofs.Testing.{own-roster}
 use Rattle.acceptance.proofs.first_row.Statement.{statement}
 use Rattle.acceptance.proofs.first_row.Tie as tie
 
@@ -113,7 +114,8 @@ misplaced-requires : tie.Need-misplaced-requires
 misplaced-requires c κs = few-trains (first-else (seventh c))
 
 misplaced-is :
-    (e : tie.After-misplaced) → e .misplaced .result ≡ placeRow (first-else (seventh (e .before)) .before .before .args .r)
+    (e : tie.After-misplaced)
+    → e .misplaced .result ≡ placeRow (first-else (seventh (e .before)) .before .before .args .r)
 misplaced-is e =
     let d = first-else (seventh (e .before)) in
     let s = d .before .before in

@@ -1,4 +1,5 @@
--- `acceptance::look` meets its contract. The loop's invariant: it has noted what rows 4 and 5 find before i. A join that has
+-- `acceptance::look` meets its contract. The loop's invariant: it has noted what rows 4 and 5 find before i. A join
+-- that has
 -- been met from its other end tells nothing new. Assumes nothing.
 use borrow.Author.Needs.{needs}
 use native.Mathlib.Omega.{arith}

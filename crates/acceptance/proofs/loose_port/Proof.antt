@@ -6,7 +6,11 @@ use Rattle.acceptance.proofs.loose_port.Statement.{statement}
 use Rattle.acceptance.proofs.loose_port.Tie as tie
 
 returns : tie.Need-returns
-returns c = λ r h. let s = c .before .before in port-loose r _ (s .before .if1 .taken) _ _ _ (s .is-loose .ensures r h) (c .before .is-loose2 .ensures r h) (c .is-loose3 .ensures r h)
+returns c =
+    λ r h.
+    let s = c .before .before in
+    port-loose r _ (s .before .if1 .taken) _ _ _ (s .is-loose .ensures r h) (c .before .is-loose2 .ensures r h)
+    (c .is-loose3 .ensures r h)
 
 returns-2 : tie.Need-returns-2
 returns-2 c = λ r h. no-port-loose r _ (c .if1 .left)
