@@ -1,6 +1,5 @@
 -- The test of a record as code makes it: each function's answer is the definition's, by what it looked up and what it
--- found.
--- Assumes nothing.
+-- found. Assumes nothing.
 use Prim.Native.Nat.{ℕ, _≤_, _<_}
 use mathlib.Core.Path.{_≡_, refl, sym, _∙_, ap}
 use mathlib.Core.Bool.{Bool, true, false, not, _&&_, _||_}

@@ -1,6 +1,5 @@
 -- `acceptance::is_longer` meets its contract: no point past no join, nor at a section; at a port one, and behind it
--- what the
--- walk finds with one point fewer. The number of points falls with each call. Assumes nothing.
+-- what the walk finds with one point fewer. The number of points falls with each call. Assumes nothing.
 use borrow.Author.Needs.{needs}
 use native.Mathlib.Omega.{arith}
 use Rattle.acceptance.proofs.Bytes.{long-section, long-none, long-here, long-stem, long-leg}

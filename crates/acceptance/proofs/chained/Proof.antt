@@ -1,6 +1,5 @@
 -- `acceptance::chained` meets its contract. The loop's invariant: it has noted whether from some point before n too
--- many can be met.
--- Assumes nothing.
+-- many can be met. Assumes nothing.
 use borrow.Author.Needs.{needs}
 use native.Mathlib.Omega.{arith}
 use Prim.Native.Nat.{_-_}

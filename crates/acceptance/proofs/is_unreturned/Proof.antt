@@ -1,6 +1,5 @@
 -- `acceptance::is_unreturned` meets its contract: where there is a link, the link of its other end has this end's byte,
--- or it is not returned.
--- Assumes nothing.
+-- or it is not returned. Assumes nothing.
 use borrow.Author.Needs.{needs}
 use Rattle.acceptance.proofs.Bytes.{none-unreturned, link-unreturned}
 use Rattle.acceptance.proofs.is_unreturned.Statement.{statement}

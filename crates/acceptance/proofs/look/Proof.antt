@@ -1,6 +1,5 @@
 -- `acceptance::look` meets its contract. The loop's invariant: it has noted what rows 4 and 5 find before i. A join
--- that has
--- been met from its other end tells nothing new. Assumes nothing.
+-- that has been met from its other end tells nothing new. Assumes nothing.
 use borrow.Author.Needs.{needs}
 use native.Mathlib.Omega.{arith}
 use Prim.Native.Nat.{_-_, _≤_}

@@ -1,6 +1,5 @@
 -- `acceptance::loose_ports` meets its contract. The loop's invariant: it has noted whether some point before n has a
--- loose port.
--- Assumes nothing.
+-- loose port. Assumes nothing.
 use borrow.Author.Needs.{needs}
 use native.Mathlib.Omega.{arith}
 use Prim.Native.Nat.{_-_}

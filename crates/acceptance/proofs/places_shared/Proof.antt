@@ -1,6 +1,5 @@
 -- `acceptance::places_shared` meets its contract. The loop's invariant: it has noted whether some train before t shares
--- a place with one before it.
--- Assumes nothing.
+-- a place with one before it. Assumes nothing.
 use native.Mathlib.Omega.{arith}
 use Prim.Native.Nat.{_-_}
 use Rattle.railway.specs.Rows.{sharesAt}

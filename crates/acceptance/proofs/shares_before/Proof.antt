@@ -1,6 +1,5 @@
 -- `acceptance::shares_before` meets its contract. The loop's invariant: it has noted whether the train shares a place
--- with one before u.
--- Assumes nothing.
+-- with one before u. Assumes nothing.
 use borrow.Author.Needs.{needs}
 use native.Mathlib.Omega.{arith}
 use Prim.Native.Nat.{ℕ, _-_, _<_}

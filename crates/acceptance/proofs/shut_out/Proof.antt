@@ -1,6 +1,5 @@
 -- `acceptance::shut_out` meets its contract. The loop's invariant: it has noted whether some train before t starts or
--- ends on a closed section.
--- Assumes nothing.
+-- ends on a closed section. Assumes nothing.
 use borrow.Author.Needs.{needs}
 use native.Mathlib.Omega.{arith}
 use Prim.Native.Nat.{_-_}

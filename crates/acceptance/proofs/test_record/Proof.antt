@@ -1,7 +1,6 @@
 -- `acceptance::test_record` meets its contract: a count outside its bounds comes before all else; then rows 16, 4 and 5
--- are
--- found on the record's own links, signals, closed sections, trains and legs, and row 7 applies to none. Assumes
--- nothing.
+-- are found on the record's own links, signals, closed sections, trains and legs, and row 7 applies to none.
+-- Assumes nothing.
 use borrow.Author.Needs.{needs}
 use native.Mathlib.Omega.{arith}
 use mathlib.Core.Path.{refl}

@@ -1,6 +1,5 @@
 -- `acceptance::unknown_closed` meets its contract. The loop's invariant: it has noted whether some section before x is
--- closed that is not there. It begins past those that are there.
--- Assumes nothing.
+-- closed that is not there. It begins past those that are there. Assumes nothing.
 use borrow.Author.Needs.{needs}
 use native.Mathlib.Omega.{arith}
 use mathlib.Core.Path.{_≡_}

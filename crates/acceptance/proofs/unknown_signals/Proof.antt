@@ -1,6 +1,5 @@
 -- `acceptance::unknown_signals` meets its contract. The loop's invariant: it has noted whether some signal before i
--- stands where no section is. It begins past the section ends that are there.
--- Assumes nothing.
+-- stands where no section is. It begins past the section ends that are there. Assumes nothing.
 use borrow.Author.Needs.{needs}
 use native.Mathlib.Omega.{arith}
 use mathlib.Core.Path.{_≡_}

@@ -1,6 +1,5 @@
 -- `acceptance::wrong_weights` meets its contract. The loop's invariant: it has noted whether some train before t has a
--- weight that none may have.
--- Assumes nothing.
+-- weight that none may have. Assumes nothing.
 use borrow.Author.Needs.{needs}
 use native.Mathlib.Omega.{arith}
 use Prim.Native.Nat.{_-_}

@@ -1,7 +1,6 @@
 -- `passing::past_join` and `past_point` meet their contracts. They call each other with the points allowed falling:
--- past a
--- join, over a point with one fewer allowed, and past the next join. Each return is one law of `Following`. Assumes
--- nothing.
+-- past a join, over a point with one fewer allowed, and past the next join. Each return is one law of `Following`.
+-- Assumes nothing.
 use Prim.Native.Nat.{ℕ, _<_, _*_, _+_}
 use borrow.Author.Needs.{needs}
 use native.Mathlib.Omega.{arith}

@@ -1,5 +1,5 @@
--- `text::append::digits` meets its contract. The measure is the number of digits that may still come; the cases are those of
--- the definition. Assumes nothing.
+-- `text::append::digits` meets its contract. The measure is the number of digits that may still come; the cases are
+-- those of the definition. Assumes nothing.
 use native.Mathlib.Omega.{arith}
 use borrow.Author.Needs.{needs}
 use mathlib.Core.Path.{_∙_}
