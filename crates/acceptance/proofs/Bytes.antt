@@ -300,7 +300,8 @@ module _ (r : Railway) (j : ℕ) where
         )
 
     pub long-leg : (k : ℕ) → (k ≡ 0 → ⊥) → ((j - sectionEnds) % 3 ≡ 0 → ⊥) → (a : Bool) (m : ℕ)
-        → m ≡ getD (r .links) (j - (j - sectionEnds) % 3) noLink → a ≡ longer r (k - 1) (joinedBy m) → a ≡ longer r k (joinedBy j)
+        → m ≡ getD (r .links) (j - (j - sectionEnds) % 3) noLink
+        → a ≡ longer r (k - 1) (joinedBy m) → a ≡ longer r k (joinedBy j)
     unfolding longer
     long-leg zero z h a m hm ha = absurd (z refl)
     long-leg (suc k) z h a m hm ha =

@@ -124,8 +124,10 @@ count-given r b h e = let z : countRow r ≡ true = sym h ∙ e in rw z
 
 -- else it is what is found in its trains' weights, its links, its signals, its closed sections and its trains
 pub tested : (r : Railway) (n : Option ℕ) (v u w b g x t : Bool)
-    → n ≡ numberOf (first (rowsBy (countRow r) v (((u || g) || x) || t) (w || b) (looseRow r) (chainRow r) false (placeRow r)))
+    → n ≡ numberOf
+    (first (rowsBy (countRow r) v (((u || g) || x) || t) (w || b) (looseRow r) (chainRow r) false (placeRow r)))
     → v ≡ weightRow r → Looked r allEnds u w b → g ≡ anyBelow (unknownSignalAt r) sectionEnds
-    → x ≡ anyBelow (unknownClosedAt r) mostSections → t ≡ anyBelow (unknownTrainAt r) (r .trains) → n ≡ numberOf (recordRefusal r)
+    → x ≡ anyBelow (unknownClosedAt r) mostSections
+    → t ≡ anyBelow (unknownTrainAt r) (r .trains) → n ≡ numberOf (recordRefusal r)
 unfolding recordRefusal unknownRow joinRow
 tested r n v u w b g x t e hv h hg hx ht = e ∙ rw (hv, h .unknown, h .wrong, h .unreturned, hg, hx, ht)
