@@ -84,6 +84,12 @@ module _ (r : Railway) (figs sets : List ℕ) where
 handed-back : (r : Railway) (d : Desk) (f : Refusal) (t x : ℕ) (y : ReportReply) → (y .answer ≡ Refused f) × (y .desk ≡ d) → replied y ≡ reportBy r (deskAt d) t x (some f)
 handed-back r d f t x y e = rw (e .0, e .1) refl
 
+-- A report that has been heard at a desk which is not stopped: its row is refused unless it counts, and then its train is there
+pub record Heard (r : Railway) (figs sets table : List ℕ) (d : Desk) (t x : ℕ) (k : Bool) : Type 0 where
+  pub tabled : Compiled r table
+  pub row : first (reportRows r (deskAt d) figs sets t x) ≡ refuseIf (not k) Report none
+  pub moves : k ≡ true → t < mostTrains
+
 module _ (r : Railway) (figs sets : List ℕ) (c : Compilation) (p : CasePost r figs sets c) where
   -- THE CASE IS REFUSED
   module _ (f : Refusal) (e : c .tested ≡ CaseRefused f) where
@@ -167,16 +173,28 @@ module _ (r : Railway) (figs sets : List ℕ) (c : Compilation) (p : CasePost r 
           its-row : first (reportRows r (deskAt d) figs sets t x) ≡ refuseIf (not k) Report none
           its-row = twelve (reportRow r (deskAt d) sets t x) ∙ ap (λ (z : Bool). refuseIf z Report none) (report-row r (deskAt d) sets t x sound ∙ ap not (sym it-counts))
 
-          pub report-counts : k ≡ true → (o : Placement) → ((u : ℕ) → sectionIn o u ≡ putIn (d .at) t x u)
-              → length (o .sections) ≡ mostTrains → length (d .at .sections) ≡ mostTrains
-              → (next : Desk) → ((a : Railway) → Compiled a (c .table) → deskAt next ≡ deskOn a o)
-              → ReportPost r (deskAt d) figs sets t x (replied (record { answer = Counted; desk = next }))
-          report-counts y o put lo ld next made =
+          pub report-heard : Heard r figs sets (c .table) d t x k
+          report-heard =
               let few = table-facts r (c .table) (opened-table p e) .few-trains in
-              let l : t < mostTrains = omega (arith, few, counts-train r _ _ t x (sym it-counts ∙ y)) in
-              report-post r figs sets (deskAt d) t x none _ (its-row ∙ rw y refl)
-              (ap (λ (w : DeskAt). record { answer = Counted; desk = w })
-              (made r (opened-table p e) ∙ ap (λ (xs : List ℕ). deskOn r (record { sections = xs })) (moved-sections (d .at) o t x ld lo l put)))
+              record {
+                tabled = opened-table p e;
+                row = its-row;
+                moves = λ y. omega (arith, few, counts-train r _ _ t x (sym it-counts ∙ y));
+              }
 
-          pub report-not : k ≡ false → (z : ReportReply) → (z .answer ≡ Refused Report) × (z .desk ≡ d) → ReportPost r (deskAt d) figs sets t x (replied z)
-          report-not y z made = report-post r figs sets (deskAt d) t x (some Report) (replied z) (its-row ∙ rw y refl) (handed-back r d Report t x z made)
+-- THE REPORT, by whether it counts
+module _ {r : Railway} {figs sets table : List ℕ} {d : Desk} {t x : ℕ} {k : Bool} (h : Heard r figs sets table d t x k) where
+  pub report-counts : k ≡ true → (o : Placement) → ((u : ℕ) → sectionIn o u ≡ putIn (d .at) t x u)
+      → length (o .sections) ≡ mostTrains → length (d .at .sections) ≡ mostTrains
+      → (next : Desk) → ((a : Railway) → Compiled a table → deskAt next ≡ deskOn a o)
+      → ReportPost r (deskAt d) figs sets t x (replied (record { answer = Counted; desk = next }))
+  report-counts y o put lo ld next made =
+      report-post r figs sets (deskAt d) t x none _ (h .row ∙ rw y refl)
+      (ap (λ (w : DeskAt). record { answer = Counted; desk = w })
+      (made r (h .tabled)
+      ∙ ap (λ (xs : List ℕ). deskOn r (record { sections = xs })) (moved-sections (d .at) o t x ld lo (h .moves y) put)))
+
+  pub report-not : k ≡ false → (z : ReportReply) → (z .answer ≡ Refused Report) × (z .desk ≡ d)
+      → ReportPost r (deskAt d) figs sets t x (replied z)
+  report-not y z made =
+      report-post r figs sets (deskAt d) t x (some Report) (replied z) (h .row ∙ rw y refl) (handed-back r d Report t x z made)

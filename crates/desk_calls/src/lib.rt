@@ -63,25 +63,23 @@ impl Desk {
     {
         let c = cases::open_case(r, figures, settings);
         let tested = c.tested;
-        match tested {
-            CaseAnswer::Refused(f) => OpenReply {
+        if let CaseAnswer::Refused(f) = tested {
+            return OpenReply {
                 answer: OpenAnswer::Refused(f),
                 desk: nowhere(),
-            },
-            CaseAnswer::Accepted => {
-                let table = c.table;
-                let p = moves::start_code(&table);
-                if tables::entry_at(figures, p, NO_FIGURE) == NO_FIGURE {
-                    return OpenReply {
-                        answer: OpenAnswer::NoFigure,
-                        desk: nowhere(),
-                    };
-                }
-                OpenReply {
-                    answer: OpenAnswer::Opened,
-                    desk: desk_on(&table, moves::placement_of(&table, p)),
-                }
-            }
+            };
+        }
+        let table = c.table;
+        let p = moves::start_code(&table);
+        if tables::entry_at(figures, p, NO_FIGURE) == NO_FIGURE {
+            return OpenReply {
+                answer: OpenAnswer::NoFigure,
+                desk: nowhere(),
+            };
+        }
+        OpenReply {
+            answer: OpenAnswer::Opened,
+            desk: desk_on(&table, moves::placement_of(&table, p)),
         }
     }
 
@@ -109,25 +107,23 @@ impl Desk {
     {
         let c = cases::open_case(r, figures, settings);
         let tested = c.tested;
-        match tested {
-            CaseAnswer::Refused(f) => self.refused(f),
-            CaseAnswer::Accepted => {
-                let table = c.table;
-                if self.stopped(&table) {
-                    return self.refused(Refusal::Report);
-                }
-                let p = self.code;
-                let v = tables::entry_at(settings, p, 0);
-                let ways = cases::case_ways(r);
-                if counts(&table, &ways, moves::placement_of(&table, p), v, t, x) {
-                    return ReportReply {
-                        answer: ReportAnswer::Counted,
-                        desk: desk_on(&table, moves::put_on(self.at, t, x)),
-                    };
-                }
-                self.refused(Refusal::Report)
-            }
+        if let CaseAnswer::Refused(f) = tested {
+            return self.refused(f);
         }
+        let table = c.table;
+        if self.stopped(&table) {
+            return self.refused(Refusal::Report);
+        }
+        let p = self.code;
+        let v = tables::entry_at(settings, p, 0);
+        let ways = cases::case_ways(r);
+        if counts(&table, &ways, moves::placement_of(&table, p), v, t, x) {
+            return ReportReply {
+                answer: ReportAnswer::Counted,
+                desk: desk_on(&table, moves::put_on(self.at, t, x)),
+            };
+        }
+        self.refused(Refusal::Report)
     }
 
     // A CHANGE OF CASE, the trains where they stand: from the record's case to that of the text, whose tables are lent. The desk goes over if sections, trains and headings are the
