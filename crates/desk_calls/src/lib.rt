@@ -89,16 +89,14 @@ impl Desk {
     {
         let c = cases::open_case(r, figures, settings);
         let tested = c.tested;
-        match tested {
-            CaseAnswer::Refused(f) => SettingAnswer::Refused(f),
-            CaseAnswer::Accepted => {
-                let table = c.table;
-                if self.stopped(&table) {
-                    return SettingAnswer::Refused(Refusal::Report);
-                }
-                SettingAnswer::Given(tables::entry_at(settings, self.code, 0))
-            }
+        if let CaseAnswer::Refused(f) = tested {
+            return SettingAnswer::Refused(f);
         }
+        let table = c.table;
+        if self.stopped(&table) {
+            return SettingAnswer::Refused(Refusal::Report);
+        }
+        SettingAnswer::Given(tables::entry_at(settings, self.code, 0))
     }
 
     // A REPORT: train t has come to section x. The next desk has it there, if the setting allows that move.
@@ -159,22 +157,20 @@ impl Desk {
         }
         let lent = cases::open_case(s, figures, settings);
         let tested = lent.tested;
-        match tested {
-            CaseAnswer::Refused(f) => self.unchanged(f),
-            CaseAnswer::Accepted => {
-                if self.stopped(table) {
-                    return self.unchanged(Refusal::Report);
-                }
-                let at = self.at;
-                let p = moves::code_of(&next, at);
-                if tables::entry_at(figures, p, NO_FIGURE) == NO_FIGURE {
-                    return self.unchanged(Refusal::Stranded);
-                }
-                ChangeReply {
-                    answer: ChangeAnswer::Changed,
-                    desk: desk_on(&next, at),
-                }
-            }
+        if let CaseAnswer::Refused(f) = tested {
+            return self.unchanged(f);
+        }
+        if self.stopped(table) {
+            return self.unchanged(Refusal::Report);
+        }
+        let at = self.at;
+        let p = moves::code_of(&next, at);
+        if tables::entry_at(figures, p, NO_FIGURE) == NO_FIGURE {
+            return self.unchanged(Refusal::Stranded);
+        }
+        ChangeReply {
+            answer: ChangeAnswer::Changed,
+            desk: desk_on(&next, at),
         }
     }
 

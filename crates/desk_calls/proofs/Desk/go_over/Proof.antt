@@ -64,6 +64,14 @@ returns c =
 
 returns-2 : tie.Need-returns-2
 returns-2 c =
+    let told = c .before .before in
+    let case = told .before .before in
+    λ r h new.
+    over-short r _ _ _ _ (alike (case .before) r h new) _ (case .open-case .ensures) _ (told .tested .given .1) _
+    (c .unchanged2 .ensures)
+
+returns-3 : tie.Need-returns-3
+returns-3 c =
     let stopped = c .before in
     let stop = stopped .before in
     let told = stop .before in
@@ -72,8 +80,8 @@ returns-2 c =
     over-stopped r _ _ _ _ (alike (case .before) r h new) _ (case .open-case .ensures) (told .enum-told .given .1)
     (sym (stop .stopped .ensures r h) ∙ stopped .if2 .taken) _ (c .unchanged3 .ensures)
 
-returns-3 : tie.Need-returns-3
-returns-3 c =
+returns-4 : tie.Need-returns-4
+returns-4 c =
     let none-there = c .before in
     let entry = none-there .before in
     let code = entry .before in
@@ -82,14 +90,6 @@ returns-3 c =
     λ r h new.
     over-stranded r _ _ _ _ (sound stands r h new) _ _ (code .code-of .ensures (to m) (new-table m new))
     (entry .entry-at .ensures) (none-there .if3 .taken) _ (c .unchanged4 .ensures)
-
-returns-4 : tie.Need-returns-4
-returns-4 c =
-    let told = c .before .before in
-    let case = told .before .before in
-    λ r h new.
-    over-short r _ _ _ _ (alike (case .before) r h new) _ (case .open-case .ensures) _ (told .tested .given .1) _
-    (c .unchanged2 .ensures)
 
 returns-5 : tie.Need-returns-5
 returns-5 c =
@@ -107,6 +107,6 @@ pub go-over-spec : {M : Type 1} → statement M
 go-over-spec =
     tie.close (tie.spec
     (λ c κs. search needs) (λ c κs. search needs) (λ c κs. search needs) returns (λ c κs. search needs)
-    (λ c. search needs) (λ c κs. search needs) (λ c. search needs) (λ c κs. search needs)
-    (λ c κs. search needs) returns-2 (λ c κs. search needs) (λ c κs. search needs) (λ c κs. search needs)
-    returns-3 (λ c κs. search needs) returns-4 returns-5)
+    (λ c. search needs) (λ c κs. search needs) returns-2 (λ c. search needs) (λ c κs. search needs)
+    (λ c κs. search needs) returns-3 (λ c κs. search needs) (λ c κs. search needs) (λ c κs. search needs)
+    returns-4 (λ c κs. search needs) returns-5)
