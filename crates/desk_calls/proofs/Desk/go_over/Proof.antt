@@ -1,5 +1,5 @@
--- `desk_calls::Desk::go_over` meets its contract, row by row: another shape, tables too short, the desk's own row, no figure;
--- else it goes over. Assumes nothing.
+-- `desk_calls::Desk::go_over` meets its contract, row by row: another shape, tables too short, the desk's own row, no
+-- figure; else it goes over. Assumes nothing.
 use borrow.Author.Needs.{needs}
 use mathlib.Core.Path.{_≡_, sym, _∙_}
 use mathlib.Core.Option.{none}
@@ -60,7 +60,8 @@ returns : tie.Need-returns
 returns c =
     let other = c .before in
     let m = other .before in
-    λ r h new. over-mismatch r _ _ _ _ (h .accepted) (sym (shape m r h new) ∙ other .if1 .taken) _ (c .unchanged .ensures)
+    λ r h new.
+    over-mismatch r _ _ _ _ (h .accepted) (sym (shape m r h new) ∙ other .if1 .taken) _ (c .unchanged .ensures)
 
 returns-2 : tie.Need-returns-2
 returns-2 c =

@@ -1,9 +1,10 @@
--- `desk_calls::Desk::report` meets its contract: what is refused, then a desk that 12 stops, then whether the report counts.
--- Assumes nothing.
+-- `desk_calls::Desk::report` meets its contract: what is refused, then a desk that 12 stops, then whether the report
+-- counts. Assumes nothing.
 use borrow.Author.Needs.{needs}
 use Rattle.placement.proofs.Places.{placement-length}
 use Rattle.desk_calls.proofs.Desks.{desk-length}
-use Rattle.desk_calls.proofs.Calling.{Heard, report-refused, report-stopped, report-heard, report-counts, report-not}
+use Rattle.desk_calls.proofs.Calling.{Heard, report-refused, report-stopped, report-heard, report-counts}
+use Rattle.desk_calls.proofs.Calling.{report-not}
 use Rattle.desk_calls.proofs.Desk.report.Statement.{statement}
 use Rattle.desk_calls.proofs.Desk.report.Tie as tie
 
@@ -27,7 +28,8 @@ heard :
     (n : tie.After-counts) →
     let o = begun n in
     let a = start o .args in
-    Heard (a .r) (a .figures .now) (a .settings .now) (o .open-case .result .table) (a .self) (a .t) (a .x) (n .counts .result)
+    Heard (a .r) (a .figures .now) (a .settings .now) (o .open-case .result .table) (a .self) (a .t)
+    (a .x) (n .counts .result)
 heard n =
     let place = n .before in
     let laid = place .before .before .before .before in
@@ -37,8 +39,10 @@ heard n =
     let told = accepted stop in
     let case = told .before .before in
     let a = start case .args in
-    report-heard (a .r) (a .figures .now) (a .settings .now) _ (case .open-case .ensures) (told .enum-told .given .1) (a .self)
-    _ (stop .stopped .ensures) (sound .if1 .left) _ (entry .entry-at .ensures) (a .t) (a .x) _ (laid .case-ways .ensures) _
+    report-heard (a .r) (a .figures .now) (a .settings .now) _ (case .open-case .ensures)
+    (told .enum-told .given .1) (a .self)
+    _ (stop .stopped .ensures) (sound .if1 .left) _ (entry .entry-at .ensures) (a .t) (a .x) _
+    (laid .case-ways .ensures) _
     (place .placement-of .ensures) _ (n .counts .ensures)
 
 returns : tie.Need-returns
