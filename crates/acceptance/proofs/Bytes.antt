@@ -361,7 +361,7 @@ or-nothing false = refl
 
 -- NOTED ON THE WAY: whether some number passes a test, place after place
 module _ (f : ℕ → Bool) (i : ℕ) (u : Bool) (h : u ≡ anyBelow f i) where
-  pub noted-next : (x : Bool) → x ≡ f i → (u || x) ≡ anyBelow f (i + 1)
+  noted-next : (x : Bool) → x ≡ f i → (u || x) ≡ anyBelow f (i + 1)
   unfolding anyBelow
   noted-next x hx = rw (add-one i, h, hx)
 
@@ -376,7 +376,7 @@ module _ (f : ℕ → Bool) (i : ℕ) (u : Bool) (h : u ≡ anyBelow f i) where
     | inr t ↦ noted-not (e ∙ t)
   ]
 
-  pub noted-all : (k : ℕ) → i ≤ k → k ≤ i → u ≡ anyBelow f k
+  noted-all : (k : ℕ) → i ≤ k → k ≤ i → u ≡ anyBelow f k
   noted-all k l g = let e : i ≡ k = omega arith in rw e at h
 
 -- A LOOP THAT ONLY NOTES has noted, for every record that is as it was told, whether something shows before i
