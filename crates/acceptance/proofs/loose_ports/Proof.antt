@@ -15,18 +15,11 @@ Inv-loop links p found₀ n₀ found n = NotedTo (λ r. LinksOf r links) looseAt
 abbrev μ-loop : tie.MeasureT-loop
 μ-loop links p found₀ n₀ found n = p - n
 
-loop-holds : tie.Need-loop-holds Inv-loop μ-loop
-loop-holds c = noted-start
-
-loop-again : tie.Need-loop-again Inv-loop μ-loop
-loop-again c =
-    let test = c .before in
-    noted-more (test .before .loop .inv) (test .loop-test .taken) (c .loose-port .ensures)
-
 returns : tie.Need-returns Inv-loop μ-loop
 returns c = λ r h p. points-loose r _ _ p (noted-end (c .before .loop .inv) (c .loop-test .left) r h)
 
 pub loose-ports-spec : {M : Type 1} → statement M
 loose-ports-spec =
     tie.close (tie.spec
-    Inv-loop μ-loop loop-holds (λ c κs. search needs) (λ c. omega arith) (λ c. omega arith) loop-again returns)
+    Inv-loop μ-loop (λ c. noted-start) (λ c κs. search needs) (λ c. omega arith) (λ c. omega arith)
+    (λ c. noted-more (c .before .before .loop .inv) (c .before .loop-test .taken) (c .loose-port .ensures)) returns)
