@@ -1,5 +1,5 @@
--- The test of a record as code makes it: each function's answer is the definition's, by what it looked up and what it found.
--- Assumes nothing.
+-- The test of a record as code makes it: each function's answer is the definition's, by what it looked up and what it
+-- found. Assumes nothing.
 use Prim.Native.Nat.{ℕ, _≤_, _<_}
 use mathlib.Core.Path.{_≡_, refl, sym, _∙_, ap}
 use mathlib.Core.Bool.{Bool, true, false, not, _&&_, _||_}
@@ -17,14 +17,17 @@ use Rattle.railway.specs.declared.Refusal.the-variants.{Count}
 use Rattle.railway.specs.Bounds.{mostSections, mostPoints, mostTrains, leastWeight, mostWeight, sectionEnds, allEnds}
 use Rattle.railway.specs.Record.{isClosed, trainOf, weightOf}
 use Rattle.railway.specs.Refusals.{Row, numberOf, first}
-use Rattle.railway.specs.Rows.{outside, wrongWeight, wrongWeightAt, weightRow, unknownSignalAt, unknownClosedAt, unknownTrainAt, sharesWith, sharesAt, shutOutAt, rowsBy, countRow, unknownRow, joinRow, looseRow, chainRow, placeRow, recordRefusal}
+use Rattle.railway.specs.Rows.{outside, wrongWeight, wrongWeightAt, weightRow, unknownSignalAt, unknownClosedAt}
+use Rattle.railway.specs.Rows.{unknownTrainAt, sharesWith, sharesAt, shutOutAt, rowsBy, countRow, unknownRow, joinRow}
+use Rattle.railway.specs.Rows.{looseRow, chainRow, placeRow, recordRefusal}
 use Rattle.railway.proofs.Accepted.{bounded}
 use Rattle.railway.proofs.Lookups.{roster-there}
 use Rattle.acceptance.specs.Answers.{Looked, RosterOf}
 use Rattle.acceptance.proofs.Bytes.{or-nothing}
 
 -- THE TRAINS. A record's own are few enough for their table
-pub own-roster : (r : Railway) → length (r .roster) ≡ mostTrains → r .trains ≤ mostTrains → RosterOf r (r .roster) (r .trains)
+pub own-roster : (r : Railway) → length (r .roster) ≡ mostTrains → r .trains ≤ mostTrains
+    → RosterOf r (r .roster) (r .trains)
 own-roster r n h = record { are = refl; count = refl; room = omega arith }
 
 -- one by one
@@ -33,19 +36,25 @@ module _ (r : Railway) (roster : List Train) (k : ℕ) (h : RosterOf r roster k)
   room-here = rw (h .are) (h .room)
 
   train-there : (t : ℕ) (d : Train) → t < k → getD roster t d ≡ trainOf r t
-  train-there t d l = ap (λ (xs : List Train). getD xs t d) (sym (h .are)) ∙ roster-there r t d (omega (arith, h .count)) (omega (arith, room-here))
+  train-there t d l = ap (λ (xs : List Train). getD xs t d) (sym (h .are))
+      ∙ roster-there r t d (omega (arith, h .count)) (omega (arith, room-here))
 
-  pub weight-at : (t : ℕ) (d : Train) (b : Bool) → t < k → b ≡ wrongWeight (getD roster t d .weight) → b ≡ wrongWeightAt r t
+  pub weight-at : (t : ℕ) (d : Train) (b : Bool) → t < k → b ≡ wrongWeight (getD roster t d .weight)
+      → b ≡ wrongWeightAt r t
   unfolding weightOf
   weight-at t d b l q = q ∙ ap (λ (x : Train). wrongWeight (x .weight)) (train-there t d l)
 
-  pub unknown-at : (t s : ℕ) (d : Train) (b : Bool) → t < k → r .sections ≡ s → b ≡ not (ltb (getD roster t d .start .0) s && ltb (getD roster t d .destination .0) s) → b ≡ unknownTrainAt r t
+  pub unknown-at : (t s : ℕ) (d : Train) (b : Bool) → t < k → r .sections ≡ s
+      → b ≡ not (ltb (getD roster t d .start .0) s && ltb (getD roster t d .destination .0) s) → b ≡ unknownTrainAt r t
   unknown-at t s d b l e q = rw (← train-there t d l, e) q
 
-  pub shut-at : (t : ℕ) (d : Train) (b : Bool) → t < k → b ≡ (isClosed r (getD roster t d .start .0) || isClosed r (getD roster t d .destination .0)) → b ≡ shutOutAt r t
+  pub shut-at : (t : ℕ) (d : Train) (b : Bool) → t < k
+      → b ≡ (isClosed r (getD roster t d .start .0) || isClosed r (getD roster t d .destination .0)) → b ≡ shutOutAt r t
   shut-at t d b l q = rw (← train-there t d l) q
 
-  pub shares-at : (t u : ℕ) (d : Train) (b : Bool) → t < k → u < t → b ≡ (eqb (getD roster u d .start .0) (getD roster t d .start .0) || eqb (getD roster u d .destination .0) (getD roster t d .destination .0)) → b ≡ sharesWith r t u
+  pub shares-at : (t u : ℕ) (d : Train) (b : Bool) → t < k → u < t
+      → b ≡ (eqb (getD roster u d .start .0) (getD roster t d .start .0) ||
+      eqb (getD roster u d .destination .0) (getD roster t d .destination .0)) → b ≡ sharesWith r t u
   shares-at t u d b l m q = rw (← train-there t d l, ← train-there u d (omega arith)) q
 
   pub all-trains : (f : ℕ → Bool) (b : Bool) → b ≡ anyBelow f k → b ≡ anyBelow f (r .trains)
@@ -73,7 +82,8 @@ first-holds a b p = rw p
 pub then-second : (a b x : Bool) → a ≡ false → x ≡ b → x ≡ (a || b)
 then-second a b x p h = rw p h
 
--- the rows, one after the other: those before these have been asked and do not apply, so what is given is given by these
+-- the rows, one after the other: those before these have been asked and do not apply, so what is given is given by
+-- these
 pub record Left (given : Option Refusal) (rows : List Row) : Type 0 where
   pub gives : first rows ≡ given
 
@@ -102,16 +112,22 @@ pub judged : {o g : Option Refusal} → o ≡ g → numberOf o ≡ numberOf g
 judged h = ap numberOf h
 
 -- counts within their bounds are as small as tables need them
-pub few-counted : (s p k : ℕ) (b : Bool) → b ≡ outside s p k → b ≡ false → (s ≤ mostSections) × (p ≤ mostPoints) × (k ≤ mostTrains)
+pub few-counted : (s p k : ℕ) (b : Bool) → b ≡ outside s p k → b ≡ false
+    → (s ≤ mostSections) × (p ≤ mostPoints) × (k ≤ mostTrains)
 few-counted s p k b h e = let w = bounded s p k (sym h ∙ e) in (w .few-sections, w .few-points, w .few-trains)
 
 -- the test of a record: a count outside its bounds comes before all else
-pub count-given : (r : Railway) (b : Bool) → b ≡ countRow r → b ≡ true → numberOf (some Count) ≡ numberOf (recordRefusal r)
+pub count-given : (r : Railway) (b : Bool) → b ≡ countRow r → b ≡ true
+    → numberOf (some Count) ≡ numberOf (recordRefusal r)
 unfolding recordRefusal first
 count-given r b h e = let z : countRow r ≡ true = sym h ∙ e in rw z
 
 -- else it is what is found in its trains' weights, its links, its signals, its closed sections and its trains
-pub tested : (r : Railway) (n : Option ℕ) (v u w b g x t : Bool) → n ≡ numberOf (first (rowsBy (countRow r) v (((u || g) || x) || t) (w || b) (looseRow r) (chainRow r) false (placeRow r)))
-    → v ≡ weightRow r → Looked r allEnds u w b → g ≡ anyBelow (unknownSignalAt r) sectionEnds → x ≡ anyBelow (unknownClosedAt r) mostSections → t ≡ anyBelow (unknownTrainAt r) (r .trains) → n ≡ numberOf (recordRefusal r)
+pub tested : (r : Railway) (n : Option ℕ) (v u w b g x t : Bool)
+    → n ≡ numberOf
+    (first (rowsBy (countRow r) v (((u || g) || x) || t) (w || b) (looseRow r) (chainRow r) false (placeRow r)))
+    → v ≡ weightRow r → Looked r allEnds u w b → g ≡ anyBelow (unknownSignalAt r) sectionEnds
+    → x ≡ anyBelow (unknownClosedAt r) mostSections
+    → t ≡ anyBelow (unknownTrainAt r) (r .trains) → n ≡ numberOf (recordRefusal r)
 unfolding recordRefusal unknownRow joinRow
 tested r n v u w b g x t e hv h hg hx ht = e ∙ rw (hv, h .unknown, h .wrong, h .unreturned, hg, hx, ht)

@@ -1,5 +1,6 @@
--- A change of case, return by return. Between accepted cases its rows are taken one after the other; the new text is refused, or the railway that was read is accepted, so that its
--- test with the tables can only find them too short. Assumes nothing.
+-- A change of case, return by return. Between accepted cases its rows are taken one after the other; the new text is
+-- refused, or the railway that was read is accepted, so that its test with the tables can only find them too short.
+-- Assumes nothing.
 use mathlib.Core.Path.{_≡_, refl, sym, _∙_, ap}
 use mathlib.Core.Bool.{Bool, true, false}
 use mathlib.Core.List.{List, [], _∷_}
@@ -32,7 +33,8 @@ use Rattle.cases.specs.Cases.{CasePost}
 use Rattle.cases.proofs.Opened.{opened-refused, opened-none}
 use Rattle.desk.specs.declared.ChangeAnswer.the-variants.{Changed, Refused}
 use Rattle.desk.specs.Desk.{Desk as DeskAt, deskCode, deskRow, deskOn}
-use Rattle.desk.specs.Change.{mismatch, isNone, stranded, changeRows, sooner, Changing, changeBy, changeTo, numberChanged, ChangePost}
+use Rattle.desk.specs.Change.{mismatch, isNone, stranded, changeRows, sooner, Changing, changeBy, changeTo}
+use Rattle.desk.specs.Change.{numberChanged, ChangePost}
 use Rattle.desk_calls.specs.declared.Desk.{Desk}
 use Rattle.desk_calls.specs.declared.ChangeReply.{ChangeReply}
 use Rattle.desk_calls.specs.Answers.{deskAt, changing}
@@ -47,7 +49,8 @@ module _ (m t k n : Bool) where
   unfolding first
   first-mismatch e = rw e refl
 
-  only-space : (b : Bool) (f : Refusal) (later : Option Refusal) → refuseIf b Space none ≡ some f → refuseIf b Space later ≡ some f
+  only-space : (b : Bool) (f : Refusal) (later : Option Refusal) → refuseIf b Space none ≡ some f
+      → refuseIf b Space later ≡ some f
   only-space true f later e = e
   only-space false f later e = some-none {o = none} e refl
 
@@ -68,65 +71,96 @@ module _ (m t k n : Bool) where
   first-nothing a b c d = rw (a, b, c, d) refl
 
 -- By the refusal: the old record's, else that of the change.
-by-rows : (r s : Railway) (d : DeskAt) (figs sets : List ℕ) (o : Option Refusal) (y : Changing) → orElse (recordRefusal r) (first (changeRows r s d figs sets)) ≡ o
+by-rows : (r s : Railway) (d : DeskAt) (figs sets : List ℕ) (o : Option Refusal) (y : Changing)
+    → orElse (recordRefusal r) (first (changeRows r s d figs sets)) ≡ o
     → y ≡ changeBy s d o → y ≡ changeTo r s d figs sets
 unfolding changeTo recordRefusal
-by-rows r s d figs sets o y e ey = ey ∙ ap (changeBy s d) (sym (first-append (recordRows r) (changeRows r s d figs sets) ∙ e))
+by-rows r s d figs sets o y e ey =
+    ey ∙ ap (changeBy s d) (sym (first-append (recordRows r) (changeRows r s d figs sets) ∙ e))
 
 -- A refused change, as it is handed back.
 abbrev Unchanged : Desk → Refusal → ChangeReply → Type 0
 Unchanged d f y = (y .answer ≡ Refused f) × (y .desk ≡ d)
 
-as-it-was : (s : Railway) (d : Desk) (f : Refusal) (y : ChangeReply) → Unchanged d f y → changing y ≡ changeBy s (deskAt d) (some f)
+as-it-was : (s : Railway) (d : Desk) (f : Refusal) (y : ChangeReply) → Unchanged d f y
+    → changing y ≡ changeBy s (deskAt d) (some f)
 as-it-was s d f y e = rw (e .0, e .1) refl
 
--- BETWEEN ACCEPTED CASES.
-module _ (r s : Railway) (d : Desk) (figs sets : List ℕ) (old : recordRefusal r ≡ none) where
+-- BETWEEN ACCEPTED CASES. Of one shape; and then with tables that are long enough, and a desk that its own row does not
+-- stop
+pub record Alike (r s : Railway) : Type 0 where
+  pub old : recordRefusal r ≡ none
+  pub shape : mismatch r s ≡ false
+  pub new : recordRefusal s ≡ none
+
+pub record Sound (r s : Railway) (d : Desk) (figs sets : List ℕ) : Type 0 where
+  pub alike : Alike r s
+  pub long : tablesShort s figs sets ≡ false
+  pub stands : deskRow r (deskAt d) ≡ false
+
+module _ (r s : Railway) (d : Desk) (figs sets : List ℕ) where
   abbrev Due : ChangeReply → Type 0
   Due y = changing y ≡ changeTo r s (deskAt d) figs sets
 
-  between : (o : Option Refusal) (y : ChangeReply) → first (changeRows r s (deskAt d) figs sets) ≡ o → changing y ≡ changeBy s (deskAt d) o → Due y
-  between o y e = by-rows r s (deskAt d) figs sets o (changing y) (ap (λ (z : Option Refusal). orElse z (first (changeRows r s (deskAt d) figs sets))) old ∙ e)
+  between : recordRefusal r ≡ none → (o : Option Refusal) (y : ChangeReply)
+      → first (changeRows r s (deskAt d) figs sets) ≡ o → changing y ≡ changeBy s (deskAt d) o → Due y
+  between old o y e =
+      let rest = first (changeRows r s (deskAt d) figs sets) in
+      by-rows r s (deskAt d) figs sets o (changing y) (ap (λ (z : Option Refusal). orElse z rest) old ∙ e)
 
-  module _ (b : Bool) (tests : b ≡ mismatch r s) where
-    pub over-mismatch : b ≡ true → (y : ChangeReply) → Unchanged d Mismatch y → Due y
-    over-mismatch e y made = between (some Mismatch) y (first-mismatch _ _ _ _ (sym tests ∙ e)) (as-it-was s d Mismatch y made)
+  pub over-mismatch : recordRefusal r ≡ none → mismatch r s ≡ true → (y : ChangeReply) → Unchanged d Mismatch y → Due y
+  over-mismatch old e y made =
+      between old (some Mismatch) y (first-mismatch _ _ _ _ e) (as-it-was s d Mismatch y made)
 
-    module _ (e : b ≡ false) (new : recordRefusal s ≡ none) (c : Compilation) (p : CasePost s figs sets c) where
-      pub over-short : (f : Refusal) → c .tested ≡ CaseRefused f → (y : ChangeReply) → Unchanged d f y → Due y
-      over-short f t y made =
-          between (some f) y (first-space _ _ _ _ f (sym tests ∙ e) (sym (case-accepted s figs sets new) ∙ opened-refused p t)) (as-it-was s d f y made)
+  module _ (h : Alike r s) (c : Compilation) (p : CasePost s figs sets c) where
+    pub over-short : (f : Refusal) → c .tested ≡ CaseRefused f → (y : ChangeReply) → Unchanged d f y → Due y
+    over-short f t y made =
+        between (h .old) (some f) y
+        (first-space _ _ _ _ f (h .shape) (sym (case-accepted s figs sets (h .new)) ∙ opened-refused p t))
+        (as-it-was s d f y made)
 
-      module _ (t : c .tested ≡ Accepted) (k : Bool) (stops : k ≡ deskRow r (deskAt d)) where
-        long : tablesShort s figs sets ≡ false
-        long = refuse-none (tablesShort s figs sets) Space none (sym (case-accepted s figs sets new) ∙ opened-none p t) .0
+    module _ (t : c .tested ≡ Accepted) where
+      enough : tablesShort s figs sets ≡ false
+      enough =
+          refuse-none (tablesShort s figs sets) Space none
+          (sym (case-accepted s figs sets (h .new)) ∙ opened-none p t) .0
 
-        pub over-stopped : k ≡ true → (y : ChangeReply) → Unchanged d Report y → Due y
-        over-stopped h y made = between (some Report) y (first-report _ _ _ _ (sym tests ∙ e) long (sym stops ∙ h)) (as-it-was s d Report y made)
+      pub over-stopped : deskRow r (deskAt d) ≡ true → (y : ChangeReply) → Unchanged d Report y → Due y
+      over-stopped k y made =
+          between (h .old) (some Report) y (first-report _ _ _ _ (h .shape) enough k) (as-it-was s d Report y made)
 
-        module _ (h : k ≡ false) (at v : ℕ) (codes : at ≡ deskCode s (deskAt d)) (read : v ≡ getD figs at noFigure) where
-          entry : getD figs (deskCode s (deskAt d)) noFigure ≡ v
-          entry = ap (λ (i : ℕ). getD figs i noFigure) (sym codes) ∙ sym read
+      pub over-sound : deskRow r (deskAt d) ≡ false → Sound r s d figs sets
+      over-sound k = record { alike = h; long = enough; stands = k }
 
-          pub over-stranded : v ≡ noFigure → (y : ChangeReply) → Unchanged d Stranded y → Due y
-          unfolding stranded
-          over-stranded z y made =
-              between (some Stranded) y (first-stranded _ _ _ _ (sym tests ∙ e) long (sym stops ∙ h) (ap (λ (x : ℕ). isNone (figureEntry x)) (entry ∙ z)))
-              (as-it-was s d Stranded y made)
+  module _ (h : Sound r s d figs sets) (at v : ℕ) (codes : at ≡ deskCode s (deskAt d))
+      (read : v ≡ getD figs at noFigure)
+    where
+      entry : getD figs (deskCode s (deskAt d)) noFigure ≡ v
+      entry = ap (λ (i : ℕ). getD figs i noFigure) (sym codes) ∙ sym read
 
-          pub over-made : (v ≡ noFigure → ⊥) → (o : Desk) → deskAt o ≡ deskOn s (d .at) → Due (record { answer = Changed; desk = o })
-          unfolding stranded
-          over-made z o made =
-              between none _
-              (first-nothing _ _ _ _ (sym tests ∙ e) long (sym stops ∙ h) (ap (λ (x : ℕ). isNone (figureEntry x)) entry ∙ rw (ne-eqb v noFigure z) refl))
-              (ap (λ (x : DeskAt). record { answer = Changed; desk = x }) made)
+      pub over-stranded : v ≡ noFigure → (y : ChangeReply) → Unchanged d Stranded y → Due y
+      unfolding stranded
+      over-stranded z y made =
+          let none-there = ap (λ (x : ℕ). isNone (figureEntry x)) (entry ∙ z) in
+          between (h .alike .old) (some Stranded) y
+          (first-stranded _ _ _ _ (h .alike .shape) (h .long) (h .stands) none-there) (as-it-was s d Stranded y made)
+
+      pub over-made : (v ≡ noFigure → ⊥) → (o : Desk) → deskAt o ≡ deskOn s (d .at)
+          → Due (record { answer = Changed; desk = o })
+      unfolding stranded
+      over-made z o made =
+          let there : stranded s figs (deskAt d) ≡ false =
+          ap (λ (x : ℕ). isNone (figureEntry x)) entry ∙ rw (ne-eqb v noFigure z) refl in
+          between (h .alike .old) none _ (first-nothing _ _ _ _ (h .alike .shape) (h .long) (h .stands) there)
+          (ap (λ (x : DeskAt). record { answer = Changed; desk = x }) made)
 
 -- THE CALL, by what the test of the old record says and by what the text is answered.
 sooner-is : (r : Railway) (a : CaseAnswer) (g : Refusal) → Judged r a → soonerOf a g ≡ sooner (recordRefusal r) g
 sooner-is r Accepted g j = ap (λ (o : Option Refusal). sooner o g) (sym (judged-accepted r j refl))
 sooner-is r (CaseRefused f) g j = ap (λ (o : Option Refusal). sooner o g) (sym (judged-refused r j {f = f} refl))
 
-module _ (r : Railway) (text figs sets : List ℕ) (d : Desk) (c : Compilation) (old : CompilePost r c) (a : CaseRead) (read : ReaderPost text a) where
+module _ (r : Railway) (text figs sets : List ℕ) (d : Desk) (c : Compilation) (old : CompilePost r c) (a : CaseRead)
+    (read : ReaderPost text a) where
   -- what holds of its answer where the text is refused, and where it is read
   abbrev NotRead : ChangeReply → Refusal → Type 0
   NotRead y g = (numberChanged (y .answer) ≡ some (number (sooner (recordRefusal r) g))) × (deskAt (y .desk) ≡ deskAt d)
@@ -140,11 +174,15 @@ module _ (r : Railway) (text figs sets : List ℕ) (d : Desk) (c : Compilation) 
   by-text : (y : ChangeReply) → ByCase text (NotRead y) (Read y) → Promised y
   by-text y h = record { not-read = h .refused; read = h .accepted }
 
-  pub change-not-read : (g : Refusal) → a .answer ≡ CaseRefused g → (f : Refusal) → f ≡ soonerOf (c .tested) g → (y : ChangeReply) → Unchanged d f y → Promised y
+  pub change-not-read : (g : Refusal) → a .answer ≡ CaseRefused g → (f : Refusal) → f ≡ soonerOf (c .tested) g
+      → (y : ChangeReply) → Unchanged d f y → Promised y
   change-not-read g e f is y made =
       by-text y
-      (by-refused (NotRead y) (Read y) text a read g e
-      (ap numberChanged (made .0) ∙ ap (λ (h : Refusal). some (number h)) (is ∙ sooner-is r (c .tested) g (old .judged)), ap deskAt (made .1)))
+      (by-refused (NotRead y) (Read y) text a read g e (
+        ap numberChanged (made .0)
+            ∙ ap (λ (h : Refusal). some (number h)) (is ∙ sooner-is r (c .tested) g (old .judged)),
+        ap deskAt (made .1),
+      ))
 
   module _ (e : a .answer ≡ Accepted) where
     -- the old record is refused
@@ -153,13 +191,17 @@ module _ (r : Railway) (text figs sets : List ℕ) (d : Desk) (c : Compilation) 
         let rest = first (changeRows r (a .railway) (deskAt d) figs sets) in
         by-text y
         (by-accepted (NotRead y) (Read y) text a read e
-        (by-rows r (a .railway) (deskAt d) figs sets (some f) (changing y) (ap (λ (o : Option Refusal). orElse o rest) (judged-refused r (old .judged) t))
+        (by-rows r (a .railway) (deskAt d) figs sets (some f) (changing y)
+        (ap (λ (o : Option Refusal). orElse o rest) (judged-refused r (old .judged) t))
         (as-it-was (a .railway) d f y made)))
 
     -- both are accepted
     pub change-over : c .tested ≡ Accepted → (y : ChangeReply)
-        → ((o : Railway) → Compiled o (c .table) → recordRefusal (a .railway) ≡ none → changing y ≡ changeTo o (a .railway) (deskAt d) figs sets)
+        → ((o : Railway) → Compiled o (c .table) → recordRefusal (a .railway) ≡ none
+        → changing y ≡ changeTo o (a .railway) (deskAt d) figs sets)
         → Promised y
     change-over t y over =
-        let new = reader-gives text a read (a .railway) (ap (λ (x : CaseAnswer). record { answer = x; railway = a .railway }) e) in
-        by-text y (by-accepted (NotRead y) (Read y) text a read e (over r (old .accepted (judged-accepted r (old .judged) t)) new))
+        let new = reader-gives text a read (a .railway)
+        (ap (λ (x : CaseAnswer). record { answer = x; railway = a .railway }) e) in
+        by-text y (by-accepted (NotRead y) (Read y) text a read e
+        (over r (old .accepted (judged-accepted r (old .judged) t)) new))

@@ -63,25 +63,23 @@ impl Desk {
     {
         let c = cases::open_case(r, figures, settings);
         let tested = c.tested;
-        match tested {
-            CaseAnswer::Refused(f) => OpenReply {
+        if let CaseAnswer::Refused(f) = tested {
+            return OpenReply {
                 answer: OpenAnswer::Refused(f),
                 desk: nowhere(),
-            },
-            CaseAnswer::Accepted => {
-                let table = c.table;
-                let p = moves::start_code(&table);
-                if tables::entry_at(figures, p, NO_FIGURE) == NO_FIGURE {
-                    return OpenReply {
-                        answer: OpenAnswer::NoFigure,
-                        desk: nowhere(),
-                    };
-                }
-                OpenReply {
-                    answer: OpenAnswer::Opened,
-                    desk: desk_on(&table, moves::placement_of(&table, p)),
-                }
-            }
+            };
+        }
+        let table = c.table;
+        let p = moves::start_code(&table);
+        if tables::entry_at(figures, p, NO_FIGURE) == NO_FIGURE {
+            return OpenReply {
+                answer: OpenAnswer::NoFigure,
+                desk: nowhere(),
+            };
+        }
+        OpenReply {
+            answer: OpenAnswer::Opened,
+            desk: desk_on(&table, moves::placement_of(&table, p)),
         }
     }
 
@@ -91,16 +89,14 @@ impl Desk {
     {
         let c = cases::open_case(r, figures, settings);
         let tested = c.tested;
-        match tested {
-            CaseAnswer::Refused(f) => SettingAnswer::Refused(f),
-            CaseAnswer::Accepted => {
-                let table = c.table;
-                if self.stopped(&table) {
-                    return SettingAnswer::Refused(Refusal::Report);
-                }
-                SettingAnswer::Given(tables::entry_at(settings, self.code, 0))
-            }
+        if let CaseAnswer::Refused(f) = tested {
+            return SettingAnswer::Refused(f);
         }
+        let table = c.table;
+        if self.stopped(&table) {
+            return SettingAnswer::Refused(Refusal::Report);
+        }
+        SettingAnswer::Given(tables::entry_at(settings, self.code, 0))
     }
 
     // A REPORT: train t has come to section x. The next desk has it there, if the setting allows that move.
@@ -109,25 +105,23 @@ impl Desk {
     {
         let c = cases::open_case(r, figures, settings);
         let tested = c.tested;
-        match tested {
-            CaseAnswer::Refused(f) => self.refused(f),
-            CaseAnswer::Accepted => {
-                let table = c.table;
-                if self.stopped(&table) {
-                    return self.refused(Refusal::Report);
-                }
-                let p = self.code;
-                let v = tables::entry_at(settings, p, 0);
-                let ways = cases::case_ways(r);
-                if counts(&table, &ways, moves::placement_of(&table, p), v, t, x) {
-                    return ReportReply {
-                        answer: ReportAnswer::Counted,
-                        desk: desk_on(&table, moves::put_on(self.at, t, x)),
-                    };
-                }
-                self.refused(Refusal::Report)
-            }
+        if let CaseAnswer::Refused(f) = tested {
+            return self.refused(f);
         }
+        let table = c.table;
+        if self.stopped(&table) {
+            return self.refused(Refusal::Report);
+        }
+        let p = self.code;
+        let v = tables::entry_at(settings, p, 0);
+        let ways = cases::case_ways(r);
+        if counts(&table, &ways, moves::placement_of(&table, p), v, t, x) {
+            return ReportReply {
+                answer: ReportAnswer::Counted,
+                desk: desk_on(&table, moves::put_on(self.at, t, x)),
+            };
+        }
+        self.refused(Refusal::Report)
     }
 
     // A CHANGE OF CASE, the trains where they stand: from the record's case to that of the text, whose tables are lent. The desk goes over if sections, trains and headings are the
@@ -163,22 +157,20 @@ impl Desk {
         }
         let lent = cases::open_case(s, figures, settings);
         let tested = lent.tested;
-        match tested {
-            CaseAnswer::Refused(f) => self.unchanged(f),
-            CaseAnswer::Accepted => {
-                if self.stopped(table) {
-                    return self.unchanged(Refusal::Report);
-                }
-                let at = self.at;
-                let p = moves::code_of(&next, at);
-                if tables::entry_at(figures, p, NO_FIGURE) == NO_FIGURE {
-                    return self.unchanged(Refusal::Stranded);
-                }
-                ChangeReply {
-                    answer: ChangeAnswer::Changed,
-                    desk: desk_on(&next, at),
-                }
-            }
+        if let CaseAnswer::Refused(f) = tested {
+            return self.unchanged(f);
+        }
+        if self.stopped(table) {
+            return self.unchanged(Refusal::Report);
+        }
+        let at = self.at;
+        let p = moves::code_of(&next, at);
+        if tables::entry_at(figures, p, NO_FIGURE) == NO_FIGURE {
+            return self.unchanged(Refusal::Stranded);
+        }
+        ChangeReply {
+            answer: ChangeAnswer::Changed,
+            desk: desk_on(&next, at),
         }
     }
 

@@ -1,6 +1,7 @@
--- The promise of passing, put to use at a crossover: 1 leads over point 1 on to 2, 3 over point 2 on to 4, and the minus legs are joined. With both points at
--- minus a train that leaves 1 comes to 4 and meets 1, then 2; with point 2 at plus it derails there. A record with no section is refused with 3, and no
--- passage is told. Each is drawn from one field, of any answer that is promised. Assumes nothing.
+-- The promise of passing, put to use at a crossover: 1 leads over point 1 on to 2, 3 over point 2 on to 4, and the
+-- minus legs are joined. With both points at minus a train that leaves 1 comes to 4 and meets 1, then 2; with point 2
+-- at plus it derails there. A record with no section is refused with 3, and no passage is told. Each is drawn from one
+-- field, of any answer that is promised. Assumes nothing.
 use mathlib.Core.Path.{_≡_, refl}
 use mathlib.Core.List.{[], _∷_}
 use mathlib.Core.Option.{none, some}
@@ -13,7 +14,8 @@ use Rattle.railway.specs.declared.Railway.{Railway}
 use Rattle.railway.specs.declared.Refusal.the-variants.{Count}
 use Rattle.railway.specs.Ends.{endAt}
 use Rattle.railway.specs.Refusals.{first, numberGiven}
-use Rattle.railway.specs.Record.{emptyRailway, isClosed, joinedBy, joined, hasSignal, legsOf, trainOf, weightOf, withJoin, withLegs, withTrain}
+use Rattle.railway.specs.Record.{emptyRailway, isClosed, joinedBy, joined, hasSignal, legsOf, trainOf, weightOf}
+use Rattle.railway.specs.Record.{withJoin, withLegs, withTrain}
 use Rattle.railway.specs.Passing.{follow, passes}
 use Rattle.railway.specs.Rows.{weightRow, unknownRow, joinRow, looseRow, longer, chainRow, placeRow, recordRefusal}
 use Rattle.railway.specs.Yards.{yardH, lineP, lineJ, lineT, sec, port}
@@ -33,14 +35,17 @@ crossover =
     (lineP 1 Up (yardH 4 2 1))))))))
 
 taken : recordRefusal crossover ≡ none
-unfolding recordRefusal first weightRow weightOf unknownRow joinRow looseRow longer chainRow placeRow endAt joinedBy joined hasSignal legsOf trainOf withJoin withLegs withTrain anyBelow isClosed
+unfolding recordRefusal first weightRow weightOf unknownRow joinRow looseRow longer chainRow placeRow endAt joinedBy
+    joined hasSignal legsOf trainOf withJoin withLegs withTrain anyBelow isClosed
 taken = refl
 
-over-both : (a : Passing) → PassPost crossover (sec 1 Up) 0 a → a .passed ≡ record { reached = Section (record { 0 = 3 }); count = 2; points = 0 ∷ 1 ∷ 0 ∷ 0 ∷ [] }
+over-both : (a : Passing) → PassPost crossover (sec 1 Up) 0 a
+    → a .passed ≡ record { reached = Section (record { 0 = 3 }); count = 2; points = 0 ∷ 1 ∷ 0 ∷ 0 ∷ [] }
 unfolding passes follow endAt joinedBy joined withJoin withLegs withTrain padded
 over-both a p = p .accepted taken
 
-derails-last : (a : Passing) → PassPost crossover (sec 1 Up) 2 a → a .passed ≡ record { reached = Nowhere; count = 2; points = 0 ∷ 1 ∷ 0 ∷ 0 ∷ [] }
+derails-last : (a : Passing) → PassPost crossover (sec 1 Up) 2 a
+    → a .passed ≡ record { reached = Nowhere; count = 2; points = 0 ∷ 1 ∷ 0 ∷ 0 ∷ [] }
 unfolding passes follow endAt joinedBy joined withJoin withLegs withTrain padded
 derails-last a p = p .accepted taken
 
@@ -52,6 +57,7 @@ counted : recordRefusal emptyRailway ≡ some Count
 unfolding recordRefusal first
 counted = refl
 
-nothing-told : (a : Passing) (e : End) (b : ℕ) → PassPost emptyRailway e b a → a .passed ≡ record { reached = Nowhere; count = 0; points = 0 ∷ 0 ∷ 0 ∷ 0 ∷ [] }
+nothing-told : (a : Passing) (e : End) (b : ℕ) → PassPost emptyRailway e b a
+    → a .passed ≡ record { reached = Nowhere; count = 0; points = 0 ∷ 0 ∷ 0 ∷ 0 ∷ [] }
 unfolding padded
 nothing-told a e b p = p .refused Count counted

@@ -75,17 +75,17 @@ fn past_join(links: &Links, points: u32, left: u8, j: Joined) -> Passed
     ensures few { λ a. ⌜ a .count ≤ left ⌝ }
     ensures follows { λ a. ⌜ ((r : Railway) → LinksOf r (now (links .entry)) → a ≡ answerOf (follow r (bit points) left j)) ⌝ }
 {
-    match j {
-        Joined::Nothing => nowhere(),
-        Joined::With(e) => match e {
-            End::Section(n, _) => entering(n),
-            End::Port(n, l) => {
-                if left == 0 {
-                    return nowhere();
-                }
-                past_point(links, points, left - 1, n, l)
+    let Joined::With(e) = j else {
+        return nowhere();
+    };
+    match e {
+        End::Section(n, _) => entering(n),
+        End::Port(n, l) => {
+            if left == 0 {
+                return nowhere();
             }
-        },
+            past_point(links, points, left - 1, n, l)
+        }
     }
 }
 

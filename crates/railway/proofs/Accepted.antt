@@ -1,6 +1,5 @@
--- What it is for a record to be accepted, fact by fact, both ways; and what follows: its lookups stay within its counts and are returned. For that rows 3
--- to 6 are enough.
--- Assumes nothing.
+-- What it is for a record to be accepted, fact by fact, both ways; and what follows: its lookups stay within its counts
+-- and are returned. For that rows 3 to 6 are enough. Assumes nothing.
 use Prim.Native.Nat.{ℕ, _<_, _≤_}
 use mathlib.Core.Path.{_≡_, refl, _∙_, ap}
 use mathlib.Core.Bool.{Bool, true, false, cond, not, _&&_, _||_}
@@ -19,11 +18,16 @@ use Rattle.railway.specs.declared.Joined.{Joined}
 use Rattle.railway.specs.declared.Joined.the-variants.{Nothing, With}
 use Rattle.railway.specs.declared.Refusal.the-variants.{Count, Weight, Unknown, Join, Loose, Chain, Double, Place}
 use Rattle.railway.specs.declared.Railway.{Railway}
-use Rattle.railway.specs.Bounds.{leastWeight, mostWeight, mostSections, mostPoints, mostTrains, sectionEnds, allEnds}
+use Rattle.railway.specs.Bounds.{leastWeight, mostWeight, mostSections, mostPoints, mostTrains, sectionEnds}
+use Rattle.railway.specs.Bounds.{allEnds}
 use Rattle.railway.specs.Ends.{Numbered, endIndex, endAt, sameSide}
 use Rattle.railway.specs.Refusals.{first}
 use Rattle.railway.specs.Record.{isClosed, linkAt, flagAt, joined, trainOf, weightOf, sideOf}
-use Rattle.railway.specs.Rows.{unknownClosedAt, shutOutAt, wrongWeight, wrongWeightAt, weightRow, outside, known, unknownLink, unknownLinkAt, unknownSignalAt, unknownTrainAt, ownerOf, oneOwner, tied, wrongPair, wrongLink, wrongLinkAt, leadsTo, unreturned, unreturnedAt, unjoined, looseAt, longer, mostBehind, chainedAt, sharesWith, sharesAt, countRow, unknownRow, joinRow, looseRow, chainRow, doubleRow, placeRow, recordRefusal}
+use Rattle.railway.specs.Rows.{unknownClosedAt, shutOutAt, wrongWeight, wrongWeightAt, weightRow, outside, known}
+use Rattle.railway.specs.Rows.{unknownLink, unknownLinkAt, unknownSignalAt, unknownTrainAt, ownerOf, oneOwner}
+use Rattle.railway.specs.Rows.{tied, wrongPair, wrongLink, wrongLinkAt, leadsTo, unreturned, unreturnedAt}
+use Rattle.railway.specs.Rows.{unjoined, looseAt, longer, mostBehind, chainedAt, sharesWith, sharesAt, countRow}
+use Rattle.railway.specs.Rows.{unknownRow, joinRow, looseRow, chainRow, doubleRow, placeRow, recordRefusal}
 use Rattle.railway.specs.Chains.{Joinable}
 use Rattle.railway.proofs.Ends.{end-index, index-one, numbered-of}
 use Rattle.railway.proofs.Refusals.{refuse-none}
@@ -54,11 +58,19 @@ bounded s p k e =
 
 pub within-bounds : (s p k : ℕ) → Bounded s p k → outside s p k ≡ false
 within-bounds s p k b =
-    simp (le-ltb s 1 (b .some-section), le-ltb mostSections s (b .few-sections), le-ltb mostPoints p (b .few-points), le-ltb k 1 (b .some-train), le-ltb mostTrains k (b .few-trains))
+    simp (
+      le-ltb s 1 (b .some-section),
+      le-ltb mostSections s (b .few-sections),
+      le-ltb mostPoints p (b .few-points),
+      le-ltb k 1 (b .some-train),
+      le-ltb mostTrains k (b .few-trains),
+    )
 
 -- a weight that a train may have, both ways
 pub right-weight : (w : ℕ) → wrongWeight w ≡ false → (leastWeight ≤ w) × (w ≤ mostWeight)
-right-weight w e = let a = or-false (ltb w leastWeight) (ltb mostWeight w) e in (ltb-false w leastWeight (a .0), ltb-false mostWeight w (a .1))
+right-weight w e =
+    let a = or-false (ltb w leastWeight) (ltb mostWeight w) e in
+    (ltb-false w leastWeight (a .0), ltb-false mostWeight w (a .1))
 
 pub weight-right : (w : ℕ) → leastWeight ≤ w → w ≤ mostWeight → wrongWeight w ≡ false
 weight-right w a b = or-none (ltb w leastWeight) (ltb mostWeight w) (le-ltb w leastWeight a) (le-ltb mostWeight w b)
@@ -72,25 +84,31 @@ pub record Right (r : Railway) (e f : End) : Type 0 where
 -- what rows 3 to 6 leave: counts, and joins as they should be
 pub record Laid (r : Railway) : Type 0 where
   pub bounds : Bounded (r .sections) (r .points) (r .trains)
-  pub link-known : (i : ℕ) (f : End) → i < allEnds → linkAt r i ≡ With f → (known r (endAt i) ≡ true) × (known r f ≡ true)
+  pub link-known : (i : ℕ) (f : End) → i < allEnds → linkAt r i ≡ With f → (known r (endAt i) ≡ true)
+      × (known r f ≡ true)
   pub link-right : (i : ℕ) (f : End) → i < allEnds → linkAt r i ≡ With f → Right r (endAt i) f
   pub port-joined : (n : ℕ) (l : Leg) → n < r .points → joined r (Port (record { 0 = n }) l) ≡ Nothing → ⊥
 
 pub record Accepted (r : Railway) : Type 0 where
   pub bounds : Bounded (r .sections) (r .points) (r .trains)
   pub weights : (t : ℕ) → t < r .trains → (leastWeight ≤ weightOf r t) × (weightOf r t ≤ mostWeight)
-  pub link-known : (i : ℕ) (f : End) → i < allEnds → linkAt r i ≡ With f → (known r (endAt i) ≡ true) × (known r f ≡ true)
+  pub link-known : (i : ℕ) (f : End) → i < allEnds → linkAt r i ≡ With f → (known r (endAt i) ≡ true)
+      × (known r f ≡ true)
   pub signal-known : (i : ℕ) → i < sectionEnds → flagAt r i ≡ true → known r (endAt i) ≡ true
   pub closed-known : (x : ℕ) → x < mostSections → isClosed r x ≡ true → x < r .sections
-  pub places-kept : (t : ℕ) → t < r .trains → (isClosed r (trainOf r t .start .0) ≡ false) × (isClosed r (trainOf r t .destination .0) ≡ false)
-  pub train-known : (t : ℕ) → t < r .trains → (trainOf r t .start .0 < r .sections) × (trainOf r t .destination .0 < r .sections)
+  pub places-kept : (t : ℕ) → t < r .trains → (isClosed r (trainOf r t .start .0) ≡ false)
+      × (isClosed r (trainOf r t .destination .0) ≡ false)
+  pub train-known : (t : ℕ) → t < r .trains → (trainOf r t .start .0 < r .sections)
+      × (trainOf r t .destination .0 < r .sections)
   pub link-right : (i : ℕ) (f : End) → i < allEnds → linkAt r i ≡ With f → Right r (endAt i) f
   pub port-joined : (n : ℕ) (l : Leg) → n < r .points → joined r (Port (record { 0 = n }) l) ≡ Nothing → ⊥
-  pub chain-free : (n : ℕ) (l : Leg) → n < r .points → longer r mostBehind (joined r (Port (record { 0 = n }) l)) ≡ false
+  pub chain-free : (n : ℕ) (l : Leg) → n < r .points
+      → longer r mostBehind (joined r (Port (record { 0 = n }) l)) ≡ false
   pub starts : (t u : ℕ) → u < t → t < r .trains → trainOf r u .start .0 ≡ trainOf r t .start .0 → ⊥
   pub destinations : (t u : ℕ) → u < t → t < r .trains → trainOf r u .destination .0 ≡ trainOf r t .destination .0 → ⊥
 
-right-of : (r : Railway) (e f : End) → wrongPair (tied r e) (tied r f) ≡ false → not (leadsTo (joined r f) e) ≡ false → Right r e f
+right-of : (r : Railway) (e f : End) → wrongPair (tied r e) (tied r f) ≡ false
+    → not (leadsTo (joined r f) e) ≡ false → Right r e f
 right-of r e f h g =
     let b = or-false (oneOwner (ownerOf e) (ownerOf f)) (sameSide (sideOf r e) (sideOf r f)) h in
     record { not-one = b .0; sides = b .1; back = not-is (leadsTo (joined r f) e) g }
@@ -132,10 +150,13 @@ laid-facts r h =
     let j = or-false (anyBelow (wrongLinkAt r) allEnds) (anyBelow (unreturnedAt r) allEnds) (h .join) in
     record {
       bounds = bounded (r .sections) (r .points) (r .trains) (h .count);
-      link-known = λ i f b l. not-and (known r (endAt i)) (known r f) (rw l at (any-false (unknownLinkAt r) allEnds (all-known r (h .unknown) .links) i b));
+      link-known = λ i f b l. not-and (known r (endAt i)) (known r f)
+          (rw l at (any-false (unknownLinkAt r) allEnds (all-known r (h .unknown) .links) i b));
       link-right = λ i f b l.
-          right-of r (endAt i) f (rw l at (any-false (wrongLinkAt r) allEnds (j .0) i b)) (rw l at (any-false (unreturnedAt r) allEnds (j .1) i b));
-      port-joined = λ n l b q. clash refl (rw q at (no-leg (λ l. unjoined (joined r (Port (record { 0 = n }) l))) (any-false (looseAt r) (r .points) (h .loose) n b) l));
+          right-of r (endAt i) f (rw l at (any-false (wrongLinkAt r) allEnds (j .0) i b))
+          (rw l at (any-false (unreturnedAt r) allEnds (j .1) i b));
+      port-joined = λ n l b q. clash refl (rw q at (no-leg (λ l. unjoined (joined r (Port (record { 0 = n }) l)))
+          (any-false (looseAt r) (r .points) (h .loose) n b) l));
     }
 
 module _ (r : Railway) where
@@ -157,22 +178,34 @@ module _ (r : Railway) where
         bounds = w .bounds;
         weights = λ t h. right-weight (weightOf r t) (any-false (wrongWeightAt r) (r .trains) (r16 .0) t h);
         link-known = w .link-known;
-        signal-known = λ i h l. not-is (known r (endAt i)) (rw l at (any-false (unknownSignalAt r) sectionEnds (k .flags) i h));
-        closed-known = λ x h l. ltb-true x (r .sections) (not-is (ltb x (r .sections)) (rw l at (any-false (unknownClosedAt r) mostSections (k .shut) x h)));
-        places-kept = λ t h. or-false (isClosed r (trainOf r t .start .0)) (isClosed r (trainOf r t .destination .0)) (any-false (shutOutAt r) (r .trains) (pl .1) t h);
+        signal-known =
+            λ i h l. not-is (known r (endAt i)) (rw l at (any-false (unknownSignalAt r) sectionEnds (k .flags) i h));
+        closed-known = λ x h l. ltb-true x (r .sections)
+            (not-is (ltb x (r .sections)) (rw l at (any-false (unknownClosedAt r) mostSections (k .shut) x h)));
+        places-kept = λ t h. or-false (isClosed r (trainOf r t .start .0)) (isClosed r (trainOf r t .destination .0))
+            (any-false (shutOutAt r) (r .trains) (pl .1) t h);
         train-known = λ t h.
-            let q = not-and (ltb (trainOf r t .start .0) (r .sections)) (ltb (trainOf r t .destination .0) (r .sections)) (any-false (unknownTrainAt r) (r .trains) (k .roster) t h) in
-            (ltb-true (trainOf r t .start .0) (r .sections) (q .0), ltb-true (trainOf r t .destination .0) (r .sections) (q .1));
+            let q =
+            not-and (ltb (trainOf r t .start .0) (r .sections)) (ltb (trainOf r t .destination .0) (r .sections))
+            (any-false (unknownTrainAt r) (r .trains) (k .roster) t h) in (
+              ltb-true (trainOf r t .start .0) (r .sections) (q .0),
+              ltb-true (trainOf r t .destination .0) (r .sections) (q .1),
+            );
         link-right = w .link-right;
         port-joined = w .port-joined;
-        chain-free = λ n l h. no-leg (λ l. longer r mostBehind (joined r (Port (record { 0 = n }) l))) (any-false (chainedAt r) (r .points) (r13 .0) n h) l;
+        chain-free = λ n l h. no-leg (λ l. longer r mostBehind (joined r (Port (record { 0 = n }) l)))
+            (any-false (chainedAt r) (r .points) (r13 .0) n h) l;
         starts = λ t u h g. eqb-false (trainOf r u .start .0) (trainOf r t .start .0) (apart (pl .0) t u h g .0);
-        destinations = λ t u h g. eqb-false (trainOf r u .destination .0) (trainOf r t .destination .0) (apart (pl .0) t u h g .1);
+        destinations =
+            λ t u h g. eqb-false (trainOf r u .destination .0) (trainOf r t .destination .0) (apart (pl .0) t u h g .1);
       }
     where
-      apart : anyBelow (sharesAt r) (r .trains) ≡ false → (t u : ℕ) → u < t → t < r .trains → (eqb (trainOf r u .start .0) (trainOf r t .start .0) ≡ false) × (eqb (trainOf r u .destination .0) (trainOf r t .destination .0) ≡ false)
+      apart : anyBelow (sharesAt r) (r .trains) ≡ false → (t u : ℕ) → u < t → t < r .trains
+          → (eqb (trainOf r u .start .0) (trainOf r t .start .0) ≡ false)
+          × (eqb (trainOf r u .destination .0) (trainOf r t .destination .0) ≡ false)
       apart p t u h g =
-          or-false (eqb (trainOf r u .start .0) (trainOf r t .start .0)) (eqb (trainOf r u .destination .0) (trainOf r t .destination .0))
+          or-false (eqb (trainOf r u .start .0) (trainOf r t .start .0))
+          (eqb (trainOf r u .destination .0) (trainOf r t .destination .0))
           (any-false (sharesWith r t) t (any-false (sharesAt r) (r .trains) p t g) u h)
 
   -- the converse
@@ -197,7 +230,8 @@ module _ (r : Railway) where
     unknown-closed x true b l = simp (lt-ltb x (r .sections) (w .closed-known x b l))
     unknown-closed x false b l = refl
 
-    tight : (n : ℕ) (l : Leg) (j : Joined) → n < r .points → joined r (Port (record { 0 = n }) l) ≡ j → unjoined j ≡ false
+    tight : (n : ℕ) (l : Leg) (j : Joined) → n < r .points → joined r (Port (record { 0 = n }) l) ≡ j
+        → unjoined j ≡ false
     tight n l Nothing b h = absurd (w .port-joined n l b h)
     tight n l (With f) b h = refl
 
@@ -216,7 +250,10 @@ module _ (r : Railway) where
         (none-any _ mostSections (λ x b. unknown-closed x (isClosed r x) b refl)))
         (none-any _ (r .trains) (λ t b.
         let k = w .train-known t b in
-        simp (lt-ltb (trainOf r t .start .0) (r .sections) (k .0), lt-ltb (trainOf r t .destination .0) (r .sections) (k .1))))
+        simp (
+          lt-ltb (trainOf r t .start .0) (r .sections) (k .0),
+          lt-ltb (trainOf r t .destination .0) (r .sections) (k .1),
+        )))
 
     no-join : joinRow r ≡ false
     unfolding joinRow
@@ -229,12 +266,14 @@ module _ (r : Railway) where
     unfolding looseRow
     no-loose =
         none-any _ (r .points) (λ n b.
-        or-none _ _ (or-none _ _ (tight n Stem (joined r (Port (record { 0 = n }) Stem)) b refl) (tight n Plus (joined r (Port (record { 0 = n }) Plus)) b refl))
+        or-none _ _ (or-none _ _ (tight n Stem (joined r (Port (record { 0 = n }) Stem)) b refl)
+        (tight n Plus (joined r (Port (record { 0 = n }) Plus)) b refl))
         (tight n Minus (joined r (Port (record { 0 = n }) Minus)) b refl))
 
     pub no-chain : chainRow r ≡ false
     unfolding chainRow
-    no-chain = none-any _ (r .points) (λ n b. or-none _ _ (or-none _ _ (w .chain-free n Stem b) (w .chain-free n Plus b)) (w .chain-free n Minus b))
+    no-chain = none-any _ (r .points)
+        (λ n b. or-none _ _ (or-none _ _ (w .chain-free n Stem b) (w .chain-free n Plus b)) (w .chain-free n Minus b))
 
     no-place : placeRow r ≡ false
     unfolding placeRow
@@ -249,10 +288,19 @@ module _ (r : Railway) where
 
     pub facts-accepted : recordRefusal r ≡ none
     unfolding recordRefusal first
-    facts-accepted = simp (within-bounds (r .sections) (r .points) (r .trains) (w .bounds), no-weight, no-unknown, no-join, no-loose, no-chain, no-place)
+    facts-accepted = simp (
+      within-bounds (r .sections) (r .points) (r .trains) (w .bounds),
+      no-weight,
+      no-unknown,
+      no-join,
+      no-loose,
+      no-chain,
+      no-place,
+    )
 
 -- what is known has a number that a railway can have
-numbered-within : (r : Railway) → Bounded (r .sections) (r .points) (r .trains) → (e : End) → known r e ≡ true → Numbered e
+numbered-within : (r : Railway) → Bounded (r .sections) (r .points) (r .trains) → (e : End)
+    → known r e ≡ true → Numbered e
 numbered-within r b (Section n s) h = omega (arith, b .few-sections, ltb-true (n .0) (r .sections) h)
 numbered-within r b (Port n l) h = omega (arith, b .few-points, ltb-true (n .0) (r .points) h)
 
@@ -260,11 +308,13 @@ pub known-numbered : (r : Railway) → Accepted r → (e : End) → known r e �
 known-numbered r w = numbered-within r (w .bounds)
 
 -- LOOKUPS of an accepted record, and of one to which rows 3 to 6 do not apply
-pub joined-link : (r : Railway) (e f : End) → joined r e ≡ With f → (endIndex e < allEnds) × (linkAt r (endIndex e) ≡ With f)
+pub joined-link : (r : Railway) (e f : End) → joined r e ≡ With f → (endIndex e < allEnds)
+    × (linkAt r (endIndex e) ≡ With f)
 unfolding joined
 joined-link r e f h = cases (ltb (endIndex e) allEnds) refl h
   where
-    cases : (b : Bool) → ltb (endIndex e) allEnds ≡ b → cond b (linkAt r (endIndex e)) Nothing ≡ With f → (endIndex e < allEnds) × (linkAt r (endIndex e) ≡ With f)
+    cases : (b : Bool) → ltb (endIndex e) allEnds ≡ b → cond b (linkAt r (endIndex e)) Nothing ≡ With f
+        → (endIndex e < allEnds) × (linkAt r (endIndex e) ≡ With f)
     cases true p q = (ltb-true (endIndex e) allEnds p, q)
     cases false p q = let z : _≡_ {A = ℕ} 0 1 = cc in absurd (omega arith)
 
@@ -295,7 +345,12 @@ module _ (r : Railway) (w : Laid r) where
 
 module _ (r : Railway) (w : Accepted r) where
   pub laid : Laid r
-  laid = record { bounds = w .bounds; link-known = w .link-known; link-right = w .link-right; port-joined = w .port-joined }
+  laid = record {
+    bounds = w .bounds;
+    link-known = w .link-known;
+    link-right = w .link-right;
+    port-joined = w .port-joined;
+  }
 
   pub joined-known : (e f : End) → joined r e ≡ With f → (known r e ≡ true) × (known r f ≡ true)
   joined-known = laid-known r laid

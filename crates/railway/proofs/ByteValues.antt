@@ -1,5 +1,5 @@
--- Bytes and the ends that they say, by computation: the first and the last section end, the ports of the first point, the last port, and bytes for no join.
--- Assumes nothing.
+-- Bytes and the ends that they say, by computation: the first and the last section end, the ports of the first point,
+-- the last port, and bytes for no join. Assumes nothing.
 use mathlib.Core.Path.{_≡_, refl}
 use mathlib.Core.List.{List, [], _∷_, map}
 use Rattle.railway.specs.declared.Side.the-variants.{Up, Down}

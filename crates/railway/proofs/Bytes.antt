@@ -1,6 +1,6 @@
--- Bytes for ends. An end that a railway can have is got back from its byte, and a byte below the number of all ends is the byte of the end that it says;
--- so what is written for a join says that join, and of two ends joined each has the other's byte.
--- Assumes nothing.
+-- Bytes for ends. An end that a railway can have is got back from its byte, and a byte below the number of all ends is
+-- the byte of the end that it says; so what is written for a join says that join, and of two ends joined each has the
+-- other's byte. Assumes nothing.
 use Prim.Native.Nat.{ℕ, _<_, _≤_}
 use mathlib.Core.Path.{_≡_, refl, sym, _∙_, ap}
 use mathlib.Core.Bool.{Bool, true, false, cond}

@@ -1,5 +1,5 @@
--- A record's number, by the first of its rows and because numbers tell refusals apart. An accepted record's lookups, by the bytes of its links: a byte
--- that says an end is that end's, and joins are returned. Assumes nothing.
+-- A record's number, by the first of its rows and because numbers tell refusals apart. An accepted record's lookups, by
+-- the bytes of its links: a byte that says an end is that end's, and joins are returned. Assumes nothing.
 use Prim.Native.Nat.{ℕ}
 use mathlib.Core.Path.{_≡_, refl, sym, _∙_, ap}
 use mathlib.Core.Logic.{inl, inr}
@@ -19,7 +19,8 @@ use Rattle.railway.specs.Claims.{RecordNumbers, EndBytes, JoinOf, Accept
 use Rattle.railway.proofs.Ends.{index-one, index-below, index-end, numbered-of}
 use Rattle.railway.proofs.Bytes.{byte-past, byte-back, byte-of}
 use Rattle.railway.proofs.Lookups.{joined-there}
-use Rattle.railway.proofs.Accepted.{Accepted, accepted-facts, known-numbered, joined-link, joined-known, joined-back}
+use Rattle.railway.proofs.Accepted.{Accepted, accepted-facts, known-numbered, joined-link, joined-known}
+use Rattle.railway.proofs.Accepted.{joined-back}
 use Rattle.railway.proofs.Refusals.{given-exactly, first-none, none-first, number-one, number-tells, rank-place}
 
 pub record-numbers : RecordNumbers
@@ -29,8 +30,10 @@ record-numbers =
       given = λ r f.
           let h = given-exactly (recordRows r) f in
           (λ e. h .0 (number-tells (recordRefusal r) (some f) e), λ w. ap numberOf (h .1 w));
-      accepted = λ r.
-          (λ e. first-none (recordRows r) (number-tells (recordRefusal r) none e), λ h. ap numberOf (none-first (recordRows r) h));
+      accepted = λ r. (
+        λ e. first-none (recordRows r) (number-tells (recordRefusal r) none e),
+        λ h. ap numberOf (none-first (recordRows r) h),
+      );
       one = number-one;
       ranked = rank-place;
     }
@@ -58,7 +61,12 @@ module _ (r : Railway) (w : Accepted r) where
   join-there : (e f : End) → joined r e ≡ With f → JoinOf r e f
   join-there e f h =
       let k = joined-known r w e f h in
-      record { one-there = k .0; other-there = k .1; forth = byte-joined e f h; back = byte-joined f e (joined-back r w e f h) }
+      record {
+        one-there = k .0;
+        other-there = k .1;
+        forth = byte-joined e f h;
+        back = byte-joined f e (joined-back r w e f h);
+      }
 
   join-found : (e f : End) → JoinOf r e f → joined r e ≡ With f
   join-found e f j =
@@ -75,7 +83,8 @@ accepted-looked-up r a =
     record {
       other = λ e f. (join-there r w e f, join-found r w e f);
       returned = joined-back r w;
-      unjoined = λ e. (λ h f j. apart f (joined r e) h (join-found r w e f j), λ n. none-there r w e (joined r e) refl n);
+      unjoined =
+          λ e. (λ h f j. apart f (joined r e) h (join-found r w e f j), λ n. none-there r w e (joined r e) refl n);
     }
 
 -- NO JOIN

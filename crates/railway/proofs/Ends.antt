@@ -30,13 +30,15 @@ leg-small Minus = omega arith
 
 -- the index, as it is computed
 module _ (e : End) where
-  pub section-index : (n : SectionNo) (s : Side) (i : ℕ) → e ≡ Section n s → n .0 < mostSections → i ≡ sideIndex s → 2 * n .0 + i ≡ endIndex e
+  pub section-index : (n : SectionNo) (s : Side) (i : ℕ) → e ≡ Section n s → n .0 < mostSections → i ≡ sideIndex s
+      → 2 * n .0 + i ≡ endIndex e
   section-index n s i is l h = rw (is, h, lt-ltb (n .0) mostSections l)
 
   pub section-past : (n : SectionNo) (s : Side) → e ≡ Section n s → mostSections ≤ n .0 → allEnds ≡ endIndex e
   section-past n s is l = rw (is, le-ltb (n .0) mostSections l)
 
-  pub port-index : (n : PointNo) (p : Leg) (i : ℕ) → e ≡ Port n p → n .0 < mostPoints → i ≡ legIndex p → sectionEnds + 3 * n .0 + i ≡ endIndex e
+  pub port-index : (n : PointNo) (p : Leg) (i : ℕ) → e ≡ Port n p → n .0 < mostPoints → i ≡ legIndex p
+      → sectionEnds + 3 * n .0 + i ≡ endIndex e
   port-index n p i is l h = rw (is, h, lt-ltb (n .0) mostPoints l)
 
   pub port-past : (n : PointNo) (p : Leg) → e ≡ Port n p → mostPoints ≤ n .0 → allEnds ≡ endIndex e
@@ -93,12 +95,14 @@ port-behind n l = cases (ltb (n .0) mostPoints)
 pub numbered-of : (e : End) → endIndex e < allEnds → Numbered e
 numbered-of (Section n s) h = cases (ltb (n .0) mostSections) refl h
   where
-    cases : (b : Bool) → ltb (n .0) mostSections ≡ b → cond b (2 * n .0 + sideIndex s) allEnds < allEnds → n .0 < mostSections
+    cases : (b : Bool) → ltb (n .0) mostSections ≡ b → cond b (2 * n .0 + sideIndex s) allEnds < allEnds
+        → n .0 < mostSections
     cases true e l = ltb-true (n .0) mostSections e
     cases false e l = absurd (omega arith)
 numbered-of (Port n p) h = cases (ltb (n .0) mostPoints) refl h
   where
-    cases : (b : Bool) → ltb (n .0) mostPoints ≡ b → cond b (sectionEnds + 3 * n .0 + legIndex p) allEnds < allEnds → n .0 < mostPoints
+    cases : (b : Bool) → ltb (n .0) mostPoints ≡ b
+        → cond b (sectionEnds + 3 * n .0 + legIndex p) allEnds < allEnds → n .0 < mostPoints
     cases true e l = ltb-true (n .0) mostPoints e
     cases false e l = absurd (omega arith)
 
@@ -107,7 +111,8 @@ pub end-section : (i : ℕ) → i < sectionEnds → endAt i ≡ Section (record 
 unfolding endAt
 end-section i h = rw (lt-ltb i sectionEnds h)
 
-pub end-port : (i : ℕ) → sectionEnds ≤ i → endAt i ≡ Port (record { 0 = (i - sectionEnds) / 3 }) (legAt ((i - sectionEnds) % 3))
+pub end-port : (i : ℕ) → sectionEnds ≤ i
+    → endAt i ≡ Port (record { 0 = (i - sectionEnds) / 3 }) (legAt ((i - sectionEnds) % 3))
 unfolding endAt
 end-port i h = rw (le-ltb i sectionEnds h)
 
@@ -115,7 +120,8 @@ side-rest : (i : ℕ) (b : Bool) → eqb (i % 2) 0 ≡ b → 2 * (i / 2) + sideI
 side-rest i true h = let z = eqb-true (i % 2) 0 h in omega arith
 side-rest i false h = let z = eqb-false (i % 2) 0 h in omega arith
 
-leg-rest : (i : ℕ) (b d : Bool) → eqb (i % 3) 0 ≡ b → eqb (i % 3) 1 ≡ d → 3 * (i / 3) + legIndex (cond b Stem (cond d Plus Minus)) ≡ i
+leg-rest : (i : ℕ) (b d : Bool) → eqb (i % 3) 0 ≡ b → eqb (i % 3) 1 ≡ d
+    → 3 * (i / 3) + legIndex (cond b Stem (cond d Plus Minus)) ≡ i
 leg-rest i true d h g = let z = eqb-true (i % 3) 0 h in omega arith
 leg-rest i false true h g = let z = eqb-true (i % 3) 1 g in omega arith
 leg-rest i false false h g = let z = eqb-false (i % 3) 0 h in let y = eqb-false (i % 3) 1 g in omega arith

@@ -1,5 +1,5 @@
--- The lookups of a record as code makes them: a table read where the place is within it, and what stands for nothing elsewhere.
--- Assumes nothing.
+-- The lookups of a record as code makes them: a table read where the place is within it, and what stands for nothing
+-- elsewhere. Assumes nothing.
 use Prim.Native.Nat.{ℕ, _<_, _≤_}
 use mathlib.Core.Path.{_≡_, refl, sym, _∙_, ap}
 use native.Mathlib.Omega.{arith}
@@ -21,7 +21,8 @@ use Rattle.railway.specs.declared.Railway.{Railway}
 use Rattle.railway.specs.Bounds.{mostSections, sectionEnds, allEnds}
 use Rattle.railway.specs.Ends.{endIndex}
 use Rattle.railway.specs.Lent.{LinksOf, SignalsOf, ClosedOf}
-use Rattle.railway.specs.Record.{closedAt, isClosed, noLegs, noLink, noTrain, joinedBy, linkAt, flagAt, joined, hasSignal, legsOf, trainOf}
+use Rattle.railway.specs.Record.{closedAt, isClosed, noLegs, noLink, noTrain, joinedBy, linkAt, flagAt, joined}
+use Rattle.railway.specs.Record.{hasSignal, legsOf, trainOf}
 
 -- within a count, beyond it, where what would be read is what stands for nothing, and where it is so beyond the count
 module _ {A : Type 0} (n k : ℕ) (x d : A) where
@@ -121,11 +122,13 @@ module _ (r : Railway) (n : ℕ) where
 
   pub legs-past : length (r .legs) ≤ n → Up ≡ legsOf r n
   unfolding legsOf
-  legs-past h = either-way n (r .points) (getD (r .legs) n noLegs .side) Up (ap (λ (l : Legs). l .side) (List·getD-eq-default (r .legs) noLegs h))
+  legs-past h = either-way n (r .points) (getD (r .legs) n noLegs .side) Up
+      (ap (λ (l : Legs). l .side) (List·getD-eq-default (r .legs) noLegs h))
 
   pub roster-there : (d : Train) → n < r .trains → n < length (r .roster) → getD (r .roster) n d ≡ trainOf r n
   unfolding trainOf
-  roster-there d h l = getD-inside (r .roster) n d noTrain l ∙ within n (r .trains) (getD (r .roster) n noTrain) noTrain h
+  roster-there d h l =
+      getD-inside (r .roster) n d noTrain l ∙ within n (r .trains) (getD (r .roster) n noTrain) noTrain h
 
   pub roster-none : r .trains ≤ n → noTrain ≡ trainOf r n
   unfolding trainOf
@@ -133,4 +136,5 @@ module _ (r : Railway) (n : ℕ) where
 
   pub roster-past : length (r .roster) ≤ n → noTrain ≡ trainOf r n
   unfolding trainOf
-  roster-past h = either-way n (r .trains) (getD (r .roster) n noTrain) noTrain (List·getD-eq-default (r .roster) noTrain h)
+  roster-past h =
+      either-way n (r .trains) (getD (r .roster) n noTrain) noTrain (List·getD-eq-default (r .roster) noTrain h)

@@ -1,6 +1,6 @@
--- Which row of several is given: the first that applies, and none exactly where no row applies. Of two lists of rows, one behind the other, the first
--- of the one or else of the other is given. And a number is one refusal's alone, so what is given is known by its number.
--- Assumes nothing.
+-- Which row of several is given: the first that applies, and none exactly where no row applies. Of two lists of rows,
+-- one behind the other, the first of the one or else of the other is given. And a number is one refusal's alone, so
+-- what is given is known by its number. Assumes nothing.
 use mathlib.Core.Path.{_≡_, refl, sym, _∙_, ap}
 use mathlib.Core.Logic.{_↔_}
 use mathlib.Core.Bool.{Bool, true, false, cond}
@@ -15,14 +15,24 @@ use Rattle.laws.specs.Lists.{Every}
 use Rattle.laws.proofs.Bools.{clash, some-none, some-one, not-true}
 use Rattle.laws.proofs.Lists.{every-none, every-more}
 use Rattle.railway.specs.declared.Refusal.{Refusal}
-use Rattle.railway.specs.declared.Refusal.the-variants.{Length, Form, Count, Weight, Unknown, Join, Loose, Chain, Double, Place, Mismatch, Space, PlanForm, PlanFault, Report, Stranded, Log}
-use Rattle.railway.specs.Refusals.{number, numbersInOrder, rank, Row, row, Applying, NotApplying, refuseIf, first, numberOf, FirstRow}
+use Rattle.railway.specs.declared.Refusal.the-variants.{Length, Form, Count, Weight, Unknown, Join, Loose, Chain}
+use Rattle.railway.specs.declared.Refusal.the-variants.{Double, Place, Mismatch, Space, PlanForm, PlanFault}
+use Rattle.railway.specs.declared.Refusal.the-variants.{Report, Stranded, Log}
+use Rattle.railway.specs.Refusals.{number, numbersInOrder, rank, Row, row, Applying, NotApplying, refuseIf, first}
+use Rattle.railway.specs.Refusals.{numberOf, FirstRow}
 
-first-step : (b : Bool) (x : Row) (xs : List Row) (f : Refusal) → x .applies ≡ b → refuseIf b (x .refusal) (first xs) ≡ some f
+first-step : (b : Bool) (x : Row) (xs : List Row) (f : Refusal) → x .applies ≡ b
+    → refuseIf b (x .refusal) (first xs) ≡ some f
     → (first xs ≡ some f → FirstRow xs f) → FirstRow (x ∷ xs) f
 first-step true x xs f h e ih =
     let z : x .refusal ≡ f = cc in
-    record { before = []; after = xs; order = rw (← z, ← h); here = refl; not-before = every-none (λ y. Applying y → ⊥) }
+    record {
+      before = [];
+      after = xs;
+      order = rw (← z, ← h);
+      here = refl;
+      not-before = every-none (λ y. Applying y → ⊥);
+    }
 first-step false x xs f h e ih =
     let t = ih e in
     record {
@@ -38,7 +48,8 @@ unfolding first
 first-is [] f e = some-none e refl
 first-is (x ∷ xs) f e = first-step (x .applies) x xs f refl e (first-is xs f)
 
-passed : (before after : List Row) (f : Refusal) → Every (λ y. Applying y → ⊥) before → first (before ++ (row f true ∷ after)) ≡ some f
+passed : (before after : List Row) (f : Refusal) → Every (λ y. Applying y → ⊥) before
+    → first (before ++ (row f true ∷ after)) ≡ some f
 unfolding first
 passed [] after f h = refl
 passed (x ∷ xs) after f h =
@@ -73,16 +84,19 @@ unfolding first
 first-append [] ys = refl
 first-append (x ∷ xs) ys = go (x .applies) (x .refusal) (first-append xs ys)
   where
-    go : (b : Bool) (f : Refusal) → first (xs ++ ys) ≡ orElse (first xs) (first ys) → refuseIf b f (first (xs ++ ys)) ≡ orElse (refuseIf b f (first xs)) (first ys)
+    go : (b : Bool) (f : Refusal) → first (xs ++ ys) ≡ orElse (first xs) (first ys)
+        → refuseIf b f (first (xs ++ ys)) ≡ orElse (refuseIf b f (first xs)) (first ys)
     go true f h = refl
     go false f h = h
 
 -- one row at the head of a list
-pub first-same : (f : Refusal) (a b : Bool) (xs ys : List Row) → a ≡ b → first xs ≡ first ys → first (row f a ∷ xs) ≡ first (row f b ∷ ys)
+pub first-same : (f : Refusal) (a b : Bool) (xs ys : List Row) → a ≡ b → first xs ≡ first ys
+    → first (row f a ∷ xs) ≡ first (row f b ∷ ys)
 unfolding first
 first-same f a b xs ys p q = rw (p, q)
 
-pub refuse-none : (b : Bool) (f : Refusal) (later : Option Refusal) → refuseIf b f later ≡ none → (b ≡ false) × (later ≡ none)
+pub refuse-none : (b : Bool) (f : Refusal) (later : Option Refusal) → refuseIf b f later ≡ none
+    → (b ≡ false) × (later ≡ none)
 refuse-none true f later e = some-none refl e
 refuse-none false f later e = (refl, e)
 

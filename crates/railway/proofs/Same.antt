@@ -1,5 +1,6 @@
--- To be the same railway is an equivalence, and nothing that a record answers tells two such records apart: its lookups, its rows, its test.
--- Each lookup is guarded by the counts and bounds within which records are compared, so it goes by cases of its guard. Assumes nothing.
+-- To be the same railway is an equivalence, and nothing that a record answers tells two such records apart: its
+-- lookups, its rows, its test. Each lookup is guarded by the counts and bounds within which records are compared, so it
+-- goes by cases of its guard. Assumes nothing.
 use mathlib.Core.Path.{_≡_, refl, sym, _∙_, ap}
 use mathlib.Core.Bool.{Bool, true, false, cond}
 use mathlib.Core.List.{[]}
@@ -20,8 +21,13 @@ use Rattle.railway.specs.declared.Train.{Train}
 use Rattle.railway.specs.declared.Railway.{Railway}
 use Rattle.railway.specs.Bounds.{mostSections, sectionEnds, allEnds}
 use Rattle.railway.specs.Ends.{endIndex, endAt}
-use Rattle.railway.specs.Record.{linkAt, flagAt, closedAt, joined, hasSignal, isClosed, legsOf, trainOf, weightOf, sideOf}
-use Rattle.railway.specs.Rows.{wrongWeightAt, weightRow, known, unknownLink, unknownLinkAt, unknownSignalAt, unknownClosedAt, unknownTrainAt, wrongLink, wrongLinkAt, unreturned, unreturnedAt, looseAt, longerPast, longerOver, longer, mostBehind, chainedAt, sharesWith, sharesAt, shutOutAt, countRow, unknownRow, joinRow, looseRow, chainRow, placeRow, recordRefusal}
+use Rattle.railway.specs.Record.{linkAt, flagAt, closedAt, joined, hasSignal, isClosed, legsOf, trainOf, weightOf}
+use Rattle.railway.specs.Record.{sideOf}
+use Rattle.railway.specs.Rows.{wrongWeightAt, weightRow, known, unknownLink, unknownLinkAt, unknownSignalAt}
+use Rattle.railway.specs.Rows.{unknownClosedAt, unknownTrainAt, wrongLink, wrongLinkAt, unreturned, unreturnedAt}
+use Rattle.railway.specs.Rows.{looseAt, longerPast, longerOver, longer, mostBehind, chainedAt, sharesWith}
+use Rattle.railway.specs.Rows.{sharesAt, shutOutAt, countRow, unknownRow, joinRow, looseRow, chainRow, placeRow}
+use Rattle.railway.specs.Rows.{recordRefusal}
 use Rattle.railway.specs.Same.{SameRailway}
 use Rattle.railway.proofs.Lookups.{legs-none, roster-none}
 use Rattle.railway.proofs.Refusals.{first-same}
@@ -77,11 +83,13 @@ guarded i n x y d h = cases (ltb i n) refl
 module _ (r q : Railway) (h : SameRailway r q) where
   pub joined-same : (e : End) → joined r e ≡ joined q e
   unfolding joined
-  joined-same e = guarded (endIndex e) allEnds (linkAt r (endIndex e)) (linkAt q (endIndex e)) Nothing (h .joins (endIndex e))
+  joined-same e =
+      guarded (endIndex e) allEnds (linkAt r (endIndex e)) (linkAt q (endIndex e)) Nothing (h .joins (endIndex e))
 
   pub signal-same : (e : End) → hasSignal r e ≡ hasSignal q e
   unfolding hasSignal
-  signal-same e = guarded (endIndex e) sectionEnds (flagAt r (endIndex e)) (flagAt q (endIndex e)) false (h .signals (endIndex e))
+  signal-same e =
+      guarded (endIndex e) sectionEnds (flagAt r (endIndex e)) (flagAt q (endIndex e)) false (h .signals (endIndex e))
 
   pub closed-same : (x : ℕ) → isClosed r x ≡ isClosed q x
   unfolding isClosed
@@ -99,7 +107,9 @@ module _ (r q : Railway) (h : SameRailway r q) where
     where
       cases : (b : Bool) → ltb t (r .trains) ≡ b → trainOf r t ≡ trainOf q t
       cases true e = h .roster t (ltb-true t (r .trains) e)
-      cases false e = let b = ltb-false t (r .trains) e in sym (roster-none r t b) ∙ roster-none q t (rw (h .trains) at b)
+      cases false e =
+          let b = ltb-false t (r .trains) e in
+          sym (roster-none r t b) ∙ roster-none q t (rw (h .trains) at b)
 
   pub side-same : (e : End) → sideOf r e ≡ sideOf q e
   side-same (Section n s) = refl
@@ -137,9 +147,11 @@ module _ (r q : Railway) (h : SameRailway r q) where
   unfolding unknownRow
   unknown-same =
       let a : anyBelow (unknownLinkAt r) allEnds ≡ anyBelow (unknownLinkAt q) allEnds
-      = any-same (unknownLinkAt r) (unknownLinkAt q) allEnds (λ i b. (let z = h .joins i b in rw z (unknown-link-same (endAt i) (linkAt q i)))) in
+      = any-same (unknownLinkAt r) (unknownLinkAt q) allEnds
+      (λ i b. (let z = h .joins i b in rw z (unknown-link-same (endAt i) (linkAt q i)))) in
       let b : anyBelow (unknownSignalAt r) sectionEnds ≡ anyBelow (unknownSignalAt q) sectionEnds
-      = any-same (unknownSignalAt r) (unknownSignalAt q) sectionEnds (λ i b. (let z = h .signals i b in rw (z, known-same (endAt i)))) in
+      = any-same (unknownSignalAt r) (unknownSignalAt q) sectionEnds
+      (λ i b. (let z = h .signals i b in rw (z, known-same (endAt i)))) in
       let d : anyBelow (unknownClosedAt r) mostSections ≡ anyBelow (unknownClosedAt q) mostSections
       = any-same (unknownClosedAt r) (unknownClosedAt q) mostSections (λ x b. rw (closed-same x, h .sections)) in
       let c : anyBelow (unknownTrainAt r) (r .trains) ≡ anyBelow (unknownTrainAt q) (r .trains)
@@ -150,9 +162,11 @@ module _ (r q : Railway) (h : SameRailway r q) where
   unfolding joinRow
   join-same =
       let a : anyBelow (wrongLinkAt r) allEnds ≡ anyBelow (wrongLinkAt q) allEnds
-      = any-same (wrongLinkAt r) (wrongLinkAt q) allEnds (λ i b. (let z = h .joins i b in rw z (wrong-link-same (endAt i) (linkAt q i)))) in
+      = any-same (wrongLinkAt r) (wrongLinkAt q) allEnds
+      (λ i b. (let z = h .joins i b in rw z (wrong-link-same (endAt i) (linkAt q i)))) in
       let b : anyBelow (unreturnedAt r) allEnds ≡ anyBelow (unreturnedAt q) allEnds
-      = any-same (unreturnedAt r) (unreturnedAt q) allEnds (λ i b. (let z = h .joins i b in rw z (unreturned-same (endAt i) (linkAt q i)))) in
+      = any-same (unreturnedAt r) (unreturnedAt q) allEnds
+      (λ i b. (let z = h .joins i b in rw z (unreturned-same (endAt i) (linkAt q i)))) in
       rw (a, b)
 
   loose-same : looseRow r ≡ looseRow q
@@ -162,12 +176,19 @@ module _ (r q : Railway) (h : SameRailway r q) where
       = any-same (looseAt r) (looseAt q) (r .points) (λ n b. simp joined-same) in
       rw (a, h .points)
 
-  over-same : (f g : Joined → Bool) → ((j : Joined) → f j ≡ g j) → (n : PointNo) (l : Leg) → longerOver r f n l ≡ longerOver q g n l
-  over-same f g s n Stem = rw (joined-same (Port n Plus), joined-same (Port n Minus), s (joined q (Port n Plus)), s (joined q (Port n Minus)))
+  over-same : (f g : Joined → Bool) → ((j : Joined) → f j ≡ g j) → (n : PointNo) (l : Leg)
+      → longerOver r f n l ≡ longerOver q g n l
+  over-same f g s n Stem = rw (
+    joined-same (Port n Plus),
+    joined-same (Port n Minus),
+    s (joined q (Port n Plus)),
+    s (joined q (Port n Minus)),
+  )
   over-same f g s n Plus = rw (joined-same (Port n Stem), s (joined q (Port n Stem)))
   over-same f g s n Minus = rw (joined-same (Port n Stem), s (joined q (Port n Stem)))
 
-  past-same : (f g : PointNo → Leg → Bool) → ((n : PointNo) (l : Leg) → f n l ≡ g n l) → (j : Joined) → longerPast f j ≡ longerPast g j
+  past-same : (f g : PointNo → Leg → Bool) → ((n : PointNo) (l : Leg) → f n l ≡ g n l) → (j : Joined)
+      → longerPast f j ≡ longerPast g j
   past-same f g s Nothing = refl
   past-same f g s (With (Section n d)) = refl
   past-same f g s (With (Port n l)) = s n l
@@ -177,23 +198,27 @@ module _ (r q : Railway) (h : SameRailway r q) where
   longer-same zero j = refl
   longer-same (suc k) j = past-same _ _ (over-same _ _ (longer-same k)) j
 
-  at-same : (n : PointNo) (l : Leg) → longer r mostBehind (joined r (Port n l)) ≡ longer q mostBehind (joined q (Port n l))
+  at-same : (n : PointNo) (l : Leg)
+      → longer r mostBehind (joined r (Port n l)) ≡ longer q mostBehind (joined q (Port n l))
   at-same n l = rw (joined-same (Port n l)) (longer-same mostBehind (joined q (Port n l)))
 
   chain-same : chainRow r ≡ chainRow q
   unfolding chainRow
   chain-same =
       let a : anyBelow (chainedAt r) (r .points) ≡ anyBelow (chainedAt q) (r .points)
-      = any-same (chainedAt r) (chainedAt q) (r .points) (λ n b. rw (at-same (record { 0 = n }) Stem, at-same (record { 0 = n }) Plus, at-same (record { 0 = n }) Minus)) in
+      = any-same (chainedAt r) (chainedAt q) (r .points) (λ n b.
+      rw (at-same (record { 0 = n }) Stem, at-same (record { 0 = n }) Plus, at-same (record { 0 = n }) Minus)) in
       rw (a, h .points)
 
   place-same : placeRow r ≡ placeRow q
   unfolding placeRow
   place-same =
       let a : anyBelow (sharesAt r) (r .trains) ≡ anyBelow (sharesAt q) (r .trains)
-      = any-same (sharesAt r) (sharesAt q) (r .trains) (λ t b. any-same (sharesWith r t) (sharesWith q t) t (λ u c. rw (roster-same u, roster-same t))) in
+      = any-same (sharesAt r) (sharesAt q) (r .trains)
+      (λ t b. any-same (sharesWith r t) (sharesWith q t) t (λ u c. rw (roster-same u, roster-same t))) in
       let b : anyBelow (shutOutAt r) (r .trains) ≡ anyBelow (shutOutAt q) (r .trains)
-      = any-same (shutOutAt r) (shutOutAt q) (r .trains) (λ t b. rw (roster-same t, closed-same (trainOf q t .start .0), closed-same (trainOf q t .destination .0))) in
+      = any-same (shutOutAt r) (shutOutAt q) (r .trains)
+      (λ t b. rw (roster-same t, closed-same (trainOf q t .start .0), closed-same (trainOf q t .destination .0))) in
       rw (a, b, h .trains)
 
   count-same : countRow r ≡ countRow q

@@ -16,13 +16,15 @@ use Rattle.railway.specs.declared.Train.{Train}
 use Rattle.railway.specs.declared.Railway.{Railway}
 use Rattle.railway.specs.Bounds.{mostSections, mostPoints, mostTrains, sectionEnds, allEnds}
 use Rattle.railway.specs.Ends.{Numbered, endIndex}
-use Rattle.railway.specs.Record.{noLink, joinedBy, linkAt, joined, withLinks, setLink, withJoin, withSignal, withLegs, withTrain, withClosed}
+use Rattle.railway.specs.Record.{noLink, joinedBy, linkAt, joined, withLinks, setLink, withJoin, withSignal}
+use Rattle.railway.specs.Record.{withLegs, withTrain, withClosed}
 use Rattle.railway.proofs.Ends.{index-below, index-one, numbered-of}
 use Rattle.railway.proofs.Bytes.{byte-back}
 
 -- AS CODE MAKES THEM
 module _ (r : Railway) (a b : End) (i j : ℕ) (ia : i ≡ endIndex a) (jb : j ≡ endIndex b) where
-  pub join-both : (q : Railway) → i < allEnds → j < allEnds → q ≡ withLinks r (set (set (r .links) i j) j i) → q ≡ withJoin r a b
+  pub join-both : (q : Railway) → i < allEnds → j < allEnds → q ≡ withLinks r (set (set (r .links) i j) j i)
+      → q ≡ withJoin r a b
   unfolding withJoin
   join-both q li lj hq = rw (← ia, ← jb, lt-ltb i allEnds li, lt-ltb j allEnds lj) hq
 
@@ -40,14 +42,16 @@ module _ (r : Railway) (a b : End) (room : length (r .links) ≡ allEnds) (ha : 
   unfolding withJoin
   added = rw (lt-ltb (endIndex a) allEnds (index-below a ha), lt-ltb (endIndex b) allEnds (index-below b hb))
 
-  looked-up : (e : End) → Numbered e → joined (withJoin r a b) e ≡ joinedBy (getD (setLink b a (setLink a b (r .links))) (endIndex e) noLink)
+  looked-up : (e : End) → Numbered e
+      → joined (withJoin r a b) e ≡ joinedBy (getD (setLink b a (setLink a b (r .links))) (endIndex e) noLink)
   unfolding joined
   looked-up e h = rw (added, lt-ltb (endIndex e) allEnds (index-below e h))
 
   pub join-second : joined (withJoin r a b) b ≡ With a
   join-second =
       looked-up b hb
-      ∙ ap joinedBy (getD-set-same (setLink a b (r .links)) (endIndex b) (endIndex a) noLink (let l = index-below b hb in simp length-set (omega arith)))
+      ∙ ap joinedBy (getD-set-same (setLink a b (r .links)) (endIndex b) (endIndex a) noLink
+      (let l = index-below b hb in simp length-set (omega arith)))
       ∙ byte-back a ha
 
   pub join-first : joined (withJoin r a b) a ≡ With b
@@ -75,7 +79,8 @@ module _ (r : Railway) (a b : End) (room : length (r .links) ≡ allEnds) (ha : 
         let h = numbered-of e l in
         looked-up e h
         ∙ ap joinedBy
-        (getD-set-other (setLink a b (r .links)) (endIndex b) (endIndex e) (endIndex a) noLink (λ z. nb (index-one e b h hb z))
+        (getD-set-other (setLink a b (r .links)) (endIndex b) (endIndex e) (endIndex a) noLink
+        (λ z. nb (index-one e b h hb z))
         ∙ getD-set-other (r .links) (endIndex a) (endIndex e) (endIndex b) noLink (λ z. na (index-one e a h ha z)))
         ∙ kept e l
     | inr l ↦ neither-joined e l
@@ -84,7 +89,16 @@ module _ (r : Railway) (a b : End) (room : length (r .links) ≡ allEnds) (ha : 
 -- THE OTHER UPDATES, as code makes them
 module _ (r : Railway) (e : End) (i : ℕ) (is : i ≡ endIndex e) where
   pub signal-added : (q : Railway) → i < sectionEnds
-      → q ≡ record { sections = r .sections; points = r .points; trains = r .trains; legs = r .legs; links = r .links; signals = set (r .signals) i true; closed = r .closed; roster = r .roster }
+      → q ≡ record {
+        sections = r .sections;
+        points = r .points;
+        trains = r .trains;
+        legs = r .legs;
+        links = r .links;
+        signals = set (r .signals) i true;
+        closed = r .closed;
+        roster = r .roster;
+      }
       → q ≡ withSignal r e
   unfolding withSignal
   signal-added q h hq = rw (← is, lt-ltb i sectionEnds h) hq
@@ -95,7 +109,17 @@ module _ (r : Railway) (e : End) (i : ℕ) (is : i ≡ endIndex e) where
 
 module _ (r : Railway) (n : ℕ) where
   pub legs-set : (side : Side) (q : Railway) → n < mostPoints
-      → q ≡ record { sections = r .sections; points = r .points; trains = r .trains; legs = set (r .legs) n (record { side = side }); links = r .links; signals = r .signals; closed = r .closed; roster = r .roster }
+      → q ≡ record {
+        sections = r .sections;
+        points = r .points;
+        trains = r .trains;
+        legs = set (r .legs) n
+            (record { side = side });
+        links = r .links;
+        signals = r .signals;
+        closed = r .closed;
+        roster = r .roster;
+      }
       → q ≡ withLegs r n side
   unfolding withLegs
   legs-set side q h hq = rw (lt-ltb n mostPoints h) hq
@@ -105,7 +129,16 @@ module _ (r : Railway) (n : ℕ) where
   legs-out side h = rw (le-ltb n mostPoints h)
 
   pub train-set : (train : Train) (q : Railway) → n < mostTrains
-      → q ≡ record { sections = r .sections; points = r .points; trains = r .trains; legs = r .legs; links = r .links; signals = r .signals; closed = r .closed; roster = set (r .roster) n train }
+      → q ≡ record {
+        sections = r .sections;
+        points = r .points;
+        trains = r .trains;
+        legs = r .legs;
+        links = r .links;
+        signals = r .signals;
+        closed = r .closed;
+        roster = set (r .roster) n train;
+      }
       → q ≡ withTrain r n train
   unfolding withTrain
   train-set train q h hq = rw (lt-ltb n mostTrains h) hq
@@ -115,7 +148,16 @@ module _ (r : Railway) (n : ℕ) where
   train-out train h = rw (le-ltb n mostTrains h)
 
   pub closed-set : (q : Railway) → n < mostSections
-      → q ≡ record { sections = r .sections; points = r .points; trains = r .trains; legs = r .legs; links = r .links; signals = r .signals; closed = set (r .closed) n true; roster = r .roster }
+      → q ≡ record {
+        sections = r .sections;
+        points = r .points;
+        trains = r .trains;
+        legs = r .legs;
+        links = r .links;
+        signals = r .signals;
+        closed = set (r .closed) n true;
+        roster = r .roster;
+      }
       → q ≡ withClosed r n
   unfolding withClosed
   closed-set q h hq = rw (lt-ltb n mostSections h) hq

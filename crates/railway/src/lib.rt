@@ -7,7 +7,9 @@ ghost use lib.ListN.{getD};
 ghost use Rattle.railway.specs.declared.Railway.{Railway};
 ghost use Rattle.railway.specs.Bounds.{fewestSections, fewestTrains, mostSections, mostPoints, mostTrains, leastWeight, mostWeight, sectionEnds, allEnds};
 ghost use Rattle.railway.specs.Ends.{opposite, sideIndex, legIndex, endIndex, sideAt, legAt, endAt, portSide};
-ghost use Rattle.railway.specs.Record.{noLink, noTrain, emptyRailway, joinedBy, linkAt, flagAt, joined, hasSignal, isClosed, legsOf, trainOf, sideOf, withJoin, withSignal, withLegs, withTrain, withClosed};
+ghost use Rattle.railway.specs.Record.{noLink, noTrain, emptyRailway, joinedBy, linkAt, flagAt, joined};
+ghost use Rattle.railway.specs.Record.{hasSignal, isClosed, legsOf, trainOf, sideOf, withJoin, withSignal};
+ghost use Rattle.railway.specs.Record.{withLegs, withTrain, withClosed};
 ghost use Rattle.railway.specs.Refusals.{number, rank};
 ghost use Rattle.railway.specs.Lent.{LinksOf, SignalsOf, ClosedOf};
 
@@ -127,7 +129,10 @@ impl Railway {
         ensures empty { λ r. ⌜ r ≡ emptyRailway ⌝ }
         ensures sections { λ r. do ⌜ ((← ⟦Railway::FEWEST_SECTIONS⟧ .entry) ≡ fewestSections) × ((← ⟦Railway::SECTIONS⟧ .entry) ≡ mostSections) ⌝ }
         ensures points { λ r. do ⌜ (← ⟦Railway::POINTS⟧ .entry) ≡ mostPoints ⌝ }
-        ensures trains { λ r. do ⌜ ((← ⟦Railway::FEWEST_TRAINS⟧ .entry) ≡ fewestTrains) × ((← ⟦Railway::TRAINS⟧ .entry) ≡ mostTrains) × ((← ⟦Railway::LEAST_WEIGHT⟧ .entry) ≡ leastWeight) × ((← ⟦Railway::MOST_WEIGHT⟧ .entry) ≡ mostWeight) ⌝ }
+        ensures trains { λ r.
+            do
+              ⌜ ((← ⟦Railway::FEWEST_TRAINS⟧ .entry) ≡ fewestTrains) × ((← ⟦Railway::TRAINS⟧ .entry) ≡ mostTrains)
+                  × ((← ⟦Railway::LEAST_WEIGHT⟧ .entry) ≡ leastWeight) × ((← ⟦Railway::MOST_WEIGHT⟧ .entry) ≡ mostWeight) ⌝ }
         ensures ends { λ r. do ⌜ ((← ⟦Railway::SECTION_ENDS⟧ .entry) ≡ sectionEnds) × ((← ⟦Railway::ENDS⟧ .entry) ≡ allEnds) × ((← ⟦Railway::NO_LINK⟧ .entry) ≡ noLink) ⌝ }
     {
         let up = Legs { side: Side::Up };

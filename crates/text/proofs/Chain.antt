@@ -1,6 +1,5 @@
--- A text as code reads it, step by step: where a step reads nothing the whole reads nothing, and else the whole gives what its rest gives. A byte
--- is read where it was looked for inside the text.
--- Assumes nothing.
+-- A text as code reads it, step by step: where a step reads nothing the whole reads nothing, and else the whole gives
+-- what its rest gives. A byte is read where it was looked for inside the text. Assumes nothing.
 use Prim.Native.Nat.{ℕ, _+_, _<_}
 use mathlib.Core.Path.{_≡_, refl, sym, _∙_, ap}
 use mathlib.Core.Bool.{Bool, true, false, cond}

@@ -1,6 +1,6 @@
--- Laws of the decimal spelling. A digit put behind a number's digits spells ten times the number and the digit; so the digits of a number
--- are digits, are no more than its size asks for, begin with none that is zero, have the number as their value, and no two numbers share them.
--- Assumes nothing.
+-- Laws of the decimal spelling. A digit put behind a number's digits spells ten times the number and the digit; so the
+-- digits of a number are digits, are no more than its size asks for, begin with none that is zero, have the number as
+-- their value, and no two numbers share them. Assumes nothing.
 use mathlib.Core.Path.{_≡_, refl, _∙_, ap}
 use mathlib.Core.Logic.{inl, inr}
 use mathlib.Core.Bool.{true}
@@ -23,7 +23,8 @@ unfolding digits
 digits-length zero n = omega arith
 digits-length (suc left) n = elim (bool? (ltb n 10)) [
   | inl y ↦ rw y (omega arith)
-  | inr y ↦ rw (y, length-append (digits left (n / 10)) ((48 + n % 10) ∷ [])) (omega (arith, digits-length left (n / 10)))
+  | inr y ↦
+      rw (y, length-append (digits left (n / 10)) ((48 + n % 10) ∷ [])) (omega (arith, digits-length left (n / 10)))
 ]
 
 pub digits-short : (left k n : ℕ) → n < 10 ^ suc k → length (digits left n) ≤ suc k
@@ -41,11 +42,15 @@ digits-short (suc left) (suc k) n l = elim (bool? (ltb n 10)) [
 -- DIGITS are digits, and plain
 pub digit-of : (n : ℕ) → n < 10 → isDigit (48 + n) ≡ true
 unfolding isDigit
-digit-of n l = and-both (ltb 47 (48 + n)) (ltb (48 + n) 58) (lt-ltb 47 (48 + n) (omega arith)) (lt-ltb (48 + n) 58 (omega arith))
+digit-of n l =
+    and-both (ltb 47 (48 + n)) (ltb (48 + n) 58) (lt-ltb 47 (48 + n) (omega arith)) (lt-ltb (48 + n) 58 (omega arith))
 
 pub digit-is : (b : ℕ) → isDigit b ≡ true → (48 ≤ b) × (b < 58)
 unfolding isDigit
-digit-is b e = let t = and-true (ltb 47 b) (ltb b 58) e in let l = ltb-true 47 b (t .0) in (omega arith, ltb-true b 58 (t .1))
+digit-is b e =
+    let t = and-true (ltb 47 b) (ltb b 58) e in
+    let l = ltb-true 47 b (t .0) in
+    (omega arith, ltb-true b 58 (t .1))
 
 pub digit-plain : (b : ℕ) → isDigit b ≡ true → isPlain b ≡ true
 unfolding isPlain
@@ -56,7 +61,8 @@ unfolding digits all
 digits-are zero n = refl
 digits-are (suc left) n = elim (bool? (ltb n 10)) [
   | inl y ↦ rw y (and-both (isDigit (48 + n)) true (digit-of n (ltb-true n 10 y)) refl)
-  | inr y ↦ rw y (all-append isDigit (digits left (n / 10)) ((48 + n % 10) ∷ []) (digits-are left (n / 10)) (and-both (isDigit (48 + n % 10)) true (digit-of (n % 10) (omega arith)) refl))
+  | inr y ↦ rw y (all-append isDigit (digits left (n / 10)) ((48 + n % 10) ∷ []) (digits-are left (n / 10))
+      (and-both (isDigit (48 + n % 10)) true (digit-of (n % 10) (omega arith)) refl))
 ]
 
 pub decimal-plain : (n : ℕ) → all isPlain (decimal n) ≡ true
@@ -98,7 +104,8 @@ digits-enough (suc left) n l = elim (bool? (ltb n 10)) [
   | inl y ↦ rw y
   | inr y ↦
       let e : 10 ^ suc (suc left) ≡ 10 * 10 ^ suc left = pow-succ' 10 (suc left) in
-      let h : digits (suc left) (n / 10) ≡ digits (suc (suc left)) (n / 10) = digits-enough left (n / 10) (omega arith) in
+      let h : digits (suc left) (n / 10) ≡ digits (suc (suc left)) (n / 10) =
+      digits-enough left (n / 10) (omega arith) in
       rw y (ap (λ (s : List ℕ). s ++ ((48 + n % 10) ∷ [])) h)
 ]
 
@@ -110,7 +117,9 @@ digits-room (suc k) left n l =
     digits-enough left n l ∙ (rw z at (digits-room k (suc left) n (omega arith)))
 
 pub digits-decimal : (left n : ℕ) → left < 10 → n < 10 ^ suc left → digits (suc left) n ≡ decimal n
-digits-decimal left n h l = let z : suc (left + (9 - left)) ≡ 10 = omega arith in rw z at (digits-room (9 - left) left n l)
+digits-decimal left n h l =
+    let z : suc (left + (9 - left)) ≡ 10 = omega arith in
+    rw z at (digits-room (9 - left) left n l)
 
 -- THE FIRST DIGIT is zero in `0` only
 pub record Begins (s : List ℕ) : Type 0 where
@@ -120,7 +129,8 @@ pub record Begins (s : List ℕ) : Type 0 where
   pub nonzero : 48 < head
 
 begins-append : (s t : List ℕ) → Begins s → Begins (s ++ t)
-begins-append s t b = record { head = b .head; rest = b .rest ++ t; is = ap (λ (u : List ℕ). u ++ t) (b .is); nonzero = b .nonzero }
+begins-append s t b =
+    record { head = b .head; rest = b .rest ++ t; is = ap (λ (u : List ℕ). u ++ t) (b .is); nonzero = b .nonzero }
 
 pub digits-begin : (left n : ℕ) → 0 < n → n < 10 ^ left → Begins (digits left n)
 unfolding digits
@@ -130,5 +140,6 @@ digits-begin (suc left) n p l = elim (bool? (ltb n 10)) [
   | inr y ↦
       let e : 10 ^ suc left ≡ 10 * 10 ^ left = pow-succ' 10 left in
       let g = ltb-false n 10 y in
-      rw y (begins-append (digits left (n / 10)) ((48 + n % 10) ∷ []) (digits-begin left (n / 10) (omega arith) (omega arith)))
+      rw y (begins-append (digits left (n / 10)) ((48 + n % 10) ∷ [])
+      (digits-begin left (n / 10) (omega arith) (omega arith)))
 ]

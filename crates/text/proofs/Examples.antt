@@ -1,5 +1,5 @@
--- Numbers and lines by computation: one table of what is written and the bytes that it is written with, and one of numbers read at a cursor.
--- Assumes nothing.
+-- Numbers and lines by computation: one table of what is written and the bytes that it is written with, and one of
+-- numbers read at a cursor. Assumes nothing.
 use Prim.Native.Nat.{ℕ}
 use mathlib.Core.Path.{_≡_, refl}
 use mathlib.Core.Bool.{true}
@@ -31,7 +31,8 @@ as-said : all (λ w. sameText (w .text) (w .bytes)) wrote ≡ true
 unfolding all sameText digits line
 as-said = refl
 
--- Three digits at most: `0`, `7`, `305` before a tab; a fourth digit, and what stands behind a leading zero, are left unread; a tab is no number.
+-- Three digits at most: `0`, `7`, `305` before a tab; a fourth digit, and what stands behind a leading zero, are left
+-- unread; a tab is no number.
 numbers : (numberAt (48 ∷ 9 ∷ []) 2 0 ≡ got 0 1)
     × (numberAt (9 ∷ 55 ∷ 9 ∷ []) 2 1 ≡ got 7 2)
     × (numberAt (51 ∷ 48 ∷ 53 ∷ 9 ∷ []) 2 0 ≡ got 305 3)

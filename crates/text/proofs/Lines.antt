@@ -1,5 +1,5 @@
--- A line is cut into the fields it was made of: no field has a byte that parts or ends them, so every cut falls where a tab was put.
--- Assumes nothing.
+-- A line is cut into the fields it was made of: no field has a byte that parts or ends them, so every cut falls where a
+-- tab was put. Assumes nothing.
 use Prim.Native.Nat.{ℕ}
 use mathlib.Core.Path.{_≡_, refl, _∙_, ap}
 use mathlib.Core.Bool.{Bool, true, false, cond, not, _&&_}
@@ -29,7 +29,8 @@ same-self [] = refl
 same-self (x ∷ a) = and-both (eqb x x) (sameText a a) (eq-eqb x x refl) (same-self a)
 
 -- a plain byte is put to the field it stands in
-cut-on : (b : ℕ) (s : List ℕ) (fs x : List (List ℕ)) → isPlain b ≡ true → x ≡ s ∷ fs → cond (eqb b 9) ([] ∷ x) (cond (eqb b 10) x (onFirst b x)) ≡ (b ∷ s) ∷ fs
+cut-on : (b : ℕ) (s : List ℕ) (fs x : List (List ℕ)) → isPlain b ≡ true → x ≡ s ∷ fs
+    → cond (eqb b 9) ([] ∷ x) (cond (eqb b 10) x (onFirst b x)) ≡ (b ∷ s) ∷ fs
 unfolding isPlain
 cut-on b s fs x p e = go (eqb b 9) (eqb b 10) p
   where
@@ -41,15 +42,20 @@ cut-on b s fs x p e = go (eqb b 9) (eqb b 10) p
 pub cut-tab : (s t : List ℕ) → all isPlain s ≡ true → fields (s ++ (9 ∷ t)) ≡ s ∷ fields t
 unfolding fields all
 cut-tab [] t p = refl
-cut-tab (b ∷ s) t p = let h = and-true (isPlain b) (all isPlain s) p in cut-on b s (fields t) (fields (s ++ (9 ∷ t))) (h .0) (cut-tab s t (h .1))
+cut-tab (b ∷ s) t p =
+    let h = and-true (isPlain b) (all isPlain s) p in
+    cut-on b s (fields t) (fields (s ++ (9 ∷ t))) (h .0) (cut-tab s t (h .1))
 
 pub cut-end : (s : List ℕ) → all isPlain s ≡ true → fields (s ++ (10 ∷ [])) ≡ s ∷ []
 unfolding fields all
 cut-end [] p = refl
-cut-end (b ∷ s) p = let h = and-true (isPlain b) (all isPlain s) p in cut-on b s [] (fields (s ++ (10 ∷ []))) (h .0) (cut-end s (h .1))
+cut-end (b ∷ s) p =
+    let h = and-true (isPlain b) (all isPlain s) p in
+    cut-on b s [] (fields (s ++ (10 ∷ []))) (h .0) (cut-end s (h .1))
 
 -- A LINE of at least one field, each of plain bytes, is cut into them
-pub cut-line : (f : List ℕ) (fs : List (List ℕ)) → all isPlain f ≡ true → all (all isPlain) fs ≡ true → fields (line (f ∷ fs)) ≡ f ∷ fs
+pub cut-line : (f : List ℕ) (fs : List (List ℕ)) → all isPlain f ≡ true → all (all isPlain) fs ≡ true
+    → fields (line (f ∷ fs)) ≡ f ∷ fs
 unfolding line all
 cut-line f [] p q = cut-end f p
 cut-line f (g ∷ fs) p q =

@@ -1,6 +1,5 @@
--- Bytes and numbers as code reads them. A digit stands inside the text; each turn of the loop reads one more digit, and leaves what is to be
--- read; a number of as many digits as were read so far is small.
--- Assumes nothing.
+-- Bytes and numbers as code reads them. A digit stands inside the text; each turn of the loop reads one more digit, and
+-- leaves what is to be read; a number of as many digits as were read so far is small. Assumes nothing.
 use Prim.Native.Nat.{ℕ, zero, suc, _+_, _-_, _*_, _^_, _<_, _≤_}
 use mathlib.Core.Path.{_≡_, refl, sym}
 use mathlib.Core.Bool.{true, false}
@@ -55,15 +54,19 @@ module _ (s : List ℕ) (at : ℕ) where
   unfolding byteInside byteAt
   byte-is b pos = elim (lt? at (length s)) [
     | inl h ↦ rw (lt-ltb at (length s) h)
-    | inr h ↦ let e = List·getD-eq-default s 0 h in rw (le-ltb at (length s) h, ne-eqb (getD s at 0) b (λ p. omega arith))
+    | inr h ↦ let e = List·getD-eq-default s 0 h in
+        rw (le-ltb at (length s) h, ne-eqb (getD s at 0) b (λ p. omega arith))
   ]
 
   -- a digit at the cursor
   pub digit-inside : (b : ℕ) → b ≡ getD s at 0 → isDigit b ≡ true → at < length s
-  digit-inside b e h = let d = digit-is b h in elim (lt? at (length s)) [ inl l ↦ l | inr l ↦ omega (arith, List·getD-eq-default s 0 l) ]
+  digit-inside b e h =
+      let d = digit-is b h in
+      elim (lt? at (length s)) [ inl l ↦ l | inr l ↦ omega (arith, List·getD-eq-default s 0 l) ]
 
   module _ (b left n : ℕ) (is : b ≡ getD s at 0) where
-    pub digits-next : 0 < left → isDigit b ≡ true → digitsAt s left n at ≡ digitsAt s (left - 1) (n * 10 + (b - 48)) (at + 1)
+    pub digits-next : 0 < left → isDigit b ≡ true
+        → digitsAt s left n at ≡ digitsAt s (left - 1) (n * 10 + (b - 48)) (at + 1)
     unfolding digitsAt
     digits-next l h = go left l
       where
@@ -105,7 +108,8 @@ power i j h = pow-le-pow-right (omega arith) h
 pub small-first : (left n : ℕ) → left ≤ 9 → n < 10 → n < 10 ^ (10 - left)
 small-first left n l h = let p = power 1 (10 - left) (omega arith) in omega arith
 
-pub small-next : (left n d : ℕ) → 0 < left → left ≤ 9 → d < 10 → n < 10 ^ (10 - left) → n * 10 + d < 10 ^ (10 - (left - 1))
+pub small-next : (left n d : ℕ) → 0 < left → left ≤ 9 → d < 10 → n < 10 ^ (10 - left)
+    → n * 10 + d < 10 ^ (10 - (left - 1))
 small-next left n d p l h s =
     let z : 10 - (left - 1) ≡ suc (10 - left) = omega arith in
     let e : 10 ^ suc (10 - left) ≡ 10 * 10 ^ (10 - left) = pow-succ' 10 (10 - left) in

@@ -6,13 +6,14 @@ use Rattle.acceptance.proofs.chained_at.Statement.{statement}
 use Rattle.acceptance.proofs.chained_at.Tie as tie
 
 returns : tie.Need-returns
-returns c = λ r h. let s = c .before .before in port-chained r _ (s .before .if1 .taken) _ _ _ (s .is-long .ensures r h) (c .before .is-long2 .ensures r h) (c .is-long3 .ensures r h)
-
-returns-2 : tie.Need-returns-2
-returns-2 c = λ r h. no-port-chained r _ (c .if1 .left)
+returns c =
+    let plus = c .before in
+    let stem = plus .before in
+    λ r h.
+    port-chained r _ (stem .before .if1 .taken) _ _ _ (stem .is-long .ensures r h) (plus .is-long2 .ensures r h) (c .is-long3 .ensures r h)
 
 pub chained-at-spec : {M : Type 1} → statement M
 chained-at-spec =
     tie.close (tie.spec
     (λ c. search needs) (λ c. search needs) (λ c κs. search needs) (λ c. search needs) (λ c κs. search needs)
-    (λ c. search needs) (λ c κs. search needs) returns returns-2)
+    (λ c. search needs) (λ c κs. search needs) returns (λ c r h. no-port-chained r _ (c .if1 .left)))

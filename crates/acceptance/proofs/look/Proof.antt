@@ -1,6 +1,5 @@
--- `acceptance::look` meets its contract. The loop's invariant: it has noted what rows 4 and 5 find before i. A join that has been met from its other end
--- tells nothing new.
--- Assumes nothing.
+-- `acceptance::look` meets its contract. The loop's invariant: it has noted what rows 4 and 5 find before i. A join
+-- that has been met from its other end tells nothing new. Assumes nothing.
 use borrow.Author.Needs.{needs}
 use native.Mathlib.Omega.{arith}
 use Prim.Native.Nat.{_-_, _≤_}
@@ -12,7 +11,8 @@ use Rattle.acceptance.proofs.look.Statement.{statement}
 use Rattle.acceptance.proofs.look.Tie as tie
 
 abbrev Inv-loop : tie.InvT-loop
-Inv-loop links sides ends ports unknown₀ wrong₀ unreturned₀ i₀ unknown wrong unreturned i = (i ≤ allEnds) × ((r : Railway) → Lent r links sides ends ports → Looked r i unknown wrong unreturned)
+Inv-loop links sides ends ports unknown₀ wrong₀ unreturned₀ i₀ unknown wrong unreturned i =
+    (i ≤ allEnds) × ((r : Railway) → Lent r links sides ends ports → Looked r i unknown wrong unreturned)
 
 abbrev μ-loop : tie.MeasureT-loop
 μ-loop links sides ends ports unknown₀ wrong₀ unreturned₀ i₀ unknown wrong unreturned i = allEnds - i
@@ -22,22 +22,30 @@ loop-holds c = (omega arith, λ r h. looked-none r)
 
 loop-again : tie.Need-loop-again Inv-loop μ-loop
 loop-again c =
-    let d = c .before in
-    let t = d .before in
-    (omega arith, λ r h. looked-again r _ _ _ _ _ (t .before .loop .inv .1 r h) (t .loop-test .taken) (d .is-seen .ensures r (h .linked)) (c .if1 .taken))
+    let seen = c .before in
+    let test = seen .before in
+    let l = test .before in (
+      omega arith,
+      λ r h.
+          looked-again r _ _ _ _ _ (l .loop .inv .1 r h) (test .loop-test .taken) (seen .is-seen .ensures r (h .linked))
+          (c .if1 .taken),
+    )
 
 loop-again-2 : tie.Need-loop-again-2 Inv-loop μ-loop
 loop-again-2 c =
-    let w = c .before in
-    let u = w .before in
-    let l = u .before .before .before .before in (
+    let wrong = c .before in
+    let unknown = wrong .before in
+    let l = unknown .before .before .before .before in (
       omega arith,
       λ r h.
-          looked-next r _ _ _ _ _ _ _ (l .loop .inv .1 r h) (u .unknown-link .ensures r (h .linked) (h .counts)) (w .wrong-link .ensures r (h .linked) (h .sided)) (c .is-unreturned .ensures r (h .linked)),
+          looked-next r _ _ _ _ _ _ _ (l .loop .inv .1 r h) (unknown .unknown-link .ensures r (h .linked) (h .counts))
+          (wrong .wrong-link .ensures r (h .linked) (h .sided)) (c .is-unreturned .ensures r (h .linked)),
     )
 
 returns : tie.Need-returns Inv-loop μ-loop
-returns c = λ r h. let l = c .before in looked-all r _ _ _ _ (l .loop .inv .1 r h) (l .loop .inv .0) (c .loop-test .left)
+returns c =
+    let l = c .before in
+    λ r h. looked-all r _ _ _ _ (l .loop .inv .1 r h) (l .loop .inv .0) (c .loop-test .left)
 
 pub look-spec : {M : Type 1} → statement M
 look-spec =

@@ -6,13 +6,14 @@ use Rattle.acceptance.proofs.loose_port.Statement.{statement}
 use Rattle.acceptance.proofs.loose_port.Tie as tie
 
 returns : tie.Need-returns
-returns c = λ r h. let s = c .before .before in port-loose r _ (s .before .if1 .taken) _ _ _ (s .is-loose .ensures r h) (c .before .is-loose2 .ensures r h) (c .is-loose3 .ensures r h)
-
-returns-2 : tie.Need-returns-2
-returns-2 c = λ r h. no-port-loose r _ (c .if1 .left)
+returns c =
+    let plus = c .before in
+    let stem = plus .before in
+    λ r h.
+    port-loose r _ (stem .before .if1 .taken) _ _ _ (stem .is-loose .ensures r h) (plus .is-loose2 .ensures r h) (c .is-loose3 .ensures r h)
 
 pub loose-port-spec : {M : Type 1} → statement M
 loose-port-spec =
     tie.close (tie.spec
     (λ c. search needs) (λ c. search needs) (λ c κs. search needs) (λ c. search needs) (λ c κs. search needs)
-    (λ c. search needs) (λ c κs. search needs) returns returns-2)
+    (λ c. search needs) (λ c κs. search needs) returns (λ c r h. no-port-loose r _ (c .if1 .left)))

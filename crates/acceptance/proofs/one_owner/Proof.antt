@@ -5,10 +5,16 @@ use Rattle.acceptance.proofs.one_owner.Statement.{statement}
 use Rattle.acceptance.proofs.one_owner.Tie as tie
 
 returns : tie.Need-returns
-returns c = rw (c .before .before .before .before .before .before .e .given .1, c .before .before .before .f .given .1)
+returns c =
+    let second = c .before .before .before in
+    let first = second .before .before .before in
+    rw (first .e .given .1, second .f .given .1)
 
 returns-4 : tie.Need-returns-4
-returns-4 c = rw (c .before .before .before .before .before .before .e2 .given .1, c .before .before .before .f2 .given .1)
+returns-4 c =
+    let second = c .before .before .before in
+    let first = second .before .before .before in
+    rw (first .e2 .given .1, second .f2 .given .1)
 
 pub one-owner-spec : {M : Type 1} → statement M
 one-owner-spec =

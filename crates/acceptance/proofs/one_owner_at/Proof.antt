@@ -1,5 +1,5 @@
--- `acceptance::one_owner_at` meets its contract: section ends lie below ports, two for each section, and then three for each point.
--- Assumes nothing.
+-- `acceptance::one_owner_at` meets its contract: section ends lie below ports, two for each section, and then three for
+-- each point. Assumes nothing.
 use Rattle.acceptance.proofs.Bytes.{both-sections, section-port, port-section, both-ports}
 use Rattle.acceptance.proofs.one_owner_at.Statement.{statement}
 use Rattle.acceptance.proofs.one_owner_at.Tie as tie

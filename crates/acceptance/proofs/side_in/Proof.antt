@@ -9,13 +9,21 @@ returns : tie.Need-returns
 returns c = λ r h. side-section r _ (c .if1 .taken)
 
 returns-2 : tie.Need-returns-2
-returns-2 c = λ r h. let l = c .before .before .before in stem-of-down r _ _ h (l .if1 .left) (l .before .pre) (c .before .if2 .taken) (c .if3 .taken)
+returns-2 c =
+    let stem = c .before in
+    let port = stem .before .before in
+    λ r h. stem-of-down r _ _ h (port .if1 .left) (port .before .pre) (stem .if2 .taken) (c .if3 .taken)
 
 returns-3 : tie.Need-returns-3
-returns-3 c = λ r h. let l = c .before .before .before in stem-of-up r _ _ h (l .if1 .left) (l .before .pre) (c .before .if2 .taken) (c .if3 .left)
+returns-3 c =
+    let stem = c .before in
+    let port = stem .before .before in
+    λ r h. stem-of-up r _ _ h (port .if1 .left) (port .before .pre) (stem .if2 .taken) (c .if3 .left)
 
 returns-4 : tie.Need-returns-4
-returns-4 c = λ r h. let l = c .before .before in leg-of r _ _ h (l .if1 .left) (l .before .pre) (c .if2 .left)
+returns-4 c =
+    let port = c .before .before in
+    λ r h. leg-of r _ _ h (port .if1 .left) (port .before .pre) (c .if2 .left)
 
 pub side-in-spec : {M : Type 1} → statement M
 side-in-spec =

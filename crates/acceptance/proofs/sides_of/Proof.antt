@@ -15,19 +15,28 @@ use Rattle.acceptance.proofs.sides_of.Statement.{statement}
 use Rattle.acceptance.proofs.sides_of.Tie as tie
 
 abbrev Inv-loop : tie.InvT-loop
-Inv-loop p legs sides₀ n₀ sides n = (n ≤ mostPoints) × ((r : Railway) → r .legs ≡ legs → r .points ≡ p → FilledTo (λ m. sideIndex (legsOf r m)) mostPoints sides n)
+Inv-loop p legs sides₀ n₀ sides n =
+    (n ≤ mostPoints) × ((r : Railway) → r .legs ≡ legs → r .points ≡ p
+    → FilledTo (λ m. sideIndex (legsOf r m)) mostPoints sides n)
 
 abbrev μ-loop : tie.MeasureT-loop
 μ-loop p legs sides₀ n₀ sides n = mostPoints - n
 
 loop-holds : tie.Need-loop-holds Inv-loop μ-loop
-loop-holds c = (omega arith, λ r h k. fill-start (λ m. sideIndex (legsOf r m)) mostPoints _ (length-replicate {A = ℕ} mostPoints 1))
+loop-holds c = (
+  omega arith,
+  λ r h k. fill-start (λ m. sideIndex (legsOf r m)) mostPoints _ (length-replicate {A = ℕ} mostPoints 1),
+)
 
 loop-again : tie.Need-loop-again Inv-loop μ-loop
 loop-again c =
-    let i = c .before .before in
-    let l = i .before in
-    (omega arith, λ r h k. fill-next (λ m. sideIndex (legsOf r m)) mostPoints _ _ (l .loop .inv .1 r h k) _ (i .loop-test .taken) (legs-next r _ _ _ _ h k (c .legs-index .ensures)))
+    let test = c .before .before in
+    let l = test .before in (
+      omega arith,
+      λ r h k.
+          fill-next (λ m. sideIndex (legsOf r m)) mostPoints _ _ (l .loop .inv .1 r h k) _ (test .loop-test .taken)
+          (legs-next r _ _ _ _ h k (c .legs-index .ensures)),
+    )
 
 returns : tie.Need-returns Inv-loop μ-loop
 returns c = λ r h k. let l = c .before in all-sided r _ _ (l .loop .inv .1 r h k) (c .loop-test .left)

@@ -1,5 +1,5 @@
--- `acceptance::test_record` meets its contract: a count outside its bounds comes before all else; then rows 16, 4 and 5 are found on the record's own links,
--- signals, closed sections, trains and legs, and row 7 applies to none.
+-- `acceptance::test_record` meets its contract: a count outside its bounds comes before all else; then rows 16, 4 and 5
+-- are found on the record's own links, signals, closed sections, trains and legs, and row 7 applies to none.
 -- Assumes nothing.
 use borrow.Author.Needs.{needs}
 use native.Mathlib.Omega.{arith}
@@ -19,18 +19,26 @@ counted e = e .before .before .before .before .before .before
 abbrev begun : tie.After-sides-of → tie.Else1
 begun e = counted (e .before)
 
-few : (e : tie.Else1) → (e .before .before .args .r .sections ≤ mostSections) × (e .before .before .args .r .points ≤ mostPoints) × (e .before .before .args .r .trains ≤ mostTrains)
+few :
+    (e : tie.Else1) →
+    let r = e .before .before .args .r in
+    (r .sections ≤ mostSections) × (r .points ≤ mostPoints) × (r .trains ≤ mostTrains)
 few e = few-counted _ _ _ _ (e .before .counts-outside .ensures) (e .if1 .left)
 
 -- the record's trains
 trains : (e : tie.Else1) → let r = e .before .before .args .r in RosterOf r (r .roster) (r .trains)
-trains e = let s = e .before .before in own-roster (s .args .r) (roster-length (s .args .r) _ (s .good .0)) (few e .2)
+trains e =
+    let s = e .before .before in
+    let r = s .args .r in
+    own-roster r (roster-length r _ (s .good .0)) (few e .2)
 
 returns : tie.Need-returns
 returns c = count-given (c .before .before .args .r) _ (c .before .counts-outside .ensures) (c .if1 .taken)
 
 wrong-weights-requires : tie.Need-wrong-weights-requires
-wrong-weights-requires c κs = few (c .before .before .before .before .before) .2
+wrong-weights-requires c κs =
+    let within = c .before .before .before .before .before in
+    few within .2
 
 mul-ends : tie.Need-mul-ends
 mul-ends c = omega (arith, few (begun c) .0)
@@ -52,29 +60,43 @@ unknown-signals-requires : tie.Need-unknown-signals-requires
 unknown-signals-requires c κs = omega (arith, few (begun (sided (c .before))) .0)
 
 unknown-closed-requires : tie.Need-unknown-closed-requires
-unknown-closed-requires c κs = few (begun (sided (c .before .before .before .before))) .0
+unknown-closed-requires c κs =
+    let pass = c .before .before .before .before in
+    few (begun (sided pass)) .0
 
 unknown-trains-requires : tie.Need-unknown-trains-requires
 unknown-trains-requires c κs = few (begun (sided (looked c))) .2
 
 -- what the pass over the links finds
-found : (e : tie.After-look) → Looked (begun (sided e) .before .before .args .r) allEnds (e .look .result .unknown) (e .look .result .wrong) (e .look .result .unreturned)
+found :
+    (e : tie.After-look) →
+    let a = e .look .result in
+    Looked (begun (sided e) .before .before .args .r) allEnds (a .unknown) (a .wrong) (a .unreturned)
 found e =
     let d = sided e in
     let s = begun d .before .before in
     let r = s .args .r in
-    e .look .ensures r (record { linked = own-links r _ (s .good .0); sided = d .sides-of .ensures r refl refl; counts = record { sections = refl; points = refl } })
+    e .look .ensures r
+    record {
+      linked = own-links r _ (s .good .0);
+      sided = d .sides-of .ensures r refl refl;
+      counts = record { sections = refl; points = refl };
+    }
 
 returns-2 : tie.Need-returns-2
 returns-2 c =
-    let f = c .before .before in
-    let x = f .before in
-    let u = x .before .before .before in
-    let l = looked x in
-    let b = begun (sided l) in
+    let roster = c .before .before in
+    let closed = roster .before in
+    let signals = closed .before .before .before in
+    let pass = looked closed in
+    let b = begun (sided pass) in
     let s = b .before .before in
     let r = s .args .r in
-    tested r _ _ _ _ _ _ _ _ (c .first-row .ensures) (sided l .before .wrong-weights .ensures r (trains b)) (found l) (u .unknown-signals .ensures r (own-signals r _ (s .good .0)) refl) (x .unknown-closed .ensures r (own-closed r _ (s .good .0)) refl) (f .unknown-trains .ensures r (trains b) refl)
+    tested r _ _ _ _ _ _ _ _ (c .first-row .ensures) (sided pass .before .wrong-weights .ensures r (trains b))
+    (found pass)
+    (signals .unknown-signals .ensures r (own-signals r _ (s .good .0)) refl)
+    (closed .unknown-closed .ensures r (own-closed r _ (s .good .0)) refl)
+    (roster .unknown-trains .ensures r (trains b) refl)
 
 pub test-record-spec : {M : Type 1} → statement M
 test-record-spec =

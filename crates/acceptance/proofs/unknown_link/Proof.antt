@@ -6,7 +6,13 @@ use Rattle.acceptance.proofs.unknown_link.Statement.{statement}
 use Rattle.acceptance.proofs.unknown_link.Tie as tie
 
 returns : tie.Need-returns
-returns c = λ r h k. let l = c .before .before .before in link-unknown r _ _ (l .link-in .ensures r h) (c .before .before .if1 .taken) _ _ (c .before .known-at .ensures r k) (c .known-at2 .ensures r k)
+returns c =
+    let one = c .before in
+    let there = one .before in
+    let link = there .before in
+    λ r h k.
+    link-unknown r _ _ (link .link-in .ensures r h) (there .if1 .taken) _ _ (one .known-at .ensures r k)
+    (c .known-at2 .ensures r k)
 
 returns-2 : tie.Need-returns-2
 returns-2 c = λ r h k. none-unknown r _ _ (c .before .link-in .ensures r h) (c .if1 .left)

@@ -1,36 +1,37 @@
--- `acceptance::unknown_signals` meets its contract. The loop's invariant: it has noted whether some signal before i stands where no section is. It begins
--- past the section ends that are there.
--- Assumes nothing.
+-- `acceptance::unknown_signals` meets its contract. The loop's invariant: it has noted whether some signal before i
+-- stands where no section is. It begins past the section ends that are there. Assumes nothing.
 use borrow.Author.Needs.{needs}
 use native.Mathlib.Omega.{arith}
 use mathlib.Core.Path.{_≡_}
 use Prim.Native.Nat.{_-_, _*_, _≤_}
-use Rattle.laws.specs.Below.{anyBelow}
-use Rattle.railway.specs.declared.Railway.{Railway}
 use Rattle.railway.specs.Bounds.{sectionEnds}
 use Rattle.railway.specs.Rows.{unknownSignalAt}
 use Rattle.railway.specs.Lent.{SignalsOf}
-use Rattle.acceptance.proofs.Bytes.{noted-next, noted-all, signals-known, signal-past}
+use Rattle.acceptance.proofs.Bytes.{NotedTo, noted-more, noted-end, signals-known, signal-past}
 use Rattle.acceptance.proofs.unknown_signals.Statement.{statement}
 use Rattle.acceptance.proofs.unknown_signals.Tie as tie
 
 abbrev Inv-loop : tie.InvT-loop
-Inv-loop signals ends found₀ i₀ found i = (ends ≤ i) × (i ≤ sectionEnds) × ((r : Railway) → SignalsOf r signals → 2 * r .sections ≡ ends → found ≡ anyBelow (unknownSignalAt r) i)
+Inv-loop signals ends found₀ i₀ found i =
+    (ends ≤ i) × NotedTo (λ r. SignalsOf r signals × (2 * r .sections ≡ ends)) unknownSignalAt sectionEnds i found
 
 abbrev μ-loop : tie.MeasureT-loop
 μ-loop signals ends found₀ i₀ found i = sectionEnds - i
 
 loop-holds : tie.Need-loop-holds Inv-loop μ-loop
-loop-holds c = (omega arith, c .pre, λ r h k. signals-known r _ k (c .pre))
+loop-holds c = (omega arith, record { within = c .pre; noted = λ r h. signals-known r _ (h .1) (c .pre) })
 
 loop-again : tie.Need-loop-again Inv-loop μ-loop
 loop-again c =
-    let d = c .before in
-    let l = d .before in
-    (omega arith, omega arith, λ r h k. noted-next (unknownSignalAt r) _ _ (l .loop .inv .2 r h k) _ (signal-past r _ k _ (l .loop .inv .0) (d .loop-test .taken) _ (c .signal-in .ensures r h)))
+    let test = c .before in
+    let l = test .loop-test .taken in
+    let inv = test .before .loop .inv in (
+      omega arith,
+      noted-more (inv .1) l (λ r h. signal-past r _ (h .1) _ (inv .0) l _ (c .signal-in .ensures r (h .0))),
+    )
 
 returns : tie.Need-returns Inv-loop μ-loop
-returns c = λ r h k. let l = c .before in noted-all (unknownSignalAt r) _ _ (l .loop .inv .2 r h k) _ (l .loop .inv .1) (c .loop-test .left)
+returns c = λ r h e. noted-end (c .before .loop .inv .1) (c .loop-test .left) r (h, e)
 
 pub unknown-signals-spec : {M : Type 1} → statement M
 unknown-signals-spec =

@@ -9,7 +9,11 @@ returns : tie.Need-returns
 returns c = λ r h. pair-wrong r _ _ _ (c .before .one-owner-at .ensures) (c .if1 .taken)
 
 returns-2 : tie.Need-returns-2
-returns-2 c = λ r h. let e = c .before .before in pair-sides r _ _ _ (e .before .one-owner-at .ensures) (e .if1 .left) _ _ (c .before .side-in .ensures r h) (c .side-in2 .ensures r h)
+returns-2 c =
+    λ r h.
+    let e = c .before .before in
+    pair-sides r _ _ _ (e .before .one-owner-at .ensures) (e .if1 .left) _ _ (c .before .side-in .ensures r h)
+    (c .side-in2 .ensures r h)
 
 pub wrong-at-spec : {M : Type 1} → statement M
 wrong-at-spec =

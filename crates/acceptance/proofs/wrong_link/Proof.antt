@@ -6,7 +6,10 @@ use Rattle.acceptance.proofs.wrong_link.Statement.{statement}
 use Rattle.acceptance.proofs.wrong_link.Tie as tie
 
 returns : tie.Need-returns
-returns c = λ r h k. let l = c .before .before in link-wrong r _ _ (l .link-in .ensures r h) (c .before .if1 .taken) _ (c .wrong-at .ensures r k)
+returns c =
+    λ r h k.
+    let l = c .before .before in
+    link-wrong r _ _ (l .link-in .ensures r h) (c .before .if1 .taken) _ (c .wrong-at .ensures r k)
 
 returns-2 : tie.Need-returns-2
 returns-2 c = λ r h k. none-wrong r _ _ (c .before .link-in .ensures r h) (c .if1 .left)

@@ -10,7 +10,12 @@ returns : tie.Need-returns
 returns c = first-holds _ _ (sym (c .before .one-owner .ensures) ∙ c .if1 .taken)
 
 returns-2 : tie.Need-returns-2
-returns-2 c = then-second _ _ _ (sym (c .before .before .before .before .one-owner .ensures) ∙ c .before .before .before .if1 .left) (rw (← c .before .before .side-of .ensures, ← c .before .side-of2 .ensures) (c .same-side .ensures))
+returns-2 c =
+    let second = c .before in
+    let first = second .before in
+    let apart = first .before in
+    then-second _ _ _ (sym (apart .before .one-owner .ensures) ∙ apart .if1 .left)
+    (rw (← first .side-of .ensures, ← second .side-of2 .ensures) (c .same-side .ensures))
 
 pub wrong-pair-spec : {M : Type 1} → statement M
 wrong-pair-spec =

@@ -1,36 +1,32 @@
--- `acceptance::wrong_weights` meets its contract. The loop's invariant: it has noted whether some train before t has a weight that none may have.
--- Assumes nothing.
+-- `acceptance::wrong_weights` meets its contract. The loop's invariant: it has noted whether some train before t has a
+-- weight that none may have. Assumes nothing.
 use borrow.Author.Needs.{needs}
 use native.Mathlib.Omega.{arith}
-use mathlib.Core.Path.{_≡_, refl}
-use Prim.Native.Nat.{_-_, _≤_}
-use Rattle.laws.specs.Below.{anyBelow}
-use Rattle.railway.specs.declared.Railway.{Railway}
+use Prim.Native.Nat.{_-_}
 use Rattle.railway.specs.Rows.{wrongWeightAt}
 use Rattle.acceptance.specs.Answers.{RosterOf}
-use Rattle.acceptance.proofs.Bytes.{noted-next, noted-all}
+use Rattle.acceptance.proofs.Bytes.{NotedTo, noted-start, noted-more, noted-end}
 use Rattle.acceptance.proofs.Testing.{weight-at, weights-by}
 use Rattle.acceptance.proofs.wrong_weights.Statement.{statement}
 use Rattle.acceptance.proofs.wrong_weights.Tie as tie
 
 abbrev Inv-loop : tie.InvT-loop
-Inv-loop k roster found₀ t₀ found t = (t ≤ k) × ((r : Railway) → RosterOf r roster k → found ≡ anyBelow (wrongWeightAt r) t)
+Inv-loop k roster found₀ t₀ found t = NotedTo (λ r. RosterOf r roster k) wrongWeightAt k t found
 
 abbrev μ-loop : tie.MeasureT-loop
 μ-loop k roster found₀ t₀ found t = k - t
 
 loop-holds : tie.Need-loop-holds Inv-loop μ-loop
-unfolding anyBelow
-loop-holds c = (omega arith, λ r h. refl)
+loop-holds c = noted-start
 
 loop-again : tie.Need-loop-again Inv-loop μ-loop
 loop-again c =
-    let i = c .before .before in
-    let l = i .before in
-    (omega arith, λ r h. noted-next (wrongWeightAt r) _ _ (l .loop .inv .1 r h) _ (weight-at r _ _ h _ _ _ (i .loop-test .taken) (c .is-wrong .ensures)))
+    let test = c .before .before in
+    let l = test .loop-test .taken in
+    noted-more (test .before .loop .inv) l (λ r h. weight-at r _ _ h _ _ _ l (c .is-wrong .ensures))
 
 returns : tie.Need-returns Inv-loop μ-loop
-returns c = λ r h. let l = c .before in weights-by r _ _ h _ (noted-all (wrongWeightAt r) _ _ (l .loop .inv .1 r h) _ (l .loop .inv .0) (c .loop-test .left))
+returns c = λ r h. weights-by r _ _ h _ (noted-end (c .before .loop .inv) (c .loop-test .left) r h)
 
 pub wrong-weights-spec : {M : Type 1} → statement M
 wrong-weights-spec =

@@ -5,7 +5,11 @@ use Rattle.passing.proofs.join_of.Statement.{statement}
 use Rattle.passing.proofs.join_of.Tie as tie
 
 returns : tie.Need-returns
-returns c = λ r h. let b = c .before in let i = b .before in join-is r _ (i .before .args .e) _ _ _ h (i .index-of .ensures) (b .link-in .ensures r h) (c .joined-by .ensures)
+returns c =
+    λ r h.
+    let b = c .before in
+    let i = b .before in
+    join-is r _ (i .before .args .e) _ _ _ h (i .index-of .ensures) (b .link-in .ensures r h) (c .joined-by .ensures)
 
 pub join-of-spec : {M : Type 1} → statement M
 join-of-spec =

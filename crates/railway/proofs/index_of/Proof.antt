@@ -7,22 +7,36 @@ use Rattle.railway.proofs.index_of.Statement.{statement}
 use Rattle.railway.proofs.index_of.Tie as tie
 
 add-result : tie.Need-add-result
-add-result c = let n = c .before .before .before .e .given .0 in omega (arith, side-small (n .1 .0), c .side-index .ensures)
+add-result c =
+    let section = c .before .before .before in
+    omega (arith, side-small (section .e .given .0 .1 .0), c .side-index .ensures)
 
 add-result-3 : tie.Need-add-result-3
-add-result-3 c = let n = c .before .before .before .e2 .given .0 in omega (arith, leg-small (n .1 .0), c .leg-index .ensures)
+add-result-3 c =
+    let port = c .before .before .before in
+    omega (arith, leg-small (port .e2 .given .0 .1 .0), c .leg-index .ensures)
 
 returns : tie.Need-returns
-returns c = let g = c .before .before .before .e .given in section-index _ (g .0 .0) (g .0 .1 .0) _ (g .1) (c .before .if1 .taken) (c .side-index .ensures)
+returns c =
+    let there = c .before in
+    let g = there .before .before .e .given in
+    section-index _ (g .0 .0) (g .0 .1 .0) _ (g .1) (there .if1 .taken) (c .side-index .ensures)
 
 returns-2 : tie.Need-returns-2
-returns-2 c = let g = c .before .before .e .given in section-past _ (g .0 .0) (g .0 .1 .0) (g .1) (c .if1 .left)
+returns-2 c =
+    let g = c .before .before .e .given in
+    section-past _ (g .0 .0) (g .0 .1 .0) (g .1) (c .if1 .left)
 
 returns-3 : tie.Need-returns-3
-returns-3 c = let g = c .before .before .before .e2 .given in port-index _ (g .0 .0) (g .0 .1 .0) _ (g .1) (c .before .if2 .taken) (c .leg-index .ensures)
+returns-3 c =
+    let there = c .before in
+    let g = there .before .before .e2 .given in
+    port-index _ (g .0 .0) (g .0 .1 .0) _ (g .1) (there .if2 .taken) (c .leg-index .ensures)
 
 returns-4 : tie.Need-returns-4
-returns-4 c = let g = c .before .before .e2 .given in port-past _ (g .0 .0) (g .0 .1 .0) (g .1) (c .if2 .left)
+returns-4 c =
+    let g = c .before .before .e2 .given in
+    port-past _ (g .0 .0) (g .0 .1 .0) (g .1) (c .if2 .left)
 
 pub index-of-spec : {M : Type 1} → statement M
 index-of-spec =

@@ -7,10 +7,14 @@ use Rattle.text.proofs.byte_at.Statement.{statement}
 use Rattle.text.proofs.byte_at.Tie as tie
 
 returns : tie.Need-returns
-returns c = byte-there (now (c .before .before .before .args .text)) _ _ (c .before .before .if1 .taken) (c .if2 .taken)
+returns c =
+    let inside = c .before .before in
+    byte-there (now (inside .before .args .text)) _ _ (inside .if1 .taken) (c .if2 .taken)
 
 returns-2 : tie.Need-returns-2
-returns-2 c = byte-other (now (c .before .before .before .args .text)) _ _ (c .before .before .if1 .taken) (c .if2 .left)
+returns-2 c =
+    let inside = c .before .before in
+    byte-other (now (inside .before .args .text)) _ _ (inside .if1 .taken) (c .if2 .left)
 
 returns-3 : tie.Need-returns-3
 returns-3 c = byte-past (now (c .before .args .text)) _ _ (c .if1 .left)

@@ -1,69 +1,87 @@
--- `desk_calls::Desk::report` meets its contract: what is refused, then a desk that 12 stops, then whether the report counts.
--- Assumes nothing.
+-- `desk_calls::Desk::report` meets its contract: what is refused, then a desk that 12 stops, then whether the report
+-- counts. Assumes nothing.
 use borrow.Author.Needs.{needs}
 use Rattle.placement.proofs.Places.{placement-length}
 use Rattle.desk_calls.proofs.Desks.{desk-length}
-use Rattle.desk_calls.proofs.Calling.{report-refused, report-stopped, report-counts, report-not}
+use Rattle.desk_calls.proofs.Calling.{Heard, report-refused, report-stopped, report-heard, report-counts}
+use Rattle.desk_calls.proofs.Calling.{report-not}
 use Rattle.desk_calls.proofs.Desk.report.Statement.{statement}
 use Rattle.desk_calls.proofs.Desk.report.Tie as tie
 
+-- where the case is opened, and where it is accepted and the desk is tested
+abbrev start : tie.After-open-case → tie.Start
+start o = o .before .before .before
+
+abbrev accepted : tie.After-stopped → tie.After-enum-told
+accepted m = m .before .before .before
+
+-- where the desk is not stopped and the report has been heard
+abbrev passed : tie.After-counts → tie.Else1
+passed n =
+    let laid = n .before .before .before .before .before in
+    laid .before .before
+
+abbrev begun : tie.After-counts → tie.After-open-case
+begun n = accepted (passed n .before) .before .before
+
+heard :
+    (n : tie.After-counts) →
+    let o = begun n in
+    let a = start o .args in
+    Heard (a .r) (a .figures .now) (a .settings .now) (o .open-case .result .table) (a .self) (a .t)
+    (a .x) (n .counts .result)
+heard n =
+    let place = n .before in
+    let laid = place .before .before .before .before in
+    let entry = laid .before in
+    let sound = entry .before in
+    let stop = sound .before in
+    let told = accepted stop in
+    let case = told .before .before in
+    let a = start case .args in
+    report-heard (a .r) (a .figures .now) (a .settings .now) _ (case .open-case .ensures)
+    (told .enum-told .given .1) (a .self)
+    _ (stop .stopped .ensures) (sound .if1 .left) _ (entry .entry-at .ensures) (a .t) (a .x) _
+    (laid .case-ways .ensures) _
+    (place .placement-of .ensures) _ (n .counts .ensures)
+
 returns : tie.Need-returns
 returns c =
-    let i = c .before in
-    let m = i .before in
-    let t = m .before .before .before in
-    let o = t .before .before in
-    let a = o .before .before .before in
-    let g = a .args in
-    report-stopped (g .r) (g .figures .now) (g .settings .now) _ (o .open-case .ensures) (t .enum-told .given .1) (g .self) _ (m .stopped .ensures) (i .if1 .taken) (g .t) (g .x) _
-    (c .refused2 .ensures)
+    let told = c .before .before in
+    let case = told .before .before in
+    let a = start case .args in
+    report-refused (a .r) (a .figures .now) (a .settings .now) _ (case .open-case .ensures) _ (told .tested .given .1)
+    (a .self) (a .t) (a .x) _ (c .refused .ensures)
 
 returns-2 : tie.Need-returns-2
 returns-2 c =
-    let u = c .before in
-    let j = u .before .before in
-    let n = j .before in
-    let q = n .before in
-    let w = q .before .before .before .before in
-    let v = w .before in
-    let i = v .before in
-    let m = i .before in
-    let t = m .before .before .before in
-    let o = t .before .before in
-    let a = o .before .before .before in
-    let g = a .args in
-    report-counts (g .r) (g .figures .now) (g .settings .now) _ (o .open-case .ensures) (t .enum-told .given .1) (g .self) _ (m .stopped .ensures) (i .if1 .left) _
-    (v .entry-at .ensures) (g .t) (g .x) _ (w .case-ways .ensures) _ (q .placement-of .ensures) _ (n .counts .ensures) (j .if2 .taken) _ (u .put-on .ensures)
-    (placement-length (u .put-on .result) _ (u .put-on .ok)) (desk-length (g .self) _ (a .good .0)) _ (c .desk-on .ensures)
+    let stopped = c .before in
+    let stop = stopped .before in
+    let told = accepted stop in
+    let case = told .before .before in
+    let a = start case .args in
+    report-stopped (a .r) (a .figures .now) (a .settings .now) _ (case .open-case .ensures) (told .enum-told .given .1)
+    (a .self) _ (stop .stopped .ensures) (stopped .if1 .taken) (a .t) (a .x) _ (c .refused2 .ensures)
 
 returns-3 : tie.Need-returns-3
 returns-3 c =
-    let t = c .before .before in
-    let o = t .before .before in
-    let a = o .before .before .before in
-    let g = a .args in
-    report-refused (g .r) (g .figures .now) (g .settings .now) _ (o .open-case .ensures) _ (t .tested .given .1) (g .self) (g .t) (g .x) _ (c .refused .ensures)
+    let put = c .before in
+    let counted = put .before .before in
+    let n = counted .before in
+    let begin = start (begun n) in
+    report-counts (heard n) (counted .if2 .taken) _ (put .put-on .ensures)
+    (placement-length (put .put-on .result) _ (put .put-on .ok)) (desk-length (begin .args .self) _ (begin .good .0)) _
+    (c .desk-on .ensures)
 
 returns-4 : tie.Need-returns-4
 returns-4 c =
-    let j = c .before in
-    let n = j .before in
-    let q = n .before in
-    let w = q .before .before .before .before in
-    let v = w .before in
-    let i = v .before in
-    let m = i .before in
-    let t = m .before .before .before in
-    let o = t .before .before in
-    let a = o .before .before .before in
-    let g = a .args in
-    report-not (g .r) (g .figures .now) (g .settings .now) _ (o .open-case .ensures) (t .enum-told .given .1) (g .self) _ (m .stopped .ensures) (i .if1 .left) _
-    (v .entry-at .ensures) (g .t) (g .x) _ (w .case-ways .ensures) _ (q .placement-of .ensures) _ (n .counts .ensures) (j .if2 .left) _ (c .refused3 .ensures)
+    let not-counted = c .before in
+    report-not (heard (not-counted .before)) (not-counted .if2 .left) _ (c .refused3 .ensures)
 
 pub report-spec : {M : Type 1} → statement M
 report-spec =
     tie.close (tie.spec
-    (λ c κs. search needs) (λ c. search needs) (λ c κs. search needs) (λ c. search needs)
-    (λ c κs. search needs) (λ c κs. search needs) returns (λ c κs. search needs) (λ c κs. search needs)
-    (λ c κs. search needs) (λ c κs. search needs) (λ c κs. search needs) (λ c κs. search needs) returns-2
-    (λ c κs. search needs) returns-3 returns-4)
+    (λ c κs. search needs) (λ c. search needs) (λ c κs. search needs) returns (λ c. search needs)
+    (λ c κs. search needs) (λ c κs. search needs) returns-2 (λ c κs. search needs) (λ c κs. search needs)
+    (λ c κs. search needs) (λ c κs. search needs) (λ c κs. search needs) (λ c κs. search needs) returns-3
+    (λ c κs. search needs) returns-4)

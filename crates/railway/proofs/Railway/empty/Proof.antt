@@ -1,5 +1,5 @@
--- `railway::Railway::empty` meets its contract: the record is the empty one by computation, with the train that `no_train` answers.
--- Assumes nothing.
+-- `railway::Railway::empty` meets its contract: the record is the empty one by computation, with the train that
+-- `no_train` answers. Assumes nothing.
 use mathlib.Core.Path.{refl}
 use borrow.Author.Needs.{needs}
 use Rattle.railway.proofs.Railway.empty.Statement.{statement}

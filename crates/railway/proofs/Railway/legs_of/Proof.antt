@@ -11,10 +11,15 @@ returns : tie.Need-returns
 returns c = legs-none (c .before .args .t1) _ (c .if1 .taken)
 
 returns-2 : tie.Need-returns-2
-returns-2 c = let a = c .before .before .before .args in legs-there (a .t1) _ (c .before .before .if1 .left)
+returns-2 c =
+    let there = c .before .before in
+    legs-there (there .before .args .t1) _ (there .if1 .left)
 
 returns-3 : tie.Need-returns-3
-returns-3 c = let b = c .before .before in legs-past (b .args .t1) _ (omega (arith, legs-length (b .args .t1) _ (b .good .0)))
+returns-3 c =
+    let start = c .before .before in
+    let r = start .args .t1 in
+    legs-past r _ (omega (arith, legs-length r _ (start .good .0)))
 
 pub legs-of-spec : {M : Type 1} → statement M
 legs-of-spec = tie.close (tie.spec (λ c. search needs) returns (λ c. search needs) returns-2 returns-3)

@@ -8,10 +8,18 @@ use Rattle.railway.proofs.Railway.link_at.Statement.{statement}
 use Rattle.railway.proofs.Railway.link_at.Tie as tie
 
 returns : tie.Need-returns
-returns c = let s = c .before .before .before in link-read (s .args .t1) (s .args .i) (omega (arith, links-length (s .args .t1) _ (s .good .0), c .before .before .if1 .taken)) _ (c .joined-by .ensures)
+returns c =
+    let inside = c .before .before in
+    let start = inside .before in
+    let r = start .args .t1 in
+    link-read r (start .args .i) (omega (arith, links-length r _ (start .good .0), inside .if1 .taken)) _
+    (c .joined-by .ensures)
 
 returns-2 : tie.Need-returns-2
-returns-2 c = let a = c .before .args in link-past (a .t1) (a .i) (omega (arith, links-length (a .t1) _ (c .before .good .0)))
+returns-2 c =
+    let start = c .before in
+    let r = start .args .t1 in
+    link-past r (start .args .i) (omega (arith, links-length r _ (start .good .0)))
 
 pub link-at-spec : {M : Type 1} → statement M
 link-at-spec = tie.close (tie.spec (λ c. search needs) (λ c κs. search needs) returns returns-2)

@@ -5,7 +5,10 @@ use Rattle.railway.proofs.Railway.side_of.Statement.{statement}
 use Rattle.railway.proofs.Railway.side_of.Tie as tie
 
 returns-2 : tie.Need-returns-2
-returns-2 c = rw (c .port-side .ensures, c .before .legs-of .ensures, c .before .before .before .e2 .given .1)
+returns-2 c =
+    let legs = c .before in
+    let port = legs .before .before in
+    rw (c .port-side .ensures, legs .legs-of .ensures, port .e2 .given .1)
 
 pub side-of-spec : {M : Type 1} → statement M
 side-of-spec =

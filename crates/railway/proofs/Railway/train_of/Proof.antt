@@ -9,15 +9,23 @@ use Rattle.railway.proofs.Railway.train_of.Statement.{statement}
 use Rattle.railway.proofs.Railway.train_of.Tie as tie
 
 returns : tie.Need-returns
-returns c = c .no-train .ensures ∙ roster-none (c .before .before .args .t1) _ (c .before .if1 .taken)
+returns c =
+    let none = c .before in
+    c .no-train .ensures ∙ roster-none (none .before .args .t1) _ (none .if1 .taken)
 
 returns-2 : tie.Need-returns-2
 returns-2 c =
-    let b = c .before .before .before in
-    roster-there (b .args .t1) _ _ (c .before .before .if1 .left) (omega (arith, c .before .if2 .taken, roster-length (b .args .t1) _ (b .good .0)))
+    let inside = c .before in
+    let there = inside .before in
+    let start = there .before in
+    let r = start .args .t1 in
+    roster-there r _ _ (there .if1 .left) (omega (arith, inside .if2 .taken, roster-length r _ (start .good .0)))
 
 returns-3 : tie.Need-returns-3
-returns-3 c = let b = c .before .before .before in c .no-train2 .ensures ∙ roster-past (b .args .t1) _ (omega (arith, roster-length (b .args .t1) _ (b .good .0)))
+returns-3 c =
+    let start = c .before .before .before in
+    let r = start .args .t1 in
+    c .no-train2 .ensures ∙ roster-past r _ (omega (arith, roster-length r _ (start .good .0)))
 
 pub train-of-spec : {M : Type 1} → statement M
 train-of-spec =

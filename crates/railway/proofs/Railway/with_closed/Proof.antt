@@ -1,5 +1,5 @@
--- `railway::Railway::with_closed` meets its contract: the store where the section is one that a railway can have, else nothing.
--- Assumes nothing.
+-- `railway::Railway::with_closed` meets its contract: the store where the section is one that a railway can have, else
+-- nothing. Assumes nothing.
 use borrow.Author.Needs.{needs}
 use mathlib.Core.Path.{refl}
 use Rattle.railway.proofs.Updates.{closed-set, closed-out}

@@ -1,5 +1,5 @@
--- `railway::Railway::with_train` meets its contract: the store where the train is one that a railway can have, else nothing.
--- Assumes nothing.
+-- `railway::Railway::with_train` meets its contract: the store where the train is one that a railway can have, else
+-- nothing. Assumes nothing.
 use borrow.Author.Needs.{needs}
 use mathlib.Core.Path.{refl}
 use Rattle.railway.proofs.Updates.{train-set, train-out}

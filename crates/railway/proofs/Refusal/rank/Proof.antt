@@ -1,60 +1,8 @@
--- A refusal's place in the order, by the variant that was met.
-use mathlib.Core.Path.{sym, ap}
+-- `railway::Refusal::rank` meets its contract: a refusal's place in the order, by the variant that was met.
+-- Assumes nothing.
 use borrow.Author.Needs.{needs}
-use Rattle.railway.specs.Refusals.{rank}
 use Rattle.railway.proofs.Refusal.rank.Statement.{statement}
 use Rattle.railway.proofs.Refusal.rank.Tie as tie
-
-returns : tie.Need-returns
-returns c = ap rank (sym (c .enum-told .given .1))
-
-returns-2 : tie.Need-returns-2
-returns-2 c = ap rank (sym (c .enum-told2 .given .1))
-
-returns-3 : tie.Need-returns-3
-returns-3 c = ap rank (sym (c .enum-told3 .given .1))
-
-returns-4 : tie.Need-returns-4
-returns-4 c = ap rank (sym (c .enum-told4 .given .1))
-
-returns-5 : tie.Need-returns-5
-returns-5 c = ap rank (sym (c .enum-told5 .given .1))
-
-returns-6 : tie.Need-returns-6
-returns-6 c = ap rank (sym (c .enum-told6 .given .1))
-
-returns-7 : tie.Need-returns-7
-returns-7 c = ap rank (sym (c .enum-told7 .given .1))
-
-returns-8 : tie.Need-returns-8
-returns-8 c = ap rank (sym (c .enum-told8 .given .1))
-
-returns-9 : tie.Need-returns-9
-returns-9 c = ap rank (sym (c .enum-told9 .given .1))
-
-returns-10 : tie.Need-returns-10
-returns-10 c = ap rank (sym (c .enum-told10 .given .1))
-
-returns-11 : tie.Need-returns-11
-returns-11 c = ap rank (sym (c .enum-told11 .given .1))
-
-returns-12 : tie.Need-returns-12
-returns-12 c = ap rank (sym (c .enum-told12 .given .1))
-
-returns-13 : tie.Need-returns-13
-returns-13 c = ap rank (sym (c .enum-told13 .given .1))
-
-returns-14 : tie.Need-returns-14
-returns-14 c = ap rank (sym (c .enum-told14 .given .1))
-
-returns-15 : tie.Need-returns-15
-returns-15 c = ap rank (sym (c .enum-told15 .given .1))
-
-returns-16 : tie.Need-returns-16
-returns-16 c = ap rank (sym (c .enum-told16 .given .1))
-
-returns-17 : tie.Need-returns-17
-returns-17 c = ap rank (sym (c .enum-told17 .given .1))
 
 pub rank-spec : {M : Type 1} → statement M
 rank-spec =
@@ -62,6 +10,10 @@ rank-spec =
     (λ c. search needs) (λ c. search needs) (λ c. search needs) (λ c. search needs) (λ c. search needs)
     (λ c. search needs) (λ c. search needs) (λ c. search needs) (λ c. search needs) (λ c. search needs)
     (λ c. search needs) (λ c. search needs) (λ c. search needs) (λ c. search needs) (λ c. search needs)
-    (λ c. search needs) (λ c. search needs) returns returns-2 returns-3 returns-4 returns-5 returns-6
-    returns-7 returns-8 returns-9 returns-10 returns-11 returns-12 returns-13 returns-14 returns-15 returns-16
-    returns-17)
+    (λ c. search needs) (λ c. search needs)
+    (λ c. rw (c .enum-told .given .1)) (λ c. rw (c .enum-told2 .given .1)) (λ c. rw (c .enum-told3 .given .1))
+    (λ c. rw (c .enum-told4 .given .1)) (λ c. rw (c .enum-told5 .given .1)) (λ c. rw (c .enum-told6 .given .1))
+    (λ c. rw (c .enum-told7 .given .1)) (λ c. rw (c .enum-told8 .given .1)) (λ c. rw (c .enum-told9 .given .1))
+    (λ c. rw (c .enum-told10 .given .1)) (λ c. rw (c .enum-told11 .given .1)) (λ c. rw (c .enum-told12 .given .1))
+    (λ c. rw (c .enum-told13 .given .1)) (λ c. rw (c .enum-told14 .given .1)) (λ c. rw (c .enum-told15 .given .1))
+    (λ c. rw (c .enum-told16 .given .1)) (λ c. rw (c .enum-told17 .given .1)))

@@ -6,18 +6,26 @@ use Rattle.text.proofs.append.number.Statement.{statement}
 use Rattle.text.proofs.append.number.Tie as tie
 
 returns : tie.Need-returns
-returns c = let t = c .before .before in let h = t .before .before in let a = h .before .before .args in number-one (a .n) (a .after) (h .if1 .taken) (t .two .ensures)
+returns c =
+    let both = c .before .before in
+    let one = both .before .before in
+    let a = one .before .before .args in
+    number-one (a .n) (a .after) (one .if1 .taken) (both .two .ensures)
 
 returns-2 : tie.Need-returns-2
 returns-2 c =
-    let b = c .before .before in
-    let t = b .before .before .before .before in
-    let h = t .before .before in
-    let a = h .before .before .before .args in
-    number-two (a .n) (a .after) (h .before .if1 .left) (h .if2 .taken) (t .two2 .ensures) (b .byte .ensures)
+    let put = c .before .before in
+    let both = put .before .before .before .before in
+    let two = both .before .before in
+    let more = two .before in
+    let a = more .before .before .args in
+    number-two (a .n) (a .after) (more .if1 .left) (two .if2 .taken) (both .two2 .ensures) (put .byte .ensures)
 
 returns-3 : tie.Need-returns-3
-returns-3 c = let b = c .before .before in append-then (b .before .before .before .before .digits .ensures) (b .byte2 .ensures)
+returns-3 c =
+    let put = c .before .before in
+    let all = put .before .before .before .before in
+    append-then (all .digits .ensures) (put .byte2 .ensures)
 
 pub number-spec : {M : Type 1} → statement M
 number-spec =

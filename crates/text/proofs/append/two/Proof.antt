@@ -6,7 +6,10 @@ use Rattle.text.proofs.append.two.Statement.{statement}
 use Rattle.text.proofs.append.two.Tie as tie
 
 returns : tie.Need-returns
-returns c = append-then (c .before .before .before .before .before .before .byte .ensures) (c .before .before .byte2 .ensures)
+returns c =
+    let second = c .before .before in
+    let first = second .before .before .before .before in
+    append-then (first .byte .ensures) (second .byte2 .ensures)
 
 pub two-spec : {M : Type 1} → statement M
 two-spec = tie.close (tie.spec (λ c κs. search needs) (λ c κs. search needs) (λ c. search needs) returns)
