@@ -18,55 +18,73 @@ use Rattle.railway.specs.Record.{weightOf}
 use Rattle.game.specs.Game.{over}
 use Rattle.game.specs.Placement.{placements}
 use Rattle.tables.specs.Tables.{noFigure}
-use Rattle.marks.specs.declared.Soon.{Soon}
 use Rattle.dues.specs.Dues.{sameWeight}
+use Rattle.rounds.specs.declared.ThisRound.{ThisRound}
 use Rattle.rounds.specs.Visits.{Turned, Round, same, Visited, Passed, ByWeight, Comes, Ahead, Weighed, Apart}
 use Rattle.rounds.proofs.Entries.{entry-is}
 use Rattle.rounds.proofs.Visits.{visited-onward, visited-less, round-on, visited-none, visited-then}
 
--- A LOOP that has come to i, of every railway that has m placements and these tables, and of which more is given
-pub record VisitedTo (Given : Railway → Type 0) (table ways : List ℕ) (m n : ℕ) (soon : Soon) (Kind : Railway → ℕ → ℕ → Type 0) (figs₀ sets₀ marks₀ figs sets marks : List ℕ) (i : ℕ) : Type 0 where
+-- A LOOP that has come to i, in this round, of every railway that has these tables, and of which more is given
+pub record VisitedTo (Given : Railway → Type 0) (table ways : List ℕ) (this : ThisRound) (Kind : Railway → ℕ → ℕ → Type 0)
+    (figs₀ sets₀ marks₀ figs sets marks : List ℕ) (i : ℕ) : Type 0 where
   pub long-figs : length figs ≡ length figs₀
   pub long-sets : length sets ≡ length sets₀
   pub long-marks : length marks ≡ length marks₀
-  pub visited : (r : Railway) (d : Turned) → Given r → Round r table ways m n soon d figs₀ marks₀ → Visited r n d (Kind r i) figs₀ sets₀ figs sets marks
+  pub visited : (r : Railway) (d : Turned) → Given r → Round r table ways this d figs₀ marks₀
+      → Visited r (this .n) d (Kind r i) figs₀ sets₀ figs sets marks
 
-module _ (Given : Railway → Type 0) (table ways : List ℕ) (m n : ℕ) (soon : Soon) (Kind : Railway → ℕ → ℕ → Type 0) (figs₀ sets₀ marks₀ : List ℕ) where
-  pub visited-to-start : (i : ℕ) → ((r : Railway) (q : ℕ) → Kind r i q → ⊥) → VisitedTo Given table ways m n soon Kind figs₀ sets₀ marks₀ figs₀ sets₀ marks₀ i
-  visited-to-start i h = record { long-figs = refl; long-sets = refl; long-marks = refl; visited = λ r d b o. visited-none r n d (Kind r i) figs₀ sets₀ marks₀ (o .marked) (λ q l k. h r q k) }
+module _ (Given : Railway → Type 0) (table ways : List ℕ) (this : ThisRound) (Kind : Railway → ℕ → ℕ → Type 0) (figs₀ sets₀ marks₀ : List ℕ) where
+  pub visited-to-start : (i : ℕ) → ((r : Railway) (q : ℕ) → Kind r i q → ⊥)
+      → VisitedTo Given table ways this Kind figs₀ sets₀ marks₀ figs₀ sets₀ marks₀ i
+  visited-to-start i h =
+      record {
+        long-figs = refl;
+        long-sets = refl;
+        long-marks = refl;
+        visited = λ r d b o. visited-none r (this .n) d (Kind r i) figs₀ sets₀ marks₀ (o .marked) (λ q l k. h r q k);
+      }
 
-  module _ (figs sets marks : List ℕ) (i : ℕ) (s : VisitedTo Given table ways m n soon Kind figs₀ sets₀ marks₀ figs sets marks i) where
-    pub visited-to-next : (New : Railway → ℕ → Type 0) (j : ℕ) (figs′ sets′ marks′ : List ℕ) → length figs′ ≡ length figs → length sets′ ≡ length sets → length marks′ ≡ length marks
-        → ((r : Railway) (d : Turned) → Given r → Round r table ways m n soon d figs marks → Visited r n d (New r) figs sets figs′ sets′ marks′)
-        → ((r : Railway) (d : Turned) → Given r → Visited r n d (Kind r i) figs₀ sets₀ figs sets marks → Round r table ways m n soon d figs₀ marks₀ → (q : ℕ) → q < placements r → Kind r j q → Kind r i q ⊎ New r q)
-        → VisitedTo Given table ways m n soon Kind figs₀ sets₀ marks₀ figs′ sets′ marks′ j
+  module _ (figs sets marks : List ℕ) (i : ℕ) (s : VisitedTo Given table ways this Kind figs₀ sets₀ marks₀ figs sets marks i) where
+    pub visited-to-next : (New : Railway → ℕ → Type 0) (j : ℕ) (figs′ sets′ marks′ : List ℕ)
+        → length figs′ ≡ length figs → length sets′ ≡ length sets → length marks′ ≡ length marks
+        → ((r : Railway) (d : Turned) → Given r → Round r table ways this d figs marks
+        → Visited r (this .n) d (New r) figs sets figs′ sets′ marks′)
+        → ((r : Railway) (d : Turned) → Given r → Visited r (this .n) d (Kind r i) figs₀ sets₀ figs sets marks
+        → Round r table ways this d figs₀ marks₀ → (q : ℕ) → q < placements r → Kind r j q → Kind r i q ⊎ New r q)
+        → VisitedTo Given table ways this Kind figs₀ sets₀ marks₀ figs′ sets′ marks′ j
     visited-to-next New j figs′ sets′ marks′ ef es em body covers =
         record {
           long-figs = ef ∙ s .long-figs;
           long-sets = es ∙ s .long-sets;
           long-marks = em ∙ s .long-marks;
           visited = λ r d h o.
-              let x : Visited r n d (Kind r i) figs₀ sets₀ figs sets marks = s .visited r d h o in
-              visited-then r (o .compiled .accepted) n d d (o .small) (Kind r i) (New r) (Kind r j) figs₀ sets₀ figs sets marks figs′ sets′ marks′ x
-              (body r d h (round-on r n d (Kind r i) figs₀ sets₀ figs sets marks x table ways m soon d marks₀ o)) (covers r d h x o);
+              let x : Visited r (this .n) d (Kind r i) figs₀ sets₀ figs sets marks = s .visited r d h o in
+              visited-then r (o .compiled .accepted) (this .n) d d (o .small) (Kind r i) (New r) (Kind r j)
+              figs₀ sets₀ figs sets marks figs′ sets′ marks′ x
+              (body r d h (round-on r table ways this d (Kind r i) figs₀ sets₀ figs sets marks x d marks₀ o)) (covers r d h x o);
         }
 
     -- on to j, with nothing to visit between
-    pub visited-to-on : (j : ℕ) → ((r : Railway) (d : Turned) → Visited r n d (Kind r i) figs₀ sets₀ figs sets marks → Round r table ways m n soon d figs₀ marks₀ → (q : ℕ) → Kind r j q → Kind r i q)
-        → VisitedTo Given table ways m n soon Kind figs₀ sets₀ marks₀ figs sets marks j
+    pub visited-to-on : (j : ℕ)
+        → ((r : Railway) (d : Turned) → Visited r (this .n) d (Kind r i) figs₀ sets₀ figs sets marks
+        → Round r table ways this d figs₀ marks₀ → (q : ℕ) → Kind r j q → Kind r i q)
+        → VisitedTo Given table ways this Kind figs₀ sets₀ marks₀ figs sets marks j
     visited-to-on j covers =
         record {
           long-figs = s .long-figs;
           long-sets = s .long-sets;
           long-marks = s .long-marks;
           visited = λ r d h o.
-              let x : Visited r n d (Kind r i) figs₀ sets₀ figs sets marks = s .visited r d h o in
-              visited-less r n d (Kind r i) figs₀ sets₀ figs sets marks x (Kind r j) (λ q l k. covers r d x o q k);
+              let x : Visited r (this .n) d (Kind r i) figs₀ sets₀ figs sets marks = s .visited r d h o in
+              visited-less r (this .n) d (Kind r i) figs₀ sets₀ figs sets marks x (Kind r j) (λ q l k. covers r d x o q k);
         }
 
-    pub visited-to-end : (End : Railway → ℕ → Type 0) → ((r : Railway) (d : Turned) → Given r → Round r table ways m n soon d figs₀ marks₀ → (q : ℕ) → q < placements r → End r q → Kind r i q)
-        → (r : Railway) (d : Turned) → Given r → Round r table ways m n soon d figs₀ marks₀ → Visited r n d (End r) figs₀ sets₀ figs sets marks
-    visited-to-end End h r d b o = visited-less r n d (Kind r i) figs₀ sets₀ figs sets marks (s .visited r d b o) (End r) (λ q l k. h r d b o q l k)
+    pub visited-to-end : (End : Railway → ℕ → Type 0)
+        → ((r : Railway) (d : Turned) → Given r → Round r table ways this d figs₀ marks₀ → (q : ℕ) → q < placements r → End r q → Kind r i q)
+        → (r : Railway) (d : Turned) → Given r → Round r table ways this d figs₀ marks₀
+        → Visited r (this .n) d (End r) figs₀ sets₀ figs sets marks
+    visited-to-end End h r d b o =
+        visited-less r (this .n) d (Kind r i) figs₀ sets₀ figs sets marks (s .visited r d b o) (End r) (λ q l k. h r d b o q l k)
 
 -- A SCAN for a figure
 module _ (figs : List ℕ) (figure c upto : ℕ) where

@@ -25,10 +25,10 @@ use Rattle.tables.specs.Entries.{settingAt}
 use Rattle.tables.specs.Tables.{noFigure, figureEntry, figureIn}
 use Rattle.tables.specs.Rounds.{RoundTables}
 use Rattle.marks.specs.Marks.{mostCodes, dueAt, mostAt, Room, soonBy, Raised}
-use Rattle.marks.specs.declared.Soon.{Soon}
 use Rattle.tables.specs.Find.{find}
 use Rattle.tables.proofs.Carry.{Carries, find-carry}
 use Rattle.settings.specs.Answers.{firstKeeping}
+use Rattle.rounds.specs.declared.ThisRound.{ThisRound}
 use Rattle.rounds.specs.Visits.{Homed, Turned, since, First, Marked, Round, Changed, same, gained, Visited, One}
 use Rattle.rounds.proofs.Entries.{entry-some, entry-is, finds-nothing, finds-entry}
 
@@ -89,18 +89,20 @@ module _ (r : Railway) (n : ℕ) (c : Turned) (S : ℕ → Type 0) (figs sets fi
   pub visited-marked : (d : Turned) (marks″ : List ℕ) → Marked r n d figs′ marks″ → Visited r n d S figs sets figs′ sets′ marks″
   visited-marked d marks″ k = record { each = s .each; past-figs = s .past-figs; past-sets = s .past-sets; settled = s .settled; marked = k }
 
-  -- the round goes on
-  pub round-on : (table ways : List ℕ) (m : ℕ) (soon : Soon) (d : Turned) (marks : List ℕ) → Round r table ways m n soon d figs marks → Round r table ways m n soon c figs′ marks′
-  round-on table ways m soon d marks o =
-      record {
-        compiled = o .compiled;
-        laid = o .laid;
-        counted = o .counted;
-        small = o .small;
-        soonest = o .soonest;
-        homed = λ p l h. visited-onward p 0 l (o .homed p l h);
-        marked = s .marked;
-      }
+-- THE ROUND GOES ON
+pub round-on : (r : Railway) (table ways : List ℕ) (this : ThisRound) (c : Turned) (S : ℕ → Type 0) (figs sets figs′ sets′ marks′ : List ℕ)
+    → Visited r (this .n) c S figs sets figs′ sets′ marks′ → (d : Turned) (marks : List ℕ) → Round r table ways this d figs marks
+    → Round r table ways this c figs′ marks′
+round-on r table ways this c S figs sets figs′ sets′ marks′ s d marks o =
+    record {
+      compiled = o .compiled;
+      laid = o .laid;
+      counted = o .counted;
+      small = o .small;
+      soonest = o .soonest;
+      homed = λ p l h. visited-onward r (this .n) c S figs sets figs′ sets′ marks′ s p 0 l (o .homed p l h);
+      marked = s .marked;
+    }
 
 -- NOTHING ENTERED
 module _ (r : Railway) (n : ℕ) (c : Turned) (S : ℕ → Type 0) (figs sets marks : List ℕ) (k : Marked r n c figs marks) where
@@ -130,57 +132,57 @@ module _ (r : Railway) (accepted : recordRefusal r ≡ none) (n : ℕ) (c d : Tu
       }
 
 -- ONE VISIT, of a placement without a figure
-module _ (r : Railway) (table ways : List ℕ) (m n : ℕ) (soon : Soon) (d : Turned) (p : ℕ) (figs sets marks : List ℕ) (o : Round r table ways m n soon d figs marks) (l : p < placements r) (empty : figureIn figs p ≡ none)
-    (found : Option ℕ) (searched : found ≡ firstKeeping r (figureIn figs) p n) where
-  pub visit-rests : found ≡ none → Visited r n d (One p) figs sets figs sets marks
-  visit-rests e = visited-rests r n d (One p) figs sets marks (o .marked) (λ q lq u y g. rw u (finds-nothing r n p figs found searched e (rw u at g)))
+module _ (r : Railway) (table ways : List ℕ) (this : ThisRound) (d : Turned) (p : ℕ) (figs sets marks : List ℕ) (o : Round r table ways this d figs marks)
+    (l : p < placements r) (empty : figureIn figs p ≡ none) (found : Option ℕ) (searched : found ≡ firstKeeping r (figureIn figs) p (this .n)) where
+  pub visit-rests : found ≡ none → Visited r (this .n) d (One p) figs sets figs sets marks
+  visit-rests e = visited-rests r (this .n) d (One p) figs sets marks (o .marked) (λ q lq u y g. rw u (finds-nothing r (this .n) p figs found searched e (rw u at g)))
 
-  module _ (inside-figs : p < length figs) (inside-sets : p < length sets) (marks′ : List ℕ) (raise : Room marks → p < mostCodes → Raised marks p n soon marks′) where
-    raised : Raised marks p n soon marks′
+  module _ (inside-figs : p < length figs) (inside-sets : p < length sets) (marks′ : List ℕ) (raise : Room marks → p < mostCodes → Raised marks p (this .n) (this .soon) marks′) where
+    raised : Raised marks p (this .n) (this .soon) marks′
     raised = raise (o .marked .room) (omega (arith, o .marked .few))
 
     -- a figure of the new table is n at p, or stood there before
-    figure-of : (q j : ℕ) → figureIn (set figs p n) q ≡ some j → ((q ≡ p) × (j ≡ n)) ⊎ (figureIn figs q ≡ some j)
+    figure-of : (q j : ℕ) → figureIn (set figs p (this .n)) q ≡ some j → ((q ≡ p) × (j ≡ this .n)) ⊎ (figureIn figs q ≡ some j)
     figure-of q j e = elim (eq? q p) [
       | inl z ↦
-          let a : figureIn (set figs p n) p ≡ some j = rw z at e in
-          inl (z, sym (entry-is (getD (set figs p n) p noFigure) j a) ∙ getD-set-same figs p n noFigure inside-figs)
-      | inr z ↦ inr (sym (ap figureEntry (getD-set-other figs p q n noFigure z)) ∙ e)
+          let a : figureIn (set figs p (this .n)) p ≡ some j = rw z at e in
+          inl (z, sym (entry-is (getD (set figs p (this .n)) p noFigure) j a) ∙ getD-set-same figs p (this .n) noFigure inside-figs)
+      | inr z ↦ inr (sym (ap figureEntry (getD-set-other figs p q (this .n) noFigure z)) ∙ e)
     ]
 
-    most : (q j : ℕ) → q < placements r → figureIn (set figs p n) q ≡ some j → j ≤ mostAt marks′ q
+    most : (q j : ℕ) → q < placements r → figureIn (set figs p (this .n)) q ≡ some j → j ≤ mostAt marks′ q
     most q j lq e = elim (figure-of q j e) [
       | inl z ↦ rw (z .0, z .1) (raised .most)
       | inr z ↦ omega (arith, o .marked .most q j lq z, raised .higher q (omega (arith, o .marked .few)))
     ]
 
-    due : (q j t : ℕ) → q < placements r → t < r .trains → First r t → figureIn (set figs p n) q ≡ some j → since n d t q ≤ j + weightOf r t → dueAt marks′ t q ≤ j + weightOf r t
+    due : (q j t : ℕ) → q < placements r → t < r .trains → First r t → figureIn (set figs p (this .n)) q ≡ some j → since (this .n) d t q ≤ j + weightOf r t → dueAt marks′ t q ≤ j + weightOf r t
     due q j t lq lt first e h =
         let ok = facts r (o .compiled .accepted) in
         let few : t < mostTrains = omega (arith, ok .few-trains) in
         elim (figure-of q j e) [
           | inl z ↦
-              let is : soonBy soon t ≡ n + weightOf r t = o .soonest t lt first in
+              let is : soonBy (this .soon) t ≡ this .n + weightOf r t = o .soonest t lt first in
               let light : weightOf r t ≤ mostWeight = ok .weights t lt .1 in
               rw (z .0, z .1) (omega (arith, raised .due t few (omega (arith, o .small))))
           | inr z ↦ omega (arith, o .marked .due q j t lq lt first z h, raised .sooner t q few (omega (arith, o .marked .few)))
         ]
 
-    pub visit-gains : (v : ℕ) → found ≡ some v → Visited r n d (One p) figs sets (set figs p n) (set sets p v) marks′
+    pub visit-gains : (v : ℕ) → found ≡ some v → Visited r (this .n) d (One p) figs sets (set figs p (this .n)) (set sets p v) marks′
     visit-gains v e =
         record {
           each = λ q lq. elim (eq? q p) [
-            | inl z ↦ rw z (gained empty (x .0) (getD-set-same figs p n noFigure inside-figs) (x .1 ∙ ap (λ (y : ℕ). some y) (sym (getD-set-same sets p v 0 inside-sets))))
-            | inr z ↦ same (getD-set-other figs p q n noFigure z) (getD-set-other sets p q v 0 z)
+            | inl z ↦ rw z (gained empty (x .0) (getD-set-same figs p (this .n) noFigure inside-figs) (x .1 ∙ ap (λ (y : ℕ). some y) (sym (getD-set-same sets p v 0 inside-sets))))
+            | inr z ↦ same (getD-set-other figs p q (this .n) noFigure z) (getD-set-other sets p q v 0 z)
           ];
-          past-figs = λ q e lq. getD-set-other figs p q n e (λ z. omega arith);
+          past-figs = λ q e lq. getD-set-other figs p q (this .n) e (λ z. omega arith);
           past-sets = λ q e lq. getD-set-other sets p q v e (λ z. omega arith);
           settled = λ q lq u y g. some-none figure-now (rw u at y);
           marked = record { room = raised .room; few = o .marked .few; most = most; due = due };
         }
       where
-        x : (over (gameOf r) p ≡ false) × (find r (figureIn figs) p n ≡ some v)
-        x = finds-entry r n p figs found searched (o .homed p l) empty v e
+        x : (over (gameOf r) p ≡ false) × (find r (figureIn figs) p (this .n) ≡ some v)
+        x = finds-entry r (this .n) p figs found searched (o .homed p l) empty v e
 
-        figure-now : figureIn (set figs p n) p ≡ some n
-        figure-now = ap figureEntry (getD-set-same figs p n noFigure inside-figs) ∙ entry-some n (λ z. omega (arith, o .small))
+        figure-now : figureIn (set figs p (this .n)) p ≡ some (this .n)
+        figure-now = ap figureEntry (getD-set-same figs p (this .n) noFigure inside-figs) ∙ entry-some (this .n) (λ z. omega (arith, o .small))

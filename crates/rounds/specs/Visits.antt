@@ -21,9 +21,12 @@ use Rattle.tables.specs.Tables.{noFigure, figureEntry, figureIn}
 use Rattle.tables.specs.Find.{find}
 use Rattle.routes.specs.Routes.{Laid}
 use Rattle.compiled.specs.Table.{Compiled}
-use Rattle.marks.specs.declared.Soon.{Soon}
+use Rattle.moves.specs.Steps.{strideOf, On}
+use Rattle.predecessors.specs.Behind.{Behind}
 use Rattle.marks.specs.Marks.{stretchOf, mostCodes, dueAt, mostAt, Room}
 use Rattle.dues.specs.Dues.{sameWeight, SoonAfter}
+use Rattle.rounds.specs.declared.ThisRound.{ThisRound}
+use Rattle.rounds.specs.declared.Mover.{Mover}
 
 -- Home has its figure from the start.
 abbrev pub Homed : Railway → List ℕ → Type 0
@@ -58,15 +61,23 @@ pub record Marked (r : Railway) (n : ℕ) (d : Turned) (figs marks : List ℕ) :
 abbrev pub MarkedFor : Railway → ℕ → List ℕ → List ℕ → Type 0
 MarkedFor r n figs marks = Marked r n (record { train = 0; code = 0 }) figs marks
 
--- Round n is going on, on the tables of this railway; these are the first rounds that a figure n makes due.
-pub record Round (r : Railway) (table ways : List ℕ) (m n : ℕ) (soon : Soon) (d : Turned) (figs marks : List ℕ) : Type 0 where
+-- A round is going on, on the tables of this railway.
+pub record Round (r : Railway) (table ways : List ℕ) (this : ThisRound) (d : Turned) (figs marks : List ℕ) : Type 0 where
   pub compiled : Compiled r table
   pub laid : Laid r (isClosed r) ways
-  pub counted : m ≡ placements r
-  pub small : n + mostWeight < noFigure
-  pub soonest : SoonAfter r n soon
+  pub counted : this .m ≡ placements r
+  pub small : this .n + mostWeight < noFigure
+  pub soonest : SoonAfter r (this .n) (this .soon)
   pub homed : Homed r figs
-  pub marked : Marked r n d figs marks
+  pub marked : Marked r (this .n) d figs marks
+
+-- A train of this railway that may have come to a placement, and the ways by which it can have come.
+pub record Standing (r : Railway) (table behind : List ℕ) (mover : Mover) : Type 0 where
+  pub laid : Behind r behind
+  pub on : On r (mover .code) table (mover .placement)
+  pub code : mover .code < placements r
+  pub train : mover .train < r .trains
+  pub stride : mover .stride ≡ strideOf (r .sections) (mover .train)
 
 -- Placement q in round n, by the figures F: figure and setting f and v before, f′ and v′ after. It is as it was, or has gained.
 pub data Changed (r : Railway) (F : ℕ → Option ℕ) (n q f v f′ v′ : ℕ) : Type 0 where
