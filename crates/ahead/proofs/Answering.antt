@@ -1,5 +1,5 @@
--- What a look ahead says of the round: a placement that gains has the round's figure, and where nothing gains of what is one move before the frontier, no placement has it.
--- Assumes nothing.
+-- What a look ahead says of the round: a placement that gains has the round's figure, and where nothing gains of what
+-- is one move before the frontier, no placement has it. Assumes nothing.
 use mathlib.Core.Path.{_≡_, refl}
 use mathlib.Core.Logic.{_↔_, inl, inr}
 use mathlib.Core.Bool.{Bool, true, false}
@@ -24,7 +24,11 @@ use Rattle.ahead.proofs.Telling.{Resting}
 
 module _ (r : Railway) (accepted : recordRefusal r ≡ none) (k : ℕ) (figs sets : List ℕ) (t : RoundTables r k figs sets) where
   one-gains : (K : ℕ → Type 0) (b : Bool) → Told r (suc k) figs K b → b ≡ true → HasFigure r (suc k)
-  one-gains K b (gains p l g) e = record { code = p; there = l; is = round-brings r accepted k figs sets t p l (g .entry) (g .waits) (g .going) (g .found) }
+  one-gains K b (gains p l g) e = record {
+    code = p;
+    there = l;
+    is = round-brings r accepted k figs sets t p l (g .entry) (g .waits) (g .going) (g .found);
+  }
   one-gains K b (rests h) e = clash e refl
 
   none-gains : Resting r (suc k) figs (Before r (suc k) figs 0 (placements r)) → HasFigure r (suc k) → ⊥
@@ -40,8 +44,14 @@ module _ (r : Railway) (accepted : recordRefusal r ≡ none) (k : ℕ) (figs set
     pub says-yes : (K : ℕ → Type 0) (b : Bool) → Told r n figs K b → b ≡ true → (true ≡ true) ↔ HasFigure r n
     says-yes K b h e = (λ z. rw is (one-gains K b (rw is at h) e), λ x. refl)
 
-    pub says-no : (m i : ℕ) → m ≡ placements r → r .trains ≤ i → Resting r n figs (Weighed r n figs 0 m i) → (false ≡ true) ↔ HasFigure r n
+    pub says-no : (m i : ℕ) → m ≡ placements r → r .trains ≤ i → Resting r n figs (Weighed r n figs 0 m i)
+        → (false ≡ true) ↔ HasFigure r n
     says-no m i counted all h = (λ z. clash z refl, λ x. absurd (none-gains (rw is at before) (rw is at x)))
       where
         before : Resting r n figs (Before r n figs 0 (placements r))
-        before p l k = h p l (record { train = k .train; below = omega (arith, k .below); ahead = codes-less r n (weightOf r (k .train)) figs 0 (placements r) m p (omega arith) (k .ahead) })
+        before p l k =
+            h p l (record {
+              train = k .train;
+              below = omega (arith, k .below);
+              ahead = codes-less r n (weightOf r (k .train)) figs 0 (placements r) m p (omega arith) (k .ahead);
+            })

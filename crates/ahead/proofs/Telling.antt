@@ -1,5 +1,5 @@
--- What a look ahead tells, of a kind of placements, and its loops: up to the place where a loop has come, none of a kind gains. The kind at the next place is the one here or what
--- is new. Assumes nothing.
+-- What a look ahead tells, of a kind of placements, and its loops: up to the place where a loop has come, none of a
+-- kind gains. The kind at the next place is the one here or what is new. Assumes nothing.
 use mathlib.Core.Path.{_≡_, refl}
 use mathlib.Core.Logic.{_⊎_, inl, inr}
 use mathlib.Core.Bool.{Bool, true, false}
@@ -17,7 +17,9 @@ use Rattle.ahead.specs.Bringing.{Told, gains, rests}
 
 -- None of a kind gains.
 abbrev pub Resting : Railway → ℕ → List ℕ → (ℕ → Type 0) → Type 0
-Resting r n figs K = (p : ℕ) → p < placements r → K p → figureIn figs p ≡ none → over (gameOf r) p ≡ false → find r (figureIn figs) p n ≡ none
+Resting r n figs K =
+    (p : ℕ) → p < placements r → K p → figureIn figs p ≡ none → over (gameOf r) p ≡ false
+    → find r (figureIn figs) p n ≡ none
 
 module _ (r : Railway) (n : ℕ) (figs : List ℕ) (K : ℕ → Type 0) where
   -- one gains, of whatever kind
@@ -42,7 +44,9 @@ module _ (Given : Railway → Type 0) (n : ℕ) (figs : List ℕ) (Kind : Railwa
   rests-start h = record { resting = λ r g p l k. absurd (h r p k) }
 
   module _ (s : RestsTo Given n figs Kind i) where
-    pub rests-next : (New : Railway → ℕ → Type 0) (j : ℕ) → ((r : Railway) → Given r → Resting r n figs (New r)) → ((r : Railway) → Given r → (p : ℕ) → p < placements r → Kind r j p → Kind r i p ⊎ New r p) → RestsTo Given n figs Kind j
+    pub rests-next : (New : Railway → ℕ → Type 0) (j : ℕ) → ((r : Railway) → Given r → Resting r n figs (New r))
+        → ((r : Railway) → Given r → (p : ℕ) → p < placements r → Kind r j p → Kind r i p ⊎ New r p)
+        → RestsTo Given n figs Kind j
     rests-next New j body covers =
         record {
           resting = λ r g p l k. elim (covers r g p l k) [
@@ -51,5 +55,7 @@ module _ (Given : Railway → Type 0) (n : ℕ) (figs : List ℕ) (Kind : Railwa
           ];
         }
 
-    pub rests-end : (End : Railway → ℕ → Type 0) → ((r : Railway) → Given r → (p : ℕ) → p < placements r → End r p → Kind r i p) → (r : Railway) → Given r → Told r n figs (End r) false
+    pub rests-end : (End : Railway → ℕ → Type 0)
+        → ((r : Railway) → Given r → (p : ℕ) → p < placements r → End r p → Kind r i p) → (r : Railway) → Given r
+        → Told r n figs (End r) false
     rests-end End h r g = rests (λ p l k. s .resting r g p l (h r g p l k))

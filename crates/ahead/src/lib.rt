@@ -17,7 +17,7 @@ ghost use Rattle.compiled.specs.Table.{Compiled};
 ghost use Rattle.moves.specs.Steps.{On};
 ghost use Rattle.predecessors.specs.Behind.{Behind};
 ghost use Rattle.marks.specs.Marks.{stretchOf};
-ghost use Rattle.rounds.specs.Visits.{MarkedFor, Standing, One, By, Comes, Ahead, Apart};
+ghost use Rattle.rounds.specs.Visits.{MarkedFor, MoverOf, One, By, Comes, Ahead, Apart};
 ghost use Rattle.ahead.specs.Bringing.{Looking, Told, Stands, StandsIn};
 use compiled::Table;
 use marks::STRETCH;
@@ -217,7 +217,7 @@ fn brings_train(
     mover: Mover,
 ) -> bool
     ensures { λ b. ⌜ ((r : Railway) → Looking r (now (table .entry)) (now (ways .entry)) (now (behind .entry)) m (now (figures .entry))
-        → Standing r (now (table .entry)) (now (behind .entry)) mover
+        → MoverOf r (now (table .entry)) (now (behind .entry)) mover
         → Told r n (now (figures .entry)) (By r (mover .code) (mover .train)) b) ⌝ }
 {
     let t = mover.train;

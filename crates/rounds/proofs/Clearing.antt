@@ -25,7 +25,8 @@ pub record Written (f : ℕ → ℕ) (p : ℕ) (old new : List ℕ) : Type 0 whe
 pub written-none : (f : ℕ → ℕ) (old : List ℕ) → Written f 0 old old
 written-none f old = record { as-long = refl; behind = λ q d h. absurd (omega arith); ahead = λ q d h. refl }
 
-pub written-one : (f : ℕ → ℕ) (p : ℕ) (old new : List ℕ) (x : ℕ) → Written f p old new → p < length old → x ≡ f p → Written f (p + 1) old (set new p x)
+pub written-one : (f : ℕ → ℕ) (p : ℕ) (old new : List ℕ) (x : ℕ) → Written f p old new → p < length old → x ≡ f p
+    → Written f (p + 1) old (set new p x)
 written-one f p old new x w l e =
     record {
       as-long = length-set new p x ∙ w .as-long;
@@ -65,7 +66,8 @@ module _ (table : List ℕ) (m : ℕ) (figs₀ sets₀ : List ℕ) where
       }
 
   module _ (figs sets : List ℕ) (p : ℕ) (c : Clearing table m figs₀ sets₀ figs sets p) where
-    pub clearing-next : (f v : ℕ) → p < m → m ≤ length figs₀ → m ≤ length sets₀ → ((r : Railway) → Compiled r table → p < placements r → f ≡ firstFigure r p) → v ≡ 0
+    pub clearing-next : (f v : ℕ) → p < m → m ≤ length figs₀ → m ≤ length sets₀
+        → ((r : Railway) → Compiled r table → p < placements r → f ≡ firstFigure r p) → v ≡ 0
         → Clearing table m figs₀ sets₀ (set figs p f) (set sets p v) (p + 1)
     clearing-next f v l lf ls e z =
         record {
@@ -82,7 +84,9 @@ module _ (table : List ℕ) (m : ℕ) (figs₀ sets₀ : List ℕ) where
         let wf : Written (firstFigure r) (placements r) figs₀ figs = rw z at (c .first r h e) in
         let ws : Written (λ q. 0) (placements r) sets₀ sets = rw z at (c .unset) in
         record {
-          tables = cleared-round r (h .accepted) figs sets (record { first = λ q b. wf .behind q noFigure b; unset = λ q b. ws .behind q 0 b });
+          tables =
+              cleared-round r (h .accepted) figs sets
+              (record { first = λ q b. wf .behind q noFigure b; unset = λ q b. ws .behind q 0 b });
           kept-figs = written-kept r (firstFigure r) figs₀ figs wf;
           kept-sets = written-kept r (λ q. 0) sets₀ sets ws;
         }

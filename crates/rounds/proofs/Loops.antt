@@ -1,5 +1,6 @@
--- Loops of a round, over the ways and trains of a placement, the codes of a range and the weights: each time round visits some more placements. What is
--- visited is a kind, and the kind at the next place is the one here or what is new. Assumes nothing.
+-- Loops of a round, over the ways and trains of a placement, the codes of a range and the weights: each time round
+-- visits some more placements. What is visited is a kind, and the kind at the next place is the one here or what is
+-- new. Assumes nothing.
 use mathlib.Core.Path.{_≡_, refl, sym, _∙_, ap}
 use mathlib.Core.Logic.{_⊎_, inl, inr}
 use mathlib.Core.Bool.{true}
@@ -33,7 +34,8 @@ pub record VisitedTo (Given : Railway → Type 0) (table ways : List ℕ) (this 
   pub visited : (r : Railway) (d : Turned) → Given r → Round r table ways this d figs₀ marks₀
       → Visited r (this .n) d (Kind r i) figs₀ sets₀ figs sets marks
 
-module _ (Given : Railway → Type 0) (table ways : List ℕ) (this : ThisRound) (Kind : Railway → ℕ → ℕ → Type 0) (figs₀ sets₀ marks₀ : List ℕ) where
+module _ (Given : Railway → Type 0) (table ways : List ℕ) (this : ThisRound) (Kind : Railway → ℕ → ℕ → Type 0)
+    (figs₀ sets₀ marks₀ : List ℕ) where
   pub visited-to-start : (i : ℕ) → ((r : Railway) (q : ℕ) → Kind r i q → ⊥)
       → VisitedTo Given table ways this Kind figs₀ sets₀ marks₀ figs₀ sets₀ marks₀ i
   visited-to-start i h =
@@ -80,7 +82,8 @@ module _ (Given : Railway → Type 0) (table ways : List ℕ) (this : ThisRound)
         }
 
     pub visited-to-end : (End : Railway → ℕ → Type 0)
-        → ((r : Railway) (d : Turned) → Given r → Round r table ways this d figs₀ marks₀ → (q : ℕ) → q < placements r → End r q → Kind r i q)
+        → ((r : Railway) (d : Turned) → Given r → Round r table ways this d figs₀ marks₀ → (q : ℕ) → q < placements r
+        → End r q → Kind r i q)
         → (r : Railway) (d : Turned) → Given r → Round r table ways this d figs₀ marks₀
         → Visited r (this .n) d (End r) figs₀ sets₀ figs sets marks
     visited-to-end End h r d b o =
@@ -91,7 +94,8 @@ module _ (figs : List ℕ) (figure c upto : ℕ) where
   pub passed-start : Passed figs figure c upto c
   passed-start = record { onward = omega arith; others = λ q l h. absurd (omega arith) }
 
-  pub passed-next : (e : ℕ) → Passed figs figure c upto e → e < upto → upto ≤ length figs → (getD figs e 0 ≡ figure → ⊥) → Passed figs figure c upto (e + 1)
+  pub passed-next : (e : ℕ) → Passed figs figure c upto e → e < upto → upto ≤ length figs → (getD figs e 0 ≡ figure → ⊥)
+      → Passed figs figure c upto (e + 1)
   passed-next e x l long other =
       record {
         onward = omega (arith, x .onward);
@@ -102,7 +106,9 @@ module _ (figs : List ℕ) (figure c upto : ℕ) where
       }
 
   pub passed-end : (e : ℕ) → Passed figs figure c upto e → e ≤ upto → upto ≤ e → Passed figs figure c upto upto
-  passed-end e x l m = let z : upto ≡ e = omega arith in record { onward = omega (arith, x .onward); others = λ q lq h. x .others q lq (omega arith) }
+  passed-end e x l m =
+      let z : upto ≡ e = omega arith in
+      record { onward = omega (arith, x .onward); others = λ q lq h. x .others q lq (omega arith) }
 
   pub passed-more : (e k : ℕ) → Passed figs figure c upto e → Passed figs figure e k k → k ≤ upto → Passed figs figure c upto k
   passed-more e k x y l =
@@ -134,13 +140,30 @@ module _ (r : Railway) (n w : ℕ) (figs : List ℕ) where
 
   pub codes-less : (from a b q : ℕ) → a ≤ b → Ahead r n w figs from a q → Ahead r n w figs from b q
   codes-less from a b q l k =
-      record { code = k .code; after = k .after; within = omega (arith, k .within); figure = k .figure; makes = k .makes; stands = k .stands; comes = k .comes }
+      record {
+        code = k .code;
+        after = k .after;
+        within = omega (arith, k .within);
+        figure = k .figure;
+        makes = k .makes;
+        stands = k .stands;
+        comes = k .comes;
+      }
 
   -- those below c, or those from c on in the tables that some visits have made
-  pub codes-next : (d : Turned) (S : ℕ → Type 0) (sets figs₁ sets₁ marks₁ : List ℕ) → Visited r n d S figs sets figs₁ sets₁ marks₁ → (from c upto q : ℕ) → upto ≤ placements r
+  pub codes-next : (d : Turned) (S : ℕ → Type 0) (sets figs₁ sets₁ marks₁ : List ℕ)
+      → Visited r n d S figs sets figs₁ sets₁ marks₁ → (from c upto q : ℕ) → upto ≤ placements r
       → Ahead r n w figs from upto q → Ahead r n w figs from c q ⊎ Ahead r n w figs₁ c upto q
   codes-next d S sets figs₁ sets₁ marks₁ s from c upto q l k = elim (lt? (k .code) c) [
-    | inl h ↦ inl (record { code = k .code; after = k .after; within = h; figure = k .figure; makes = k .makes; stands = k .stands; comes = k .comes })
+    | inl h ↦ inl (record {
+      code = k .code;
+      after = k .after;
+      within = h;
+      figure = k .figure;
+      makes = k .makes;
+      stands = k .stands;
+      comes = k .comes;
+    })
     | inr h ↦
         inr
         (record {
@@ -159,14 +182,24 @@ module _ (r : Railway) (n w : ℕ) (figs : List ℕ) where
   before-one c q k = let z : k .code ≡ c = omega (arith, k .after, k .within) in rw z at (k .comes)
 
   -- codes without the figure that makes n
-  pub codes-passed : (d : Turned) (S : ℕ → Type 0) (sets figs₁ sets₁ marks₁ : List ℕ) → Visited r n d S figs sets figs₁ sets₁ marks₁ → (from c upto e figure q : ℕ) → upto ≤ placements r
+  pub codes-passed : (d : Turned) (S : ℕ → Type 0) (sets figs₁ sets₁ marks₁ : List ℕ)
+      → Visited r n d S figs sets figs₁ sets₁ marks₁ → (from c upto e figure q : ℕ) → upto ≤ placements r
       → figure + w ≡ n → Passed figs₁ figure c upto e → Ahead r n w figs from e q → Ahead r n w figs from c q
   codes-passed d S sets figs₁ sets₁ marks₁ s from c upto e figure q l en x k = elim (lt? (k .code) c) [
-    | inl h ↦ record { code = k .code; after = k .after; within = h; figure = k .figure; makes = k .makes; stands = k .stands; comes = k .comes }
+    | inl h ↦ record {
+      code = k .code;
+      after = k .after;
+      within = h;
+      figure = k .figure;
+      makes = k .makes;
+      stands = k .stands;
+      comes = k .comes;
+    }
     | inr h ↦
         let y : (k .code < upto) × (getD figs₁ (k .code) noFigure ≡ figure → ⊥) = x .others (k .code) h (k .within) in
         let f : getD figs₁ (k .code) noFigure ≡ k .figure =
-        entry-is (getD figs₁ (k .code) noFigure) (k .figure) (visited-onward r n d S figs sets figs₁ sets₁ marks₁ s (k .code) (k .figure) (omega arith) (k .stands)) in
+        entry-is (getD figs₁ (k .code) noFigure) (k .figure)
+        (visited-onward r n d S figs sets figs₁ sets₁ marks₁ s (k .code) (k .figure) (omega arith) (k .stands)) in
         absurd (y .1 (omega (arith, k .makes)))
   ]
 
@@ -192,7 +225,9 @@ module _ (r : Railway) (n : ℕ) (figs : List ℕ) (from upto : ℕ) where
   ]
 
   -- the frontier in the tables that some visits have made is still what it was, of the weight of train t
-  pub apart-on : (d : Turned) (S : ℕ → Type 0) (sets figs₁ sets₁ marks₁ : List ℕ) → Visited r n d S figs sets figs₁ sets₁ marks₁ → upto ≤ placements r → (t q : ℕ) → Apart r n figs from upto t q → Apart r n figs₁ from upto t q
+  pub apart-on : (d : Turned) (S : ℕ → Type 0) (sets figs₁ sets₁ marks₁ : List ℕ)
+      → Visited r n d S figs sets figs₁ sets₁ marks₁ → upto ≤ placements r → (t q : ℕ) → Apart r n figs from upto t q
+      → Apart r n figs₁ from upto t q
   apart-on d S sets figs₁ sets₁ marks₁ s l t q k =
       record {
         first = k .first;
@@ -203,7 +238,9 @@ module _ (r : Railway) (n : ℕ) (figs : List ℕ) (from upto : ℕ) where
               within = k .ahead .within;
               figure = k .ahead .figure;
               makes = k .ahead .makes;
-              stands = visited-onward r n d S figs sets figs₁ sets₁ marks₁ s (k .ahead .code) (k .ahead .figure) (omega (arith, k .ahead .within)) (k .ahead .stands);
+              stands =
+                  visited-onward r n d S figs sets figs₁ sets₁ marks₁ s (k .ahead .code) (k .ahead .figure)
+                  (omega (arith, k .ahead .within)) (k .ahead .stands);
               comes = k .ahead .comes;
             };
       }

@@ -1,5 +1,6 @@
--- One move back. The placements from which a train comes to placement c have it on the section at the end of a way back, and the others as they are: so their
--- codes differ from c by the train's stride. They are visited way after way, and behind the last way there are no more. Assumes nothing.
+-- One move back. The placements from which a train comes to placement c have it on the section at the end of a way
+-- back, and the others as they are: so their codes differ from c by the train's stride. They are visited way after way,
+-- and behind the last way there are no more. Assumes nothing.
 use mathlib.Core.Path.{_≡_, refl, sym, _∙_, ap}
 use mathlib.Core.Logic.{_⊎_, inl, inr}
 use mathlib.Core.Bool.{Bool, true, false}
@@ -35,7 +36,7 @@ use Rattle.predecessors.specs.Behind.{endBehind, sectionBehind, BackBy}
 use Rattle.predecessors.proofs.Before.{came-by, behind-below, behind-last, end-inside, end-at-behind}
 use Rattle.rounds.specs.declared.ThisRound.{ThisRound}
 use Rattle.rounds.specs.declared.Mover.{Mover}
-use Rattle.rounds.specs.Visits.{Turned, Round, Standing, Visited, Waits, empty, outside, figured, One, By}
+use Rattle.rounds.specs.Visits.{Turned, Round, MoverOf, Visited, Waits, empty, outside, figured, One, By}
 use Rattle.rounds.proofs.Entries.{read-figure, read-none}
 use Rattle.rounds.proofs.Visits.{visited-rests}
 
@@ -70,7 +71,8 @@ module _ (r : Railway) (table ways : List ℕ) (this : ThisRound) (d : Turned) (
   module _ (q v : Placement) (on : On r c table q) (lt : t < r .trains) (b : Bool) (w : Waits figs (this .m) p b) (e : b ≡ true)
       (moved : (u : ℕ) → sectionIn v u ≡ putIn q t y u) where
     pub one-visit : (figs′ sets′ marks′ : List ℕ)
-        → ((r : Railway) (d : Turned) → Round r table ways this d figs marks → On r p table v → p < placements r → figureIn figs p ≡ none
+        → ((r : Railway) (d : Turned) → Round r table ways this d figs marks → On r p table v → p < placements r
+        → figureIn figs p ≡ none
         → Visited r (this .n) d (One p) figs sets figs′ sets′ marks′)
         → Visited r (this .n) d (One p) figs sets figs′ sets′ marks′
     one-visit figs′ sets′ marks′ visit = go b w e
@@ -86,8 +88,13 @@ module _ (s t w : ℕ) (e : w ≡ strideOf s t) where
   stride-next byte l =
       let a : w * s ≡ s ^ suc t = ap (λ (x : ℕ). x * s) (e ∙ stride-is s t (omega arith)) ∙ mul-comm (s ^ t) s ∙ sym (pow-succ' s t) in
       let few : s ≤ 255 = omega arith in
-      let small : s ^ suc t ≤ 255 ^ 4 = omega (arith, pow-le-pow-left few (suc t), pow-le-pow-right {n = 255} (omega arith) {i = suc t} {j = 4} (omega arith)) in
-      ap (λ (x : ℕ). x % 4294967296) a ∙ whole (s ^ suc t) (omega (arith, small)) ∙ rw (add-one t) (sym (stride-is s (suc t) (omega arith)))
+      let small : s ^ suc t ≤ 255 ^ 4 = omega (
+        arith,
+        pow-le-pow-left few (suc t),
+        pow-le-pow-right {n = 255} (omega arith) {i = suc t} {j = 4} (omega arith),
+      ) in
+      ap (λ (x : ℕ). x % 4294967296) a ∙ whole (s ^ suc t) (omega (arith, small))
+      ∙ rw (add-one t) (sym (stride-is s (suc t) (omega arith)))
     where
       whole : (x : ℕ) → x < 4294967296 → x % 4294967296 ≡ x
       whole x h = omega arith
@@ -105,19 +112,27 @@ module _ (table behind : List ℕ) (mover : Mover) (x e : ℕ) (here : x ≡ sec
   no-way r u k = omega (arith, k .below)
 
   module _ (j y : ℕ)
-      (told : (r : Railway) (shut : ℕ → Bool) → Laid r shut behind → e < sectionEnds → y ≡ toByte (nth (routesFrom r shut (endAt e)) j))
-      (r : Railway) (g : Standing r table behind mover) where
+      (told : (r : Railway) (shut : ℕ → Bool) → Laid r shut behind → e < sectionEnds
+      → y ≡ toByte (nth (routesFrom r shut (endAt e)) j))
+      (r : Railway) (g : MoverOf r table behind mover) where
     -- the section that is read there
     way-is : y ≡ sectionBehind r (mover .train) x j
     way-is =
         let ok = facts r (g .on .compiled .accepted) in
         let small : x < mostSections =
-        omega (arith, here, g .on .stands (mover .train), section-below r ok (mover .code) (mover .train) (g .train), ok .few-sections) in
+        omega (
+          arith,
+          here,
+          g .on .stands (mover .train),
+          section-below r ok (mover .code) (mover .train) (g .train),
+          ok .few-sections,
+        ) in
         let i = rear r (g .on .compiled) in
         told r (λ z. false) (g .laid) (end-inside r (mover .train) x e small i)
         ∙ ap (λ (d : End). toByte (nth (routesFrom r (λ z. false) d) j)) (end-at-behind r (mover .train) x e small i)
 
-    pub way-next : (u : ℕ) → BackBy r (mover .code) (mover .train) x (j + 1) u → (p : ℕ) → p ≡ codeWith r (mover .code) (mover .train) y
+    pub way-next : (u : ℕ) → BackBy r (mover .code) (mover .train) x (j + 1) u → (p : ℕ)
+        → p ≡ codeWith r (mover .code) (mover .train) y
         → BackBy r (mover .code) (mover .train) x j u ⊎ One p u
     way-next u k p put = elim (eq? (k .number) j) [
       | inl z ↦
@@ -139,7 +154,8 @@ module _ (table behind : List ℕ) (mover : Mover) (x e : ℕ) (here : x ≡ sec
         )
 
     -- no way is left
-    pub way-last : y ≡ noSection → (u : ℕ) → BackBy r (mover .code) (mover .train) x mostWays u → BackBy r (mover .code) (mover .train) x j u
+    pub way-last : y ≡ noSection → (u : ℕ) → BackBy r (mover .code) (mover .train) x mostWays u
+        → BackBy r (mover .code) (mover .train) x j u
     way-last z u k =
         record {
           number = k .number;
@@ -153,9 +169,10 @@ module _ (table behind : List ℕ) (mover : Mover) (x e : ℕ) (here : x ≡ sec
   all-ways j l r u k = record { number = k .number; below = omega (arith, k .below); there = k .there; code = k .code }
 
   -- who moves to the placement has come by one of them
-  pub by-ways : (r : Railway) → Standing r table behind mover → (u : ℕ) → u < placements r → By r (mover .code) (mover .train) u
+  pub by-ways : (r : Railway) → MoverOf r table behind mover → (u : ℕ) → u < placements r → By r (mover .code) (mover .train) u
       → BackBy r (mover .code) (mover .train) x mostWays u
   unfolding settingAt
   by-ways r g u l k =
-      came-by r (g .on .compiled .accepted) (mover .code) u (mover .train) (k .entry) (settingAt r u (k .entry)) refl l (g .train) (k .moves)
+      came-by r (g .on .compiled .accepted) (mover .code) u (mover .train) (k .entry) (settingAt r u (k .entry)) refl l
+      (g .train) (k .moves)
       x (here ∙ g .on .stands (mover .train))

@@ -1,4 +1,5 @@
--- Visits in place. The search for figure n looks at figures below n alone, and what round n enters is n: so a visit finds what it would have
+-- Visits in place. The search for figure n looks at figures below n alone, and what round n enters is n: so a visit
+-- finds what it would have
 -- found in the tables as they were when the round began, and visits may be made one after another, in any order and more than once.
 -- Assumes nothing.
 use mathlib.Core.Path.{_≡_, refl, sym, _∙_, ap}
@@ -56,12 +57,16 @@ module _ (r : Railway) (F : ℕ → Option ℕ) (n q f v f′ v′ : ℕ) where
 changed-then : (r : Railway) (F F₁ : ℕ → Option ℕ) (n q f v f₁ v₁ f₂ v₂ : ℕ) → n < noFigure → find r F₁ q n ≡ find r F q n
     → Changed r F n q f v f₁ v₁ → Changed r F₁ n q f₁ v₁ f₂ v₂ → Changed r F n q f v f₂ v₂
 changed-then r F F₁ n q f v f₁ v₁ f₂ v₂ small finds (same a b) (same c d) = same (c ∙ a) (d ∙ b)
-changed-then r F F₁ n q f v f₁ v₁ f₂ v₂ small finds (same a b) (gained e o c h) = gained (ap figureEntry (sym a) ∙ e) o c (sym finds ∙ h)
-changed-then r F F₁ n q f v f₁ v₁ f₂ v₂ small finds (gained e o a h) (same c d) = gained e o (c ∙ a) (h ∙ ap (λ (x : ℕ). some x) (sym d))
-changed-then r F F₁ n q f v f₁ v₁ f₂ v₂ small finds (gained e o a h) (gained e′ o′ c h′) = some-none (ap figureEntry a ∙ entry-some n (λ z. omega arith)) e′
+changed-then r F F₁ n q f v f₁ v₁ f₂ v₂ small finds (same a b) (gained e o c h) =
+    gained (ap figureEntry (sym a) ∙ e) o c (sym finds ∙ h)
+changed-then r F F₁ n q f v f₁ v₁ f₂ v₂ small finds (gained e o a h) (same c d) =
+    gained e o (c ∙ a) (h ∙ ap (λ (x : ℕ). some x) (sym d))
+changed-then r F F₁ n q f v f₁ v₁ f₂ v₂ small finds (gained e o a h) (gained e′ o′ c h′) =
+    some-none (ap figureEntry a ∙ entry-some n (λ z. omega arith)) e′
 
 -- ANY VISITS
-module _ (r : Railway) (n : ℕ) (c : Turned) (S : ℕ → Type 0) (figs sets figs′ sets′ marks′ : List ℕ) (s : Visited r n c S figs sets figs′ sets′ marks′) where
+module _ (r : Railway) (n : ℕ) (c : Turned) (S : ℕ → Type 0) (figs sets figs′ sets′ marks′ : List ℕ)
+    (s : Visited r n c S figs sets figs′ sets′ marks′) where
   pub visited-onward : (q j : ℕ) → q < placements r → figureIn figs q ≡ some j → figureIn figs′ q ≡ some j
   visited-onward q j l = changed-onward r (figureIn figs) n q _ _ _ _ refl (s .each q l) j
 
@@ -69,7 +74,9 @@ module _ (r : Railway) (n : ℕ) (c : Turned) (S : ℕ → Type 0) (figs sets fi
   visited-back q j l = changed-back r (figureIn figs) n q _ _ _ _ refl (s .each q l) j
 
   visited-finds : recordRefusal r ≡ none → (q : ℕ) → q < placements r → find r (figureIn figs′) q n ≡ find r (figureIn figs) q n
-  visited-finds accepted q l = find-carry r (facts r accepted) (figureIn figs′) (figureIn figs) q n l visited-back (λ p j lp b e. visited-onward p j lp e)
+  visited-finds accepted q l =
+      find-carry r (facts r accepted) (figureIn figs′) (figureIn figs) q n l visited-back
+      (λ p j lp b e. visited-onward p j lp e)
 
   visited-none-yet : (q : ℕ) → q < placements r → figureIn figs′ q ≡ none → figureIn figs q ≡ none
   visited-none-yet q l = changed-none r (figureIn figs) n q _ _ _ _ (s .each q l)
@@ -87,10 +94,12 @@ module _ (r : Railway) (n : ℕ) (c : Turned) (S : ℕ → Type 0) (figs sets fi
 
   -- with other marks, when more codes have had their turn
   pub visited-marked : (d : Turned) (marks″ : List ℕ) → Marked r n d figs′ marks″ → Visited r n d S figs sets figs′ sets′ marks″
-  visited-marked d marks″ k = record { each = s .each; past-figs = s .past-figs; past-sets = s .past-sets; settled = s .settled; marked = k }
+  visited-marked d marks″ k =
+      record { each = s .each; past-figs = s .past-figs; past-sets = s .past-sets; settled = s .settled; marked = k }
 
 -- THE ROUND GOES ON
-pub round-on : (r : Railway) (table ways : List ℕ) (this : ThisRound) (c : Turned) (S : ℕ → Type 0) (figs sets figs′ sets′ marks′ : List ℕ)
+pub round-on : (r : Railway) (table ways : List ℕ) (this : ThisRound) (c : Turned) (S : ℕ → Type 0)
+    (figs sets figs′ sets′ marks′ : List ℕ)
     → Visited r (this .n) c S figs sets figs′ sets′ marks′ → (d : Turned) (marks : List ℕ) → Round r table ways this d figs marks
     → Round r table ways this c figs′ marks′
 round-on r table ways this c S figs sets figs′ sets′ marks′ s d marks o =
@@ -106,22 +115,33 @@ round-on r table ways this c S figs sets figs′ sets′ marks′ s d marks o =
 
 -- NOTHING ENTERED
 module _ (r : Railway) (n : ℕ) (c : Turned) (S : ℕ → Type 0) (figs sets marks : List ℕ) (k : Marked r n c figs marks) where
-  pub visited-rests : ((q : ℕ) → q < placements r → S q → figureIn figs q ≡ none → over (gameOf r) q ≡ false → find r (figureIn figs) q n ≡ none) → Visited r n c S figs sets figs sets marks
-  visited-rests h = record { each = λ q l. same refl refl; past-figs = λ q d l. refl; past-sets = λ q d l. refl; settled = h; marked = k }
+  pub visited-rests : ((q : ℕ) → q < placements r → S q → figureIn figs q ≡ none → over (gameOf r) q ≡ false
+      → find r (figureIn figs) q n ≡ none) → Visited r n c S figs sets figs sets marks
+  visited-rests h = record {
+    each = λ q l. same refl refl;
+    past-figs = λ q d l. refl;
+    past-sets = λ q d l. refl;
+    settled = h;
+    marked = k;
+  }
 
   pub visited-none : ((q : ℕ) → q < placements r → S q → ⊥) → Visited r n c S figs sets figs sets marks
   visited-none h = visited-rests (λ q l u. absurd (h q l u))
 
 -- SOME VISITS, AND SOME MORE
-module _ (r : Railway) (accepted : recordRefusal r ≡ none) (n : ℕ) (c d : Turned) (small : n + mostWeight < noFigure) (S T U : ℕ → Type 0) (figs sets figs₁ sets₁ marks₁ figs₂ sets₂ marks₂ : List ℕ)
-    (x : Visited r n c S figs sets figs₁ sets₁ marks₁) (y : Visited r n d T figs₁ sets₁ figs₂ sets₂ marks₂) (covers : (q : ℕ) → q < placements r → U q → S q ⊎ T q) where
+module _ (r : Railway) (accepted : recordRefusal r ≡ none) (n : ℕ) (c d : Turned)
+    (small : n + mostWeight < noFigure) (S T U : ℕ → Type 0) (figs sets figs₁ sets₁ marks₁ figs₂ sets₂ marks₂ : List ℕ)
+    (x : Visited r n c S figs sets figs₁ sets₁ marks₁) (y : Visited r n d T figs₁ sets₁ figs₂ sets₂ marks₂)
+    (covers : (q : ℕ) → q < placements r → U q → S q ⊎ T q) where
   finds : (q : ℕ) → q < placements r → find r (figureIn figs₁) q n ≡ find r (figureIn figs) q n
   finds = visited-finds r n c S figs sets figs₁ sets₁ marks₁ x accepted
 
   pub visited-then : Visited r n d U figs sets figs₂ sets₂ marks₂
   visited-then =
       record {
-        each = λ q l. changed-then r (figureIn figs) (figureIn figs₁) n q _ _ _ _ _ _ (omega arith) (finds q l) (x .each q l) (y .each q l);
+        each =
+            λ q l. changed-then r (figureIn figs) (figureIn figs₁) n q _ _ _ _ _ _ (omega arith) (finds q l)
+            (x .each q l) (y .each q l);
         past-figs = λ q e l. y .past-figs q e l ∙ x .past-figs q e l;
         past-sets = λ q e l. y .past-sets q e l ∙ x .past-sets q e l;
         settled = λ q l u e o. elim (covers q l u) [
@@ -132,12 +152,17 @@ module _ (r : Railway) (accepted : recordRefusal r ≡ none) (n : ℕ) (c d : Tu
       }
 
 -- ONE VISIT, of a placement without a figure
-module _ (r : Railway) (table ways : List ℕ) (this : ThisRound) (d : Turned) (p : ℕ) (figs sets marks : List ℕ) (o : Round r table ways this d figs marks)
-    (l : p < placements r) (empty : figureIn figs p ≡ none) (found : Option ℕ) (searched : found ≡ firstKeeping r (figureIn figs) p (this .n)) where
+module _ (r : Railway) (table ways : List ℕ) (this : ThisRound) (d : Turned) (p : ℕ) (figs sets marks : List ℕ)
+    (o : Round r table ways this d figs marks)
+    (l : p < placements r) (empty : figureIn figs p ≡ none) (found : Option ℕ)
+    (searched : found ≡ firstKeeping r (figureIn figs) p (this .n)) where
   pub visit-rests : found ≡ none → Visited r (this .n) d (One p) figs sets figs sets marks
-  visit-rests e = visited-rests r (this .n) d (One p) figs sets marks (o .marked) (λ q lq u y g. rw u (finds-nothing r (this .n) p figs found searched e (rw u at g)))
+  visit-rests e =
+      visited-rests r (this .n) d (One p) figs sets marks (o .marked)
+      (λ q lq u y g. rw u (finds-nothing r (this .n) p figs found searched e (rw u at g)))
 
-  module _ (inside-figs : p < length figs) (inside-sets : p < length sets) (marks′ : List ℕ) (raise : Room marks → p < mostCodes → Raised marks p (this .n) (this .soon) marks′) where
+  module _ (inside-figs : p < length figs) (inside-sets : p < length sets) (marks′ : List ℕ)
+      (raise : Room marks → p < mostCodes → Raised marks p (this .n) (this .soon) marks′) where
     raised : Raised marks p (this .n) (this .soon) marks′
     raised = raise (o .marked .room) (omega (arith, o .marked .few))
 
@@ -156,7 +181,8 @@ module _ (r : Railway) (table ways : List ℕ) (this : ThisRound) (d : Turned) (
       | inr z ↦ omega (arith, o .marked .most q j lq z, raised .higher q (omega (arith, o .marked .few)))
     ]
 
-    due : (q j t : ℕ) → q < placements r → t < r .trains → First r t → figureIn (set figs p (this .n)) q ≡ some j → since (this .n) d t q ≤ j + weightOf r t → dueAt marks′ t q ≤ j + weightOf r t
+    due : (q j t : ℕ) → q < placements r → t < r .trains → First r t → figureIn (set figs p (this .n)) q ≡ some j
+        → since (this .n) d t q ≤ j + weightOf r t → dueAt marks′ t q ≤ j + weightOf r t
     due q j t lq lt first e h =
         let ok = facts r (o .compiled .accepted) in
         let few : t < mostTrains = omega (arith, ok .few-trains) in
@@ -172,7 +198,8 @@ module _ (r : Railway) (table ways : List ℕ) (this : ThisRound) (d : Turned) (
     visit-gains v e =
         record {
           each = λ q lq. elim (eq? q p) [
-            | inl z ↦ rw z (gained empty (x .0) (getD-set-same figs p (this .n) noFigure inside-figs) (x .1 ∙ ap (λ (y : ℕ). some y) (sym (getD-set-same sets p v 0 inside-sets))))
+            | inl z ↦ rw z (gained empty (x .0) (getD-set-same figs p (this .n) noFigure inside-figs)
+                (x .1 ∙ ap (λ (y : ℕ). some y) (sym (getD-set-same sets p v 0 inside-sets))))
             | inr z ↦ same (getD-set-other figs p q (this .n) noFigure z) (getD-set-other sets p q v 0 z)
           ];
           past-figs = λ q e lq. getD-set-other figs p q (this .n) e (λ z. omega arith);
@@ -185,4 +212,6 @@ module _ (r : Railway) (table ways : List ℕ) (this : ThisRound) (d : Turned) (
         x = finds-entry r (this .n) p figs found searched (o .homed p l) empty v e
 
         figure-now : figureIn (set figs p (this .n)) p ≡ some (this .n)
-        figure-now = ap figureEntry (getD-set-same figs p (this .n) noFigure inside-figs) ∙ entry-some (this .n) (λ z. omega (arith, o .small))
+        figure-now =
+            ap figureEntry (getD-set-same figs p (this .n) noFigure inside-figs)
+            ∙ entry-some (this .n) (λ z. omega (arith, o .small))

@@ -1,11 +1,11 @@
-// The rounds of a search: two lent tables, filled in place round by round. In round n a placement without a figure gets n if some
-// setting leads from it, by whatever move, to figures that are smaller by at least the mover's weight. The search for figure n reads only figures below n, so entries
-// made in the same round do not disturb it. A placement that gains figure n has a move of some train to a figure that makes n with the train's weight, so a round
-// visits only what is one such move before those: they are its frontier. Marks say for each stretch of codes and each weight which round is the next that the
-// figures there make due, so that a round passes by the stretches where the frontier has none, and whoever runs rounds can pass by those that are due nowhere.
-// The functions promise what they do for every accepted railway whose compiled table and ways they are handed: those into sections that are not
-// closed, for moves, and those to all sections, for going back. `begin` and `round` ask for nothing: where a table is too short they do
-// nothing, and promise nothing.
+// The rounds of a search: two lent tables, filled in place round by round. In round n a placement without a figure gets n if some setting
+// leads from it, by whatever move, to figures that are smaller by at least the mover's weight. The search for figure n reads only figures
+// below n, so entries made in the same round do not disturb it. A placement that gains figure n has a move of some train to a figure that
+// makes n with the train's weight, so a round visits only what is one such move before those: they are its frontier. Marks say for each
+// stretch of codes and each weight which round is the next that the figures there make due, so that a round passes by the stretches where
+// the frontier has none, and whoever runs rounds can pass by those that are due nowhere. The functions promise what they do for every
+// accepted railway whose compiled table and ways they are handed: those into sections that are not closed, for moves, and those to all
+// sections, for going back. `begin` and `round` ask for nothing: where a table is too short they do nothing, and promise nothing.
 ghost use mathlib.Core.Path.{_≡_};
 ghost use mathlib.Core.Bool.{false};
 ghost use mathlib.Core.Option.{none};
@@ -25,7 +25,7 @@ ghost use Rattle.moves.specs.Steps.{strideOf, On};
 ghost use Rattle.predecessors.specs.Behind.{Behind};
 ghost use Rattle.rounds.specs.Rounds.{After, RoundPost};
 ghost use Rattle.marks.specs.Marks.{stretchLength};
-ghost use Rattle.rounds.specs.Visits.{Turned, First, MarkedFor, Round, Standing, Visited, Stretch, Passed, Waits};
+ghost use Rattle.rounds.specs.Visits.{Turned, First, MarkedFor, Round, MoverOf, Visited, Stretch, Passed, Waits};
 ghost use Rattle.rounds.specs.Visits.{One, By, ByWeight, Comes, Ahead, Apart};
 use compiled::Table;
 use marks::STRETCH;
@@ -74,7 +74,9 @@ pub struct Mover {
 
 // Before the first round, in two tables that are long enough: home has figure 0, every other placement none, and no setting is set.
 pub fn begin(table: &Table, figures: &mut [u32], settings: &mut [u32])
-    ensures { λ u. ⌜ ((r : Railway) → Compiled r (now (table .entry)) → placements r ≤ length (now (figures .entry)) → placements r ≤ length (now (settings .entry)) → After r 0 (now (figures .entry)) (now (settings .entry)) (now (figures .exit)) (now (settings .exit))) ⌝ }
+    ensures { λ u. ⌜ ((r : Railway) → Compiled r (now (table .entry))
+        → placements r ≤ length (now (figures .entry)) → placements r ≤ length (now (settings .entry))
+        → After r 0 (now (figures .entry)) (now (settings .entry)) (now (figures .exit)) (now (settings .exit))) ⌝ }
 {
     let m = moves::placements(table);
     if figures.len() < (m as usize) {
@@ -86,8 +88,8 @@ pub fn begin(table: &Table, figures: &mut [u32], settings: &mut [u32])
     clear(table, figures, settings, m);
 }
 
-// Round n, in place, and a later round before which none is due. The tables have to be those of the round before, and the marks right for round n; then they are
-// those of round n, and right for the one that is answered.
+// Round n, in place, and a later round before which none is due. The tables have to be those of the round before, and the marks right for
+// round n; then they are those of round n, and right for the one that is answered.
 pub fn round(
     table: &Table,
     ways: &Ways,
@@ -97,7 +99,12 @@ pub fn round(
     marks: &mut [u32],
     n: u32,
 ) -> u32
-    ensures { λ e. ⌜ (n < noFigure → n < e) × ((r : Railway) (k : ℕ) → Compiled r (now (table .entry)) → Laid r (isClosed r) (now (ways .entry)) → Behind r (now (behind .entry)) → placements r ≤ length (now (figures .entry)) → placements r ≤ length (now (settings .entry)) → n ≤ mostFigure → n ≡ suc k → RoundTables r k (now (figures .entry)) (now (settings .entry)) → MarkedFor r n (now (figures .entry)) (now (marks .entry)) → RoundPost r n (now (figures .entry)) (now (settings .entry)) (now (figures .exit)) (now (settings .exit)) e × MarkedFor r e (now (figures .exit)) (now (marks .exit))) ⌝ }
+    ensures { λ e. ⌜ (n < noFigure → n < e) × ((r : Railway) (k : ℕ) → Compiled r (now (table .entry))
+        → Laid r (isClosed r) (now (ways .entry)) → Behind r (now (behind .entry))
+        → placements r ≤ length (now (figures .entry)) → placements r ≤ length (now (settings .entry)) → n ≤ mostFigure → n ≡ suc k
+        → RoundTables r k (now (figures .entry)) (now (settings .entry)) → MarkedFor r n (now (figures .entry)) (now (marks .entry))
+        → RoundPost r n (now (figures .entry)) (now (settings .entry)) (now (figures .exit)) (now (settings .exit)) e
+        × MarkedFor r e (now (figures .exit)) (now (marks .exit))) ⌝ }
 {
     let m = moves::placements(table);
     if figures.len() < (m as usize) {
@@ -115,7 +122,8 @@ pub fn round(
 // Before the first round: home has figure 0, every other placement none, and no setting is set.
 fn clear(table: &Table, figures: &mut [u32], settings: &mut [u32], m: u32)
     requires { ⌜ (m ≤ length (now figures)) × (m ≤ length (now settings)) ⌝ }
-    ensures { λ u. ⌜ ((r : Railway) → Compiled r (now (table .entry)) → m ≡ placements r → After r 0 (now (figures .entry)) (now (settings .entry)) (now (figures .exit)) (now (settings .exit))) ⌝ }
+    ensures { λ u. ⌜ ((r : Railway) → Compiled r (now (table .entry)) → m ≡ placements r
+        → After r 0 (now (figures .entry)) (now (settings .entry)) (now (figures .exit)) (now (settings .exit))) ⌝ }
 {
     let home = moves::home_code(table);
     let mut p: u32 = 0;
@@ -181,9 +189,10 @@ fn round_by(
 )
     requires { ⌜ (this .m ≤ length (now figures)) × (this .m ≤ length (now settings)) ⌝ }
     ensures { λ u. ⌜ ((r : Railway) → Behind r (now (behind .entry))
-        → Round r (now (table .entry)) (now (ways .entry)) this (record { train = t; code = 0 }) (now (figures .entry)) (now (marks .entry)) → t < r .trains
-        → Visited r (this .n) (record { train = suc t; code = 0 }) (Apart r (this .n) (now (figures .entry)) 0 (this .m) t) (now (figures .entry)) (now (settings .entry))
-        (now (figures .exit)) (now (settings .exit)) (now (marks .exit))) ⌝ }
+        → Round r (now (table .entry)) (now (ways .entry)) this (record { train = t; code = 0 })
+        (now (figures .entry)) (now (marks .entry)) → t < r .trains
+        → Visited r (this .n) (record { train = suc t; code = 0 }) (Apart r (this .n) (now (figures .entry)) 0 (this .m) t)
+        (now (figures .entry)) (now (settings .entry)) (now (figures .exit)) (now (settings .exit)) (now (marks .exit))) ⌝ }
 {
     if dues::shares_weight(table, t) {
         return;
@@ -246,11 +255,12 @@ fn visit_stretch(
     requires { ⌜ (this .m ≤ length (now figures)) × (this .m ≤ length (now settings))
         × (codes .from < codes .upto) × (codes .upto ≤ this .m) ⌝ }
     ensures { λ u. ⌜ ((r : Railway) → Behind r (now (behind .entry))
-        → Round r (now (table .entry)) (now (ways .entry)) this (record { train = t; code = codes .from }) (now (figures .entry)) (now (marks .entry))
+        → Round r (now (table .entry)) (now (ways .entry)) this (record { train = t; code = codes .from })
+        (now (figures .entry)) (now (marks .entry))
         → t < r .trains → First r t → Stretch (this .m) (codes .from) (codes .upto)
         → Visited r (this .n) (record { train = t; code = codes .upto })
-        (Ahead r (this .n) (weightOf r t) (now (figures .entry)) (codes .from) (codes .upto)) (now (figures .entry)) (now (settings .entry))
-        (now (figures .exit)) (now (settings .exit)) (now (marks .exit))) ⌝ }
+        (Ahead r (this .n) (weightOf r t) (now (figures .entry)) (codes .from) (codes .upto))
+        (now (figures .entry)) (now (settings .entry)) (now (figures .exit)) (now (settings .exit)) (now (marks .exit))) ⌝ }
 {
     let n = this.n;
     let from = codes.from;
@@ -418,7 +428,7 @@ fn visit_weighing(
     mover: Mover,
 )
     requires { ⌜ (this .m ≤ length (now figures)) × (this .m ≤ length (now settings)) ⌝ }
-    ensures { λ u. ⌜ ((r : Railway) (d : Turned) → Standing r (now (table .entry)) (now (behind .entry)) mover
+    ensures { λ u. ⌜ ((r : Railway) (d : Turned) → MoverOf r (now (table .entry)) (now (behind .entry)) mover
         → Round r (now (table .entry)) (now (ways .entry)) this d (now (figures .entry)) (now (marks .entry))
         → Visited r (this .n) d (ByWeight r w (mover .code) (mover .train)) (now (figures .entry)) (now (settings .entry))
         (now (figures .exit)) (now (settings .exit)) (now (marks .exit))) ⌝ }
@@ -451,7 +461,7 @@ fn visit_train(
     mover: Mover,
 )
     requires { ⌜ (this .m ≤ length (now figures)) × (this .m ≤ length (now settings)) ⌝ }
-    ensures { λ u. ⌜ ((r : Railway) (d : Turned) → Standing r (now (table .entry)) (now (behind .entry)) mover
+    ensures { λ u. ⌜ ((r : Railway) (d : Turned) → MoverOf r (now (table .entry)) (now (behind .entry)) mover
         → Round r (now (table .entry)) (now (ways .entry)) this d (now (figures .entry)) (now (marks .entry))
         → Visited r (this .n) d (By r (mover .code) (mover .train)) (now (figures .entry)) (now (settings .entry))
         (now (figures .exit)) (now (settings .exit)) (now (marks .exit))) ⌝ }
@@ -484,7 +494,8 @@ fn visit_put(
     p: u32,
 )
     requires { ⌜ (this .m ≤ length (now figures)) × (this .m ≤ length (now settings)) ⌝ }
-    ensures { λ u. ⌜ ((r : Railway) (d : Turned) → Round r (now (table .entry)) (now (ways .entry)) this d (now (figures .entry)) (now (marks .entry))
+    ensures { λ u. ⌜ ((r : Railway) (d : Turned)
+        → Round r (now (table .entry)) (now (ways .entry)) this d (now (figures .entry)) (now (marks .entry))
         → On r (mover .code) (now (table .entry)) (mover .placement) → mover .train < r .trains → y < r .sections
         → p ≡ codeWith r (mover .code) (mover .train) y
         → Visited r (this .n) d (One p) (now (figures .entry)) (now (settings .entry))
@@ -521,7 +532,8 @@ fn visit(
     p: u32,
 )
     requires { ⌜ (p < length (now figures)) × (p < length (now settings)) ⌝ }
-    ensures { λ u. ⌜ ((r : Railway) (d : Turned) → Round r (now (table .entry)) (now (ways .entry)) this d (now (figures .entry)) (now (marks .entry))
+    ensures { λ u. ⌜ ((r : Railway) (d : Turned)
+        → Round r (now (table .entry)) (now (ways .entry)) this d (now (figures .entry)) (now (marks .entry))
         → On r p (now (table .entry)) q → p < placements r → figureIn (now (figures .entry)) p ≡ none
         → Visited r (this .n) d (One p) (now (figures .entry)) (now (settings .entry))
         (now (figures .exit)) (now (settings .exit)) (now (marks .exit))) ⌝ }

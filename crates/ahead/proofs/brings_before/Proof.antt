@@ -9,7 +9,7 @@ use Rattle.railway.specs.declared.Railway.{Railway}
 use Rattle.game.specs.Placement.{placements}
 use Rattle.moves.specs.Steps.{strideOf}
 use Rattle.rounds.specs.declared.Mover.{Mover}
-use Rattle.rounds.specs.Visits.{Standing, By, ByWeight, Comes}
+use Rattle.rounds.specs.Visits.{MoverOf, By, ByWeight, Comes}
 use Rattle.rounds.proofs.Loops.{no-train, train-next, all-trains, train-there}
 use Rattle.ahead.specs.Bringing.{Looking}
 use Rattle.ahead.proofs.Telling.{told-yes, told-no, RestsTo, rests-start, rests-next, rests-end}
@@ -32,25 +32,23 @@ Given b r =
     let a = start b .args in
     Looking r (a .table .now) (a .ways .now) (a .behind .now) (a .m) (a .figures .now) × (a .c < placements r)
 
--- a train, with its stride
-abbrev mover : tie.At-loop Inv-loop μ-loop → ℕ → Mover
-mover l stride =
-    let b = l .before in
-    record { placement = b .before .before .placement-of .result; code = start b .args .c; train = l .loop .t; stride = stride }
+-- train t with its stride, which may have come to the placement
+abbrev mover : tie.After-trains-in Inv-loop μ-loop → ℕ → ℕ → Mover
+mover b t stride =
+    record { placement = b .before .before .placement-of .result; code = start b .args .c; train = t; stride = stride }
 
-standing : (i : tie.In-loop Inv-loop μ-loop) (r : Railway) → Given (i .before .before) r → (stride : ℕ)
-    → stride ≡ strideOf (i .before .before .before .sections-in .result) (i .before .loop .t)
-    → Standing r (start (i .before .before) .args .table .now) (start (i .before .before) .args .behind .now) (mover (i .before) stride)
-standing i r g stride is =
-    let b = i .before .before in
+mover-of : (b : tie.After-trains-in Inv-loop μ-loop) (r : Railway) → Given b r → (t stride : ℕ)
+    → t < b .trains-in .result → stride ≡ strideOf (b .before .sections-in .result) t
+    → MoverOf r (start b .args .table .now) (start b .args .behind .now) (mover b t stride)
+mover-of b r g t stride on is =
     let s = b .before in
     let h = g .0 .compiled in
     record {
       laid = g .0 .back;
       on = s .before .placement-of .ensures r h;
       code = g .1;
-      train = train-there r _ _ (b .trains-in .ensures r h) (i .loop-test .taken);
-      stride = is ∙ ap (λ (x : ℕ). strideOf x (i .before .loop .t)) (s .sections-in .ensures r h);
+      train = train-there r _ _ (b .trains-in .ensures r h) on;
+      stride = is ∙ ap (λ (x : ℕ). strideOf x t) (s .sections-in .ensures r h);
     }
 
 loop-holds : tie.Need-loop-holds Inv-loop μ-loop
@@ -64,10 +62,12 @@ returns c =
     let p = v .before in
     let i = p .before .before .before in
     let l = i .before in
-    let a = start (l .before) .args in
+    let b = l .before in
+    let a = start b .args in
     λ r o lc.
     told-yes r (a .n) (a .figures .now) (By r (a .c) (l .loop .t)) _
-    (v .brings-train .ensures r o (standing i r (o, lc) _ (p .power .ensures))) (c .if2 .taken) (Comes r (a .w) (a .c) (r .trains))
+    (v .brings-train .ensures r o (mover-of b r (o, lc) (l .loop .t) _ (i .loop-test .taken) (p .power .ensures)))
+    (c .if2 .taken) (Comes r (a .w) (a .c) (r .trains))
 
 add-t : tie.Need-add-t Inv-loop μ-loop
 add-t c = omega (arith, c .before .before .loop-test .taken)
@@ -88,7 +88,8 @@ loop-again c =
     ⊎-elim
     (λ z q lq k.
     told-no r (a .n) (a .figures .now) (By r (a .c) (l .loop .t)) _
-    (z .2 .ensures r (g .0) (standing i r g _ (z .1 .ensures))) (z .3 .left) q lq (k .by))
+    (z .2 .ensures r (g .0) (mover-of b r g (l .loop .t) _ (i .loop-test .taken) (z .1 .ensures))) (z .3 .left) q lq
+    (k .by))
     (λ z q lq k. absurd (z .left (w .weight-in .ensures r (g .0 .compiled) ∙ k .weighs)))
     (c .if1 .came))
     (λ r g q lq k. train-next r (a .w) (a .c) (l .loop .t) q k)

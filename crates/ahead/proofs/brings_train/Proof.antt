@@ -6,7 +6,7 @@ use Prim.Native.Nat.{_+_, _-_}
 use Rattle.railway.specs.declared.Railway.{Railway}
 use Rattle.routes.specs.Routes.{mostWays}
 use Rattle.predecessors.specs.Behind.{BackBy}
-use Rattle.rounds.specs.Visits.{Standing, One, By}
+use Rattle.rounds.specs.Visits.{MoverOf, One, By}
 use Rattle.rounds.proofs.Retracing.{no-way, way-next, way-put, way-last, all-ways, by-ways}
 use Rattle.ahead.specs.Bringing.{Looking}
 use Rattle.ahead.proofs.Telling.{told-yes, told-no, RestsTo, rests-start, rests-next, rests-end}
@@ -15,7 +15,7 @@ use Rattle.ahead.proofs.brings_train.Tie as tie
 
 abbrev Inv-loop : tie.InvT-loop
 Inv-loop table ways behind figures m n mover t x e j₀ j =
-    RestsTo (λ r. Looking r table ways behind m figures × Standing r table behind mover) n figures
+    RestsTo (λ r. Looking r table ways behind m figures × MoverOf r table behind mover) n figures
     (λ r i. BackBy r (mover .code) (mover .train) x i) j
 
 abbrev μ-loop : tie.MeasureT-loop
@@ -29,7 +29,7 @@ abbrev Given : tie.After-end-behind Inv-loop μ-loop → Railway → Type 0
 Given b r =
     let a = start b .args in
     Looking r (a .table .now) (a .ways .now) (a .behind .now) (a .m) (a .figures .now)
-    × Standing r (a .table .now) (a .behind .now) (a .mover)
+    × MoverOf r (a .table .now) (a .behind .now) (a .mover)
 
 loop-holds : tie.Need-loop-holds Inv-loop μ-loop
 loop-holds b =

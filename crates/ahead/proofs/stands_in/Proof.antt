@@ -24,7 +24,10 @@ returns p =
     stands (x .before .before .loop .c) (omega (arith, x .before .loop-test .taken)) (sym (x .entry-at .ensures) ∙ p .if1 .taken)
 
 add-c : tie.Need-add-c Inv-loop μ-loop
-add-c p = let i = p .before .before in let a = i .before .before .before in omega (arith, i .loop-test .taken, a .fits .upto)
+add-c p =
+    let i = p .before .before in
+    let a = i .before .before .before in
+    omega (arith, i .loop-test .taken, a .fits .upto)
 
 loop-less : tie.Need-loop-less Inv-loop μ-loop
 loop-less p = omega (arith, p .before .before .loop-test .taken)

@@ -15,7 +15,9 @@ abbrev μ-loop : tie.MeasureT-loop
 μ-loop table figures₀ settings₀ m home p₀ figures settings p = m - p
 
 loop-holds : tie.Need-loop-holds Inv-loop μ-loop
-loop-holds c = let a = c .before .before .before in clearing-start (a .args .table .now) (a .args .m) (a .args .figures .now) (a .args .settings .now)
+loop-holds c =
+    let a = c .before .before .before in
+    clearing-start (a .args .table .now) (a .args .m) (a .args .figures .now) (a .args .settings .now)
 
 slice-write-figures : tie.Need-slice-write-figures Inv-loop μ-loop
 slice-write-figures c = let l = c .before .before in omega (arith, l .loop .inv .long-figs)
@@ -31,7 +33,9 @@ loop-again c =
     let l = c .before .before in
     let k = l .before in
     let a = k .before .before .before in
-    clearing-next (a .args .table .now) (a .args .m) (a .args .figures .now) (a .args .settings .now) _ _ (l .loop .p) (l .loop .inv) _ _ (omega arith) (a .pre .0) (a .pre .1) (λ r h lp. c .first-figure .ensures r (h .accepted) (k .home-code .ensures r h) lp) refl
+    clearing-next (a .args .table .now) (a .args .m) (a .args .figures .now) (a .args .settings .now) _ _ (l .loop .p)
+    (l .loop .inv) _ _ (omega arith) (a .pre .0) (a .pre .1)
+    (λ r h lp. c .first-figure .ensures r (h .accepted) (k .home-code .ensures r h) lp) refl
 
 same-length : tie.Need-same-length Inv-loop μ-loop
 same-length c = c .before .loop .inv .long-figs
@@ -43,7 +47,8 @@ returns : tie.Need-returns Inv-loop μ-loop
 returns c =
     let l = c .before in
     let a = l .before .before .before .before in
-    clearing-end (a .args .table .now) (a .args .m) (a .args .figures .now) (a .args .settings .now) _ _ _ (l .loop .inv) (omega arith)
+    clearing-end (a .args .table .now) (a .args .m) (a .args .figures .now) (a .args .settings .now) _ _ _
+    (l .loop .inv) (omega arith)
 
 pub clear-spec : {M : Type 1} → statement M
 clear-spec =

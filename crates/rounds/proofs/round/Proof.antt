@@ -17,8 +17,11 @@ returns-3 c = (λ l. l, λ r k h w b lf ls few. absurd (omega (arith, c .if3 .ta
 returns-4 : tie.Need-returns-4
 returns-4 c =
     let o = c .before .before .before .before .before .before in
-    let p = o .before .before .before .before .before .before .before in
-    (λ l. o .one-round .ensures .0, λ r k h w b lf ls few en t marked. o .one-round .ensures .1 r k h w b (p .placements .ensures r h) en t marked)
+    let p = o .before .before .before .before .before .before .before in (
+      λ l. o .one-round .ensures .0,
+      λ r k h w b lf ls few en t marked.
+          o .one-round .ensures .1 r k h w b (p .placements .ensures r h) en t marked,
+    )
 
 pub round-spec : {M : Type 1} → statement M
 round-spec =

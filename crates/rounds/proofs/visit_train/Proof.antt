@@ -6,7 +6,7 @@ use Prim.Native.Nat.{_+_, _-_}
 use Rattle.railway.specs.declared.Railway.{Railway}
 use Rattle.routes.specs.Routes.{mostWays}
 use Rattle.predecessors.specs.Behind.{BackBy}
-use Rattle.rounds.specs.Visits.{Standing, One, By}
+use Rattle.rounds.specs.Visits.{MoverOf, One, By}
 use Rattle.rounds.proofs.Retracing.{no-way, way-next, way-put, way-last, all-ways, by-ways}
 use Rattle.rounds.proofs.Loops.{VisitedTo, visited-to-start, visited-to-next, visited-to-end}
 use Rattle.rounds.proofs.visit_train.Statement.{statement}
@@ -14,7 +14,7 @@ use Rattle.rounds.proofs.visit_train.Tie as tie
 
 abbrev Inv-loop : tie.InvT-loop
 Inv-loop table ways behind figures₀ settings₀ marks₀ this mover t x e j₀ figures settings marks j =
-    VisitedTo (λ r. Standing r table behind mover) table ways this (λ r i. BackBy r (mover .code) (mover .train) x i)
+    VisitedTo (λ r. MoverOf r table behind mover) table ways this (λ r i. BackBy r (mover .code) (mover .train) x i)
     figures₀ settings₀ marks₀ figures settings marks j
 
 abbrev μ-loop : tie.MeasureT-loop
@@ -27,7 +27,7 @@ start b = b .before .before .before .before .before
 loop-holds : tie.Need-loop-holds Inv-loop μ-loop
 loop-holds b =
     let a = start b .args in
-    visited-to-start (λ r. Standing r (a .table .now) (a .behind .now) (a .mover)) (a .table .now) (a .ways .now) (a .this)
+    visited-to-start (λ r. MoverOf r (a .table .now) (a .behind .now) (a .mover)) (a .table .now) (a .ways .now) (a .this)
     (λ r i. BackBy r (a .mover .code) (a .mover .train) _ i) (a .figures .now) (a .settings .now) (a .marks .now) 0
     (no-way (a .table .now) (a .behind .now) (a .mover) _ _ (b .before .section-at .ensures) (b .end-behind .ensures))
 
@@ -48,7 +48,7 @@ returns c =
     let a = start b .args in
     let here = b .before .section-at .ensures in
     let rear = b .end-behind .ensures in
-    visited-to-end (λ r. Standing r (a .table .now) (a .behind .now) (a .mover)) (a .table .now) (a .ways .now) (a .this)
+    visited-to-end (λ r. MoverOf r (a .table .now) (a .behind .now) (a .mover)) (a .table .now) (a .ways .now) (a .this)
     (λ r i. BackBy r (a .mover .code) (a .mover .train) _ i) (a .figures .now) (a .settings .now) (a .marks .now) _ _ _ _
     (l .loop .inv) (λ r. By r (a .mover .code) (a .mover .train))
     (λ r d g o u lu k.
@@ -83,7 +83,7 @@ loop-again c =
     let a = start b .args in
     let here = b .before .section-at .ensures in
     let rear = b .end-behind .ensures in
-    visited-to-next (λ r. Standing r (a .table .now) (a .behind .now) (a .mover)) (a .table .now) (a .ways .now) (a .this)
+    visited-to-next (λ r. MoverOf r (a .table .now) (a .behind .now) (a .mover)) (a .table .now) (a .ways .now) (a .this)
     (λ r i. BackBy r (a .mover .code) (a .mover .train) _ i) (a .figures .now) (a .settings .now) (a .marks .now)
     (l .loop .figures) (l .loop .settings) (l .loop .marks) (l .loop .j) (l .loop .inv)
     (λ r. One (p .code-put .result)) (l .loop .j + 1) _ _ _
@@ -115,7 +115,7 @@ returns-2 c =
     let a = start b .args in
     let here = b .before .section-at .ensures in
     let rear = b .end-behind .ensures in
-    visited-to-end (λ r. Standing r (a .table .now) (a .behind .now) (a .mover)) (a .table .now) (a .ways .now) (a .this)
+    visited-to-end (λ r. MoverOf r (a .table .now) (a .behind .now) (a .mover)) (a .table .now) (a .ways .now) (a .this)
     (λ r i. BackBy r (a .mover .code) (a .mover .train) _ i) (a .figures .now) (a .settings .now) (a .marks .now) _ _ _ _
     (l .loop .inv) (λ r. By r (a .mover .code) (a .mover .train))
     (λ r d g o u lu k.
