@@ -54,8 +54,8 @@ module _ (figs : List ℕ) (m p : ℕ) where
   waits-inside b (figured h) e = clash e refl
 
 -- ONE SECTION BEHIND: a visit of the placement with the train there, of code p, if it waits for one
-module _ (r : Railway) (table ways : List ℕ) (this : ThisRound) (d : Turned) (c t y p : ℕ) (figs sets marks : List ℕ)
-    (o : Round r table ways this d figs marks) (there : y < r .sections) (put : p ≡ codeWith r c t y) where
+module _ {r : Railway} {table ways : List ℕ} {this : ThisRound} {d : Turned} {figs marks : List ℕ}
+    (o : Round r table ways this d figs marks) (c t y p : ℕ) (there : y < r .sections) (put : p ≡ codeWith r c t y) where
   below : p < placements r
   below = rw put (code-with-below r (facts r (o .compiled .accepted)) c t y there)
 
@@ -64,18 +64,18 @@ module _ (r : Railway) (table ways : List ℕ) (this : ThisRound) (d : Turned) (
   not-waiting b (outside l) e f = omega (arith, below, o .counted)
   not-waiting b (figured h) e f = h f
 
-  pub no-visit : (b : Bool) → Waits figs (this .m) p b → b ≡ false → Visited r (this .n) d (One p) figs sets figs sets marks
+  pub no-visit : {sets : List ℕ} (b : Bool) → Waits figs (this .m) p b → b ≡ false → Visited r (this .n) d (One p) figs sets figs sets marks
   no-visit b w e =
-      visited-rests r (this .n) d (One p) figs sets marks (o .marked) (λ q l k f g. absurd (not-waiting b w e (rw k at f)))
+      visited-rests (o .marked) (λ q l k f g. absurd (not-waiting b w e (rw k at f)))
 
   module _ (q v : Placement) (on : On r c table q) (lt : t < r .trains) (b : Bool) (w : Waits figs (this .m) p b) (e : b ≡ true)
       (moved : (u : ℕ) → sectionIn v u ≡ putIn q t y u) where
-    pub one-visit : (figs′ sets′ marks′ : List ℕ)
+    pub one-visit : {sets figs′ sets′ marks′ : List ℕ}
         → ((r : Railway) (d : Turned) → Round r table ways this d figs marks → On r p table v → p < placements r
         → figureIn figs p ≡ none
         → Visited r (this .n) d (One p) figs sets figs′ sets′ marks′)
         → Visited r (this .n) d (One p) figs sets figs′ sets′ marks′
-    one-visit figs′ sets′ marks′ visit = go b w e
+    one-visit {sets} {figs′} {sets′} {marks′} visit = go b w e
       where
         go : (b : Bool) → Waits figs (this .m) p b → b ≡ true → Visited r (this .n) d (One p) figs sets figs′ sets′ marks′
         go b (outside l) e = clash e refl

@@ -83,10 +83,10 @@ later-turn n d e t q k h l = elim (bool? (passedBy d t q)) [
   ])
 ]
 
-pub marked-later : (r : Railway) (n : ℕ) (d e : Turned) (figs marks : List ℕ) → Marked r n d figs marks
+pub marked-later : {r : Railway} {n : ℕ} {d e : Turned} {figs marks : List ℕ} → Marked r n d figs marks
     → ((t q : ℕ) → t < r .trains → q < placements r → First r t → passedBy d t q ≡ true → passedBy e t q ≡ true)
     → Marked r n e figs marks
-marked-later r n d e figs marks k h =
+marked-later {r} {n} {d} {e} k h =
     record {
       room = k .room;
       few = k .few;
@@ -95,16 +95,15 @@ marked-later r n d e figs marks k h =
     }
 
 -- the next train's turn, behind the last code
-pub marked-next : (r : Railway) (n t m : ℕ) (figs marks : List ℕ) → placements r ≤ m
+pub marked-next : {r : Railway} {n t m : ℕ} {figs marks : List ℕ} → placements r ≤ m
     → Marked r n (record { train = t; code = m }) figs marks
     → Marked r n (record { train = suc t; code = 0 }) figs marks
-marked-next r n t m figs marks l k = marked-later r n _ _ figs marks k (λ u q lu lq first e. sym (turn-next t m u q (omega arith)) ∙ e)
+marked-next {t = t} {m = m} l k = marked-later k (λ u q lu lq first e. sym (turn-next t m u q (omega arith)) ∙ e)
 
 -- A STRETCH and its turn, by the weight of train t
 module _ (r : Railway) (this : ThisRound) (t : ℕ) (codes : Codes) (counted : this .m ≡ placements r)
-    (some-code : codes .from < codes .upto)
-    (stretch : Stretch (this .m) (codes .from) (codes .upto)) (l : codes .upto ≤ this .m) (runs : t < r .trains)
-    (first : First r t) where
+    (some-code : codes .from < codes .upto) (stretch : Stretch (this .m) (codes .from) (codes .upto))
+    (l : codes .upto ≤ this .m) (runs : t < r .trains) (first : First r t) where
   abbrev before : Turned
   before = record { train = t; code = codes .from }
 
@@ -121,7 +120,7 @@ module _ (r : Railway) (this : ThisRound) (t : ℕ) (codes : Codes) (counted : t
   ]
 
   -- NOT DUE: nothing one move before it gains, and its turn is over
-  module _ (table ways figs marks : List ℕ) (o : Round r table ways this before figs marks) (due : ℕ)
+  module _ {table ways figs marks : List ℕ} (o : Round r table ways this before figs marks) (due : ℕ)
       (is : due ≡ dueAt marks t (codes .from)) (late : this .n < due) where
     pub not-due : (q : ℕ) → q < placements r → Ahead r (this .n) (weightOf r t) figs (codes .from) (codes .upto) q → ⊥
     not-due q lq h =
@@ -134,10 +133,10 @@ module _ (r : Railway) (this : ThisRound) (t : ℕ) (codes : Codes) (counted : t
         omega (arith, h .makes)
 
     pub turn-over : Marked r (this .n) after figs marks
-    turn-over = marked-later r (this .n) before after figs marks (o .marked) (λ u q lu lq f. more u q)
+    turn-over = marked-later (o .marked) (λ u q lu lq f. more u q)
 
   -- DUE AGAIN: its figures make no round behind n by this weight before the one that is set
-  module _ (figs marks : List ℕ) (k : Marked r (this .n) before figs marks) (most : ℕ)
+  module _ {figs marks : List ℕ} (k : Marked r (this .n) before figs marks) (most : ℕ)
       (is : most ≡ mostAt marks (codes .from)) (due : ℕ)
       (dues : DueBy figs most (this .n) (weightOf r t) (codes .from) (codes .upto) due)
       (marks′ : List ℕ) (put : Room marks → t < mostTrains → codes .from < mostCodes
@@ -194,58 +193,46 @@ pub record StretchesTo (table ways behind : List ℕ) (this : ThisRound) (t : �
       → t < r .trains → First r t
       → Visited r (this .n) (record { train = t; code = i }) (Ahead r (this .n) (weightOf r t) figs₀ 0 i) figs₀ sets₀ figs sets marks
 
-module _ (table ways behind : List ℕ) (this : ThisRound) (t : ℕ) (figs₀ sets₀ marks₀ : List ℕ) where
+module _ {table ways behind : List ℕ} {this : ThisRound} {t : ℕ} {figs₀ sets₀ marks₀ : List ℕ} where
   pub stretches-start : StretchesTo table ways behind this t figs₀ sets₀ marks₀ figs₀ sets₀ marks₀ 0
   stretches-start = record {
     long-figs = refl;
     long-sets = refl;
     long-marks = refl;
-    visited =
-        λ r b o lt f.
-        visited-none r (this .n) (record { train = t; code = 0 }) (Ahead r (this .n) (weightOf r t) figs₀ 0 0) figs₀
-        sets₀ marks₀ (o .marked) (λ q l k. no-code r (this .n) (weightOf r t) figs₀ 0 q k);
+    visited = λ r b o lt f. visited-none (o .marked) (λ q l k. no-code k);
   }
 
-  module _ (figs sets marks : List ℕ) (c : ℕ) (s : StretchesTo table ways behind this t figs₀ sets₀ marks₀ figs sets marks c) where
-    pub stretches-next : (upto : ℕ) (figs′ sets′ marks′ : List ℕ) → upto ≤ this .m → length figs′ ≡ length figs
-        → length sets′ ≡ length sets → length marks′ ≡ length marks
+  module _ {figs sets marks : List ℕ} {c : ℕ}
+      (s : StretchesTo table ways behind this t figs₀ sets₀ marks₀ figs sets marks c) where
+    pub stretches-next : {upto : ℕ} {figs′ sets′ marks′ : List ℕ} → upto ≤ this .m
+        → length figs′ ≡ length figs → length sets′ ≡ length sets → length marks′ ≡ length marks
         → ((r : Railway) → Behind r behind → Round r table ways this (record { train = t; code = c }) figs marks
-        → t < r .trains → First r t
-        → Visited r (this .n) (record { train = t; code = upto }) (Ahead r (this .n) (weightOf r t) figs c upto) figs
-        sets figs′ sets′ marks′)
+            → t < r .trains → First r t
+            → Visited r (this .n) (record { train = t; code = upto }) (Ahead r (this .n) (weightOf r t) figs c upto)
+                figs sets figs′ sets′ marks′)
         → StretchesTo table ways behind this t figs₀ sets₀ marks₀ figs′ sets′ marks′ upto
-    stretches-next upto figs′ sets′ marks′ l ef es em body =
+    stretches-next l ef es em body =
         record {
           long-figs = ef ∙ s .long-figs;
           long-sets = es ∙ s .long-sets;
           long-marks = em ∙ s .long-marks;
           visited = λ r h o lt f.
-              let d : Turned = record { train = t; code = c } in
-              let w : ℕ = weightOf r t in
-              let x : Visited r (this .n) d (Ahead r (this .n) w figs₀ 0 c) figs₀ sets₀ figs sets marks = s .visited r h o lt f in
-              visited-then r (o .compiled .accepted) (this .n) d (record { train = t; code = upto }) (o .small)
-              (Ahead r (this .n) w figs₀ 0 c) (Ahead r (this .n) w figs c upto) (Ahead r (this .n) w figs₀ 0 upto)
-              figs₀ sets₀ figs sets marks figs′ sets′ marks′ x
-              (body r h (round-on r table ways this d (Ahead r (this .n) w figs₀ 0 c) figs₀ sets₀ figs sets marks x
-              (record { train = t; code = 0 }) marks₀ o) lt f)
-              (λ q lq k. codes-next r (this .n) w figs₀ d _ sets₀ figs sets marks x 0 c upto q (omega (arith, o .counted)) k);
+              let x = s .visited r h o lt f in
+              visited-then (o .compiled .accepted) (o .small) x (body r h (round-on o x) lt f)
+              (λ q lq k. codes-next x c (omega (arith, o .counted)) k);
         }
 
     -- all stretches have had their turn: the weight's is over
     pub stretches-end : this .m ≤ c → (r : Railway) → Behind r behind
         → Round r table ways this (record { train = t; code = 0 }) figs₀ marks₀ → t < r .trains → First r t
-        → Visited r (this .n) (record { train = suc t; code = 0 }) (Apart r (this .n) figs₀ 0 (this .m) t) figs₀ sets₀ figs sets marks
+        → Visited r (this .n) (record { train = suc t; code = 0 }) (Apart r (this .n) figs₀ 0 (this .m) t)
+            figs₀ sets₀ figs sets marks
     stretches-end l r h o lt f =
         let x = s .visited r h o lt f in
-        let y = visited-less r (this .n) _ (Ahead r (this .n) (weightOf r t) figs₀ 0 c) figs₀ sets₀ figs sets marks x
-        (Apart r (this .n) figs₀ 0 (this .m) t)
-        (λ q lq k. codes-less r (this .n) (weightOf r t) figs₀ 0 (this .m) c q l (k .ahead)) in
-        visited-marked r (this .n) _ (Apart r (this .n) figs₀ 0 (this .m) t) figs₀ sets₀ figs sets marks y
-        (record { train = suc t; code = 0 }) marks
-        (marked-next r (this .n) t c figs marks (omega (arith, o .counted)) (x .marked))
+        visited-marked (visited-less x (λ q lq k. codes-less l (k .ahead))) (marked-next (omega (arith, o .counted)) (x .marked))
 
 -- NO STRETCH IS DUE by this weight, or a lower train has it
-module _ (r : Railway) (table ways : List ℕ) (this : ThisRound) (t : ℕ) (figs sets marks : List ℕ)
+module _ {r : Railway} {table ways : List ℕ} {this : ThisRound} {t : ℕ} {figs marks : List ℕ}
     (o : Round r table ways this (record { train = t; code = 0 }) figs marks) where
   abbrev now-next : Turned
   now-next = record { train = suc t; code = 0 }
@@ -256,11 +243,10 @@ module _ (r : Railway) (table ways : List ℕ) (this : ThisRound) (t : ℕ) (fig
     | inr a ↦ clash e (rw (le-ltb u t a, le-ltb q 0 (omega arith)) (and-off (eqb u t)))
   ]
 
-  pub weight-rests : ((q : ℕ) → q < placements r → Apart r (this .n) figs 0 (this .m) t q → ⊥)
+  pub weight-rests : {sets : List ℕ} → ((q : ℕ) → q < placements r → Apart r (this .n) figs 0 (this .m) t q → ⊥)
       → Visited r (this .n) now-next (Apart r (this .n) figs 0 (this .m) t) figs sets figs sets marks
   weight-rests none-there =
-      visited-none r (this .n) now-next (Apart r (this .n) figs 0 (this .m) t) figs sets marks
-      (marked-later r (this .n) _ now-next figs marks (o .marked) (λ u q lu lq f. on u q)) none-there
+      visited-none (marked-later (o .marked) (λ u q lu lq f. on u q)) none-there
 
   pub weight-not-due : (runs : t < r .trains) → (e : ℕ)
       → ((q k : ℕ) → q < this .m → this .n - 1 < k → dueAt marks t q ≤ k → e ≤ k) → this .n < e → (this .n ≡ 0 → ⊥)
@@ -280,42 +266,36 @@ pub record RoundTo (table ways behind : List ℕ) (this : ThisRound) (figs₀ se
   pub visited : (r : Railway) → Behind r behind → Round r table ways this (record { train = 0; code = 0 }) figs₀ marks₀ → i ≤ r .trains
       → Visited r (this .n) (record { train = i; code = 0 }) (Weighed r (this .n) figs₀ 0 (this .m) i) figs₀ sets₀ figs sets marks
 
-module _ (table ways behind : List ℕ) (this : ThisRound) (figs₀ sets₀ marks₀ : List ℕ) where
+module _ {table ways behind : List ℕ} {this : ThisRound} {figs₀ sets₀ marks₀ : List ℕ} where
   pub round-start : RoundTo table ways behind this figs₀ sets₀ marks₀ figs₀ sets₀ marks₀ 0
   round-start = record {
     long-figs = refl;
     long-sets = refl;
     long-marks = refl;
-    visited =
-        λ r b o li. visited-none r (this .n) (record { train = 0; code = 0 }) (Weighed r (this .n) figs₀ 0 (this .m) 0)
-        figs₀ sets₀ marks₀ (o .marked) (λ q l k. no-weight r (this .n) figs₀ 0 (this .m) q k);
+    visited = λ r b o li. visited-none (o .marked) (λ q l k. no-weight k);
   }
 
-  module _ (figs sets marks : List ℕ) (t : ℕ) (s : RoundTo table ways behind this figs₀ sets₀ marks₀ figs sets marks t) where
-    pub round-next : (figs′ sets′ marks′ : List ℕ) → length figs′ ≡ length figs → length sets′ ≡ length sets
-        → length marks′ ≡ length marks
+  module _ {figs sets marks : List ℕ} {t : ℕ}
+      (s : RoundTo table ways behind this figs₀ sets₀ marks₀ figs sets marks t) where
+    pub round-next : {figs′ sets′ marks′ : List ℕ}
+        → length figs′ ≡ length figs → length sets′ ≡ length sets → length marks′ ≡ length marks
         → ((r : Railway) → Behind r behind → Round r table ways this (record { train = t; code = 0 }) figs marks
-        → t < r .trains → Visited r (this .n) (record { train = suc t; code = 0 })
-        (Apart r (this .n) figs 0 (this .m) t) figs sets figs′ sets′ marks′)
+            → t < r .trains
+            → Visited r (this .n) (record { train = suc t; code = 0 }) (Apart r (this .n) figs 0 (this .m) t)
+                figs sets figs′ sets′ marks′)
         → RoundTo table ways behind this figs₀ sets₀ marks₀ figs′ sets′ marks′ (t + 1)
-    round-next figs′ sets′ marks′ ef es em body =
+    round-next ef es em body =
         record {
           long-figs = ef ∙ s .long-figs;
           long-sets = es ∙ s .long-sets;
           long-marks = em ∙ s .long-marks;
           visited = λ r h o li.
               let lt : t < r .trains = omega arith in
-              let d : Turned = record { train = t; code = 0 } in
-              let x : Visited r (this .n) d (Weighed r (this .n) figs₀ 0 (this .m) t) figs₀ sets₀ figs sets marks =
-              s .visited r h o (omega arith) in
-              rw (add-one t) (visited-then r (o .compiled .accepted) (this .n) d (record { train = suc t; code = 0 })
-              (o .small) (Weighed r (this .n) figs₀ 0 (this .m) t) (Apart r (this .n) figs 0 (this .m) t)
-              (Weighed r (this .n) figs₀ 0 (this .m) (suc t)) figs₀ sets₀ figs sets marks figs′ sets′ marks′ x
-              (body r h (round-on r table ways this d (Weighed r (this .n) figs₀ 0 (this .m) t) figs₀ sets₀ figs sets
-              marks x (record { train = 0; code = 0 }) marks₀ o) lt)
-              (λ q lq k. elim (weight-next r (this .n) figs₀ 0 (this .m) t q (rw (add-one t) k)) [
+              let x = s .visited r h o (omega arith) in
+              rw (add-one t) (visited-then (o .compiled .accepted) (o .small) x (body r h (round-on o x) lt)
+              (λ q lq k. let k′ : Weighed r (this .n) figs₀ 0 (this .m) (t + 1) q = rw (add-one t) k in elim (weight-next t k′) [
                 | inl y ↦ inl y
-                | inr y ↦ inr (apart-on r (this .n) figs₀ 0 (this .m) d _ sets₀ figs sets marks x (omega (arith, o .counted)) t q y)
+                | inr y ↦ inr (apart-on x (omega (arith, o .counted)) y)
               ]));
         }
 
@@ -382,7 +362,7 @@ marks-on r n i e figs marks l on k =
     none-passed : (t q : ℕ) → passedBy (record { train = 0; code = 0 }) t q ≡ false
     none-passed t q = rw (le-ltb t 0 (omega arith), le-ltb q 0 (omega arith)) (and-off (eqb t 0))
 
-module _ (table ways behind : List ℕ) (this : ThisRound) (figs₀ sets₀ marks₀ figs sets marks : List ℕ) (i : ℕ)
+module _ {table ways behind : List ℕ} {this : ThisRound} {figs₀ sets₀ marks₀ figs sets marks : List ℕ} {i : ℕ}
     (s : RoundTo table ways behind this figs₀ sets₀ marks₀ figs sets marks i)
     (e : ℕ) (onward : this .n < e) (trains : (r : Railway) → Compiled r table → i ≡ r .trains)
     (first : (r : Railway) → Compiled r table → NextBy r marks (this .m) (this .n) (r .trains) e) where
@@ -406,13 +386,10 @@ module _ (table ways behind : List ℕ) (this : ThisRound) (figs₀ sets₀ mark
       let y : Visited r (this .n) d (Weighed r (this .n) figs₀ 0 (this .m) i) figs₀ sets₀ figs sets marks =
       s .visited r b o (omega arith) in
       let x : Visited r (this .n) d (Before r (this .n) figs₀ 0 (placements r)) figs₀ sets₀ figs sets marks =
-      visited-less r (this .n) d (Weighed r (this .n) figs₀ 0 (this .m) i) figs₀ sets₀ figs sets marks y
-      (Before r (this .n) figs₀ 0 (placements r))
-      (λ q inside k. record {
+      visited-less y (λ q inside k. record {
         train = k .train;
         below = omega (arith, k .below);
-        ahead = codes-less r (this .n)
-            (weightOf r (k .train)) figs₀ 0 (placements r) (this .m) q (omega arith) (k .ahead);
+        ahead = codes-less (omega arith) (k .ahead);
       }) in (
         record {
           after =

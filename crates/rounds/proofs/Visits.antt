@@ -65,7 +65,7 @@ changed-then r F F₁ n q f v f₁ v₁ f₂ v₂ small finds (gained e o a h) (
     some-none (ap figureEntry a ∙ entry-some n (λ z. omega arith)) e′
 
 -- ANY VISITS
-module _ (r : Railway) (n : ℕ) (c : Turned) (S : ℕ → Type 0) (figs sets figs′ sets′ marks′ : List ℕ)
+module _ {r : Railway} {n : ℕ} {c : Turned} {S : ℕ → Type 0} {figs sets figs′ sets′ marks′ : List ℕ}
     (s : Visited r n c S figs sets figs′ sets′ marks′) where
   pub visited-onward : (q j : ℕ) → q < placements r → figureIn figs q ≡ some j → figureIn figs′ q ≡ some j
   visited-onward q j l = changed-onward r (figureIn figs) n q _ _ _ _ refl (s .each q l) j
@@ -82,8 +82,8 @@ module _ (r : Railway) (n : ℕ) (c : Turned) (S : ℕ → Type 0) (figs sets fi
   visited-none-yet q l = changed-none r (figureIn figs) n q _ _ _ _ (s .each q l)
 
   -- for fewer kinds
-  pub visited-less : (U : ℕ → Type 0) → ((q : ℕ) → q < placements r → U q → S q) → Visited r n c U figs sets figs′ sets′ marks′
-  visited-less U h =
+  pub visited-less : {U : ℕ → Type 0} → ((q : ℕ) → q < placements r → U q → S q) → Visited r n c U figs sets figs′ sets′ marks′
+  visited-less h =
       record {
         each = s .each;
         past-figs = s .past-figs;
@@ -93,28 +93,27 @@ module _ (r : Railway) (n : ℕ) (c : Turned) (S : ℕ → Type 0) (figs sets fi
       }
 
   -- with other marks, when more codes have had their turn
-  pub visited-marked : (d : Turned) (marks″ : List ℕ) → Marked r n d figs′ marks″ → Visited r n d S figs sets figs′ sets′ marks″
-  visited-marked d marks″ k =
+  pub visited-marked : {d : Turned} {marks″ : List ℕ} → Marked r n d figs′ marks″ → Visited r n d S figs sets figs′ sets′ marks″
+  visited-marked k =
       record { each = s .each; past-figs = s .past-figs; past-sets = s .past-sets; settled = s .settled; marked = k }
 
 -- THE ROUND GOES ON
-pub round-on : (r : Railway) (table ways : List ℕ) (this : ThisRound) (c : Turned) (S : ℕ → Type 0)
-    (figs sets figs′ sets′ marks′ : List ℕ)
-    → Visited r (this .n) c S figs sets figs′ sets′ marks′ → (d : Turned) (marks : List ℕ) → Round r table ways this d figs marks
-    → Round r table ways this c figs′ marks′
-round-on r table ways this c S figs sets figs′ sets′ marks′ s d marks o =
+pub round-on : {r : Railway} {table ways : List ℕ} {this : ThisRound} {c d : Turned} {S : ℕ → Type 0}
+    {figs sets marks figs′ sets′ marks′ : List ℕ} → Round r table ways this d figs marks
+    → Visited r (this .n) c S figs sets figs′ sets′ marks′ → Round r table ways this c figs′ marks′
+round-on o s =
     record {
       compiled = o .compiled;
       laid = o .laid;
       counted = o .counted;
       small = o .small;
       soonest = o .soonest;
-      homed = λ p l h. visited-onward r (this .n) c S figs sets figs′ sets′ marks′ s p 0 l (o .homed p l h);
+      homed = λ p l h. visited-onward s p 0 l (o .homed p l h);
       marked = s .marked;
     }
 
 -- NOTHING ENTERED
-module _ (r : Railway) (n : ℕ) (c : Turned) (S : ℕ → Type 0) (figs sets marks : List ℕ) (k : Marked r n c figs marks) where
+module _ {r : Railway} {n : ℕ} {c : Turned} {S : ℕ → Type 0} {figs sets marks : List ℕ} (k : Marked r n c figs marks) where
   pub visited-rests : ((q : ℕ) → q < placements r → S q → figureIn figs q ≡ none → over (gameOf r) q ≡ false
       → find r (figureIn figs) q n ≡ none) → Visited r n c S figs sets figs sets marks
   visited-rests h = record {
@@ -129,12 +128,12 @@ module _ (r : Railway) (n : ℕ) (c : Turned) (S : ℕ → Type 0) (figs sets ma
   visited-none h = visited-rests (λ q l u. absurd (h q l u))
 
 -- SOME VISITS, AND SOME MORE
-module _ (r : Railway) (accepted : recordRefusal r ≡ none) (n : ℕ) (c d : Turned)
-    (small : n + mostWeight < noFigure) (S T U : ℕ → Type 0) (figs sets figs₁ sets₁ marks₁ figs₂ sets₂ marks₂ : List ℕ)
+module _ {r : Railway} (accepted : recordRefusal r ≡ none) {n : ℕ} {c d : Turned} (small : n + mostWeight < noFigure)
+    {S T U : ℕ → Type 0} {figs sets figs₁ sets₁ marks₁ figs₂ sets₂ marks₂ : List ℕ}
     (x : Visited r n c S figs sets figs₁ sets₁ marks₁) (y : Visited r n d T figs₁ sets₁ figs₂ sets₂ marks₂)
     (covers : (q : ℕ) → q < placements r → U q → S q ⊎ T q) where
   finds : (q : ℕ) → q < placements r → find r (figureIn figs₁) q n ≡ find r (figureIn figs) q n
-  finds = visited-finds r n c S figs sets figs₁ sets₁ marks₁ x accepted
+  finds = visited-finds x accepted
 
   pub visited-then : Visited r n d U figs sets figs₂ sets₂ marks₂
   visited-then =
@@ -145,23 +144,22 @@ module _ (r : Railway) (accepted : recordRefusal r ≡ none) (n : ℕ) (c d : Tu
         past-figs = λ q e l. y .past-figs q e l ∙ x .past-figs q e l;
         past-sets = λ q e l. y .past-sets q e l ∙ x .past-sets q e l;
         settled = λ q l u e o. elim (covers q l u) [
-          | inl s ↦ x .settled q l s (visited-none-yet r n d T figs₁ sets₁ figs₂ sets₂ marks₂ y q l e) o
+          | inl s ↦ x .settled q l s (visited-none-yet y q l e) o
           | inr t ↦ sym (finds q l) ∙ y .settled q l t e o
         ];
         marked = y .marked;
       }
 
 -- ONE VISIT, of a placement without a figure
-module _ (r : Railway) (table ways : List ℕ) (this : ThisRound) (d : Turned) (p : ℕ) (figs sets marks : List ℕ)
-    (o : Round r table ways this d figs marks)
-    (l : p < placements r) (empty : figureIn figs p ≡ none) (found : Option ℕ)
-    (searched : found ≡ firstKeeping r (figureIn figs) p (this .n)) where
-  pub visit-rests : found ≡ none → Visited r (this .n) d (One p) figs sets figs sets marks
+module _ {r : Railway} {table ways : List ℕ} {this : ThisRound} {d : Turned} {figs marks : List ℕ}
+    (o : Round r table ways this d figs marks) (p : ℕ) (l : p < placements r) (empty : figureIn figs p ≡ none)
+    (found : Option ℕ) (searched : found ≡ firstKeeping r (figureIn figs) p (this .n)) where
+  pub visit-rests : {sets : List ℕ} → found ≡ none → Visited r (this .n) d (One p) figs sets figs sets marks
   visit-rests e =
-      visited-rests r (this .n) d (One p) figs sets marks (o .marked)
+      visited-rests (o .marked)
       (λ q lq u y g. rw u (finds-nothing r (this .n) p figs found searched e (rw u at g)))
 
-  module _ (inside-figs : p < length figs) (inside-sets : p < length sets) (marks′ : List ℕ)
+  module _ (inside-figs : p < length figs) (marks′ : List ℕ)
       (raise : Room marks → p < mostCodes → Raised marks p (this .n) (this .soon) marks′) where
     raised : Raised marks p (this .n) (this .soon) marks′
     raised = raise (o .marked .room) (omega (arith, o .marked .few))
@@ -194,8 +192,8 @@ module _ (r : Railway) (table ways : List ℕ) (this : ThisRound) (d : Turned) (
           | inr z ↦ omega (arith, o .marked .due q j t lq lt first z h, raised .sooner t q few (omega (arith, o .marked .few)))
         ]
 
-    pub visit-gains : (v : ℕ) → found ≡ some v → Visited r (this .n) d (One p) figs sets (set figs p (this .n)) (set sets p v) marks′
-    visit-gains v e =
+    pub visit-gains : {sets : List ℕ} → p < length sets → (v : ℕ) → found ≡ some v → Visited r (this .n) d (One p) figs sets (set figs p (this .n)) (set sets p v) marks′
+    visit-gains {sets} inside-sets v e =
         record {
           each = λ q lq. elim (eq? q p) [
             | inl z ↦ rw z (gained empty (x .0) (getD-set-same figs p (this .n) noFigure inside-figs)

@@ -4,7 +4,6 @@ use borrow.Author.Needs.{needs}
 use native.Mathlib.Omega.{arith}
 use mathlib.Core.Path.{_≡_}
 use Prim.Native.Nat.{_-_, _≤_}
-use Rattle.rounds.specs.declared.ThisRound.{ThisRound}
 use Rattle.rounds.proofs.Turns.{RoundTo, round-start, round-next, round-end}
 use Rattle.rounds.proofs.one_round.Statement.{statement}
 use Rattle.rounds.proofs.one_round.Tie as tie
@@ -16,12 +15,9 @@ Inv-loop table ways behind figures₀ settings₀ marks₀ m n this k t₀ figur
 abbrev μ-loop : tie.MeasureT-loop
 μ-loop table ways behind figures₀ settings₀ marks₀ m n this k t₀ figures settings marks t = k - t
 
--- before the loop, and the round that is going on
+-- before the loop
 abbrev start : tie.After-trains-in Inv-loop μ-loop → tie.Start Inv-loop μ-loop
 start b = b .before .before .before .before .before
-
-abbrev this : tie.After-trains-in Inv-loop μ-loop → ThisRound
-this b = record { n = start b .args .n; m = start b .args .m; soon = b .before .soon .result }
 
 -- behind a train's turn
 abbrev turned : tie.After-slice-known6 Inv-loop μ-loop → tie.After-round-by Inv-loop μ-loop
@@ -31,11 +27,7 @@ abbrev inside : tie.After-round-by Inv-loop μ-loop → tie.In-loop Inv-loop μ-
 inside v = v .before .before .before .before
 
 loop-holds : tie.Need-loop-holds Inv-loop μ-loop
-loop-holds b =
-    let a = start b .args in (
-      round-start (a .table .now) (a .ways .now) (a .behind .now) (this b) (a .figures .now) (a .settings .now) (a .marks .now),
-      omega arith,
-    )
+loop-holds b = (round-start, omega arith)
 
 round-by-requires : tie.Need-round-by-requires Inv-loop μ-loop
 round-by-requires c κs =
@@ -53,10 +45,8 @@ loop-again : tie.Need-loop-again Inv-loop μ-loop
 loop-again c =
     let v = turned c in
     let i = inside v in
-    let l = i .before in
-    let a = start (l .before) .args in (
-      round-next (a .table .now) (a .ways .now) (a .behind .now) (this (l .before)) (a .figures .now) (a .settings .now) (a .marks .now)
-          (l .loop .figures) (l .loop .settings) (l .loop .marks) (l .loop .t) (l .loop .inv .0) _ _ _
+    let l = i .before in (
+      round-next (l .loop .inv .0)
           (v .round-by .kept .1 .1 .1 .0) (v .round-by .kept .1 .1 .1 .1 .0) (v .round-by .kept .1 .1 .1 .1 .1 .0)
           (v .round-by .ensures),
       omega (arith, i .loop-test .taken),
@@ -80,12 +70,10 @@ returns c =
     let l = stood c in
     let b = l .before in
     let s = start b in
-    let a = s .args in
     let on = c .next-round .ensures .0 (omega (arith, s .pre .2)) in (
       on,
       λ r j h laid back em en t marked.
-          round-end (a .table .now) (a .ways .now) (a .behind .now) (this b) (a .figures .now) (a .settings .now) (a .marks .now)
-          _ _ _ _ (l .loop .inv .0) _ on
+          round-end (l .loop .inv .0) _ on
           (λ r h. let z = b .trains-in .ensures r h in omega (arith, z, l .loop .inv .1, c .before .before .loop-test .left))
           (c .next-round .ensures .1) (omega (arith, s .pre .2)) r j (b .before .soon .ensures r h (omega (arith, s .pre .2)))
           h laid back em en t marked,

@@ -35,39 +35,26 @@ ended v = v .before .before .before .before
 returns : tie.Need-returns Inv-loop μ-loop
 returns c =
     let s = c .before in
-    let a = start s .args in
     λ r h o runs.
-    weight-rests r (a .table .now) (a .ways .now) (a .this) (a .t) (a .figures .now) (a .settings .now) (a .marks .now) o
-    (λ q l k. clash (sym (s .shares-weight .ensures r (o .compiled)) ∙ c .if1 .taken) (k .first))
+    weight-rests o (λ q l k. clash (sym (s .shares-weight .ensures r (o .compiled)) ∙ c .if1 .taken) (k .first))
 
 returns-2 : tie.Need-returns-2 Inv-loop μ-loop
 returns-2 c =
     let s = c .before .before in
     let a = start s .args in
     λ r h o runs.
-    weight-rests r (a .table .now) (a .ways .now) (a .this) (a .t) (a .figures .now) (a .settings .now) (a .marks .now) o
+    weight-rests o
     (λ q l k. omega (arith, c .if2 .taken, k .ahead .makes, facts r (o .compiled .accepted) .weights (a .t) runs .0))
 
 returns-3 : tie.Need-returns-3 Inv-loop μ-loop
 returns-3 c =
     let due = c .before in
     let later = due .before .before in
-    let s = later .before .before in
-    let a = start s .args in
     λ r h o runs.
-    weight-rests r (a .table .now) (a .ways .now) (a .this) (a .t) (a .figures .now) (a .settings .now) (a .marks .now) o
-    (weight-not-due r (a .table .now) (a .ways .now) (a .this) (a .t) (a .figures .now) (a .settings .now) (a .marks .now) o runs _
-    (due .next-due .ensures .1) (c .if3 .taken) (later .if2 .left))
+    weight-rests o (weight-not-due o runs _ (due .next-due .ensures .1) (c .if3 .taken) (later .if2 .left))
 
 loop-holds : tie.Need-loop-holds Inv-loop μ-loop
-loop-holds c =
-    let due = c .before in
-    let s = due .before .before .before .before in
-    let a = start s .args in (
-      stretches-start (a .table .now) (a .ways .now) (a .behind .now) (a .this) (a .t)
-          (a .figures .now) (a .settings .now) (a .marks .now),
-      λ z. omega arith,
-    )
+loop-holds c = (stretches-start, λ z. omega arith)
 
 stretch-end-requires : tie.Need-stretch-end-requires Inv-loop μ-loop
 stretch-end-requires c κs = (c .loop-test .taken, c .before .loop .inv .1 (c .loop-test .taken))
@@ -92,12 +79,8 @@ loop-again : tie.Need-loop-again Inv-loop μ-loop
 loop-again c =
     let v = visited c in
     let u = ended v in
-    let l = u .before .before in
-    let a = start (shared l) .args in (
-      stretches-next (a .table .now) (a .ways .now) (a .behind .now) (a .this) (a .t)
-          (a .figures .now) (a .settings .now) (a .marks .now)
-          (l .loop .figures) (l .loop .settings) (l .loop .marks) (l .loop .c) (l .loop .inv .0)
-          (u .stretch-end .result) _ _ _ (u .stretch-end .ensures .1)
+    let l = u .before .before in (
+      stretches-next (l .loop .inv .0) (u .stretch-end .ensures .1)
           (v .visit-stretch .kept .1 .1 .1 .0) (v .visit-stretch .kept .1 .1 .1 .1 .0) (v .visit-stretch .kept .1 .1 .1 .1 .1 .0)
           (λ r h o runs first. v .visit-stretch .ensures r h o runs first (u .stretch-end .ensures .2)),
       u .stretch-end .ensures .3,
@@ -118,10 +101,8 @@ returns-4 c =
     let due = l .before .before in
     let own = due .before .before .before in
     let s = own .before in
-    let a = start s .args in
     λ r h o runs.
-    stretches-end (a .table .now) (a .ways .now) (a .behind .now) (a .this) (a .t)
-    (a .figures .now) (a .settings .now) (a .marks .now) _ _ _ _ (l .loop .inv .0) (c .loop-test .left) r h o runs
+    stretches-end (l .loop .inv .0) (c .loop-test .left) r h o runs
     (sym (s .shares-weight .ensures r (o .compiled)) ∙ own .if1 .left)
 
 pub round-by-spec : {M : Type 1} → statement M

@@ -17,8 +17,7 @@ returns c =
     let searched = c .before .before in
     let a = start searched .args in
     λ r d o on l empty.
-    visit-rests r (a .table .now) (a .ways .now) (a .this) d (a .p) (a .figures .now) (a .settings .now) (a .marks .now)
-    o l empty _ (searched .find-in .ensures r _ on (o .laid) (sym (code-back r _ (o .compiled) _ _ on l)))
+    visit-rests o (a .p) l empty _ (searched .find-in .ensures r _ on (o .laid) (sym (code-back r _ (o .compiled) _ _ on l)))
     (ap entryFound (c .enum-told .given .1))
 
 returns-2 : tie.Need-returns-2
@@ -29,9 +28,8 @@ returns-2 c =
     let a = start searched .args in
     let long = start searched .pre in
     λ r d o on l empty.
-    visit-gains r (a .table .now) (a .ways .now) (a .this) d (a .p) (a .figures .now) (a .settings .now) (a .marks .now)
-    o l empty _ (searched .find-in .ensures r _ on (o .laid) (sym (code-back r _ (o .compiled) _ _ on l)))
-    (long .0) (long .1) _ (marked .gain .ensures) _ (ap entryFound (found .found .given .1))
+    visit-gains o (a .p) l empty _ (searched .find-in .ensures r _ on (o .laid) (sym (code-back r _ (o .compiled) _ _ on l)))
+    (long .0) _ (marked .gain .ensures) (long .1) _ (ap entryFound (found .found .given .1))
 
 pub visit-spec : {M : Type 1} → statement M
 visit-spec =

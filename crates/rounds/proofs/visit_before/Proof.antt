@@ -3,10 +3,10 @@
 use borrow.Author.Needs.{needs}
 use native.Mathlib.Omega.{arith}
 use mathlib.Core.Path.{_≡_, _∙_, ap}
-use Prim.Native.Nat.{ℕ, _+_, _-_}
+use Prim.Native.Nat.{ℕ, _-_}
 use Rattle.moves.specs.Steps.{strideOf}
 use Rattle.predecessors.specs.Behind.{Behind}
-use Rattle.rounds.specs.Visits.{ByWeight, Comes}
+use Rattle.rounds.specs.Visits.{Comes}
 use Rattle.rounds.proofs.Retracing.{stride-first}
 use Rattle.rounds.proofs.Loops.{VisitedTo, visited-to-start, visited-to-next, visited-to-end}
 use Rattle.rounds.proofs.Loops.{no-train, train-next, all-trains, train-there}
@@ -33,12 +33,7 @@ abbrev inside : tie.After-visit-weighing Inv-loop μ-loop → tie.In-loop Inv-lo
 inside v = v .before .before .before .before
 
 loop-holds : tie.Need-loop-holds Inv-loop μ-loop
-loop-holds b =
-    let a = start b .args in (
-      visited-to-start (λ r. Behind r (a .behind .now)) (a .table .now) (a .ways .now) (a .this) (λ r i. Comes r (a .w) (a .c) i)
-          (a .figures .now) (a .settings .now) (a .marks .now) 0 (λ r q k. no-train r (a .w) (a .c) q k),
-      stride-first _,
-    )
+loop-holds b = (visited-to-start (λ r q k. no-train k), stride-first _)
 
 visit-weighing-requires : tie.Need-visit-weighing-requires Inv-loop μ-loop
 visit-weighing-requires c κs =
@@ -60,23 +55,20 @@ loop-again c =
     let k = l .before in
     let s = k .before in
     let q = s .before in
-    let a = start k .args in (
-      visited-to-next (λ r. Behind r (a .behind .now)) (a .table .now) (a .ways .now) (a .this) (λ r i. Comes r (a .w) (a .c) i)
-          (a .figures .now) (a .settings .now) (a .marks .now)
-          (l .loop .figures) (l .loop .settings) (l .loop .marks) (l .loop .t) (l .loop .inv .0)
-          (λ r. ByWeight r (a .w) (a .c) (l .loop .t)) (l .loop .t + 1) _ _ _
+    let s₀ = start k in (
+      visited-to-next (l .loop .inv .0)
           (v .visit-weighing .kept .1 .1 .1 .0) (v .visit-weighing .kept .1 .1 .1 .1 .0) (v .visit-weighing .kept .1 .1 .1 .1 .1 .0)
           (λ r d h o.
           v .visit-weighing .ensures r d
           (record {
             laid = h;
             on = q .placement-of .ensures r (o .compiled);
-            code = omega (arith, start k .pre .2, o .counted);
+            code = omega (arith, s₀ .pre .2, o .counted);
             train = train-there r _ _ (k .trains-in .ensures r (o .compiled)) (i .loop-test .taken);
             stride = l .loop .inv .1 ∙ ap (λ (x : ℕ). strideOf x (l .loop .t)) (s .sections-in .ensures r (o .compiled));
           })
           o)
-          (λ r d h s o q lq x. train-next r (a .w) (a .c) (l .loop .t) q x),
+          (λ r d h s o q lq x. train-next (l .loop .t) x),
       c .next-stride .ensures (l .loop .inv .1),
     )
 
@@ -93,10 +85,8 @@ returns : tie.Need-returns Inv-loop μ-loop
 returns c =
     let l = c .before in
     let k = l .before in
-    let a = start k .args in
-    visited-to-end (λ r. Behind r (a .behind .now)) (a .table .now) (a .ways .now) (a .this) (λ r i. Comes r (a .w) (a .c) i)
-    (a .figures .now) (a .settings .now) (a .marks .now) _ _ _ _ (l .loop .inv .0) (λ r. Comes r (a .w) (a .c) (r .trains))
-    (λ r d h o q l x. all-trains r _ _ (k .trains-in .ensures r (o .compiled)) (c .loop-test .left) (a .w) (a .c) q x)
+    visited-to-end (l .loop .inv .0)
+    (λ r d h o q l x. all-trains (k .trains-in .ensures r (o .compiled)) (c .loop-test .left) x)
 
 pub visit-before-spec : {M : Type 1} → statement M
 visit-before-spec =

@@ -31,13 +31,7 @@ abbrev inside : tie.After-visit-before Inv-loop μ-loop → tie.In-loop Inv-loop
 inside v = v .before .before .before .before
 
 returns : tie.Need-returns Inv-loop μ-loop
-returns c =
-    let start = c .before .before .before .before in
-    let a = start .args in
-    λ r d h o.
-    visited-none r (a .this .n) d (Ahead r (a .this .n) (a .w) (a .figures .now) (a .codes .from) (a .codes .upto))
-    (a .figures .now) (a .settings .now) (a .marks .now) (o .marked)
-    (λ q l k. too-heavy r (a .this .n) (a .w) (a .figures .now) (c .if1 .taken) (a .codes .from) (a .codes .upto) q k)
+returns c = λ r d h o. visited-none (o .marked) (λ q l k. too-heavy (c .if1 .taken) k)
 
 next-with-requires : tie.Need-next-with-requires Inv-loop μ-loop
 next-with-requires c κs = let s = start (c .before) in omega (arith, s .pre .0, s .pre .2)
@@ -46,18 +40,9 @@ loop-holds : tie.Need-loop-holds Inv-loop μ-loop
 loop-holds c =
     let light = c .before .before in
     let s = start light in
-    let a = s .args in
-    visited-to-on (λ r. Behind r (a .behind .now)) (a .table .now) (a .ways .now) (a .this)
-    (λ r i. Ahead r (a .this .n) (a .w) (a .figures .now) (a .codes .from) i)
-    (a .figures .now) (a .settings .now) (a .marks .now) _ _ _ (a .codes .from)
-    (visited-to-start (λ r. Behind r (a .behind .now)) (a .table .now) (a .ways .now) (a .this)
-    (λ r i. Ahead r (a .this .n) (a .w) (a .figures .now) (a .codes .from) i)
-    (a .figures .now) (a .settings .now) (a .marks .now) (a .codes .from)
-    (λ r q k. no-code r (a .this .n) (a .w) (a .figures .now) (a .codes .from) q k))
-    (c .next-with .result)
-    (λ r d s′ o q k.
-    codes-passed r (a .this .n) (a .w) (a .figures .now) d _ _ _ _ _ s′ (a .codes .from) (a .codes .from) (a .codes .upto) _ _ q
-    (omega (arith, s .pre .2, o .counted)) (omega (arith, light .if1 .left)) (c .next-with .ensures .0) k)
+    visited-to-on (visited-to-start {i = s .args .codes .from} (λ r q k. no-code k))
+    (λ r d x o q k.
+    codes-passed x (omega (arith, s .pre .2, o .counted)) (omega (arith, light .if1 .left)) (c .next-with .ensures .0) k)
 
 visit-before-requires : tie.Need-visit-before-requires Inv-loop μ-loop
 visit-before-requires c κs =
@@ -91,27 +76,15 @@ loop-again c =
     let l = i .before in
     let light = l .before .before .before in
     let s = start light in
-    let a = s .args in
-    visited-to-on (λ r. Behind r (a .behind .now)) (a .table .now) (a .ways .now) (a .this)
-    (λ r i. Ahead r (a .this .n) (a .w) (a .figures .now) (a .codes .from) i)
-    (a .figures .now) (a .settings .now) (a .marks .now) _ _ _ (l .loop .c + 1)
-    (visited-to-next (λ r. Behind r (a .behind .now)) (a .table .now) (a .ways .now) (a .this)
-    (λ r i. Ahead r (a .this .n) (a .w) (a .figures .now) (a .codes .from) i)
-    (a .figures .now) (a .settings .now) (a .marks .now)
-    (l .loop .figures) (l .loop .settings) (l .loop .marks) (l .loop .c) (l .loop .inv)
-    (λ r. Ahead r (a .this .n) (a .w) (l .loop .figures) (l .loop .c) (l .loop .c + 1)) (l .loop .c + 1) _ _ _
+    visited-to-on
+    (visited-to-next (l .loop .inv) {j = l .loop .c + 1}
     (v .visit-before .kept .1 .1 .1 .0) (v .visit-before .kept .1 .1 .1 .1 .0) (v .visit-before .kept .1 .1 .1 .1 .1 .0)
     (λ r d h o.
-    visited-less r (a .this .n) d _ _ _ _ _ _ (v .visit-before .ensures r d h o)
-    (Ahead r (a .this .n) (a .w) (l .loop .figures) (l .loop .c) (l .loop .c + 1))
-    (λ q lq k. before-one r (a .this .n) (a .w) (l .loop .figures) (l .loop .c) q k))
-    (λ r d h s′ o q lq x.
-    codes-next r (a .this .n) (a .w) (a .figures .now) d _ _ _ _ _ s′ (a .codes .from) (l .loop .c) (l .loop .c + 1) q
-    (omega (arith, i .loop-test .taken, s .pre .2, o .counted)) x))
-    (c .next-with2 .result)
-    (λ r d s′ o q k.
-    codes-passed r (a .this .n) (a .w) (a .figures .now) d _ _ _ _ _ s′ (a .codes .from) (l .loop .c + 1) (a .codes .upto) _ _ q
-    (omega (arith, s .pre .2, o .counted)) (omega (arith, light .if1 .left)) (c .next-with2 .ensures .0) k)
+    visited-less (v .visit-before .ensures r d h o)
+    {U = Ahead r (s .args .this .n) (s .args .w) (l .loop .figures) (l .loop .c) (l .loop .c + 1)} (λ q lq k. before-one (l .loop .c) k))
+    (λ r d h x o q lq k. codes-next x (l .loop .c) (omega (arith, i .loop-test .taken, s .pre .2, o .counted)) k))
+    (λ r d x o q k.
+    codes-passed x (omega (arith, s .pre .2, o .counted)) (omega (arith, light .if1 .left)) (c .next-with2 .ensures .0) k)
 
 same-length : tie.Need-same-length Inv-loop μ-loop
 same-length c = c .before .loop .inv .long-figs
@@ -123,16 +96,7 @@ same-length-3 : tie.Need-same-length-3 Inv-loop μ-loop
 same-length-3 c = c .before .loop .inv .long-marks
 
 returns-2 : tie.Need-returns-2 Inv-loop μ-loop
-returns-2 c =
-    let l = c .before in
-    let light = l .before .before .before in
-    let a = start light .args in
-    visited-to-end (λ r. Behind r (a .behind .now)) (a .table .now) (a .ways .now) (a .this)
-    (λ r i. Ahead r (a .this .n) (a .w) (a .figures .now) (a .codes .from) i)
-    (a .figures .now) (a .settings .now) (a .marks .now) _ _ _ _ (l .loop .inv)
-    (λ r. Ahead r (a .this .n) (a .w) (a .figures .now) (a .codes .from) (a .codes .upto))
-    (λ r d h o q l x.
-    codes-less r (a .this .n) (a .w) (a .figures .now) (a .codes .from) (a .codes .upto) _ q (c .loop-test .left) x)
+returns-2 c = visited-to-end (c .before .loop .inv) (λ r d h o q l x. codes-less (c .loop-test .left) x)
 
 pub visit-codes-spec : {M : Type 1} → statement M
 visit-codes-spec =

@@ -26,17 +26,15 @@ returns c =
     let test = waiting .before in
     let a = start test .args in
     λ r d o on lt there is.
-    one-visit r (a .table .now) (a .ways .now) (a .this) d (a .mover .code) (a .mover .train) (a .y) (a .p)
-    (a .figures .now) (a .settings .now) (a .marks .now) o there is (a .mover .placement) _ on lt _
-    (test .waits .ensures) (waiting .if1 .taken) (put .put-on .ensures) _ _ _ (visited .visit .ensures)
+    one-visit o (a .mover .code) (a .mover .train) (a .y) (a .p) there is (a .mover .placement) _ on lt _
+    (test .waits .ensures) (waiting .if1 .taken) (put .put-on .ensures) (visited .visit .ensures)
 
 returns-2 : tie.Need-returns-2
 returns-2 c =
     let test = c .before in
     let a = start test .args in
     λ r d o on lt there is.
-    no-visit r (a .table .now) (a .ways .now) (a .this) d (a .mover .code) (a .mover .train) (a .y) (a .p)
-    (a .figures .now) (a .settings .now) (a .marks .now) o there is _ (test .waits .ensures) (c .if1 .left)
+    no-visit o (a .mover .code) (a .mover .train) (a .y) (a .p) there is _ (test .waits .ensures) (c .if1 .left)
 
 pub visit-put-spec : {M : Type 1} → statement M
 visit-put-spec =

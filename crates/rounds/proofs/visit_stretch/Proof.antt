@@ -1,9 +1,7 @@
 -- `rounds::visit_stretch` meets its contract: the stretch is not due by the weight, or its codes are visited, and it is marked when
 -- it is due again. Assumes nothing.
 use borrow.Author.Needs.{needs}
-use Rattle.railway.specs.Record.{weightOf}
 use Rattle.railway.proofs.Accepted.{accepted-facts}
-use Rattle.rounds.specs.Visits.{Turned, Ahead}
 use Rattle.rounds.proofs.Visits.{visited-none, visited-less, visited-marked}
 use Rattle.rounds.proofs.Turns.{not-due, turn-over, due-again}
 use Rattle.rounds.proofs.visit_stretch.Statement.{statement}
@@ -19,13 +17,11 @@ returns c =
     let s = start mark in
     let a = s .args in
     λ r h o runs first st.
-    visited-none r (a .this .n) (record { train = a .t; code = a .codes .upto })
-    (Ahead r (a .this .n) (weightOf r (a .t)) (a .figures .now) (a .codes .from) (a .codes .upto))
-    (a .figures .now) (a .settings .now) (a .marks .now)
-    (turn-over r (a .this) (a .t) (a .codes) (o .counted) (s .pre .2) st (s .pre .3) runs first
-    (a .table .now) (a .ways .now) (a .figures .now) (a .marks .now) o _ (mark .due-at .ensures) (c .if1 .taken))
-    (not-due r (a .this) (a .t) (a .codes) (o .counted) (s .pre .2) st (s .pre .3) runs first
-    (a .table .now) (a .ways .now) (a .figures .now) (a .marks .now) o _ (mark .due-at .ensures) (c .if1 .taken))
+    visited-none
+    (turn-over r (a .this) (a .t) (a .codes) (o .counted) (s .pre .2) st (s .pre .3) runs first o _ (mark .due-at .ensures)
+    (c .if1 .taken))
+    (not-due r (a .this) (a .t) (a .codes) (o .counted) (s .pre .2) st (s .pre .3) runs first o _ (mark .due-at .ensures)
+    (c .if1 .taken))
 
 returns-2 : tie.Need-returns-2
 returns-2 c =
@@ -39,18 +35,10 @@ returns-2 c =
     let s = start mark in
     let a = s .args in
     λ r h o runs first st.
-    let from : Turned = record { train = a .t; code = a .codes .from } in
-    let x =
-    visited-less r (a .this .n) from
-    (Ahead r (a .this .n) (weight .weight-in .result) (a .figures .now) (a .codes .from) (a .codes .upto))
-    (a .figures .now) (a .settings .now) _ _ _ (visited .visit-codes .ensures r from h o)
-    (Ahead r (a .this .n) (weightOf r (a .t)) (a .figures .now) (a .codes .from) (a .codes .upto))
-    (λ q l k. rw (weight .weight-in .ensures r (o .compiled)) k) in
-    visited-marked r (a .this .n) from
-    (Ahead r (a .this .n) (weightOf r (a .t)) (a .figures .now) (a .codes .from) (a .codes .upto))
-    (a .figures .now) (a .settings .now) _ _ _ x (record { train = a .t; code = a .codes .upto }) _
-    (due-again r (a .this) (a .t) (a .codes) (o .counted) (s .pre .2) st (s .pre .3) runs first _ _ (x .marked) _ (most .most-at .ensures)
-    _ (due .due-behind .ensures r (o .compiled)) _ (marked .set-due .ensures)
+    let x = visited .visit-codes .ensures r (record { train = a .t; code = a .codes .from }) h o in
+    visited-marked (visited-less x (λ q l k. rw (weight .weight-in .ensures r (o .compiled)) k))
+    (due-again r (a .this) (a .t) (a .codes) (o .counted) (s .pre .2) st (s .pre .3) runs first (x .marked) _
+    (most .most-at .ensures) _ (due .due-behind .ensures r (o .compiled)) _ (marked .set-due .ensures)
     (accepted-facts r (o .compiled .accepted) .bounds .few-trains))
 
 pub visit-stretch-spec : {M : Type 1} → statement M

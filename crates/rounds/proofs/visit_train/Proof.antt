@@ -2,11 +2,11 @@
 -- have been visited. Where there is no way with number j, or j has come to the most ways, those are all. Assumes nothing.
 use borrow.Author.Needs.{needs}
 use native.Mathlib.Omega.{arith}
-use Prim.Native.Nat.{_+_, _-_}
+use Prim.Native.Nat.{_-_}
 use Rattle.railway.specs.declared.Railway.{Railway}
 use Rattle.routes.specs.Routes.{mostWays}
 use Rattle.predecessors.specs.Behind.{BackBy}
-use Rattle.rounds.specs.Visits.{MoverOf, One, By}
+use Rattle.rounds.specs.Visits.{MoverOf}
 use Rattle.rounds.proofs.Retracing.{no-way, way-next, way-put, way-last, all-ways, by-ways}
 use Rattle.rounds.proofs.Loops.{VisitedTo, visited-to-start, visited-to-next, visited-to-end}
 use Rattle.rounds.proofs.visit_train.Statement.{statement}
@@ -27,8 +27,7 @@ start b = b .before .before .before .before .before
 loop-holds : tie.Need-loop-holds Inv-loop μ-loop
 loop-holds b =
     let a = start b .args in
-    visited-to-start (λ r. MoverOf r (a .table .now) (a .behind .now) (a .mover)) (a .table .now) (a .ways .now) (a .this)
-    (λ r i. BackBy r (a .mover .code) (a .mover .train) _ i) (a .figures .now) (a .settings .now) (a .marks .now) 0
+    visited-to-start
     (no-way (a .table .now) (a .behind .now) (a .mover) _ _ (b .before .section-at .ensures) (b .end-behind .ensures))
 
 same-length : tie.Need-same-length Inv-loop μ-loop
@@ -48,9 +47,7 @@ returns c =
     let a = start b .args in
     let here = b .before .section-at .ensures in
     let rear = b .end-behind .ensures in
-    visited-to-end (λ r. MoverOf r (a .table .now) (a .behind .now) (a .mover)) (a .table .now) (a .ways .now) (a .this)
-    (λ r i. BackBy r (a .mover .code) (a .mover .train) _ i) (a .figures .now) (a .settings .now) (a .marks .now) _ _ _ _
-    (l .loop .inv) (λ r. By r (a .mover .code) (a .mover .train))
+    visited-to-end (l .loop .inv)
     (λ r d g o u lu k.
     way-last (a .table .now) (a .behind .now) (a .mover) _ _ here rear _ _ (w .way-to .ensures .0) r g (c .if1 .taken) u
     (by-ways (a .table .now) (a .behind .now) (a .mover) _ _ here rear r g u lu k))
@@ -83,10 +80,7 @@ loop-again c =
     let a = start b .args in
     let here = b .before .section-at .ensures in
     let rear = b .end-behind .ensures in
-    visited-to-next (λ r. MoverOf r (a .table .now) (a .behind .now) (a .mover)) (a .table .now) (a .ways .now) (a .this)
-    (λ r i. BackBy r (a .mover .code) (a .mover .train) _ i) (a .figures .now) (a .settings .now) (a .marks .now)
-    (l .loop .figures) (l .loop .settings) (l .loop .marks) (l .loop .j) (l .loop .inv)
-    (λ r. One (p .code-put .result)) (l .loop .j + 1) _ _ _
+    visited-to-next (l .loop .inv)
     (v .visit-put .kept .1 .1 .0) (v .visit-put .kept .1 .1 .1 .0) (v .visit-put .kept .1 .1 .1 .1 .0)
     (λ r d g o.
     let put =
@@ -115,9 +109,7 @@ returns-2 c =
     let a = start b .args in
     let here = b .before .section-at .ensures in
     let rear = b .end-behind .ensures in
-    visited-to-end (λ r. MoverOf r (a .table .now) (a .behind .now) (a .mover)) (a .table .now) (a .ways .now) (a .this)
-    (λ r i. BackBy r (a .mover .code) (a .mover .train) _ i) (a .figures .now) (a .settings .now) (a .marks .now) _ _ _ _
-    (l .loop .inv) (λ r. By r (a .mover .code) (a .mover .train))
+    visited-to-end (l .loop .inv)
     (λ r d g o u lu k.
     all-ways (a .table .now) (a .behind .now) (a .mover) _ _ here rear _ (c .loop-test .left) r u
     (by-ways (a .table .now) (a .behind .now) (a .mover) _ _ here rear r g u lu k))

@@ -2,32 +2,19 @@
 -- Assumes nothing.
 use borrow.Author.Needs.{needs}
 use mathlib.Core.Path.{_∙_}
-use Rattle.rounds.specs.Visits.{By, ByWeight}
 use Rattle.rounds.proofs.Visits.{visited-none, visited-less}
 use Rattle.rounds.proofs.visit_weighing.Statement.{statement}
 use Rattle.rounds.proofs.visit_weighing.Tie as tie
 
--- before the weight is asked for
-abbrev start : tie.After-weight-in → tie.Start
-start w = w .before .before .before .before
-
 returns : tie.Need-returns
 returns c =
     let weight = c .before in
-    let a = start weight .args in
-    λ r d g o.
-    visited-none r (a .this .n) d (ByWeight r (a .w) (a .mover .code) (a .mover .train))
-    (a .figures .now) (a .settings .now) (a .marks .now) (o .marked)
-    (λ q l k. c .if1 .taken (weight .weight-in .ensures r (o .compiled) ∙ k .weighs))
+    λ r d g o. visited-none (o .marked) (λ q l k. c .if1 .taken (weight .weight-in .ensures r (o .compiled) ∙ k .weighs))
 
 returns-2 : tie.Need-returns-2
 returns-2 c =
     let visited = c .before .before .before .before .before .before in
-    let weight = visited .before .before .before .before .before in
-    let a = start weight .args in
-    λ r d g o.
-    visited-less r (a .this .n) d (By r (a .mover .code) (a .mover .train)) (a .figures .now) (a .settings .now) _ _ _
-    (visited .visit-train .ensures r d g o) (ByWeight r (a .w) (a .mover .code) (a .mover .train)) (λ q l k. k .by)
+    λ r d g o. visited-less (visited .visit-train .ensures r d g o) (λ q l k. k .by)
 
 pub visit-weighing-spec : {M : Type 1} → statement M
 visit-weighing-spec =
