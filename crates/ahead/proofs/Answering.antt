@@ -22,14 +22,14 @@ use Rattle.rounds.proofs.Loops.{codes-less}
 use Rattle.ahead.specs.Bringing.{Told, gains, rests}
 use Rattle.ahead.proofs.Telling.{Resting}
 
-module _ (r : Railway) (accepted : recordRefusal r ≡ none) (k : ℕ) (figs sets : List ℕ) (t : RoundTables r k figs sets) where
-  one-gains : (K : ℕ → Type 0) (b : Bool) → Told r (suc k) figs K b → b ≡ true → HasFigure r (suc k)
-  one-gains K b (gains p l g) e = record {
+module _ {r : Railway} (accepted : recordRefusal r ≡ none) {k : ℕ} {figs sets : List ℕ} (t : RoundTables r k figs sets) where
+  one-gains : {K : ℕ → Type 0} {b : Bool} → Told r (suc k) figs K b → b ≡ true → HasFigure r (suc k)
+  one-gains (gains p l g) e = record {
     code = p;
     there = l;
     is = round-brings r accepted k figs sets t p l (g .entry) (g .waits) (g .going) (g .found);
   }
-  one-gains K b (rests h) e = clash e refl
+  one-gains (rests h) e = clash e refl
 
   none-gains : Resting r (suc k) figs (Before r (suc k) figs 0 (placements r)) → HasFigure r (suc k) → ⊥
   none-gains h x =
@@ -40,18 +40,18 @@ module _ (r : Railway) (accepted : recordRefusal r ≡ none) (k : ℕ) (figs set
       ])
       (x .is)
 
-  module _ (n : ℕ) (is : n ≡ suc k) where
-    pub says-yes : (K : ℕ → Type 0) (b : Bool) → Told r n figs K b → b ≡ true → (true ≡ true) ↔ HasFigure r n
-    says-yes K b h e = (λ z. rw is (one-gains K b (rw is at h) e), λ x. refl)
+  module _ {n : ℕ} (is : n ≡ suc k) where
+    pub says-yes : {K : ℕ → Type 0} {b : Bool} → Told r n figs K b → b ≡ true → (true ≡ true) ↔ HasFigure r n
+    says-yes {K} {b} h e = let h′ : Told r (suc k) figs K b = rw is at h in (λ z. rw is (one-gains h′ e), λ x. refl)
 
-    pub says-no : (m i : ℕ) → m ≡ placements r → r .trains ≤ i → Resting r n figs (Weighed r n figs 0 m i)
+    pub says-no : {m i : ℕ} → m ≡ placements r → r .trains ≤ i → Resting r n figs (Weighed r n figs 0 m i)
         → (false ≡ true) ↔ HasFigure r n
-    says-no m i counted all h = (λ z. clash z refl, λ x. absurd (none-gains (rw is at before) (rw is at x)))
+    says-no {m} {i} counted all h = (λ z. clash z refl, λ x. absurd (none-gains (rw is at before) (rw is at x)))
       where
         before : Resting r n figs (Before r n figs 0 (placements r))
         before p l k =
             h p l (record {
               train = k .train;
               below = omega (arith, k .below);
-              ahead = codes-less r n (weightOf r (k .train)) figs 0 (placements r) m p (omega arith) (k .ahead);
+              ahead = codes-less (omega arith) (k .ahead);
             })

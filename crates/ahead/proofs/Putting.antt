@@ -28,8 +28,8 @@ use Rattle.rounds.specs.Visits.{One}
 use Rattle.rounds.proofs.Entries.{entry-some, entry-none, finds-nothing, finds-entry}
 use Rattle.ahead.specs.Bringing.{Looking, Told, gains, rests}
 
-module _ (r : Railway) (table ways behind : List ℕ) (m n : ℕ) (figs : List ℕ) (o : Looking r table ways behind m figs)
-    (c t y p : ℕ) (there : y < r .sections) (put : p ≡ codeWith r c t y) where
+module _ {r : Railway} {table ways behind : List ℕ} {m : ℕ} {figs : List ℕ} (o : Looking r table ways behind m figs)
+    (n c t y p : ℕ) (there : y < r .sections) (put : p ≡ codeWith r c t y) where
   below : p < placements r
   below = rw put (code-with-below r (facts r (o .compiled .accepted)) c t y there)
 

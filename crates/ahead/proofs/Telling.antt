@@ -21,15 +21,15 @@ Resting r n figs K =
     (p : ℕ) → p < placements r → K p → figureIn figs p ≡ none → over (gameOf r) p ≡ false
     → find r (figureIn figs) p n ≡ none
 
-module _ (r : Railway) (n : ℕ) (figs : List ℕ) (K : ℕ → Type 0) where
+module _ {r : Railway} {n : ℕ} {figs : List ℕ} {K : ℕ → Type 0} where
   -- one gains, of whatever kind
-  pub told-yes : (b : Bool) → Told r n figs K b → b ≡ true → (L : ℕ → Type 0) → Told r n figs L true
-  told-yes b (gains p l g) e L = gains p l g
-  told-yes b (rests h) e L = clash e refl
+  pub told-yes : {L : ℕ → Type 0} {b : Bool} → Told r n figs K b → b ≡ true → Told r n figs L true
+  told-yes (gains p l g) e = gains p l g
+  told-yes (rests h) e = clash e refl
 
-  pub told-no : (b : Bool) → Told r n figs K b → b ≡ false → Resting r n figs K
-  told-no b (gains p l g) e = clash refl e
-  told-no b (rests h) e = h
+  pub told-no : {b : Bool} → Told r n figs K b → b ≡ false → Resting r n figs K
+  told-no (gains p l g) e = clash refl e
+  told-no (rests h) e = h
 
   -- none is of the kind
   pub told-none : ((p : ℕ) → p < placements r → K p → ⊥) → Told r n figs K false
@@ -39,15 +39,15 @@ module _ (r : Railway) (n : ℕ) (figs : List ℕ) (K : ℕ → Type 0) where
 pub record RestsTo (Given : Railway → Type 0) (n : ℕ) (figs : List ℕ) (Kind : Railway → ℕ → ℕ → Type 0) (i : ℕ) : Type 0 where
   pub resting : (r : Railway) → Given r → Resting r n figs (Kind r i)
 
-module _ (Given : Railway → Type 0) (n : ℕ) (figs : List ℕ) (Kind : Railway → ℕ → ℕ → Type 0) (i : ℕ) where
+module _ {Given : Railway → Type 0} {n : ℕ} {figs : List ℕ} {Kind : Railway → ℕ → ℕ → Type 0} {i : ℕ} where
   pub rests-start : ((r : Railway) (p : ℕ) → Kind r i p → ⊥) → RestsTo Given n figs Kind i
   rests-start h = record { resting = λ r g p l k. absurd (h r p k) }
 
   module _ (s : RestsTo Given n figs Kind i) where
-    pub rests-next : (New : Railway → ℕ → Type 0) (j : ℕ) → ((r : Railway) → Given r → Resting r n figs (New r))
+    pub rests-next : {New : Railway → ℕ → Type 0} {j : ℕ} → ((r : Railway) → Given r → Resting r n figs (New r))
         → ((r : Railway) → Given r → (p : ℕ) → p < placements r → Kind r j p → Kind r i p ⊎ New r p)
         → RestsTo Given n figs Kind j
-    rests-next New j body covers =
+    rests-next body covers =
         record {
           resting = λ r g p l k. elim (covers r g p l k) [
             | inl x ↦ s .resting r g p l x
@@ -55,7 +55,7 @@ module _ (Given : Railway → Type 0) (n : ℕ) (figs : List ℕ) (Kind : Railwa
           ];
         }
 
-    pub rests-end : (End : Railway → ℕ → Type 0)
+    pub rests-end : {End : Railway → ℕ → Type 0}
         → ((r : Railway) → Given r → (p : ℕ) → p < placements r → End r p → Kind r i p) → (r : Railway) → Given r
         → Told r n figs (End r) false
-    rests-end End h r g = rests (λ p l k. s .resting r g p l (h r g p l k))
+    rests-end h r g = rests (λ p l k. s .resting r g p l (h r g p l k))

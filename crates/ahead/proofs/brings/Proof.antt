@@ -3,14 +3,14 @@
 use borrow.Author.Needs.{needs}
 use native.Mathlib.Omega.{arith}
 use mathlib.Core.List.{List}
-use Prim.Native.Nat.{ℕ, _+_, _-_}
+use Prim.Native.Nat.{ℕ, _-_}
 use Rattle.railway.specs.declared.Railway.{Railway}
 use Rattle.railway.specs.Record.{isClosed}
 use Rattle.tables.specs.Rounds.{RoundTables}
 use Rattle.routes.specs.Routes.{Laid}
 use Rattle.compiled.specs.Table.{Compiled}
 use Rattle.predecessors.specs.Behind.{Behind}
-use Rattle.rounds.specs.Visits.{MarkedFor, Apart, Weighed}
+use Rattle.rounds.specs.Visits.{MarkedFor, Weighed}
 use Rattle.rounds.proofs.Visits.{round-homed}
 use Rattle.rounds.proofs.Loops.{no-weight, weight-next, train-there}
 use Rattle.ahead.specs.Bringing.{Looking}
@@ -55,10 +55,7 @@ given b r k sets h laid back t marked = (
 )
 
 loop-holds : tie.Need-loop-holds Inv-loop μ-loop
-loop-holds b =
-    let a = start b .args in
-    rests-start (Given b) (a .n) (a .figures .now) (λ r i. Weighed r (a .n) (a .figures .now) 0 (count b) i) 0
-    (λ r q k. no-weight r (a .n) (a .figures .now) 0 (count b) q k)
+loop-holds b = rests-start (λ r q k. no-weight k)
 
 returns : tie.Need-returns Inv-loop μ-loop
 returns c =
@@ -66,10 +63,9 @@ returns c =
     let i = v .before in
     let l = i .before in
     let b = l .before in
-    let a = start b .args in
     λ r k sets h laid back is t marked.
     let g = given b r k sets h laid back t marked in
-    says-yes r (h .accepted) k (a .figures .now) sets t (a .n) is (Apart r (a .n) (a .figures .now) 0 (count b) (l .loop .t)) _
+    says-yes (h .accepted) t is
     (v .brings-by .ensures r (g .0) marked (train-there r _ _ (b .trains-in .ensures r h) (i .loop-test .taken))) (c .if1 .taken)
 
 add-t : tie.Need-add-t Inv-loop μ-loop
@@ -84,23 +80,19 @@ loop-again c =
     let i = v .before in
     let l = i .before in
     let b = l .before in
-    let a = start b .args in
-    rests-next (Given b) (a .n) (a .figures .now) (λ r i. Weighed r (a .n) (a .figures .now) 0 (count b) i) _ (l .loop .inv)
-    (λ r. Apart r (a .n) (a .figures .now) 0 (count b) (l .loop .t)) (l .loop .t + 1)
+    rests-next (l .loop .inv)
     (λ r g.
-    told-no r (a .n) (a .figures .now) (Apart r (a .n) (a .figures .now) 0 (count b) (l .loop .t)) _
-    (v .brings-by .ensures r (g .0) (g .1) (train-there r _ _ (b .trains-in .ensures r (g .0 .compiled)) (i .loop-test .taken)))
+    told-no (v .brings-by .ensures r (g .0) (g .1) (train-there r _ _ (b .trains-in .ensures r (g .0 .compiled)) (i .loop-test .taken)))
     (c .if1 .left))
-    (λ r g q lq k. weight-next r (a .n) (a .figures .now) 0 (count b) (l .loop .t) q k)
+    (λ r g q lq k. weight-next (l .loop .t) k)
 
 returns-2 : tie.Need-returns-2 Inv-loop μ-loop
 returns-2 c =
     let l = c .before in
     let b = l .before in
-    let a = start b .args in
     λ r k sets h laid back is t marked.
     let g = given b r k sets h laid back t marked in
-    says-no r (h .accepted) k (a .figures .now) sets t (a .n) is (count b) (l .loop .t) (g .0 .counted)
+    says-no (h .accepted) t is (g .0 .counted)
     (let z = b .trains-in .ensures r h in omega (arith, z, c .loop-test .left)) (l .loop .inv .resting r g)
 
 pub brings-spec : {M : Type 1} → statement M

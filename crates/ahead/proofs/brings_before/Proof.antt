@@ -4,12 +4,12 @@ use borrow.Author.Needs.{needs}
 use native.Mathlib.Omega.{arith}
 use mathlib.Core.Path.{_≡_, _∙_, ap}
 use mathlib.Core.Logic.{⊎-elim}
-use Prim.Native.Nat.{ℕ, _+_, _-_, _<_}
+use Prim.Native.Nat.{ℕ, _-_, _<_}
 use Rattle.railway.specs.declared.Railway.{Railway}
 use Rattle.game.specs.Placement.{placements}
 use Rattle.moves.specs.Steps.{strideOf}
 use Rattle.rounds.specs.declared.Mover.{Mover}
-use Rattle.rounds.specs.Visits.{MoverOf, By, ByWeight, Comes}
+use Rattle.rounds.specs.Visits.{MoverOf, ByWeight, Comes}
 use Rattle.rounds.proofs.Loops.{no-train, train-next, all-trains, train-there}
 use Rattle.ahead.specs.Bringing.{Looking}
 use Rattle.ahead.proofs.Telling.{told-yes, told-no, RestsTo, rests-start, rests-next, rests-end}
@@ -52,9 +52,7 @@ mover-of b r g t stride on is =
     }
 
 loop-holds : tie.Need-loop-holds Inv-loop μ-loop
-loop-holds b =
-    let a = start b .args in
-    rests-start (Given b) (a .n) (a .figures .now) (λ r i. Comes r (a .w) (a .c) i) 0 (λ r q k. no-train r (a .w) (a .c) q k)
+loop-holds b = rests-start (λ r q k. no-train k)
 
 returns : tie.Need-returns Inv-loop μ-loop
 returns c =
@@ -62,12 +60,9 @@ returns c =
     let p = v .before in
     let i = p .before .before .before in
     let l = i .before in
-    let b = l .before in
-    let a = start b .args in
     λ r o lc.
-    told-yes r (a .n) (a .figures .now) (By r (a .c) (l .loop .t)) _
-    (v .brings-train .ensures r o (mover-of b r (o, lc) (l .loop .t) _ (i .loop-test .taken) (p .power .ensures)))
-    (c .if2 .taken) (Comes r (a .w) (a .c) (r .trains))
+    told-yes (v .brings-train .ensures r o (mover-of (l .before) r (o, lc) (l .loop .t) _ (i .loop-test .taken) (p .power .ensures)))
+    (c .if2 .taken)
 
 add-t : tie.Need-add-t Inv-loop μ-loop
 add-t c = omega (arith, c .before .before .loop-test .taken)
@@ -82,27 +77,23 @@ loop-again c =
     let l = i .before in
     let b = l .before in
     let a = start b .args in
-    rests-next (Given b) (a .n) (a .figures .now) (λ r i. Comes r (a .w) (a .c) i) _ (l .loop .inv)
-    (λ r. ByWeight r (a .w) (a .c) (l .loop .t)) (l .loop .t + 1)
+    rests-next (l .loop .inv) {New = λ r. ByWeight r (a .w) (a .c) (l .loop .t)}
     (λ r g.
     ⊎-elim
     (λ z q lq k.
-    told-no r (a .n) (a .figures .now) (By r (a .c) (l .loop .t)) _
-    (z .2 .ensures r (g .0) (mover-of b r g (l .loop .t) _ (i .loop-test .taken) (z .1 .ensures))) (z .3 .left) q lq
+    told-no (z .2 .ensures r (g .0) (mover-of b r g (l .loop .t) _ (i .loop-test .taken) (z .1 .ensures))) (z .3 .left) q lq
     (k .by))
     (λ z q lq k. absurd (z .left (w .weight-in .ensures r (g .0 .compiled) ∙ k .weighs)))
     (c .if1 .came))
-    (λ r g q lq k. train-next r (a .w) (a .c) (l .loop .t) q k)
+    (λ r g q lq k. train-next (l .loop .t) k)
 
 returns-2 : tie.Need-returns-2 Inv-loop μ-loop
 returns-2 c =
     let l = c .before in
     let b = l .before in
-    let a = start b .args in
     λ r o lc.
-    rests-end (Given b) (a .n) (a .figures .now) (λ r i. Comes r (a .w) (a .c) i) _ (l .loop .inv)
-    (λ r. Comes r (a .w) (a .c) (r .trains))
-    (λ r g q lq k. all-trains r _ _ (b .trains-in .ensures r (g .0 .compiled)) (c .loop-test .left) (a .w) (a .c) q k) r (o, lc)
+    rests-end (l .loop .inv)
+    (λ r g q lq k. all-trains (b .trains-in .ensures r (g .0 .compiled)) (c .loop-test .left) k) r (o, lc)
 
 pub brings-before-spec : {M : Type 1} → statement M
 brings-before-spec =

@@ -2,11 +2,10 @@
 -- gains. Where there is no way with number j, or j has come to the most ways, those are all. Assumes nothing.
 use borrow.Author.Needs.{needs}
 use native.Mathlib.Omega.{arith}
-use Prim.Native.Nat.{_+_, _-_}
-use Rattle.railway.specs.declared.Railway.{Railway}
+use Prim.Native.Nat.{_-_}
 use Rattle.routes.specs.Routes.{mostWays}
 use Rattle.predecessors.specs.Behind.{BackBy}
-use Rattle.rounds.specs.Visits.{MoverOf, One, By}
+use Rattle.rounds.specs.Visits.{MoverOf}
 use Rattle.rounds.proofs.Retracing.{no-way, way-next, way-put, way-last, all-ways, by-ways}
 use Rattle.ahead.specs.Bringing.{Looking}
 use Rattle.ahead.proofs.Telling.{told-yes, told-no, RestsTo, rests-start, rests-next, rests-end}
@@ -21,20 +20,14 @@ Inv-loop table ways behind figures m n mover t x e j₀ j =
 abbrev μ-loop : tie.MeasureT-loop
 μ-loop table ways behind figures m n mover t x e j₀ j = mostWays - j
 
--- before the loop, and what is given of a railway
+-- before the loop
 abbrev start : tie.After-end-behind Inv-loop μ-loop → tie.Start Inv-loop μ-loop
 start b = b .before .before .before
-
-abbrev Given : tie.After-end-behind Inv-loop μ-loop → Railway → Type 0
-Given b r =
-    let a = start b .args in
-    Looking r (a .table .now) (a .ways .now) (a .behind .now) (a .m) (a .figures .now)
-    × MoverOf r (a .table .now) (a .behind .now) (a .mover)
 
 loop-holds : tie.Need-loop-holds Inv-loop μ-loop
 loop-holds b =
     let a = start b .args in
-    rests-start (Given b) (a .n) (a .figures .now) (λ r i. BackBy r (a .mover .code) (a .mover .train) _ i) 0
+    rests-start
     (no-way (a .table .now) (a .behind .now) (a .mover) _ _ (b .before .section-at .ensures) (b .end-behind .ensures))
 
 returns : tie.Need-returns Inv-loop μ-loop
@@ -46,8 +39,7 @@ returns c =
     let here = b .before .section-at .ensures in
     let rear = b .end-behind .ensures in
     λ r o g.
-    rests-end (Given b) (a .n) (a .figures .now) (λ r i. BackBy r (a .mover .code) (a .mover .train) _ i) _ (l .loop .inv)
-    (λ r. By r (a .mover .code) (a .mover .train))
+    rests-end (l .loop .inv)
     (λ r g u lu k.
     way-last (a .table .now) (a .behind .now) (a .mover) _ _ here rear _ _ (w .way-to .ensures .0) r (g .1) (c .if1 .taken) u
     (by-ways (a .table .now) (a .behind .now) (a .mover) _ _ here rear r (g .1) u lu k))
@@ -68,9 +60,7 @@ returns-2 c =
     let put =
     way-put (a .table .now) (a .behind .now) (a .mover) _ _ here rear _ _ (w .way-to .ensures .0) r g (i .if1 .left) _
     (p .code-put .ensures) in
-    told-yes r (a .n) (a .figures .now) (One (p .code-put .result)) _
-    (v .brings-put .ensures r (a .behind .now) o (g .on) (g .train) (put .0) (put .1)) (c .if2 .taken)
-    (By r (a .mover .code) (a .mover .train))
+    told-yes (v .brings-put .ensures r (a .behind .now) o (g .on) (g .train) (put .0) (put .1)) (c .if2 .taken)
 
 loop-less : tie.Need-loop-less Inv-loop μ-loop
 loop-less c =
@@ -89,14 +79,12 @@ loop-again c =
     let a = start b .args in
     let here = b .before .section-at .ensures in
     let rear = b .end-behind .ensures in
-    rests-next (Given b) (a .n) (a .figures .now) (λ r i. BackBy r (a .mover .code) (a .mover .train) _ i) _ (l .loop .inv)
-    (λ r. One (p .code-put .result)) (l .loop .j + 1)
+    rests-next (l .loop .inv)
     (λ r g.
     let put =
     way-put (a .table .now) (a .behind .now) (a .mover) _ _ here rear _ _ (w .way-to .ensures .0) r (g .1) (i .if1 .left) _
     (p .code-put .ensures) in
-    told-no r (a .n) (a .figures .now) (One (p .code-put .result)) _
-    (v .brings-put .ensures r (a .behind .now) (g .0) (g .1 .on) (g .1 .train) (put .0) (put .1)) (c .if2 .left))
+    told-no (v .brings-put .ensures r (a .behind .now) (g .0) (g .1 .on) (g .1 .train) (put .0) (put .1)) (c .if2 .left))
     (λ r g u lu k.
     let put =
     way-put (a .table .now) (a .behind .now) (a .mover) _ _ here rear _ _ (w .way-to .ensures .0) r (g .1) (i .if1 .left) _
@@ -111,8 +99,7 @@ returns-3 c =
     let here = b .before .section-at .ensures in
     let rear = b .end-behind .ensures in
     λ r o g.
-    rests-end (Given b) (a .n) (a .figures .now) (λ r i. BackBy r (a .mover .code) (a .mover .train) _ i) _ (l .loop .inv)
-    (λ r. By r (a .mover .code) (a .mover .train))
+    rests-end (l .loop .inv)
     (λ r g u lu k.
     all-ways (a .table .now) (a .behind .now) (a .mover) _ _ here rear _ (c .loop-test .left) r u
     (by-ways (a .table .now) (a .behind .now) (a .mover) _ _ here rear r (g .1) u lu k))
