@@ -105,36 +105,40 @@ module _ (s t w : ℕ) (e : w ≡ strideOf s t) where
 pub stride-first : (s : ℕ) → 1 ≡ strideOf s 0
 stride-first s = sym (pow-zero s)
 
--- GOING OVER THE WAYS BACK from section x, where the train stands
-module _ (table behind : List ℕ) (mover : Mover) (x e : ℕ) (here : x ≡ sectionIn (mover .placement) (mover .train))
-    (rear : (r : Railway) → Compiled r table → e ≡ endIndex (endBehind r (mover .train) x)) where
-  pub no-way : (r : Railway) (u : ℕ) → BackBy r (mover .code) (mover .train) x 0 u → ⊥
-  no-way r u k = omega (arith, k .below)
+-- THE WAYS BACK of a train
+pub no-way : {r : Railway} {c t x u : ℕ} → BackBy r c t x 0 u → ⊥
+no-way k = omega (arith, k .below)
 
-  module _ (j y : ℕ)
+pub all-ways : {r : Railway} {c t x j u : ℕ} → mostWays ≤ j → BackBy r c t x mostWays u → BackBy r c t x j u
+all-ways l k = record { number = k .number; below = omega (arith, k .below); there = k .there; code = k .code }
+
+-- GOING OVER THEM from section x, where the train stands
+module _ {r : Railway} {table behind : List ℕ} {mover : Mover} (g : MoverOf r table behind mover) {x : ℕ}
+    (here : x ≡ sectionIn (mover .placement) (mover .train)) where
+  -- who moves to the placement has come by one of them
+  pub by-ways : {u : ℕ} → u < placements r → By r (mover .code) (mover .train) u
+      → BackBy r (mover .code) (mover .train) x mostWays u
+  unfolding settingAt
+  by-ways {u} l k =
+      came-by r (g .on .compiled .accepted) (mover .code) u (mover .train) (k .entry) (settingAt r u (k .entry)) refl l (g .train)
+      (k .moves) x (here ∙ g .on .stands (mover .train))
+
+  module _ {e : ℕ} (rear : (r : Railway) → Compiled r table → e ≡ endIndex (endBehind r (mover .train) x)) (j y : ℕ)
       (told : (r : Railway) (shut : ℕ → Bool) → Laid r shut behind → e < sectionEnds
-      → y ≡ toByte (nth (routesFrom r shut (endAt e)) j))
-      (r : Railway) (g : MoverOf r table behind mover) where
+          → y ≡ toByte (nth (routesFrom r shut (endAt e)) j)) where
     -- the section that is read there
     way-is : y ≡ sectionBehind r (mover .train) x j
     way-is =
         let ok = facts r (g .on .compiled .accepted) in
         let small : x < mostSections =
-        omega (
-          arith,
-          here,
-          g .on .stands (mover .train),
-          section-below r ok (mover .code) (mover .train) (g .train),
-          ok .few-sections,
-        ) in
+        omega (arith, here, g .on .stands (mover .train), section-below r ok (mover .code) (mover .train) (g .train), ok .few-sections) in
         let i = rear r (g .on .compiled) in
         told r (λ z. false) (g .laid) (end-inside r (mover .train) x e small i)
         ∙ ap (λ (d : End). toByte (nth (routesFrom r (λ z. false) d) j)) (end-at-behind r (mover .train) x e small i)
 
-    pub way-next : (u : ℕ) → BackBy r (mover .code) (mover .train) x (j + 1) u → (p : ℕ)
-        → p ≡ codeWith r (mover .code) (mover .train) y
+    pub way-next : {u p : ℕ} → BackBy r (mover .code) (mover .train) x (j + 1) u → p ≡ codeWith r (mover .code) (mover .train) y
         → BackBy r (mover .code) (mover .train) x j u ⊎ One p u
-    way-next u k p put = elim (eq? (k .number) j) [
+    way-next k put = elim (eq? (k .number) j) [
       | inl z ↦
           let w : sectionBehind r (mover .train) x (k .number) ≡ y = ap (sectionBehind r (mover .train) x) z ∙ sym way-is in
           inr (k .code ∙ ap (codeWith r (mover .code) (mover .train)) w ∙ sym put)
@@ -142,9 +146,9 @@ module _ (table behind : List ℕ) (mover : Mover) (x e : ℕ) (here : x ≡ sec
     ]
 
     -- a section of the railway, and the code with the train there
-    pub way-put : (y ≡ noSection → ⊥) → (p : ℕ) → p ≡ codePut (mover .code) (mover .stride) x y
+    pub way-put : {p : ℕ} → (y ≡ noSection → ⊥) → p ≡ codePut (mover .code) (mover .stride) x y
         → (y < r .sections) × (p ≡ codeWith r (mover .code) (mover .train) y)
-    way-put some-section p put =
+    way-put {p} some-section put =
         let below : y < r .sections =
         rw way-is (behind-below r (mover .train) x j (g .on .compiled .accepted) (λ z. some-section (way-is ∙ z))) in (
           below,
@@ -154,25 +158,12 @@ module _ (table behind : List ℕ) (mover : Mover) (x e : ℕ) (here : x ≡ sec
         )
 
     -- no way is left
-    pub way-last : y ≡ noSection → (u : ℕ) → BackBy r (mover .code) (mover .train) x mostWays u
+    pub way-last : {u : ℕ} → y ≡ noSection → BackBy r (mover .code) (mover .train) x mostWays u
         → BackBy r (mover .code) (mover .train) x j u
-    way-last z u k =
+    way-last z k =
         record {
           number = k .number;
           below = behind-last r (mover .train) x j (sym way-is ∙ z) (k .number) (k .there);
           there = k .there;
           code = k .code;
         }
-
-  pub all-ways : (j : ℕ) → mostWays ≤ j → (r : Railway) (u : ℕ)
-      → BackBy r (mover .code) (mover .train) x mostWays u → BackBy r (mover .code) (mover .train) x j u
-  all-ways j l r u k = record { number = k .number; below = omega (arith, k .below); there = k .there; code = k .code }
-
-  -- who moves to the placement has come by one of them
-  pub by-ways : (r : Railway) → MoverOf r table behind mover → (u : ℕ) → u < placements r → By r (mover .code) (mover .train) u
-      → BackBy r (mover .code) (mover .train) x mostWays u
-  unfolding settingAt
-  by-ways r g u l k =
-      came-by r (g .on .compiled .accepted) (mover .code) u (mover .train) (k .entry) (settingAt r u (k .entry)) refl l
-      (g .train) (k .moves)
-      x (here ∙ g .on .stands (mover .train))

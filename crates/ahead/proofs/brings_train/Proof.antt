@@ -20,29 +20,19 @@ Inv-loop table ways behind figures m n mover t x e j₀ j =
 abbrev μ-loop : tie.MeasureT-loop
 μ-loop table ways behind figures m n mover t x e j₀ j = mostWays - j
 
--- before the loop
-abbrev start : tie.After-end-behind Inv-loop μ-loop → tie.Start Inv-loop μ-loop
-start b = b .before .before .before
-
 loop-holds : tie.Need-loop-holds Inv-loop μ-loop
-loop-holds b =
-    let a = start b .args in
-    rests-start
-    (no-way (a .table .now) (a .behind .now) (a .mover) _ _ (b .before .section-at .ensures) (b .end-behind .ensures))
+loop-holds b = rests-start (λ r u k. no-way k)
 
 returns : tie.Need-returns Inv-loop μ-loop
 returns c =
     let w = c .before in
     let l = w .before .before in
     let b = l .before in
-    let a = start b .args in
     let here = b .before .section-at .ensures in
-    let rear = b .end-behind .ensures in
     λ r o g.
     rests-end (l .loop .inv)
     (λ r g u lu k.
-    way-last (a .table .now) (a .behind .now) (a .mover) _ _ here rear _ _ (w .way-to .ensures .0) r (g .1) (c .if1 .taken) u
-    (by-ways (a .table .now) (a .behind .now) (a .mover) _ _ here rear r (g .1) u lu k))
+    way-last (g .1) here (b .end-behind .ensures) _ _ (w .way-to .ensures .0) (c .if1 .taken) (by-ways (g .1) here lu k))
     r (o, g)
 
 returns-2 : tie.Need-returns-2 Inv-loop μ-loop
@@ -53,14 +43,11 @@ returns-2 c =
     let w = i .before in
     let l = w .before .before in
     let b = l .before in
-    let a = start b .args in
-    let here = b .before .section-at .ensures in
-    let rear = b .end-behind .ensures in
     λ r o g.
     let put =
-    way-put (a .table .now) (a .behind .now) (a .mover) _ _ here rear _ _ (w .way-to .ensures .0) r g (i .if1 .left) _
+    way-put g (b .before .section-at .ensures) (b .end-behind .ensures) _ _ (w .way-to .ensures .0) (i .if1 .left)
     (p .code-put .ensures) in
-    told-yes (v .brings-put .ensures r (a .behind .now) o (g .on) (g .train) (put .0) (put .1)) (c .if2 .taken)
+    told-yes (v .brings-put .ensures r _ o (g .on) (g .train) (put .0) (put .1)) (c .if2 .taken)
 
 loop-less : tie.Need-loop-less Inv-loop μ-loop
 loop-less c =
@@ -76,34 +63,21 @@ loop-again c =
     let w = i .before in
     let l = w .before .before in
     let b = l .before in
-    let a = start b .args in
     let here = b .before .section-at .ensures in
     let rear = b .end-behind .ensures in
     rests-next (l .loop .inv)
     (λ r g.
-    let put =
-    way-put (a .table .now) (a .behind .now) (a .mover) _ _ here rear _ _ (w .way-to .ensures .0) r (g .1) (i .if1 .left) _
-    (p .code-put .ensures) in
-    told-no (v .brings-put .ensures r (a .behind .now) (g .0) (g .1 .on) (g .1 .train) (put .0) (put .1)) (c .if2 .left))
+    let put = way-put (g .1) here rear _ _ (w .way-to .ensures .0) (i .if1 .left) (p .code-put .ensures) in
+    told-no (v .brings-put .ensures r _ (g .0) (g .1 .on) (g .1 .train) (put .0) (put .1)) (c .if2 .left))
     (λ r g u lu k.
-    let put =
-    way-put (a .table .now) (a .behind .now) (a .mover) _ _ here rear _ _ (w .way-to .ensures .0) r (g .1) (i .if1 .left) _
-    (p .code-put .ensures) in
-    way-next (a .table .now) (a .behind .now) (a .mover) _ _ here rear _ _ (w .way-to .ensures .0) r (g .1) u k _ (put .1))
+    let put = way-put (g .1) here rear _ _ (w .way-to .ensures .0) (i .if1 .left) (p .code-put .ensures) in
+    way-next (g .1) here rear _ _ (w .way-to .ensures .0) k (put .1))
 
 returns-3 : tie.Need-returns-3 Inv-loop μ-loop
 returns-3 c =
     let l = c .before in
-    let b = l .before in
-    let a = start b .args in
-    let here = b .before .section-at .ensures in
-    let rear = b .end-behind .ensures in
-    λ r o g.
-    rests-end (l .loop .inv)
-    (λ r g u lu k.
-    all-ways (a .table .now) (a .behind .now) (a .mover) _ _ here rear _ (c .loop-test .left) r u
-    (by-ways (a .table .now) (a .behind .now) (a .mover) _ _ here rear r (g .1) u lu k))
-    r (o, g)
+    let here = l .before .before .section-at .ensures in
+    λ r o g. rests-end (l .loop .inv) (λ r g u lu k. all-ways (c .loop-test .left) (by-ways (g .1) here lu k)) r (o, g)
 
 pub brings-train-spec : {M : Type 1} → statement M
 brings-train-spec =

@@ -3,7 +3,6 @@
 use borrow.Author.Needs.{needs}
 use native.Mathlib.Omega.{arith}
 use Prim.Native.Nat.{_-_}
-use Rattle.railway.specs.declared.Railway.{Railway}
 use Rattle.routes.specs.Routes.{mostWays}
 use Rattle.predecessors.specs.Behind.{BackBy}
 use Rattle.rounds.specs.Visits.{MoverOf}
@@ -25,32 +24,29 @@ abbrev start : tie.After-end-behind Inv-loop μ-loop → tie.Start Inv-loop μ-l
 start b = b .before .before .before .before .before
 
 loop-holds : tie.Need-loop-holds Inv-loop μ-loop
-loop-holds b =
-    let a = start b .args in
-    visited-to-start
-    (no-way (a .table .now) (a .behind .now) (a .mover) _ _ (b .before .section-at .ensures) (b .end-behind .ensures))
+loop-holds b = visited-to-start (λ r u k. no-way k)
+
+-- the loop, where the ways end
+abbrev ended : tie.Then1 Inv-loop μ-loop → tie.At-loop Inv-loop μ-loop
+ended c = c .before .before .before
 
 same-length : tie.Need-same-length Inv-loop μ-loop
-same-length c = let l = c .before .before .before in l .loop .inv .long-figs
+same-length c = ended c .loop .inv .long-figs
 
 same-length-2 : tie.Need-same-length-2 Inv-loop μ-loop
-same-length-2 c = let l = c .before .before .before in l .loop .inv .long-sets
+same-length-2 c = ended c .loop .inv .long-sets
 
 same-length-3 : tie.Need-same-length-3 Inv-loop μ-loop
-same-length-3 c = let l = c .before .before .before in l .loop .inv .long-marks
+same-length-3 c = ended c .loop .inv .long-marks
 
 returns : tie.Need-returns Inv-loop μ-loop
 returns c =
     let w = c .before in
-    let l = w .before .before in
+    let l = ended c in
     let b = l .before in
-    let a = start b .args in
     let here = b .before .section-at .ensures in
-    let rear = b .end-behind .ensures in
     visited-to-end (l .loop .inv)
-    (λ r d g o u lu k.
-    way-last (a .table .now) (a .behind .now) (a .mover) _ _ here rear _ _ (w .way-to .ensures .0) r g (c .if1 .taken) u
-    (by-ways (a .table .now) (a .behind .now) (a .mover) _ _ here rear r g u lu k))
+    (λ r d g o u lu k. way-last g here (b .end-behind .ensures) _ _ (w .way-to .ensures .0) (c .if1 .taken) (by-ways g here lu k))
 
 visit-put-requires : tie.Need-visit-put-requires Inv-loop μ-loop
 visit-put-requires c κs =
@@ -59,39 +55,36 @@ visit-put-requires c κs =
     let s = start (l .before) in
     (omega (arith, s .pre .0, l .loop .inv .long-figs), omega (arith, s .pre .1, l .loop .inv .long-sets))
 
--- what the loop has come to, behind a visit
+-- behind a visit, and the code that was visited
 abbrev visited : tie.After-slice-known6 Inv-loop μ-loop → tie.After-visit-put Inv-loop μ-loop
 visited c = c .before .before .before .before .before .before
 
+abbrev coded : tie.After-visit-put Inv-loop μ-loop → tie.After-code-put Inv-loop μ-loop
+coded v = v .before .before .before .before
+
 loop-less : tie.Need-loop-less Inv-loop μ-loop
 loop-less c =
-    let put = visited c .before .before .before .before in
-    let way = put .before .before in
+    let way = coded (visited c) .before .before in
     omega (arith, way .before .loop-test .taken)
 
 loop-again : tie.Need-loop-again Inv-loop μ-loop
 loop-again c =
     let v = visited c in
-    let p = v .before .before .before .before in
+    let p = coded v in
     let i = p .before in
     let w = i .before in
     let l = w .before .before in
     let b = l .before in
-    let a = start b .args in
     let here = b .before .section-at .ensures in
     let rear = b .end-behind .ensures in
     visited-to-next (l .loop .inv)
     (v .visit-put .kept .1 .1 .0) (v .visit-put .kept .1 .1 .1 .0) (v .visit-put .kept .1 .1 .1 .1 .0)
     (λ r d g o.
-    let put =
-    way-put (a .table .now) (a .behind .now) (a .mover) _ _ here rear _ _ (w .way-to .ensures .0) r g (i .if1 .left) _
-    (p .code-put .ensures) in
+    let put = way-put g here rear _ _ (w .way-to .ensures .0) (i .if1 .left) (p .code-put .ensures) in
     v .visit-put .ensures r d o (g .on) (g .train) (put .0) (put .1))
     (λ r d g s o u lu k.
-    let put =
-    way-put (a .table .now) (a .behind .now) (a .mover) _ _ here rear _ _ (w .way-to .ensures .0) r g (i .if1 .left) _
-    (p .code-put .ensures) in
-    way-next (a .table .now) (a .behind .now) (a .mover) _ _ here rear _ _ (w .way-to .ensures .0) r g u k _ (put .1))
+    let put = way-put g here rear _ _ (w .way-to .ensures .0) (i .if1 .left) (p .code-put .ensures) in
+    way-next g here rear _ _ (w .way-to .ensures .0) k (put .1))
 
 same-length-4 : tie.Need-same-length-4 Inv-loop μ-loop
 same-length-4 c = c .before .loop .inv .long-figs
@@ -105,14 +98,8 @@ same-length-6 c = c .before .loop .inv .long-marks
 returns-2 : tie.Need-returns-2 Inv-loop μ-loop
 returns-2 c =
     let l = c .before in
-    let b = l .before in
-    let a = start b .args in
-    let here = b .before .section-at .ensures in
-    let rear = b .end-behind .ensures in
-    visited-to-end (l .loop .inv)
-    (λ r d g o u lu k.
-    all-ways (a .table .now) (a .behind .now) (a .mover) _ _ here rear _ (c .loop-test .left) r u
-    (by-ways (a .table .now) (a .behind .now) (a .mover) _ _ here rear r g u lu k))
+    let here = l .before .before .section-at .ensures in
+    visited-to-end (l .loop .inv) (λ r d g o u lu k. all-ways (c .loop-test .left) (by-ways g here lu k))
 
 pub visit-train-spec : {M : Type 1} → statement M
 visit-train-spec =
