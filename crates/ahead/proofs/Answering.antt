@@ -22,7 +22,8 @@ use Rattle.rounds.proofs.Loops.{codes-less}
 use Rattle.ahead.specs.Bringing.{Told, gains, rests}
 use Rattle.ahead.proofs.Telling.{Resting}
 
-module _ {r : Railway} (accepted : recordRefusal r ≡ none) {k : ℕ} {figs sets : List ℕ} (t : RoundTables r k figs sets) where
+module _ {r : Railway} (accepted : recordRefusal r ≡ none) {k : ℕ} {figs sets : List ℕ}
+    (t : RoundTables r k figs sets) where
   one-gains : {K : ℕ → Type 0} {b : Bool} → Told r (suc k) figs K b → b ≡ true → HasFigure r (suc k)
   one-gains (gains p l g) e = record {
     code = p;
@@ -36,7 +37,8 @@ module _ {r : Railway} (accepted : recordRefusal r ≡ none) {k : ℕ} {figs set
       round-misses r accepted k figs sets t (x .code) (x .there)
       (λ e o. elim (option? (find r (figureIn figs) (x .code) (suc k))) [
         | inl y ↦ y
-        | inr y ↦ h (x .code) (x .there) (gains-before r accepted k figs sets t (x .code) (y .0) (x .there) e o (y .1)) e o
+        | inr y ↦
+            h (x .code) (x .there) (gains-before r accepted k figs sets t (x .code) (y .0) (x .there) e o (y .1)) e o
       ])
       (x .is)
 

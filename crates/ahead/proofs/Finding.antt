@@ -1,4 +1,5 @@
--- A figure looked for in the table, stretch after stretch: where the marks say that all are smaller it cannot stand. Assumes nothing.
+-- A figure looked for in the table, stretch after stretch: where the marks say that all are smaller it cannot stand.
+-- Assumes nothing.
 use mathlib.Core.Path.{_≡_, refl, _∙_, ap}
 use mathlib.Core.Logic.{inl, inr, _↔_}
 use mathlib.Core.Bool.{Bool, true, false}
@@ -40,7 +41,8 @@ module _ (table figs marks : List ℕ) (n c upto : ℕ) (o : NoneTo table figs m
   none-smaller top is l own r d h k q lq lu e = elim (lt? q c) [
     | inl y ↦ o r d h k q lq y e
     | inr y ↦
-        let same : mostAt marks q ≡ mostAt marks c = ap (λ (i : ℕ). getD marks (mostTrains * stretches + i) 0) (own q y lu) in
+        let same : mostAt marks q ≡ mostAt marks c =
+        ap (λ (i : ℕ). getD marks (mostTrains * stretches + i) 0) (own q y lu) in
         omega (arith, k .most q n lq e)
   ]
 
@@ -54,10 +56,13 @@ module _ (table figs marks : List ℕ) (n c upto : ℕ) (o : NoneTo table figs m
 
 -- FOUND, or not
 module _ (figs : List ℕ) (n m : ℕ) (r : Railway) (counted : m ≡ placements r) (small : n < noFigure) where
-  pub found-there : (c upto : ℕ) (b : Bool) → StandsIn figs n c upto b → b ≡ true → upto ≤ m → (true ≡ true) ↔ Stands r n figs
+  pub found-there : (c upto : ℕ) (b : Bool) → StandsIn figs n c upto b → b ≡ true → upto ≤ m
+      → (true ≡ true) ↔ Stands r n figs
   found-there c upto b (none-stands h) f l = clash f refl
-  found-there c upto b (stands q lq e) f l =
-      ((λ z. record { code = q; there = omega arith; is = ap figureEntry e ∙ entry-some n (λ y. omega arith) }), (λ z. refl))
+  found-there c upto b (stands q lq e) f l = (
+    (λ z. record { code = q; there = omega arith; is = ap figureEntry e ∙ entry-some n (λ y. omega arith) }),
+    (λ z. refl),
+  )
 
 pub found-nowhere : (table figs marks : List ℕ) (n c m : ℕ) → NoneTo table figs marks n c → m ≤ c
     → (r : Railway) (d : ℕ) → Compiled r table → MarkedFor r d figs marks → m ≡ placements r

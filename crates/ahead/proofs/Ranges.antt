@@ -20,7 +20,8 @@ use Rattle.rounds.proofs.Entries.{entry-is}
 
 module _ {r : Railway} {n w : ℕ} {figs : List ℕ} where
   -- those below c, or those from c on
-  pub codes-part : {from upto q : ℕ} (c : ℕ) → Ahead r n w figs from upto q → Ahead r n w figs from c q ⊎ Ahead r n w figs c upto q
+  pub codes-part : {from upto q : ℕ} (c : ℕ) → Ahead r n w figs from upto q
+      → Ahead r n w figs from c q ⊎ Ahead r n w figs c upto q
   codes-part c k = elim (lt? (k .code) c) [
     | inl h ↦ inl (record {
       code = k .code;

@@ -36,7 +36,8 @@ module _ {r : Railway} {n : ℕ} {figs : List ℕ} {K : ℕ → Type 0} where
   told-none h = rests (λ p l k. absurd (h p l k))
 
 -- A LOOP that has come to i, of every railway of which something is given
-pub record RestsTo (Given : Railway → Type 0) (n : ℕ) (figs : List ℕ) (Kind : Railway → ℕ → ℕ → Type 0) (i : ℕ) : Type 0 where
+pub record RestsTo (Given : Railway → Type 0) (n : ℕ) (figs : List ℕ) (Kind : Railway → ℕ → ℕ → Type 0)
+    (i : ℕ) : Type 0 where
   pub resting : (r : Railway) → Given r → Resting r n figs (Kind r i)
 
 module _ {Given : Railway → Type 0} {n : ℕ} {figs : List ℕ} {Kind : Railway → ℕ → ℕ → Type 0} {i : ℕ} where

@@ -1,4 +1,5 @@
--- Clearing two lent tables from the first code on: what is behind is cleared, what is ahead is as it was. Assumes nothing.
+-- Clearing two lent tables from the first code on: what is behind is cleared, what is ahead is as it was.
+-- Assumes nothing.
 use mathlib.Core.Path.{_≡_, refl, _∙_}
 use mathlib.Core.Logic.{inl, inr}
 use mathlib.Core.List.{List}
@@ -75,7 +76,8 @@ module _ (table : List ℕ) (m : ℕ) (figs₀ sets₀ : List ℕ) where
           long-figs = length-set figs p f ∙ c .long-figs;
           long-sets = length-set sets p v ∙ c .long-sets;
           unset = written-one (λ q. 0) p sets₀ sets v (c .unset) (omega arith) z;
-          first = λ r h k. written-one (firstFigure r) p figs₀ figs f (c .first r h k) (omega arith) (e r h (omega arith));
+          first =
+              λ r h k. written-one (firstFigure r) p figs₀ figs f (c .first r h k) (omega arith) (e r h (omega arith));
         }
 
     pub clearing-end : m ≤ p → (r : Railway) → Compiled r table → m ≡ placements r → After r 0 figs₀ sets₀ figs sets

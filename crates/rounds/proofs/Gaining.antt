@@ -28,7 +28,8 @@ ends-at : (F : ℕ → Option ℕ) (o : Outcome) (j : ℕ) → figureOf F o ≡ 
 ends-at F (lost x) j e = some-none e refl
 ends-at F (at q) j e = (q, refl, e)
 
-module _ (r : Railway) (accepted : recordRefusal r ≡ none) (k : ℕ) (figs sets : List ℕ) (t : RoundTables r k figs sets) where
+module _ (r : Railway) (accepted : recordRefusal r ≡ none) (k : ℕ) (figs sets : List ℕ)
+    (t : RoundTables r k figs sets) where
   pub gains-before : (p v : ℕ) → p < placements r → figureIn figs p ≡ none → over (gameOf r) p ≡ false
       → find r (figureIn figs) p (suc k) ≡ some v → Before r (suc k) figs 0 (placements r) p
   gains-before p v l e o f =

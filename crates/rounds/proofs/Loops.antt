@@ -52,9 +52,9 @@ module _ {Given : Railway → Type 0} {table ways : List ℕ} {this : ThisRound}
     pub visited-to-next : {New : Railway → ℕ → Type 0} {j : ℕ} {figs′ sets′ marks′ : List ℕ}
         → length figs′ ≡ length figs → length sets′ ≡ length sets → length marks′ ≡ length marks
         → ((r : Railway) (d : Turned) → Given r → Round r table ways this d figs marks
-            → Visited r (this .n) d (New r) figs sets figs′ sets′ marks′)
+        → Visited r (this .n) d (New r) figs sets figs′ sets′ marks′)
         → ((r : Railway) (d : Turned) → Given r → Visited r (this .n) d (Kind r i) figs₀ sets₀ figs sets marks
-            → Round r table ways this d figs₀ marks₀ → (q : ℕ) → q < placements r → Kind r j q → Kind r i q ⊎ New r q)
+        → Round r table ways this d figs₀ marks₀ → (q : ℕ) → q < placements r → Kind r j q → Kind r i q ⊎ New r q)
         → VisitedTo Given table ways this Kind figs₀ sets₀ marks₀ figs′ sets′ marks′ j
     visited-to-next ef es em body covers =
         record {
@@ -69,7 +69,7 @@ module _ {Given : Railway → Type 0} {table ways : List ℕ} {this : ThisRound}
     -- on to j, with nothing to visit between
     pub visited-to-on : {j : ℕ}
         → ((r : Railway) (d : Turned) → Visited r (this .n) d (Kind r i) figs₀ sets₀ figs sets marks
-            → Round r table ways this d figs₀ marks₀ → (q : ℕ) → Kind r j q → Kind r i q)
+        → Round r table ways this d figs₀ marks₀ → (q : ℕ) → Kind r j q → Kind r i q)
         → VisitedTo Given table ways this Kind figs₀ sets₀ marks₀ figs sets marks j
     visited-to-on covers =
         record {
@@ -83,7 +83,7 @@ module _ {Given : Railway → Type 0} {table ways : List ℕ} {this : ThisRound}
 
     pub visited-to-end : {End : Railway → ℕ → Type 0}
         → ((r : Railway) (d : Turned) → Given r → Round r table ways this d figs₀ marks₀ → (q : ℕ) → q < placements r
-            → End r q → Kind r i q)
+        → End r q → Kind r i q)
         → (r : Railway) (d : Turned) → Given r → Round r table ways this d figs₀ marks₀
         → Visited r (this .n) d (End r) figs₀ sets₀ figs sets marks
     visited-to-end h r d b o = visited-less (s .visited r d b o) (λ q l k. h r d b o q l k)
@@ -109,7 +109,8 @@ module _ (figs : List ℕ) (figure c upto : ℕ) where
       let z : upto ≡ e = omega arith in
       record { onward = omega (arith, x .onward); others = λ q lq h. x .others q lq (omega arith) }
 
-  pub passed-more : (e k : ℕ) → Passed figs figure c upto e → Passed figs figure e k k → k ≤ upto → Passed figs figure c upto k
+  pub passed-more : (e k : ℕ) → Passed figs figure c upto e → Passed figs figure e k k → k ≤ upto
+      → Passed figs figure c upto k
   passed-more e k x y l =
       record {
         onward = omega (arith, x .onward, y .onward);
@@ -211,7 +212,8 @@ module _ {r : Railway} {n : ℕ} {figs : List ℕ} {from upto : ℕ} where
   pub no-weight : {q : ℕ} → Weighed r n figs from upto 0 q → ⊥
   no-weight k = omega (arith, k .below)
 
-  pub weight-next : {q : ℕ} (t : ℕ) → Weighed r n figs from upto (t + 1) q → Weighed r n figs from upto t q ⊎ Apart r n figs from upto t q
+  pub weight-next : {q : ℕ} (t : ℕ) → Weighed r n figs from upto (t + 1) q
+      → Weighed r n figs from upto t q ⊎ Apart r n figs from upto t q
   weight-next t k = elim (eq? (k .train) t) [
     | inr z ↦ inl (record { train = k .train; below = omega (arith, k .below, z); ahead = k .ahead })
     | inl z ↦ elim (bool? (anyBelow (sameWeight r t) t)) [

@@ -64,11 +64,13 @@ module _ {r : Railway} {table ways : List ℕ} {this : ThisRound} {d : Turned} {
   not-waiting b (outside l) e f = omega (arith, below, o .counted)
   not-waiting b (figured h) e f = h f
 
-  pub no-visit : {sets : List ℕ} (b : Bool) → Waits figs (this .m) p b → b ≡ false → Visited r (this .n) d (One p) figs sets figs sets marks
+  pub no-visit : {sets : List ℕ} (b : Bool) → Waits figs (this .m) p b → b ≡ false
+      → Visited r (this .n) d (One p) figs sets figs sets marks
   no-visit b w e =
       visited-rests (o .marked) (λ q l k f g. absurd (not-waiting b w e (rw k at f)))
 
-  module _ (q v : Placement) (on : On r c table q) (lt : t < r .trains) (b : Bool) (w : Waits figs (this .m) p b) (e : b ≡ true)
+  module _ (q v : Placement) (on : On r c table q) (lt : t < r .trains) (b : Bool)
+      (w : Waits figs (this .m) p b) (e : b ≡ true)
       (moved : (u : ℕ) → sectionIn v u ≡ putIn q t y u) where
     pub one-visit : {sets figs′ sets′ marks′ : List ℕ}
         → ((r : Railway) (d : Turned) → Round r table ways this d figs marks → On r p table v → p < placements r
@@ -80,13 +82,15 @@ module _ {r : Railway} {table ways : List ℕ} {this : ThisRound} {d : Turned} {
         go : (b : Bool) → Waits figs (this .m) p b → b ≡ true → Visited r (this .n) d (One p) figs sets figs′ sets′ marks′
         go b (outside l) e = clash e refl
         go b (figured h) e = clash e refl
-        go b (empty inside none-yet) e = visit r d o (rw put (put-on-is r c table q on t y lt there v moved)) below none-yet
+        go b (empty inside none-yet) e =
+            visit r d o (rw put (put-on-is r c table q on t y lt there v moved)) below none-yet
 
 -- STRIDES, each from the one before
 module _ (s t w : ℕ) (e : w ≡ strideOf s t) where
   pub stride-next : s < 256 → t < mostTrains → w * s % 4294967296 ≡ strideOf s (t + 1)
   stride-next byte l =
-      let a : w * s ≡ s ^ suc t = ap (λ (x : ℕ). x * s) (e ∙ stride-is s t (omega arith)) ∙ mul-comm (s ^ t) s ∙ sym (pow-succ' s t) in
+      let a : w * s ≡ s ^ suc t =
+      ap (λ (x : ℕ). x * s) (e ∙ stride-is s t (omega arith)) ∙ mul-comm (s ^ t) s ∙ sym (pow-succ' s t) in
       let few : s ≤ 255 = omega arith in
       let small : s ^ suc t ≤ 255 ^ 4 = omega (
         arith,
@@ -120,27 +124,36 @@ module _ {r : Railway} {table behind : List ℕ} {mover : Mover} (g : MoverOf r 
       → BackBy r (mover .code) (mover .train) x mostWays u
   unfolding settingAt
   by-ways {u} l k =
-      came-by r (g .on .compiled .accepted) (mover .code) u (mover .train) (k .entry) (settingAt r u (k .entry)) refl l (g .train)
+      came-by r (g .on .compiled .accepted) (mover .code) u (mover .train) (k .entry)
+      (settingAt r u (k .entry)) refl l (g .train)
       (k .moves) x (here ∙ g .on .stands (mover .train))
 
   module _ {e : ℕ} (rear : (r : Railway) → Compiled r table → e ≡ endIndex (endBehind r (mover .train) x)) (j y : ℕ)
       (told : (r : Railway) (shut : ℕ → Bool) → Laid r shut behind → e < sectionEnds
-          → y ≡ toByte (nth (routesFrom r shut (endAt e)) j)) where
+      → y ≡ toByte (nth (routesFrom r shut (endAt e)) j)) where
     -- the section that is read there
     way-is : y ≡ sectionBehind r (mover .train) x j
     way-is =
         let ok = facts r (g .on .compiled .accepted) in
         let small : x < mostSections =
-        omega (arith, here, g .on .stands (mover .train), section-below r ok (mover .code) (mover .train) (g .train), ok .few-sections) in
+        omega (
+          arith,
+          here,
+          g .on .stands (mover .train),
+          section-below r ok (mover .code) (mover .train) (g .train),
+          ok .few-sections,
+        ) in
         let i = rear r (g .on .compiled) in
         told r (λ z. false) (g .laid) (end-inside r (mover .train) x e small i)
         ∙ ap (λ (d : End). toByte (nth (routesFrom r (λ z. false) d) j)) (end-at-behind r (mover .train) x e small i)
 
-    pub way-next : {u p : ℕ} → BackBy r (mover .code) (mover .train) x (j + 1) u → p ≡ codeWith r (mover .code) (mover .train) y
+    pub way-next : {u p : ℕ} → BackBy r (mover .code) (mover .train) x (j + 1) u
+        → p ≡ codeWith r (mover .code) (mover .train) y
         → BackBy r (mover .code) (mover .train) x j u ⊎ One p u
     way-next k put = elim (eq? (k .number) j) [
       | inl z ↦
-          let w : sectionBehind r (mover .train) x (k .number) ≡ y = ap (sectionBehind r (mover .train) x) z ∙ sym way-is in
+          let w : sectionBehind r (mover .train) x (k .number) ≡ y =
+          ap (sectionBehind r (mover .train) x) z ∙ sym way-is in
           inr (k .code ∙ ap (codeWith r (mover .code) (mover .train)) w ∙ sym put)
       | inr z ↦ inl (record { number = k .number; below = omega (arith, k .below, z); there = k .there; code = k .code })
     ]
@@ -154,7 +167,8 @@ module _ {r : Railway} {table behind : List ℕ} {mover : Mover} (g : MoverOf r 
           below,
           code-put-is r (mover .code) table (mover .placement) (g .on) (mover .train) y (g .train) below
               (mover .code) x (mover .stride) (r .sections) p
-              (sym (code-back r table (g .on .compiled) (mover .code) (mover .placement) (g .on) (g .code))) here refl (g .stride) put,
+              (sym (code-back r table (g .on .compiled) (mover .code) (mover .placement) (g .on) (g .code))) here
+              refl (g .stride) put,
         )
 
     -- no way is left

@@ -1,7 +1,6 @@
 -- A round's turns: stretch after stretch for one weight, weight after weight for the round. What is marked says of each
 -- weight and stretch whose turn is still to come which round is due there; when all have had their turn, every
--- placement that could gain has been visited, and the marks are those of the rounds to come.
--- Assumes nothing.
+-- placement that could gain has been visited, and the marks are those of the rounds to come. Assumes nothing.
 use mathlib.Core.Path.{_≡_, refl, sym, _∙_, ap}
 use mathlib.Core.Logic.{inl, inr}
 use mathlib.Core.Bool.{true, false}
@@ -68,7 +67,13 @@ turn-next t m u q l = elim (lt? u t) [
   | inr a ↦ elim (eq? u t) [
     | inl z ↦ rw z (own-done t m q l
         ∙ sym (let y : ltb t (suc t) ≡ true = lt-ltb t (suc t) (omega arith) in or-left (ltb t (suc t)) _ y))
-    | inr z ↦ rw (le-ltb u t a, ne-eqb u t z, le-ltb u (suc t) (omega (arith, z)), le-ltb q 0 (omega arith), and-off (eqb u (suc t)))
+    | inr z ↦ rw (
+      le-ltb u t a,
+      ne-eqb u t z,
+      le-ltb u (suc t) (omega (arith, z)),
+      le-ltb q 0 (omega arith),
+      and-off (eqb u (suc t)),
+    )
   ]
 ]
 
@@ -91,7 +96,9 @@ marked-later {r} {n} {d} {e} k h =
       room = k .room;
       few = k .few;
       most = k .most;
-      due = λ q j t lq lt first f l. k .due q j t lq lt first f (later-turn n d e t q (j + weightOf r t) (h t q lt lq first) l);
+      due =
+          λ q j t lq lt first f l.
+          k .due q j t lq lt first f (later-turn n d e t q (j + weightOf r t) (h t q lt lq first) l);
     }
 
 -- the next train's turn, behind the last code
@@ -163,9 +170,11 @@ module _ (r : Railway) (this : ThisRound) (t : ℕ) (codes : Codes) (counted : t
           | inl b ↦
               let own : stretchOf q ≡ stretchOf (codes .from) = stretch .own q a b in
               let here : dueAt marks′ t q ≡ due = set-now .here q own in
-              let top : mostAt marks q ≡ mostAt marks (codes .from) = ap (λ (i : ℕ). getD marks (mostTrains * stretches + i) 0) own in
+              let top : mostAt marks q ≡ mostAt marks (codes .from) =
+              ap (λ (i : ℕ). getD marks (mostTrains * stretches + i) 0) own in
               let h′ : since (this .n) after t q ≤ j + weightOf r t = rw z at h in
-              let on : suc (this .n) ≤ j + weightOf r t = rw (since-done (this .n) after t q (own-done t (codes .upto) q b)) at h′ in
+              let on : suc (this .n) ≤ j + weightOf r t =
+              rw (since-done (this .n) after t q (own-done t (codes .upto) q b)) at h′ in
               rw z (omega (arith, dues .later q j a b e (omega (arith, k .most q j lq e)) (omega arith)))
         ]
       ]
@@ -191,7 +200,8 @@ pub record StretchesTo (table ways behind : List ℕ) (this : ThisRound) (t : �
   pub long-marks : length marks ≡ length marks₀
   pub visited : (r : Railway) → Behind r behind → Round r table ways this (record { train = t; code = 0 }) figs₀ marks₀
       → t < r .trains → First r t
-      → Visited r (this .n) (record { train = t; code = i }) (Ahead r (this .n) (weightOf r t) figs₀ 0 i) figs₀ sets₀ figs sets marks
+      → Visited r (this .n) (record { train = t; code = i }) (Ahead r (this .n) (weightOf r t) figs₀ 0 i) figs₀
+      sets₀ figs sets marks
 
 module _ {table ways behind : List ℕ} {this : ThisRound} {t : ℕ} {figs₀ sets₀ marks₀ : List ℕ} where
   pub stretches-start : StretchesTo table ways behind this t figs₀ sets₀ marks₀ figs₀ sets₀ marks₀ 0
@@ -207,9 +217,9 @@ module _ {table ways behind : List ℕ} {this : ThisRound} {t : ℕ} {figs₀ se
     pub stretches-next : {upto : ℕ} {figs′ sets′ marks′ : List ℕ} → upto ≤ this .m
         → length figs′ ≡ length figs → length sets′ ≡ length sets → length marks′ ≡ length marks
         → ((r : Railway) → Behind r behind → Round r table ways this (record { train = t; code = c }) figs marks
-            → t < r .trains → First r t
-            → Visited r (this .n) (record { train = t; code = upto }) (Ahead r (this .n) (weightOf r t) figs c upto)
-                figs sets figs′ sets′ marks′)
+        → t < r .trains → First r t
+        → Visited r (this .n) (record { train = t; code = upto }) (Ahead r (this .n) (weightOf r t) figs c upto)
+        figs sets figs′ sets′ marks′)
         → StretchesTo table ways behind this t figs₀ sets₀ marks₀ figs′ sets′ marks′ upto
     stretches-next l ef es em body =
         record {
@@ -226,10 +236,11 @@ module _ {table ways behind : List ℕ} {this : ThisRound} {t : ℕ} {figs₀ se
     pub stretches-end : this .m ≤ c → (r : Railway) → Behind r behind
         → Round r table ways this (record { train = t; code = 0 }) figs₀ marks₀ → t < r .trains → First r t
         → Visited r (this .n) (record { train = suc t; code = 0 }) (Apart r (this .n) figs₀ 0 (this .m) t)
-            figs₀ sets₀ figs sets marks
+        figs₀ sets₀ figs sets marks
     stretches-end l r h o lt f =
         let x = s .visited r h o lt f in
-        visited-marked (visited-less x (λ q lq k. codes-less l (k .ahead))) (marked-next (omega (arith, o .counted)) (x .marked))
+        visited-marked (visited-less x (λ q lq k. codes-less l (k .ahead)))
+        (marked-next (omega (arith, o .counted)) (x .marked))
 
 -- NO STRETCH IS DUE by this weight, or a lower train has it
 module _ {r : Railway} {table ways : List ℕ} {this : ThisRound} {t : ℕ} {figs marks : List ℕ}
@@ -259,12 +270,15 @@ module _ {r : Railway} {table ways : List ℕ} {this : ThisRound} {t : ℕ} {fig
       omega (arith, tells (h .code) (this .n) (h .within) (omega (arith, nonzero)) (omega (arith, h .makes)))
 
 -- WEIGHT AFTER WEIGHT, up to train i
-pub record RoundTo (table ways behind : List ℕ) (this : ThisRound) (figs₀ sets₀ marks₀ figs sets marks : List ℕ) (i : ℕ) : Type 0 where
+pub record RoundTo (table ways behind : List ℕ) (this : ThisRound) (figs₀ sets₀ marks₀ figs sets marks : List ℕ)
+    (i : ℕ) : Type 0 where
   pub long-figs : length figs ≡ length figs₀
   pub long-sets : length sets ≡ length sets₀
   pub long-marks : length marks ≡ length marks₀
-  pub visited : (r : Railway) → Behind r behind → Round r table ways this (record { train = 0; code = 0 }) figs₀ marks₀ → i ≤ r .trains
-      → Visited r (this .n) (record { train = i; code = 0 }) (Weighed r (this .n) figs₀ 0 (this .m) i) figs₀ sets₀ figs sets marks
+  pub visited : (r : Railway) → Behind r behind
+      → Round r table ways this (record { train = 0; code = 0 }) figs₀ marks₀ → i ≤ r .trains
+      → Visited r (this .n) (record { train = i; code = 0 }) (Weighed r (this .n) figs₀ 0 (this .m) i) figs₀
+      sets₀ figs sets marks
 
 module _ {table ways behind : List ℕ} {this : ThisRound} {figs₀ sets₀ marks₀ : List ℕ} where
   pub round-start : RoundTo table ways behind this figs₀ sets₀ marks₀ figs₀ sets₀ marks₀ 0
@@ -280,9 +294,9 @@ module _ {table ways behind : List ℕ} {this : ThisRound} {figs₀ sets₀ mark
     pub round-next : {figs′ sets′ marks′ : List ℕ}
         → length figs′ ≡ length figs → length sets′ ≡ length sets → length marks′ ≡ length marks
         → ((r : Railway) → Behind r behind → Round r table ways this (record { train = t; code = 0 }) figs marks
-            → t < r .trains
-            → Visited r (this .n) (record { train = suc t; code = 0 }) (Apart r (this .n) figs 0 (this .m) t)
-                figs sets figs′ sets′ marks′)
+        → t < r .trains
+        → Visited r (this .n) (record { train = suc t; code = 0 }) (Apart r (this .n) figs 0 (this .m) t)
+        figs sets figs′ sets′ marks′)
         → RoundTo table ways behind this figs₀ sets₀ marks₀ figs′ sets′ marks′ (t + 1)
     round-next ef es em body =
         record {
@@ -293,7 +307,8 @@ module _ {table ways behind : List ℕ} {this : ThisRound} {figs₀ sets₀ mark
               let lt : t < r .trains = omega arith in
               let x = s .visited r h o (omega arith) in
               rw (add-one t) (visited-then (o .compiled .accepted) (o .small) x (body r h (round-on o x) lt)
-              (λ q lq k. let k′ : Weighed r (this .n) figs₀ 0 (this .m) (t + 1) q = rw (add-one t) k in elim (weight-next t k′) [
+              (λ q lq k. let k′ : Weighed r (this .n) figs₀ 0 (this .m) (t + 1) q = rw (add-one t) k in
+              elim (weight-next t k′) [
                 | inl y ↦ inl y
                 | inr y ↦ inr (apart-on x (omega (arith, o .counted)) y)
               ]));
@@ -302,7 +317,8 @@ module _ {table ways behind : List ℕ} {this : ThisRound} {figs₀ sets₀ mark
 -- THE ROUND IS OVER
 module _ (r : Railway) (accepted : recordRefusal r ≡ none) (k : ℕ) (d : Turned)
     (small : suc k < noFigure) (figs₀ sets₀ figs sets marks : List ℕ)
-    (long-figs : length figs ≡ length figs₀) (long-sets : length sets ≡ length sets₀) (before : RoundTables r k figs₀ sets₀)
+    (long-figs : length figs ≡ length figs₀) (long-sets : length sets ≡ length sets₀)
+    (before : RoundTables r k figs₀ sets₀)
     (s : Visited r (suc k) d (Before r (suc k) figs₀ 0 (placements r)) figs₀ sets₀ figs sets marks) where
   -- what has no figure yet had none to find
   nothing-left : (q : ℕ) → q < placements r → figureIn figs₀ q ≡ none → over (gameOf r) q ≡ false
@@ -334,13 +350,15 @@ module _ (r : Railway) (accepted : recordRefusal r ≡ none) (k : ℕ) (d : Turn
 lowest-of : (r : Railway) (b t : ℕ) → t ≤ b → (u : ℕ) × (u ≤ t) × First r u × (weightOf r u ≡ weightOf r t)
 lowest-of r zero t l = elim (bool? (anyBelow (sameWeight r t) t)) [
   | inr f ↦ (t, omega arith, f, refl)
-  | inl f ↦ let x : (v : ℕ) × (v < t) × (sameWeight r t v ≡ true) = any-at (sameWeight r t) t f in absurd (omega (arith, x .1))
+  | inl f ↦ let x : (v : ℕ) × (v < t) × (sameWeight r t v ≡ true) = any-at (sameWeight r t) t f in
+      absurd (omega (arith, x .1))
 ]
 lowest-of r (suc b) t l = elim (bool? (anyBelow (sameWeight r t) t)) [
   | inr f ↦ (t, omega arith, f, refl)
   | inl f ↦
       let x : (v : ℕ) × (v < t) × (sameWeight r t v ≡ true) = any-at (sameWeight r t) t f in
-      let y : (u : ℕ) × (u ≤ x .0) × First r u × (weightOf r u ≡ weightOf r (x .0)) = lowest-of r b (x .0) (omega (arith, x .1)) in
+      let y : (u : ℕ) × (u ≤ x .0) × First r u × (weightOf r u ≡ weightOf r (x .0)) =
+      lowest-of r b (x .0) (omega (arith, x .1)) in
       (y .0, omega (arith, y .1, x .1), y .2, y .3 ∙ eqb-true _ _ (x .2))
 ]
 

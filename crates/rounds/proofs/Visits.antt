@@ -1,7 +1,6 @@
 -- Visits in place. The search for figure n looks at figures below n alone, and what round n enters is n: so a visit
--- finds what it would have
--- found in the tables as they were when the round began, and visits may be made one after another, in any order and more than once.
--- Assumes nothing.
+-- finds what it would have found in the tables as they were when the round began, and visits may be made one after
+-- another, in any order and more than once. Assumes nothing.
 use mathlib.Core.Path.{_≡_, refl, sym, _∙_, ap}
 use mathlib.Core.Logic.{_⊎_, inl, inr}
 use mathlib.Core.Bool.{false}
@@ -46,7 +45,8 @@ module _ (r : Railway) (F : ℕ → Option ℕ) (n q f v f′ v′ : ℕ) where
   changed-onward e (gained empty o ef h) j x = some-none (sym e ∙ x) empty
 
   -- and has gained no figure but n
-  changed-back : F q ≡ figureEntry f → Changed r F n q f v f′ v′ → (j : ℕ) → j < n → figureEntry f′ ≡ some j → F q ≡ some j
+  changed-back : F q ≡ figureEntry f → Changed r F n q f v f′ v′ → (j : ℕ) → j < n
+      → figureEntry f′ ≡ some j → F q ≡ some j
   changed-back e (same ef ev) j l x = e ∙ ap figureEntry (sym ef) ∙ x
   changed-back e (gained empty o ef h) j l x = let y : f′ ≡ j = entry-is f′ j x in absurd (omega arith)
 
@@ -73,7 +73,8 @@ module _ {r : Railway} {n : ℕ} {c : Turned} {S : ℕ → Type 0} {figs sets fi
   visited-back : Carries r (figureIn figs′) (figureIn figs) n
   visited-back q j l = changed-back r (figureIn figs) n q _ _ _ _ refl (s .each q l) j
 
-  visited-finds : recordRefusal r ≡ none → (q : ℕ) → q < placements r → find r (figureIn figs′) q n ≡ find r (figureIn figs) q n
+  visited-finds : recordRefusal r ≡ none → (q : ℕ) → q < placements r
+      → find r (figureIn figs′) q n ≡ find r (figureIn figs) q n
   visited-finds accepted q l =
       find-carry r (facts r accepted) (figureIn figs′) (figureIn figs) q n l visited-back
       (λ p j lp b e. visited-onward p j lp e)
@@ -82,7 +83,8 @@ module _ {r : Railway} {n : ℕ} {c : Turned} {S : ℕ → Type 0} {figs sets fi
   visited-none-yet q l = changed-none r (figureIn figs) n q _ _ _ _ (s .each q l)
 
   -- for fewer kinds
-  pub visited-less : {U : ℕ → Type 0} → ((q : ℕ) → q < placements r → U q → S q) → Visited r n c U figs sets figs′ sets′ marks′
+  pub visited-less : {U : ℕ → Type 0} → ((q : ℕ) → q < placements r → U q → S q)
+      → Visited r n c U figs sets figs′ sets′ marks′
   visited-less h =
       record {
         each = s .each;
@@ -93,7 +95,8 @@ module _ {r : Railway} {n : ℕ} {c : Turned} {S : ℕ → Type 0} {figs sets fi
       }
 
   -- with other marks, when more codes have had their turn
-  pub visited-marked : {d : Turned} {marks″ : List ℕ} → Marked r n d figs′ marks″ → Visited r n d S figs sets figs′ sets′ marks″
+  pub visited-marked : {d : Turned} {marks″ : List ℕ} → Marked r n d figs′ marks″
+      → Visited r n d S figs sets figs′ sets′ marks″
   visited-marked k =
       record { each = s .each; past-figs = s .past-figs; past-sets = s .past-sets; settled = s .settled; marked = k }
 
@@ -113,7 +116,8 @@ round-on o s =
     }
 
 -- NOTHING ENTERED
-module _ {r : Railway} {n : ℕ} {c : Turned} {S : ℕ → Type 0} {figs sets marks : List ℕ} (k : Marked r n c figs marks) where
+module _ {r : Railway} {n : ℕ} {c : Turned} {S : ℕ → Type 0} {figs sets marks : List ℕ}
+    (k : Marked r n c figs marks) where
   pub visited-rests : ((q : ℕ) → q < placements r → S q → figureIn figs q ≡ none → over (gameOf r) q ≡ false
       → find r (figureIn figs) q n ≡ none) → Visited r n c S figs sets figs sets marks
   visited-rests h = record {
@@ -165,11 +169,16 @@ module _ {r : Railway} {table ways : List ℕ} {this : ThisRound} {d : Turned} {
     raised = raise (o .marked .room) (omega (arith, o .marked .few))
 
     -- a figure of the new table is n at p, or stood there before
-    figure-of : (q j : ℕ) → figureIn (set figs p (this .n)) q ≡ some j → ((q ≡ p) × (j ≡ this .n)) ⊎ (figureIn figs q ≡ some j)
+    figure-of : (q j : ℕ) → figureIn (set figs p (this .n)) q ≡ some j
+        → ((q ≡ p) × (j ≡ this .n)) ⊎ (figureIn figs q ≡ some j)
     figure-of q j e = elim (eq? q p) [
       | inl z ↦
           let a : figureIn (set figs p (this .n)) p ≡ some j = rw z at e in
-          inl (z, sym (entry-is (getD (set figs p (this .n)) p noFigure) j a) ∙ getD-set-same figs p (this .n) noFigure inside-figs)
+          inl (
+            z,
+            sym (entry-is (getD (set figs p (this .n)) p noFigure) j a)
+                ∙ getD-set-same figs p (this .n) noFigure inside-figs,
+          )
       | inr z ↦ inr (sym (ap figureEntry (getD-set-other figs p q (this .n) noFigure z)) ∙ e)
     ]
 
@@ -189,10 +198,12 @@ module _ {r : Railway} {table ways : List ℕ} {this : ThisRound} {d : Turned} {
               let is : soonBy (this .soon) t ≡ this .n + weightOf r t = o .soonest t lt first in
               let light : weightOf r t ≤ mostWeight = ok .weights t lt .1 in
               rw (z .0, z .1) (omega (arith, raised .due t few (omega (arith, o .small))))
-          | inr z ↦ omega (arith, o .marked .due q j t lq lt first z h, raised .sooner t q few (omega (arith, o .marked .few)))
+          | inr z ↦ omega
+              (arith, o .marked .due q j t lq lt first z h, raised .sooner t q few (omega (arith, o .marked .few)))
         ]
 
-    pub visit-gains : {sets : List ℕ} → p < length sets → (v : ℕ) → found ≡ some v → Visited r (this .n) d (One p) figs sets (set figs p (this .n)) (set sets p v) marks′
+    pub visit-gains : {sets : List ℕ} → p < length sets → (v : ℕ) → found ≡ some v
+        → Visited r (this .n) d (One p) figs sets (set figs p (this .n)) (set sets p v) marks′
     visit-gains {sets} inside-sets v e =
         record {
           each = λ q lq. elim (eq? q p) [

@@ -81,14 +81,16 @@ pub record MoverOf (r : Railway) (table behind : List ℕ) (mover : Mover) : Typ
   pub train : mover .train < r .trains
   pub stride : mover .stride ≡ strideOf (r .sections) (mover .train)
 
--- Placement q in round n, by the figures F: figure and setting f and v before, f′ and v′ after. It is as it was, or has gained.
+-- Placement q in round n, by the figures F: figure and setting f and v before, f′ and v′ after. It is as it was, or has
+-- gained.
 pub data Changed (r : Railway) (F : ℕ → Option ℕ) (n q f v f′ v′ : ℕ) : Type 0 where
   same : f′ ≡ f → v′ ≡ v → Changed r F n q f v f′ v′
   gained : figureEntry f ≡ none → over (gameOf r) q ≡ false → f′ ≡ n → find r F q n ≡ some v′ → Changed r F n q f v f′ v′
 
 -- Some placements have been visited in round n, those of a kind among them: where one of these has no figure yet
 -- nothing was to be found.
-pub record Visited (r : Railway) (n : ℕ) (d : Turned) (Seen : ℕ → Type 0) (figs sets figs′ sets′ marks′ : List ℕ) : Type 0 where
+pub record Visited (r : Railway) (n : ℕ) (d : Turned) (Seen : ℕ → Type 0)
+    (figs sets figs′ sets′ marks′ : List ℕ) : Type 0 where
   pub each : (q : ℕ) → q < placements r
       → Changed r (figureIn figs) n q (getD figs q noFigure) (getD sets q 0) (getD figs′ q noFigure) (getD sets′ q 0)
   pub past-figs : (q d : ℕ) → placements r ≤ q → getD figs′ q d ≡ getD figs q d

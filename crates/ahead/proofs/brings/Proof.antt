@@ -1,5 +1,5 @@
--- `ahead::brings` meets its contract. The loop's invariant: nothing gains that is before the frontier by the weight of one of the
--- first t trains. Assumes nothing.
+-- `ahead::brings` meets its contract. The loop's invariant: nothing gains that is before the frontier by the weight of
+-- one of the first t trains. Assumes nothing.
 use borrow.Author.Needs.{needs}
 use native.Mathlib.Omega.{arith}
 use mathlib.Core.List.{List}
@@ -21,7 +21,8 @@ use Rattle.ahead.proofs.brings.Tie as tie
 
 abbrev Inv-loop : tie.InvT-loop
 Inv-loop table ways behind figures marks n m k t₀ t =
-    RestsTo (λ r. Looking r table ways behind m figures × MarkedFor r n figures marks) n figures (λ r i. Weighed r n figures 0 m i) t
+    RestsTo (λ r. Looking r table ways behind m figures × MarkedFor r n figures marks) n figures
+    (λ r i. Weighed r n figures 0 m i) t
 
 abbrev μ-loop : tie.MeasureT-loop
 μ-loop table ways behind figures marks n m k t₀ t = k - t
@@ -66,7 +67,8 @@ returns c =
     λ r k sets h laid back is t marked.
     let g = given b r k sets h laid back t marked in
     says-yes (h .accepted) t is
-    (v .brings-by .ensures r (g .0) marked (train-there r _ _ (b .trains-in .ensures r h) (i .loop-test .taken))) (c .if1 .taken)
+    (v .brings-by .ensures r (g .0) marked (train-there r _ _ (b .trains-in .ensures r h) (i .loop-test .taken)))
+    (c .if1 .taken)
 
 add-t : tie.Need-add-t Inv-loop μ-loop
 add-t c = omega (arith, c .before .before .loop-test .taken)
@@ -82,7 +84,8 @@ loop-again c =
     let b = l .before in
     rests-next (l .loop .inv)
     (λ r g.
-    told-no (v .brings-by .ensures r (g .0) (g .1) (train-there r _ _ (b .trains-in .ensures r (g .0 .compiled)) (i .loop-test .taken)))
+    told-no (v .brings-by .ensures r (g .0) (g .1)
+    (train-there r _ _ (b .trains-in .ensures r (g .0 .compiled)) (i .loop-test .taken)))
     (c .if1 .left))
     (λ r g q lq k. weight-next (l .loop .t) k)
 

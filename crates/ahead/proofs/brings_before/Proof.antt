@@ -1,5 +1,5 @@
--- `ahead::brings_before` meets its contract. The loop's invariant: nothing gains that is before the placement by the first t trains.
--- Assumes nothing.
+-- `ahead::brings_before` meets its contract. The loop's invariant: nothing gains that is before the placement by the
+-- first t trains. Assumes nothing.
 use borrow.Author.Needs.{needs}
 use native.Mathlib.Omega.{arith}
 use mathlib.Core.Path.{_≡_, _∙_, ap}
@@ -61,7 +61,8 @@ returns c =
     let i = p .before .before .before in
     let l = i .before in
     λ r o lc.
-    told-yes (v .brings-train .ensures r o (mover-of (l .before) r (o, lc) (l .loop .t) _ (i .loop-test .taken) (p .power .ensures)))
+    told-yes (v .brings-train .ensures r o
+    (mover-of (l .before) r (o, lc) (l .loop .t) _ (i .loop-test .taken) (p .power .ensures)))
     (c .if2 .taken)
 
 add-t : tie.Need-add-t Inv-loop μ-loop
@@ -81,7 +82,8 @@ loop-again c =
     (λ r g.
     ⊎-elim
     (λ z q lq k.
-    told-no (z .2 .ensures r (g .0) (mover-of b r g (l .loop .t) _ (i .loop-test .taken) (z .1 .ensures))) (z .3 .left) q lq
+    told-no
+    (z .2 .ensures r (g .0) (mover-of b r g (l .loop .t) _ (i .loop-test .taken) (z .1 .ensures))) (z .3 .left) q lq
     (k .by))
     (λ z q lq k. absurd (z .left (w .weight-in .ensures r (g .0 .compiled) ∙ k .weighs)))
     (c .if1 .came))

@@ -1,5 +1,5 @@
--- `ahead::brings_by` meets its contract: a lower train has the weight, or each stretch is looked at that is due by it. The loop's
--- invariant: nothing gains that is before one of the codes below c. Assumes nothing.
+-- `ahead::brings_by` meets its contract: a lower train has the weight, or each stretch is looked at that is due by it.
+-- The loop's invariant: nothing gains that is before one of the codes below c. Assumes nothing.
 use borrow.Author.Needs.{needs}
 use native.Mathlib.Omega.{arith}
 use mathlib.Core.Path.{sym, _∙_}
@@ -70,7 +70,8 @@ loop-again-2 c =
     let a = start (l .before) .args in
     rests-next (l .loop .inv)
     (λ r g q lq k.
-    absurd (not-due (g .1) (a .t) (g .2) (g .3) _ (omega (arith, u .stretch-end .ensures .1, g .0 .counted)) (u .stretch-end .ensures .2)
+    absurd (not-due (g .1) (a .t) (g .2) (g .3) _ (omega (arith, u .stretch-end .ensures .1, g .0 .counted))
+    (u .stretch-end .ensures .2)
     (d .due-at .ensures) (c .if2 .left) k))
     (λ r g q lq k. codes-part (l .loop .c) k)
 

@@ -1,5 +1,6 @@
--- `ahead::brings_train` meets its contract. The loop's invariant: none of the placements with the train put back by the first j ways
--- gains. Where there is no way with number j, or j has come to the most ways, those are all. Assumes nothing.
+-- `ahead::brings_train` meets its contract. The loop's invariant: none of the placements with the train put back by the
+-- first j ways gains. Where there is no way with number j, or j has come to the most ways, those are all.
+-- Assumes nothing.
 use borrow.Author.Needs.{needs}
 use native.Mathlib.Omega.{arith}
 use Prim.Native.Nat.{_-_}

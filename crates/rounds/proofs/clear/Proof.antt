@@ -1,5 +1,4 @@
--- `rounds::clear` meets its contract: the tables are cleared from the first code on, up to the last.
--- Assumes nothing.
+-- `rounds::clear` meets its contract: the tables are cleared from the first code on, up to the last. Assumes nothing.
 use borrow.Author.Needs.{needs}
 use native.Mathlib.Omega.{arith}
 use mathlib.Core.Path.{refl}

@@ -1,5 +1,5 @@
--- `rounds::has_figure` meets its contract. The loop's invariant: unless the figure has been seen, it is not among those up to e.
--- Assumes nothing.
+-- `rounds::has_figure` meets its contract. The loop's invariant: unless the figure has been seen, it is not among those
+-- up to e. Assumes nothing.
 use native.Mathlib.Omega.{arith}
 use borrow.Author.Needs.{needs}
 use mathlib.Core.Path.{_≡_, sym, _∙_}

@@ -1,5 +1,4 @@
--- `rounds::next_stride` meets its contract: one factor more, which fits, up to the most trains.
--- Assumes nothing.
+-- `rounds::next_stride` meets its contract: one factor more, which fits, up to the most trains. Assumes nothing.
 use native.Mathlib.Omega.{arith}
 use Rattle.moves.proofs.Coding.{times-fits}
 use Rattle.rounds.proofs.Retracing.{stride-next, stride-past}

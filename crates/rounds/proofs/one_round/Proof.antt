@@ -74,8 +74,10 @@ returns c =
       on,
       λ r j h laid back em en t marked.
           round-end (l .loop .inv .0) _ on
-          (λ r h. let z = b .trains-in .ensures r h in omega (arith, z, l .loop .inv .1, c .before .before .loop-test .left))
-          (c .next-round .ensures .1) (omega (arith, s .pre .2)) r j (b .before .soon .ensures r h (omega (arith, s .pre .2)))
+          (λ r h. let z = b .trains-in .ensures r h in
+          omega (arith, z, l .loop .inv .1, c .before .before .loop-test .left))
+          (c .next-round .ensures .1) (omega (arith, s .pre .2)) r j
+          (b .before .soon .ensures r h (omega (arith, s .pre .2)))
           h laid back em en t marked,
     )
 

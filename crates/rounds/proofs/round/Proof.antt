@@ -9,7 +9,8 @@ returns : tie.Need-returns
 returns c = (λ l. l, λ r k h w b lf ls. absurd (omega (arith, c .before .placements .ensures r h, c .if1 .taken, lf)))
 
 returns-2 : tie.Need-returns-2
-returns-2 c = (λ l. l, λ r k h w b lf ls. absurd (omega (arith, c .before .before .placements .ensures r h, c .if2 .taken, ls)))
+returns-2 c =
+    (λ l. l, λ r k h w b lf ls. absurd (omega (arith, c .before .before .placements .ensures r h, c .if2 .taken, ls)))
 
 returns-3 : tie.Need-returns-3
 returns-3 c = (λ l. l, λ r k h w b lf ls few. absurd (omega (arith, c .if3 .taken, few)))

@@ -1,5 +1,6 @@
--- `rounds::round_by` meets its contract: a lower train has the weight, no stretch is due by it, or each has its turn. The loop's
--- invariant: the stretches of the codes below c have had theirs, and a stretch begins with c. Assumes nothing.
+-- `rounds::round_by` meets its contract: a lower train has the weight, no stretch is due by it, or each has its turn.
+-- The loop's invariant: the stretches of the codes below c have had theirs, and a stretch begins with c.
+-- Assumes nothing.
 use borrow.Author.Needs.{needs}
 use native.Mathlib.Omega.{arith}
 use mathlib.Core.Path.{_≡_, sym, _∙_}
@@ -7,13 +8,15 @@ use Prim.Native.Nat.{_-_, _%_, _<_}
 use Rattle.laws.proofs.Bools.{clash}
 use Rattle.game.proofs.Accepted.{facts}
 use Rattle.marks.specs.Marks.{stretchLength}
-use Rattle.rounds.proofs.Turns.{StretchesTo, stretches-start, stretches-next, stretches-end, weight-rests, weight-not-due}
+use Rattle.rounds.proofs.Turns.{StretchesTo, stretches-start, stretches-next, stretches-end, weight-rests}
+use Rattle.rounds.proofs.Turns.{weight-not-due}
 use Rattle.rounds.proofs.round_by.Statement.{statement}
 use Rattle.rounds.proofs.round_by.Tie as tie
 
 abbrev Inv-loop : tie.InvT-loop
 Inv-loop table ways behind figures₀ settings₀ marks₀ this t n m c₀ figures settings marks c =
-    StretchesTo table ways behind this t figures₀ settings₀ marks₀ figures settings marks c × (c < m → c % stretchLength ≡ 0)
+    StretchesTo table ways behind this t figures₀ settings₀ marks₀ figures settings marks c
+    × (c < m → c % stretchLength ≡ 0)
 
 abbrev μ-loop : tie.MeasureT-loop
 μ-loop table ways behind figures₀ settings₀ marks₀ this t n m c₀ figures settings marks c = m - c
@@ -81,7 +84,8 @@ loop-again c =
     let u = ended v in
     let l = u .before .before in (
       stretches-next (l .loop .inv .0) (u .stretch-end .ensures .1)
-          (v .visit-stretch .kept .1 .1 .1 .0) (v .visit-stretch .kept .1 .1 .1 .1 .0) (v .visit-stretch .kept .1 .1 .1 .1 .1 .0)
+          (v .visit-stretch .kept .1 .1 .1 .0) (v .visit-stretch .kept .1 .1 .1 .1 .0)
+          (v .visit-stretch .kept .1 .1 .1 .1 .1 .0)
           (λ r h o runs first. v .visit-stretch .ensures r h o runs first (u .stretch-end .ensures .2)),
       u .stretch-end .ensures .3,
     )

@@ -1,5 +1,4 @@
--- `rounds::visit` meets its contract: nothing is found, or what is found is entered and marked.
--- Assumes nothing.
+-- `rounds::visit` meets its contract: nothing is found, or what is found is entered and marked. Assumes nothing.
 use mathlib.Core.Path.{sym, ap}
 use Rattle.settings.specs.Answers.{entryFound}
 use Rattle.moves.proofs.Round.{code-back}
@@ -17,7 +16,8 @@ returns c =
     let searched = c .before .before in
     let a = start searched .args in
     λ r d o on l empty.
-    visit-rests o (a .p) l empty _ (searched .find-in .ensures r _ on (o .laid) (sym (code-back r _ (o .compiled) _ _ on l)))
+    visit-rests o (a .p) l empty _
+    (searched .find-in .ensures r _ on (o .laid) (sym (code-back r _ (o .compiled) _ _ on l)))
     (ap entryFound (c .enum-told .given .1))
 
 returns-2 : tie.Need-returns-2
@@ -28,7 +28,8 @@ returns-2 c =
     let a = start searched .args in
     let long = start searched .pre in
     λ r d o on l empty.
-    visit-gains o (a .p) l empty _ (searched .find-in .ensures r _ on (o .laid) (sym (code-back r _ (o .compiled) _ _ on l)))
+    visit-gains o (a .p) l empty _
+    (searched .find-in .ensures r _ on (o .laid) (sym (code-back r _ (o .compiled) _ _ on l)))
     (long .0) _ (marked .gain .ensures) (long .1) _ (ap entryFound (found .found .given .1))
 
 pub visit-spec : {M : Type 1} → statement M

@@ -1,5 +1,5 @@
--- `rounds::visit_before` meets its contract. The loop's invariant: what is before the placement by the first t trains has been
--- visited, and the stride is that of train t. Assumes nothing.
+-- `rounds::visit_before` meets its contract. The loop's invariant: what is before the placement by the first t trains
+-- has been visited, and the stride is that of train t. Assumes nothing.
 use borrow.Author.Needs.{needs}
 use native.Mathlib.Omega.{arith}
 use mathlib.Core.Path.{_≡_, _∙_, ap}
@@ -15,7 +15,8 @@ use Rattle.rounds.proofs.visit_before.Tie as tie
 
 abbrev Inv-loop : tie.InvT-loop
 Inv-loop table ways behind figures₀ settings₀ marks₀ this w c q s k stride₀ t₀ figures settings marks stride t =
-    VisitedTo (λ r. Behind r behind) table ways this (λ r i. Comes r w c i) figures₀ settings₀ marks₀ figures settings marks t
+    VisitedTo (λ r. Behind r behind) table ways this (λ r i. Comes r w c i) figures₀ settings₀ marks₀
+    figures settings marks t
     × (stride ≡ strideOf s t)
 
 abbrev μ-loop : tie.MeasureT-loop
@@ -57,7 +58,8 @@ loop-again c =
     let q = s .before in
     let s₀ = start k in (
       visited-to-next (l .loop .inv .0)
-          (v .visit-weighing .kept .1 .1 .1 .0) (v .visit-weighing .kept .1 .1 .1 .1 .0) (v .visit-weighing .kept .1 .1 .1 .1 .1 .0)
+          (v .visit-weighing .kept .1 .1 .1 .0) (v .visit-weighing .kept .1 .1 .1 .1 .0)
+          (v .visit-weighing .kept .1 .1 .1 .1 .1 .0)
           (λ r d h o.
           v .visit-weighing .ensures r d
           (record {

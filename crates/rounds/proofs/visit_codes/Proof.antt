@@ -81,7 +81,8 @@ loop-again c =
     (v .visit-before .kept .1 .1 .1 .0) (v .visit-before .kept .1 .1 .1 .1 .0) (v .visit-before .kept .1 .1 .1 .1 .1 .0)
     (λ r d h o.
     visited-less (v .visit-before .ensures r d h o)
-    {U = Ahead r (s .args .this .n) (s .args .w) (l .loop .figures) (l .loop .c) (l .loop .c + 1)} (λ q lq k. before-one (l .loop .c) k))
+    {U = Ahead r (s .args .this .n) (s .args .w) (l .loop .figures) (l .loop .c) (l .loop .c + 1)}
+    (λ q lq k. before-one (l .loop .c) k))
     (λ r d h x o q lq k. codes-next x (l .loop .c) (omega (arith, i .loop-test .taken, s .pre .2, o .counted)) k))
     (λ r d x o q k.
     codes-passed x (omega (arith, s .pre .2, o .counted)) (omega (arith, light .if1 .left)) (c .next-with2 .ensures .0) k)

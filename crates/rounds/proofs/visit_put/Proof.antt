@@ -1,5 +1,4 @@
--- `rounds::visit_put` meets its contract: the placement waits for a visit and gets one, or does not.
--- Assumes nothing.
+-- `rounds::visit_put` meets its contract: the placement waits for a visit and gets one, or does not. Assumes nothing.
 use native.Mathlib.Omega.{arith}
 use Rattle.rounds.proofs.Retracing.{waits-inside, no-visit, one-visit}
 use borrow.Author.Needs.{needs}
@@ -15,7 +14,8 @@ visit-requires c κs =
     let waiting = c .before .before .before .before in
     let test = waiting .before in
     let s = start test in
-    let l = waits-inside (s .args .figures .now) (s .args .this .m) (s .args .p) _ (test .waits .ensures) (waiting .if1 .taken) in
+    let l = waits-inside (s .args .figures .now) (s .args .this .m) (s .args .p) _ (test .waits .ensures)
+    (waiting .if1 .taken) in
     (omega (arith, l, s .pre .0), omega (arith, l, s .pre .1))
 
 returns : tie.Need-returns

@@ -1,5 +1,5 @@
--- `rounds::visit_stretch` meets its contract: the stretch is not due by the weight, or its codes are visited, and it is marked when
--- it is due again. Assumes nothing.
+-- `rounds::visit_stretch` meets its contract: the stretch is not due by the weight, or its codes are visited, and it is
+-- marked when it is due again. Assumes nothing.
 use borrow.Author.Needs.{needs}
 use Rattle.railway.proofs.Accepted.{accepted-facts}
 use Rattle.rounds.proofs.Visits.{visited-none, visited-less, visited-marked}
@@ -18,7 +18,8 @@ returns c =
     let a = s .args in
     λ r h o runs first st.
     visited-none
-    (turn-over r (a .this) (a .t) (a .codes) (o .counted) (s .pre .2) st (s .pre .3) runs first o _ (mark .due-at .ensures)
+    (turn-over r (a .this) (a .t) (a .codes) (o .counted) (s .pre .2) st (s .pre .3) runs first o _
+    (mark .due-at .ensures)
     (c .if1 .taken))
     (not-due r (a .this) (a .t) (a .codes) (o .counted) (s .pre .2) st (s .pre .3) runs first o _ (mark .due-at .ensures)
     (c .if1 .taken))

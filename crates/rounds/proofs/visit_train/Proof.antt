@@ -1,5 +1,6 @@
--- `rounds::visit_train` meets its contract. The loop's invariant: the placements with the train put back by the first j ways
--- have been visited. Where there is no way with number j, or j has come to the most ways, those are all. Assumes nothing.
+-- `rounds::visit_train` meets its contract. The loop's invariant: the placements with the train put back by the first j
+-- ways have been visited. Where there is no way with number j, or j has come to the most ways, those are all.
+-- Assumes nothing.
 use borrow.Author.Needs.{needs}
 use native.Mathlib.Omega.{arith}
 use Prim.Native.Nat.{_-_}
@@ -46,7 +47,8 @@ returns c =
     let b = l .before in
     let here = b .before .section-at .ensures in
     visited-to-end (l .loop .inv)
-    (λ r d g o u lu k. way-last g here (b .end-behind .ensures) _ _ (w .way-to .ensures .0) (c .if1 .taken) (by-ways g here lu k))
+    (λ r d g o u lu k.
+    way-last g here (b .end-behind .ensures) _ _ (w .way-to .ensures .0) (c .if1 .taken) (by-ways g here lu k))
 
 visit-put-requires : tie.Need-visit-put-requires Inv-loop μ-loop
 visit-put-requires c κs =
