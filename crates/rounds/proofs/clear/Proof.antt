@@ -25,7 +25,9 @@ slice-write-settings : tie.Need-slice-write-settings Inv-loop μ-loop
 slice-write-settings c = let l = c .before .before in omega (arith, l .loop .inv .long-sets)
 
 add-p : tie.Need-add-p Inv-loop μ-loop
-add-p c = let a = c .before .before .before .before .before .before in omega (arith, a .fits .m)
+add-p c =
+    let start = c .before .before .before .before .before .before in
+    omega (arith, start .fits .m)
 
 loop-again : tie.Need-loop-again Inv-loop μ-loop
 loop-again c =
