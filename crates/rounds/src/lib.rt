@@ -52,10 +52,10 @@ pub const LAST_ROUND: u32 = (Railway::MOST_WEIGHT as u32)
 const SECTIONS: u32 = Railway::SECTIONS as u32;
 
 // The round that is going on: its number n, how many placements there are, and the first rounds that a figure n makes due.
-pub struct ThisRound {
-    pub n: u32,
-    pub m: u32,
-    pub soon: Soon,
+struct ThisRound {
+    n: u32,
+    m: u32,
+    soon: Soon,
 }
 
 // Codes in a row, up to one that is not among them.
