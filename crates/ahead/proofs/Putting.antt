@@ -28,7 +28,8 @@ use Rattle.rounds.specs.Visits.{One}
 use Rattle.rounds.proofs.Entries.{entry-some, entry-none, finds-nothing, finds-entry}
 use Rattle.ahead.specs.Bringing.{Looking, Told, gains, rests}
 
-module _ (r : Railway) (table ways behind : List ℕ) (m n : ℕ) (figs : List ℕ) (o : Looking r table ways behind m figs) (c t y p : ℕ) (there : y < r .sections) (put : p ≡ codeWith r c t y) where
+module _ {r : Railway} {table ways behind : List ℕ} {m : ℕ} {figs : List ℕ} (o : Looking r table ways behind m figs)
+    (n c t y p : ℕ) (there : y < r .sections) (put : p ≡ codeWith r c t y) where
   below : p < placements r
   below = rw put (code-with-below r (facts r (o .compiled .accepted)) c t y there)
 
@@ -38,8 +39,10 @@ module _ (r : Railway) (table ways behind : List ℕ) (m n : ℕ) (figs : List �
   pub put-figured : (e : ℕ) → e ≡ getD figs p noFigure → (e ≡ noFigure → ⊥) → Told r n figs (One p) false
   put-figured e is h = rests (λ q l k f g. some-none (entry-some (getD figs p noFigure) (λ z. h (is ∙ z))) (rw k at f))
 
-  module _ (q v : Placement) (on : On r c table q) (lt : t < r .trains) (moved : (u : ℕ) → sectionIn v u ≡ putIn q t y u) (found : Found)
-      (finds : (r : Railway) (u : ℕ) → On r u table v → Laid r (isClosed r) ways → p ≡ codeOn r (sectionIn v) → entryFound found ≡ firstKeeping r (figureIn figs) u n) where
+  module _ (q v : Placement) (on : On r c table q) (lt : t < r .trains)
+      (moved : (u : ℕ) → sectionIn v u ≡ putIn q t y u) (found : Found)
+      (finds : (r : Railway) (u : ℕ) → On r u table v → Laid r (isClosed r) ways → p ≡ codeOn r (sectionIn v)
+      → entryFound found ≡ firstKeeping r (figureIn figs) u n) where
     placed : On r p table v
     placed = rw put (put-on-is r c table q on t y lt there v moved)
 
@@ -49,8 +52,10 @@ module _ (r : Railway) (table ways behind : List ℕ) (m n : ℕ) (figs : List �
     pub put-nothing : entryFound found ≡ none → Told r n figs (One p) false
     put-nothing z = rests (λ u l k f g. rw k (finds-nothing r n p figs (entryFound found) searched z (rw k at g)))
 
-    pub put-gains : (e : ℕ) → e ≡ getD figs p noFigure → e ≡ noFigure → (x : ℕ) → entryFound found ≡ some x → Told r n figs (One p) true
+    pub put-gains : (e : ℕ) → e ≡ getD figs p noFigure → e ≡ noFigure → (x : ℕ) → entryFound found ≡ some x
+        → Told r n figs (One p) true
     put-gains e is none-yet x z =
         let empty : figureIn figs p ≡ none = entry-none (getD figs p noFigure) (sym is ∙ none-yet) in
-        let s : (over (gameOf r) p ≡ false) × (find r (figureIn figs) p n ≡ some x) = finds-entry r n p figs (entryFound found) searched (o .homed p below) empty x z in
+        let s : (over (gameOf r) p ≡ false) × (find r (figureIn figs) p n ≡ some x) =
+        finds-entry r n p figs (entryFound found) searched (o .homed p below) empty x z in
         gains p below (record { waits = empty; going = s .0; entry = x; found = s .1 })

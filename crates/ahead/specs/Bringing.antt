@@ -1,5 +1,5 @@
--- What a look ahead tells: whether a round brings anything. Nothing of the documents rests on this file: contracts of single steps cite it; what a search shows is in
--- search/Search. Assumes nothing.
+-- What a look ahead tells: whether a round brings anything. Nothing of the documents rests on this file: contracts of
+-- single steps cite it; what a search shows is in search/Search. Assumes nothing.
 use mathlib.Core.Path.{_≡_}
 use mathlib.Core.Bool.{Bool, true, false}
 use mathlib.Core.List.{List}
@@ -36,7 +36,8 @@ pub record Gains (r : Railway) (n : ℕ) (figs : List ℕ) (p : ℕ) : Type 0 wh
 -- Of the placements of a kind: one gains (of that kind or not), or none does.
 pub data Told (r : Railway) (n : ℕ) (figs : List ℕ) (Kind : ℕ → Type 0) : Bool → Type 0 where
   gains : (p : ℕ) → p < placements r → Gains r n figs p → Told r n figs Kind true
-  rests : ((p : ℕ) → p < placements r → Kind p → figureIn figs p ≡ none → over (gameOf r) p ≡ false → find r (figureIn figs) p n ≡ none) → Told r n figs Kind false
+  rests : ((p : ℕ) → p < placements r → Kind p → figureIn figs p ≡ none → over (gameOf r) p ≡ false
+      → find r (figureIn figs) p n ≡ none) → Told r n figs Kind false
 
 -- Figure n stands in the table, at the code of a placement.
 pub record Stands (r : Railway) (n : ℕ) (figs : List ℕ) : Type 0 where

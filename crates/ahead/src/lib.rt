@@ -1,5 +1,6 @@
-// Looking ahead: whether a round brings anything, told without writing anything. What can gain in a round is one move before its frontier, as in `rounds`; the first placement
-// there that would gain settles it. So whoever shows a search round by round knows in time whether more is to come.
+// Looking ahead: whether a round brings anything, told without writing anything. What can gain in a round is one move before its
+// frontier, as in `rounds`; the first placement there that would gain settles it. So whoever shows a search round by round knows in time
+// whether more is to come.
 ghost use mathlib.Core.Path.{_≡_};
 ghost use mathlib.Core.Bool.{true};
 ghost use mathlib.Core.Logic.{_↔_};
@@ -16,11 +17,12 @@ ghost use Rattle.compiled.specs.Table.{Compiled};
 ghost use Rattle.moves.specs.Steps.{On};
 ghost use Rattle.predecessors.specs.Behind.{Behind};
 ghost use Rattle.marks.specs.Marks.{stretchOf};
-ghost use Rattle.rounds.specs.Visits.{MarkedFor, One, By, Comes, Ahead, Apart};
+ghost use Rattle.rounds.specs.Visits.{MarkedFor, MoverOf, One, By, Comes, Ahead, Apart};
 ghost use Rattle.ahead.specs.Bringing.{Looking, Told, Stands, StandsIn};
 use compiled::Table;
 use marks::STRETCH;
-use placement::Placement;
+use rounds::Codes;
+use rounds::Mover;
 use routes::MOST_WAYS;
 use routes::NO_SECTION;
 use routes::Ways;
@@ -36,7 +38,10 @@ pub fn brings(
     marks: &[u32],
     n: u32,
 ) -> bool
-    ensures { λ b. ⌜ ((r : Railway) (k : ℕ) (sets : List ℕ) → Compiled r (now (table .entry)) → Laid r (isClosed r) (now (ways .entry)) → Behind r (now (behind .entry)) → n ≡ suc k → RoundTables r k (now (figures .entry)) sets → MarkedFor r n (now (figures .entry)) (now (marks .entry)) → (b ≡ true) ↔ HasFigure r n) ⌝ }
+    ensures { λ b. ⌜ ((r : Railway) (k : ℕ) (sets : List ℕ) → Compiled r (now (table .entry))
+        → Laid r (isClosed r) (now (ways .entry)) → Behind r (now (behind .entry)) → n ≡ suc k
+        → RoundTables r k (now (figures .entry)) sets → MarkedFor r n (now (figures .entry)) (now (marks .entry))
+        → (b ≡ true) ↔ HasFigure r n) ⌝ }
 {
     let m = moves::placements(table);
     let k = compiled::trains_in(table);
@@ -50,9 +55,11 @@ pub fn brings(
     false
 }
 
-// Whether figure n stands in the table, if the marks are right for some round. Where the marks of a stretch say that its figures are smaller it is not looked for.
+// Whether figure n stands in the table, if the marks are right for some round. Where the marks of a stretch say that its figures are
+// smaller it is not looked for.
 pub fn came(table: &Table, figures: &[u32], marks: &[u32], n: u32) -> bool
-    ensures { λ b. ⌜ ((r : Railway) (d : ℕ) → Compiled r (now (table .entry)) → n < noFigure → MarkedFor r d (now (figures .entry)) (now (marks .entry)) → (b ≡ true) ↔ Stands r n (now (figures .entry))) ⌝ }
+    ensures { λ b. ⌜ ((r : Railway) (d : ℕ) → Compiled r (now (table .entry)) → n < noFigure
+        → MarkedFor r d (now (figures .entry)) (now (marks .entry)) → (b ≡ true) ↔ Stands r n (now (figures .entry))) ⌝ }
 {
     let m = moves::placements(table);
     let mut c: u32 = 0;
@@ -82,7 +89,8 @@ fn stands_in(figures: &[u32], n: u32, from: u32, upto: u32) -> bool
     false
 }
 
-// Whether a placement gains that is one move before the frontier, by the weight of train t. If a lower train has that weight too, it was asked there.
+// Whether a placement gains that is one move before the frontier, by the weight of train t. If a lower train has that weight too, it was
+// asked there.
 fn brings_by(
     table: &Table,
     ways: &Ways,
@@ -93,7 +101,9 @@ fn brings_by(
     n: u32,
     t: u8,
 ) -> bool
-    ensures { λ b. ⌜ ((r : Railway) → Looking r (now (table .entry)) (now (ways .entry)) (now (behind .entry)) m (now (figures .entry)) → MarkedFor r n (now (figures .entry)) (now (marks .entry)) → t < r .trains → Told r n (now (figures .entry)) (Apart r n (now (figures .entry)) 0 m t) b) ⌝ }
+    ensures { λ b. ⌜ ((r : Railway) → Looking r (now (table .entry)) (now (ways .entry)) (now (behind .entry)) m (now (figures .entry))
+        → MarkedFor r n (now (figures .entry)) (now (marks .entry)) → t < r .trains
+        → Told r n (now (figures .entry)) (Apart r n (now (figures .entry)) 0 m t) b) ⌝ }
 {
     if dues::shares_weight(table, t) {
         return false;
@@ -103,7 +113,11 @@ fn brings_by(
     while c < m {
         let upto = stretch_end(c, m);
         if marks::due_at(marks, t, c) <= n {
-            if brings_in(table, ways, behind, figures, m, n, w, c, upto) {
+            let codes = Codes {
+                from: c,
+                upto: upto,
+            };
+            if brings_in(table, ways, behind, figures, m, n, w, codes) {
                 return true;
             }
         }
@@ -133,11 +147,14 @@ fn brings_in(
     m: u32,
     n: u32,
     w: u8,
-    from: u32,
-    upto: u32,
+    codes: Codes,
 ) -> bool
-    ensures { λ b. ⌜ ((r : Railway) → Looking r (now (table .entry)) (now (ways .entry)) (now (behind .entry)) m (now (figures .entry)) → upto ≤ m → Told r n (now (figures .entry)) (Ahead r n w (now (figures .entry)) from upto) b) ⌝ }
+    ensures { λ b. ⌜ ((r : Railway) → Looking r (now (table .entry)) (now (ways .entry)) (now (behind .entry)) m (now (figures .entry))
+        → codes .upto ≤ m
+        → Told r n (now (figures .entry)) (Ahead r n w (now (figures .entry)) (codes .from) (codes .upto)) b) ⌝ }
 {
+    let from = codes.from;
+    let upto = codes.upto;
     if n < (w as u32) {
         return false;
     }
@@ -165,14 +182,22 @@ fn brings_before(
     w: u8,
     c: u32,
 ) -> bool
-    ensures { λ b. ⌜ ((r : Railway) → Looking r (now (table .entry)) (now (ways .entry)) (now (behind .entry)) m (now (figures .entry)) → c < placements r → Told r n (now (figures .entry)) (Comes r w c (r .trains)) b) ⌝ }
+    ensures { λ b. ⌜ ((r : Railway) → Looking r (now (table .entry)) (now (ways .entry)) (now (behind .entry)) m (now (figures .entry))
+        → c < placements r → Told r n (now (figures .entry)) (Comes r w c (r .trains)) b) ⌝ }
 {
     let q = moves::placement_of(table, c);
+    let s = compiled::sections_in(table);
     let k = compiled::trains_in(table);
     let mut t: u8 = 0;
     while t < k {
         if compiled::weight_in(table, t) == w {
-            if brings_train(table, ways, behind, figures, m, n, q, c, t) {
+            let mover = Mover {
+                placement: q,
+                code: c,
+                train: t,
+                stride: moves::power(s, t),
+            };
+            if brings_train(table, ways, behind, figures, m, n, mover) {
                 return true;
             }
         }
@@ -181,7 +206,7 @@ fn brings_before(
     false
 }
 
-// Whether a placement gains that is one move of train t before the placement of code c.
+// Whether a placement gains that is one move of a train before a placement.
 fn brings_train(
     table: &Table,
     ways: &Ways,
@@ -189,32 +214,23 @@ fn brings_train(
     figures: &[u32],
     m: u32,
     n: u32,
-    q: Placement,
-    c: u32,
-    t: u8,
+    mover: Mover,
 ) -> bool
-    ensures { λ b. ⌜ ((r : Railway) → Looking r (now (table .entry)) (now (ways .entry)) (now (behind .entry)) m (now (figures .entry)) → On r c (now (table .entry)) q → c < placements r → t < r .trains → Told r n (now (figures .entry)) (By r c t) b) ⌝ }
+    ensures { λ b. ⌜ ((r : Railway) → Looking r (now (table .entry)) (now (ways .entry)) (now (behind .entry)) m (now (figures .entry))
+        → MoverOf r (now (table .entry)) (now (behind .entry)) mover
+        → Told r n (now (figures .entry)) (By r (mover .code) (mover .train)) b) ⌝ }
 {
-    let x = placement::section_at(q, t);
+    let t = mover.train;
+    let x = placement::section_at(mover.placement, t);
     let e = predecessors::end_behind(table, t, x);
-    let stride = moves::power(compiled::sections_in(table), t);
     let mut j: u8 = 0;
     while j < MOST_WAYS {
         let y = routes::way_to(behind, e, j);
         if y == NO_SECTION {
             return false;
         }
-        if brings_put(
-            table,
-            ways,
-            figures,
-            m,
-            n,
-            q,
-            t,
-            y,
-            moves::code_put(c, stride, x, y),
-        ) {
+        let p = moves::code_put(mover.code, mover.stride, x, y);
+        if brings_put(table, ways, figures, m, n, mover, y, p) {
             return true;
         }
         j += 1;
@@ -222,19 +238,20 @@ fn brings_train(
     false
 }
 
-// Whether the placement gains that has train t on section y and the others as in q; p is its code. One with a figure does not.
+// Whether the placement gains that has the train on section y and the others as they are; p is its code. One with a figure does not.
 fn brings_put(
     table: &Table,
     ways: &Ways,
     figures: &[u32],
     m: u32,
     n: u32,
-    q: Placement,
-    t: u8,
+    mover: Mover,
     y: u8,
     p: u32,
 ) -> bool
-    ensures { λ b. ⌜ ((r : Railway) (c : ℕ) (behind : List ℕ) → Looking r (now (table .entry)) (now (ways .entry)) behind m (now (figures .entry)) → On r c (now (table .entry)) q → t < r .trains → y < r .sections → p ≡ codeWith r c t y → Told r n (now (figures .entry)) (One p) b) ⌝ }
+    ensures { λ b. ⌜ ((r : Railway) (behind : List ℕ) → Looking r (now (table .entry)) (now (ways .entry)) behind m (now (figures .entry))
+        → On r (mover .code) (now (table .entry)) (mover .placement) → mover .train < r .trains → y < r .sections
+        → p ≡ codeWith r (mover .code) (mover .train) y → Told r n (now (figures .entry)) (One p) b) ⌝ }
 {
     if m <= p {
         return false;
@@ -242,7 +259,8 @@ fn brings_put(
     if tables::entry_at(figures, p, NO_FIGURE) != NO_FIGURE {
         return false;
     }
-    let found = settings::find_in(table, ways, figures, moves::put_on(q, t, y), p, n);
+    let q = moves::put_on(mover.placement, mover.train, y);
+    let found = settings::find_in(table, ways, figures, q, p, n);
     match found {
         Found::Nothing => false,
         Found::Entry(v) => true,

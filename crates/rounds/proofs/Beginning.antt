@@ -23,9 +23,13 @@ abbrev pub markCount : ℕ
 markCount = (mostTrains + 1) * stretches
 
 zeros : (n i : ℕ) → getD {A = ℕ} (replicate n 0) i 0 ≡ 0
-zeros n i = elim (lt? i n) [ inl l ↦ getD-replicate n i 0 0 l | inr l ↦ List·getD-eq-default (replicate n 0) 0 (omega (arith, length-replicate {A = ℕ} n 0)) ]
+zeros n i = elim (lt? i n) [
+  | inl l ↦ getD-replicate n i 0 0 l
+  | inr l ↦ List·getD-eq-default (replicate n 0) 0 (omega (arith, length-replicate {A = ℕ} n 0))
+]
 
-pub first-marked : (r : Railway) (figs sets : List ℕ) → recordRefusal r ≡ none → RoundTables r 0 figs sets → MarkedFor r 1 figs (replicate markCount 0)
+pub first-marked : (r : Railway) (figs sets : List ℕ) → recordRefusal r ≡ none → RoundTables r 0 figs sets
+    → MarkedFor r 1 figs (replicate markCount 0)
 first-marked r figs sets accepted t =
     record {
       room = record { enough = length-replicate {A = ℕ} markCount 0 };
@@ -35,7 +39,12 @@ first-marked r figs sets accepted t =
     }
   where
     none-yet : (q j : ℕ) → q < placements r → figureIn figs q ≡ some j → j ≤ 0
-    none-yet q j l e = let s = solution r accepted in of-up-to 0 (s .figure q) j (sym (t .figures q l (s .figure q) (s .figures q l)) ∙ e) .1
+    none-yet q j l e =
+        let s = solution r accepted in
+        of-up-to 0 (s .figure q) j (sym (t .figures q l (s .figure q) (s .figures q l)) ∙ e) .1
 
     blank : (marks : List ℕ) (count : ℕ) → marks ≡ replicate count 0 → (t q k : ℕ) → dueAt marks t q ≤ k
-    blank marks count e t q k = let z : dueAt marks t q ≡ 0 = ap (λ (xs : List ℕ). dueAt xs t q) e ∙ zeros count (t * stretches + stretchOf q) in omega arith
+    blank marks count e t q k =
+        let z : dueAt marks t q ≡ 0 =
+        ap (λ (xs : List ℕ). dueAt xs t q) e ∙ zeros count (t * stretches + stretchOf q) in
+        omega arith

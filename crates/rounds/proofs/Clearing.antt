@@ -1,4 +1,5 @@
--- Clearing two lent tables from the first code on: what is behind is cleared, what is ahead is as it was. Assumes nothing.
+-- Clearing two lent tables from the first code on: what is behind is cleared, what is ahead is as it was.
+-- Assumes nothing.
 use mathlib.Core.Path.{_≡_, refl, _∙_}
 use mathlib.Core.Logic.{inl, inr}
 use mathlib.Core.List.{List}
@@ -25,7 +26,8 @@ pub record Written (f : ℕ → ℕ) (p : ℕ) (old new : List ℕ) : Type 0 whe
 pub written-none : (f : ℕ → ℕ) (old : List ℕ) → Written f 0 old old
 written-none f old = record { as-long = refl; behind = λ q d h. absurd (omega arith); ahead = λ q d h. refl }
 
-pub written-one : (f : ℕ → ℕ) (p : ℕ) (old new : List ℕ) (x : ℕ) → Written f p old new → p < length old → x ≡ f p → Written f (p + 1) old (set new p x)
+pub written-one : (f : ℕ → ℕ) (p : ℕ) (old new : List ℕ) (x : ℕ) → Written f p old new → p < length old → x ≡ f p
+    → Written f (p + 1) old (set new p x)
 written-one f p old new x w l e =
     record {
       as-long = length-set new p x ∙ w .as-long;
@@ -65,7 +67,8 @@ module _ (table : List ℕ) (m : ℕ) (figs₀ sets₀ : List ℕ) where
       }
 
   module _ (figs sets : List ℕ) (p : ℕ) (c : Clearing table m figs₀ sets₀ figs sets p) where
-    pub clearing-next : (f v : ℕ) → p < m → m ≤ length figs₀ → m ≤ length sets₀ → ((r : Railway) → Compiled r table → p < placements r → f ≡ firstFigure r p) → v ≡ 0
+    pub clearing-next : (f v : ℕ) → p < m → m ≤ length figs₀ → m ≤ length sets₀
+        → ((r : Railway) → Compiled r table → p < placements r → f ≡ firstFigure r p) → v ≡ 0
         → Clearing table m figs₀ sets₀ (set figs p f) (set sets p v) (p + 1)
     clearing-next f v l lf ls e z =
         record {
@@ -73,7 +76,8 @@ module _ (table : List ℕ) (m : ℕ) (figs₀ sets₀ : List ℕ) where
           long-figs = length-set figs p f ∙ c .long-figs;
           long-sets = length-set sets p v ∙ c .long-sets;
           unset = written-one (λ q. 0) p sets₀ sets v (c .unset) (omega arith) z;
-          first = λ r h k. written-one (firstFigure r) p figs₀ figs f (c .first r h k) (omega arith) (e r h (omega arith));
+          first =
+              λ r h k. written-one (firstFigure r) p figs₀ figs f (c .first r h k) (omega arith) (e r h (omega arith));
         }
 
     pub clearing-end : m ≤ p → (r : Railway) → Compiled r table → m ≡ placements r → After r 0 figs₀ sets₀ figs sets
@@ -82,7 +86,9 @@ module _ (table : List ℕ) (m : ℕ) (figs₀ sets₀ : List ℕ) where
         let wf : Written (firstFigure r) (placements r) figs₀ figs = rw z at (c .first r h e) in
         let ws : Written (λ q. 0) (placements r) sets₀ sets = rw z at (c .unset) in
         record {
-          tables = cleared-round r (h .accepted) figs sets (record { first = λ q b. wf .behind q noFigure b; unset = λ q b. ws .behind q 0 b });
+          tables =
+              cleared-round r (h .accepted) figs sets
+              (record { first = λ q b. wf .behind q noFigure b; unset = λ q b. ws .behind q 0 b });
           kept-figs = written-kept r (firstFigure r) figs₀ figs wf;
           kept-sets = written-kept r (λ q. 0) sets₀ sets ws;
         }

@@ -1,5 +1,5 @@
--- The entries of one placement: before the first round, and where round n visits it. A placement that is home has figure 0 already, so one
--- without a figure at which something is found is neither home nor lost. Assumes nothing.
+-- The entries of one placement: before the first round, and where round n visits it. A placement that is home has
+-- figure 0 already, so one without a figure at which something is found is neither home nor lost. Assumes nothing.
 use mathlib.Core.Path.{_≡_, sym, _∙_}
 use mathlib.Core.Logic.{inl, inr}
 use mathlib.Core.Bool.{true, false, not}
@@ -45,9 +45,11 @@ first-home r home p accepted e same =
     let ok = facts r accepted in
     rw (at, home-code-apart r ok (accepted-facts r accepted), home-code-home r ok)
 
-pub first-other : (r : Railway) (home p : ℕ) → recordRefusal r ≡ none → home ≡ homeCode r → p < placements r → (p ≡ home → ⊥) → noFigure ≡ firstFigure r p
+pub first-other : (r : Railway) (home p : ℕ) → recordRefusal r ≡ none → home ≡ homeCode r → p < placements r
+    → (p ≡ home → ⊥) → noFigure ≡ firstFigure r p
 first-other r home p accepted e l other =
-    let away : atHome r p ≡ false = not-true (atHome r p) (λ y. other (home-has-code r (facts r accepted) p l y ∙ sym e)) in
+    let away : atHome r p ≡ false =
+    not-true (atHome r p) (λ y. other (home-has-code r (facts r accepted) p l y ∙ sym e)) in
     rw (away, and-off (not (shared r p)))
 
 -- ONE PLACEMENT
@@ -58,7 +60,8 @@ module _ (figs : List ℕ) (p : ℕ) (inside : p < length figs) where
   pub read-none : getD figs p 0 ≡ noFigure → figureIn figs p ≡ none
   read-none e = entry-none (getD figs p noFigure) (getD-inside figs p noFigure 0 inside ∙ e)
 
-module _ (r : Railway) (n p : ℕ) (figs : List ℕ) (found : Option ℕ) (searched : found ≡ firstKeeping r (figureIn figs) p n) where
+module _ (r : Railway) (n p : ℕ) (figs : List ℕ) (found : Option ℕ)
+    (searched : found ≡ firstKeeping r (figureIn figs) p n) where
   apart-find : shared r p ≡ false → firstKeeping r (figureIn figs) p n ≡ find r (figureIn figs) p n
   unfolding firstKeeping
   apart-find e = rw e
@@ -66,9 +69,12 @@ module _ (r : Railway) (n p : ℕ) (figs : List ℕ) (found : Option ℕ) (searc
   pub finds-nothing : found ≡ none → over (gameOf r) p ≡ false → find r (figureIn figs) p n ≡ none
   finds-nothing e o = sym (apart-find (or-false (shared r p) (atHome r p) o .0)) ∙ sym searched ∙ e
 
-  pub finds-entry : (home (gameOf r) p ≡ true → figureIn figs p ≡ some 0) → figureIn figs p ≡ none → (v : ℕ) → found ≡ some v
+  pub finds-entry : (home (gameOf r) p ≡ true → figureIn figs p ≡ some 0) → figureIn figs p ≡ none
+      → (v : ℕ) → found ≡ some v
       → (over (gameOf r) p ≡ false) × (find r (figureIn figs) p n ≡ some v)
   finds-entry homed empty v e =
-      let apart : shared r p ≡ false = not-true (shared r p) (λ y. some-none (sym searched ∙ e) (keeping-lost r (figureIn figs) p n y)) in
-      let away : atHome r p ≡ false = not-true (atHome r p) (λ y. let h : home (gameOf r) p ≡ true = rw (apart, y) in some-none (homed h) empty) in
+      let apart : shared r p ≡ false =
+      not-true (shared r p) (λ y. some-none (sym searched ∙ e) (keeping-lost r (figureIn figs) p n y)) in
+      let away : atHome r p ≡ false =
+      not-true (atHome r p) (λ y. let h : home (gameOf r) p ≡ true = rw (apart, y) in some-none (homed h) empty) in
       (or-none (shared r p) (atHome r p) apart away, sym (apart-find apart) ∙ sym searched ∙ e)

@@ -1,5 +1,5 @@
--- Who gains figure n in round n has a move to the frontier: a train's move to a placement whose figure and the train's weight make n. So in round n only
--- placements one such move before can gain. Assumes nothing.
+-- Who gains figure n in round n has a move to the frontier: a train's move to a placement whose figure and the train's
+-- weight make n. So in round n only placements one such move before can gain. Assumes nothing.
 use mathlib.Core.Path.{_≡_, refl}
 use mathlib.Core.Bool.{false}
 use mathlib.Core.List.{List}
@@ -28,8 +28,10 @@ ends-at : (F : ℕ → Option ℕ) (o : Outcome) (j : ℕ) → figureOf F o ≡ 
 ends-at F (lost x) j e = some-none e refl
 ends-at F (at q) j e = (q, refl, e)
 
-module _ (r : Railway) (accepted : recordRefusal r ≡ none) (k : ℕ) (figs sets : List ℕ) (t : RoundTables r k figs sets) where
-  pub gains-before : (p v : ℕ) → p < placements r → figureIn figs p ≡ none → over (gameOf r) p ≡ false → find r (figureIn figs) p (suc k) ≡ some v → Before r (suc k) figs 0 (placements r) p
+module _ (r : Railway) (accepted : recordRefusal r ≡ none) (k : ℕ) (figs sets : List ℕ)
+    (t : RoundTables r k figs sets) where
+  pub gains-before : (p v : ℕ) → p < placements r → figureIn figs p ≡ none → over (gameOf r) p ≡ false
+      → find r (figureIn figs) p (suc k) ≡ some v → Before r (suc k) figs 0 (placements r) p
   gains-before p v l e o f =
       let s = settingAt r p v in
       let d : Decides (gameOf r) (figureIn figs) p s (suc k) = accepted-go r accepted .gained k figs sets t p v l e o f in

@@ -1,7 +1,8 @@
--- What visits of some placements in one round make of two tables and the marks. A visit looks for a setting and enters what it finds; a round
--- visits what is one move of a train before its frontier: the placements whose figure and the train's weight make the round's number. Nothing of document
--- 01 rests on this file: contracts of single steps cite it, and the solver's own is `SolverPost` (tables/Solver). `MarkedFor` stands in what a search promises, and is read through
--- the statement in search/Search. Assumes nothing.
+-- What visits of some placements in one round make of two tables and the marks. A visit looks for a setting and enters
+-- what it finds; a round visits what is one move of a train before its frontier: the placements whose figure and the
+-- train's weight make the round's number. Nothing of document 01 rests on this file: contracts of single steps cite it,
+-- and the solver's own is `SolverPost` (tables/Solver). `MarkedFor` stands in what a search promises, and is read
+-- through the statement in search/Search. Assumes nothing.
 use mathlib.Core.Path.{_≡_}
 use mathlib.Core.Bool.{Bool, true, false, cond, _&&_, _||_}
 use mathlib.Core.List.{List}
@@ -21,9 +22,12 @@ use Rattle.tables.specs.Tables.{noFigure, figureEntry, figureIn}
 use Rattle.tables.specs.Find.{find}
 use Rattle.routes.specs.Routes.{Laid}
 use Rattle.compiled.specs.Table.{Compiled}
-use Rattle.marks.specs.declared.Soon.{Soon}
+use Rattle.moves.specs.Steps.{strideOf, On}
+use Rattle.predecessors.specs.Behind.{Behind}
 use Rattle.marks.specs.Marks.{stretchOf, mostCodes, dueAt, mostAt, Room}
 use Rattle.dues.specs.Dues.{sameWeight, SoonAfter}
+use Rattle.rounds.specs.declared.ThisRound.{ThisRound}
+use Rattle.rounds.specs.declared.Mover.{Mover}
 
 -- Home has its figure from the start.
 abbrev pub Homed : Railway → List ℕ → Type 0
@@ -46,39 +50,53 @@ since n d t q = cond (passedBy d t q) (suc n) n
 abbrev pub First : Railway → ℕ → Type 0
 First r t = anyBelow (sameWeight r t) t ≡ false
 
--- The marks, then: no figure is larger than what is marked for its stretch, and no round to come that a figure and a weight make is before the one marked as
--- due there by that weight.
+-- The marks, then: no figure is larger than what is marked for its stretch, and no round to come that a figure and a
+-- weight make is before the one marked as due there by that weight.
 pub record Marked (r : Railway) (n : ℕ) (d : Turned) (figs marks : List ℕ) : Type 0 where
   pub room : Room marks
   pub few : placements r ≤ mostCodes
   pub most : (q j : ℕ) → q < placements r → figureIn figs q ≡ some j → j ≤ mostAt marks q
-  pub due : (q j t : ℕ) → q < placements r → t < r .trains → First r t → figureIn figs q ≡ some j → since n d t q ≤ j + weightOf r t → dueAt marks t q ≤ j + weightOf r t
+  pub due : (q j t : ℕ) → q < placements r → t < r .trains → First r t → figureIn figs q ≡ some j
+      → since n d t q ≤ j + weightOf r t → dueAt marks t q ≤ j + weightOf r t
 
 -- The marks before round n, of which nothing has had its turn.
 abbrev pub MarkedFor : Railway → ℕ → List ℕ → List ℕ → Type 0
 MarkedFor r n figs marks = Marked r n (record { train = 0; code = 0 }) figs marks
 
--- Round n is going on, on the tables of this railway; these are the first rounds that a figure n makes due.
-pub record Round (r : Railway) (table ways : List ℕ) (m n : ℕ) (soon : Soon) (d : Turned) (figs marks : List ℕ) : Type 0 where
+-- A round is going on, on the tables of this railway.
+pub record Round (r : Railway) (table ways : List ℕ) (this : ThisRound) (d : Turned) (figs marks : List ℕ) : Type 0 where
   pub compiled : Compiled r table
   pub laid : Laid r (isClosed r) ways
-  pub counted : m ≡ placements r
-  pub small : n + mostWeight < noFigure
-  pub soonest : SoonAfter r n soon
+  pub counted : this .m ≡ placements r
+  pub small : this .n + mostWeight < noFigure
+  pub soonest : SoonAfter r (this .n) (this .soon)
   pub homed : Homed r figs
-  pub marked : Marked r n d figs marks
+  pub marked : Marked r (this .n) d figs marks
 
--- Placement q in round n, by the figures F: figure and setting f and v before, f′ and v′ after. It is as it was, or has gained.
+-- A train of this railway that may have come to a placement, and the ways by which it can have come.
+pub record MoverOf (r : Railway) (table behind : List ℕ) (mover : Mover) : Type 0 where
+  pub laid : Behind r behind
+  pub on : On r (mover .code) table (mover .placement)
+  pub code : mover .code < placements r
+  pub train : mover .train < r .trains
+  pub stride : mover .stride ≡ strideOf (r .sections) (mover .train)
+
+-- Placement q in round n, by the figures F: figure and setting f and v before, f′ and v′ after. It is as it was, or has
+-- gained.
 pub data Changed (r : Railway) (F : ℕ → Option ℕ) (n q f v f′ v′ : ℕ) : Type 0 where
   same : f′ ≡ f → v′ ≡ v → Changed r F n q f v f′ v′
   gained : figureEntry f ≡ none → over (gameOf r) q ≡ false → f′ ≡ n → find r F q n ≡ some v′ → Changed r F n q f v f′ v′
 
--- Some placements have been visited in round n, those of a kind among them: where one of these has no figure yet nothing was to be found.
-pub record Visited (r : Railway) (n : ℕ) (d : Turned) (Seen : ℕ → Type 0) (figs sets figs′ sets′ marks′ : List ℕ) : Type 0 where
-  pub each : (q : ℕ) → q < placements r → Changed r (figureIn figs) n q (getD figs q noFigure) (getD sets q 0) (getD figs′ q noFigure) (getD sets′ q 0)
+-- Some placements have been visited in round n, those of a kind among them: where one of these has no figure yet
+-- nothing was to be found.
+pub record Visited (r : Railway) (n : ℕ) (d : Turned) (Seen : ℕ → Type 0)
+    (figs sets figs′ sets′ marks′ : List ℕ) : Type 0 where
+  pub each : (q : ℕ) → q < placements r
+      → Changed r (figureIn figs) n q (getD figs q noFigure) (getD sets q 0) (getD figs′ q noFigure) (getD sets′ q 0)
   pub past-figs : (q d : ℕ) → placements r ≤ q → getD figs′ q d ≡ getD figs q d
   pub past-sets : (q d : ℕ) → placements r ≤ q → getD sets′ q d ≡ getD sets q d
-  pub settled : (q : ℕ) → q < placements r → Seen q → figureIn figs′ q ≡ none → over (gameOf r) q ≡ false → find r (figureIn figs) q n ≡ none
+  pub settled : (q : ℕ) → q < placements r → Seen q → figureIn figs′ q ≡ none → over (gameOf r) q ≡ false
+      → find r (figureIn figs) q n ≡ none
   pub marked : Marked r n d figs′ marks′
 
 -- The codes from c to below e are those of one stretch, of all below m.

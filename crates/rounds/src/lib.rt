@@ -1,11 +1,11 @@
-// The rounds of a search: two lent tables, filled in place round by round. In round n a placement without a figure gets n if some
-// setting leads from it, by whatever move, to figures that are smaller by at least the mover's weight. The search for figure n reads only figures below n, so entries
-// made in the same round do not disturb it. A placement that gains figure n has a move of some train to a figure that makes n with the train's weight, so a round
-// visits only what is one such move before those: they are its frontier. Marks say for each stretch of codes and each weight which round is the next that the
-// figures there make due, so that a round passes by the stretches where the frontier has none, and whoever runs rounds can pass by those that are due nowhere.
-// The functions promise what they do for every accepted railway whose compiled table and ways they are handed: those into sections that are not
-// closed, for moves, and those to all sections, for going back. `begin` and `round` ask for nothing: where a table is too short they do
-// nothing, and promise nothing.
+// The rounds of a search: two lent tables, filled in place round by round. In round n a placement without a figure gets n if some setting
+// leads from it, by whatever move, to figures that are smaller by at least the mover's weight. The search for figure n reads only figures
+// below n, so entries made in the same round do not disturb it. A placement that gains figure n has a move of some train to a figure that
+// makes n with the train's weight, so a round visits only what is one such move before those: they are its frontier. Marks say for each
+// stretch of codes and each weight which round is the next that the figures there make due, so that a round passes by the stretches where
+// the frontier has none, and whoever runs rounds can pass by those that are due nowhere. The functions promise what they do for every
+// accepted railway whose compiled table and ways they are handed: those into sections that are not closed, for moves, and those to all
+// sections, for going back. `begin` and `round` ask for nothing: where a table is too short they do nothing, and promise nothing.
 ghost use mathlib.Core.Path.{_≡_};
 ghost use mathlib.Core.Bool.{false};
 ghost use mathlib.Core.Option.{none};
@@ -25,7 +25,8 @@ ghost use Rattle.moves.specs.Steps.{strideOf, On};
 ghost use Rattle.predecessors.specs.Behind.{Behind};
 ghost use Rattle.rounds.specs.Rounds.{After, RoundPost};
 ghost use Rattle.marks.specs.Marks.{stretchLength};
-ghost use Rattle.rounds.specs.Visits.{Turned, First, MarkedFor, Round, Visited, Stretch, Passed, Waits, One, By, ByWeight, Comes, Ahead, Apart};
+ghost use Rattle.rounds.specs.Visits.{Turned, First, MarkedFor, Round, MoverOf, Visited, Stretch, Passed, Waits};
+ghost use Rattle.rounds.specs.Visits.{One, By, ByWeight, Comes, Ahead, Apart};
 use compiled::Table;
 use marks::STRETCH;
 use marks::Soon;
@@ -50,9 +51,32 @@ pub const LAST_ROUND: u32 = (Railway::MOST_WEIGHT as u32)
 // The most sections, a factor for each of four trains.
 const SECTIONS: u32 = Railway::SECTIONS as u32;
 
+// The round that is going on: its number n, how many placements there are, and the first rounds that a figure n makes due.
+struct ThisRound {
+    n: u32,
+    m: u32,
+    soon: Soon,
+}
+
+// Codes in a row, up to one that is not among them.
+pub struct Codes {
+    pub from: u32,
+    pub upto: u32,
+}
+
+// A train that may have come to a placement by the last move: the placement with its code, the train and its stride.
+pub struct Mover {
+    pub placement: Placement,
+    pub code: u32,
+    pub train: u8,
+    pub stride: u32,
+}
+
 // Before the first round, in two tables that are long enough: home has figure 0, every other placement none, and no setting is set.
 pub fn begin(table: &Table, figures: &mut [u32], settings: &mut [u32])
-    ensures { λ u. ⌜ ((r : Railway) → Compiled r (now (table .entry)) → placements r ≤ length (now (figures .entry)) → placements r ≤ length (now (settings .entry)) → After r 0 (now (figures .entry)) (now (settings .entry)) (now (figures .exit)) (now (settings .exit))) ⌝ }
+    ensures { λ u. ⌜ ((r : Railway) → Compiled r (now (table .entry))
+        → placements r ≤ length (now (figures .entry)) → placements r ≤ length (now (settings .entry))
+        → After r 0 (now (figures .entry)) (now (settings .entry)) (now (figures .exit)) (now (settings .exit))) ⌝ }
 {
     let m = moves::placements(table);
     if figures.len() < (m as usize) {
@@ -64,8 +88,8 @@ pub fn begin(table: &Table, figures: &mut [u32], settings: &mut [u32])
     clear(table, figures, settings, m);
 }
 
-// Round n, in place, and a later round before which none is due. The tables have to be those of the round before, and the marks right for round n; then they are
-// those of round n, and right for the one that is answered.
+// Round n, in place, and a later round before which none is due. The tables have to be those of the round before, and the marks right for
+// round n; then they are those of round n, and right for the one that is answered.
 pub fn round(
     table: &Table,
     ways: &Ways,
@@ -75,7 +99,12 @@ pub fn round(
     marks: &mut [u32],
     n: u32,
 ) -> u32
-    ensures { λ e. ⌜ (n < noFigure → n < e) × ((r : Railway) (k : ℕ) → Compiled r (now (table .entry)) → Laid r (isClosed r) (now (ways .entry)) → Behind r (now (behind .entry)) → placements r ≤ length (now (figures .entry)) → placements r ≤ length (now (settings .entry)) → n ≤ mostFigure → n ≡ suc k → RoundTables r k (now (figures .entry)) (now (settings .entry)) → MarkedFor r n (now (figures .entry)) (now (marks .entry)) → RoundPost r n (now (figures .entry)) (now (settings .entry)) (now (figures .exit)) (now (settings .exit)) e × MarkedFor r e (now (figures .exit)) (now (marks .exit))) ⌝ }
+    ensures { λ e. ⌜ (n < noFigure → n < e) × ((r : Railway) (k : ℕ) → Compiled r (now (table .entry))
+        → Laid r (isClosed r) (now (ways .entry)) → Behind r (now (behind .entry))
+        → placements r ≤ length (now (figures .entry)) → placements r ≤ length (now (settings .entry)) → n ≤ mostFigure → n ≡ suc k
+        → RoundTables r k (now (figures .entry)) (now (settings .entry)) → MarkedFor r n (now (figures .entry)) (now (marks .entry))
+        → RoundPost r n (now (figures .entry)) (now (settings .entry)) (now (figures .exit)) (now (settings .exit)) e
+        × MarkedFor r e (now (figures .exit)) (now (marks .exit))) ⌝ }
 {
     let m = moves::placements(table);
     if figures.len() < (m as usize) {
@@ -93,7 +122,8 @@ pub fn round(
 // Before the first round: home has figure 0, every other placement none, and no setting is set.
 fn clear(table: &Table, figures: &mut [u32], settings: &mut [u32], m: u32)
     requires { ⌜ (m ≤ length (now figures)) × (m ≤ length (now settings)) ⌝ }
-    ensures { λ u. ⌜ ((r : Railway) → Compiled r (now (table .entry)) → m ≡ placements r → After r 0 (now (figures .entry)) (now (settings .entry)) (now (figures .exit)) (now (settings .exit))) ⌝ }
+    ensures { λ u. ⌜ ((r : Railway) → Compiled r (now (table .entry)) → m ≡ placements r
+        → After r 0 (now (figures .entry)) (now (settings .entry)) (now (figures .exit)) (now (settings .exit))) ⌝ }
 {
     let home = moves::home_code(table);
     let mut p: u32 = 0;
@@ -124,19 +154,29 @@ fn one_round(
     n: u32,
 ) -> u32
     requires { ⌜ (m ≤ length (now figures)) × (m ≤ length (now settings)) × (n ≤ mostFigure) ⌝ }
-    ensures { λ e. ⌜ (n < e) × ((r : Railway) (k : ℕ) → Compiled r (now (table .entry)) → Laid r (isClosed r) (now (ways .entry)) → Behind r (now (behind .entry)) → m ≡ placements r → n ≡ suc k → RoundTables r k (now (figures .entry)) (now (settings .entry)) → MarkedFor r n (now (figures .entry)) (now (marks .entry)) → RoundPost r n (now (figures .entry)) (now (settings .entry)) (now (figures .exit)) (now (settings .exit)) e × MarkedFor r e (now (figures .exit)) (now (marks .exit))) ⌝ }
+    ensures { λ e. ⌜ (n < e) × ((r : Railway) (k : ℕ) → Compiled r (now (table .entry))
+        → Laid r (isClosed r) (now (ways .entry)) → Behind r (now (behind .entry)) → m ≡ placements r → n ≡ suc k
+        → RoundTables r k (now (figures .entry)) (now (settings .entry)) → MarkedFor r n (now (figures .entry)) (now (marks .entry))
+        → RoundPost r n (now (figures .entry)) (now (settings .entry)) (now (figures .exit)) (now (settings .exit)) e
+        × MarkedFor r e (now (figures .exit)) (now (marks .exit))) ⌝ }
 {
     let soon = dues::soon(table, n);
+    let this = ThisRound {
+        n: n,
+        m: m,
+        soon: soon,
+    };
     let k = compiled::trains_in(table);
     let mut t: u8 = 0;
     while t < k {
-        round_by(table, ways, behind, figures, settings, marks, m, n, soon, t);
+        round_by(table, ways, behind, figures, settings, marks, this, t);
         t += 1;
     }
     dues::next_round(table, marks, m, n)
 }
 
-// Round n by the weight of train t, stretch after stretch, unless a lower train has the weight too, whose turn it was then, or no stretch is due by it.
+// This round by the weight of train t, stretch after stretch, unless a lower train has the weight too, whose turn it was then, or no
+// stretch is due by it.
 fn round_by(
     table: &Table,
     ways: &Ways,
@@ -144,17 +184,21 @@ fn round_by(
     figures: &mut [u32],
     settings: &mut [u32],
     marks: &mut [u32],
-    m: u32,
-    n: u32,
-    soon: Soon,
+    this: ThisRound,
     t: u8,
 )
-    requires { ⌜ (m ≤ length (now figures)) × (m ≤ length (now settings)) ⌝ }
-    ensures { λ u. ⌜ ((r : Railway) → Behind r (now (behind .entry)) → Round r (now (table .entry)) (now (ways .entry)) m n soon (record { train = t; code = 0 }) (now (figures .entry)) (now (marks .entry)) → t < r .trains → Visited r n (record { train = suc t; code = 0 }) (Apart r n (now (figures .entry)) 0 m t) (now (figures .entry)) (now (settings .entry)) (now (figures .exit)) (now (settings .exit)) (now (marks .exit))) ⌝ }
+    requires { ⌜ (this .m ≤ length (now figures)) × (this .m ≤ length (now settings)) ⌝ }
+    ensures { λ u. ⌜ ((r : Railway) → Behind r (now (behind .entry))
+        → Round r (now (table .entry)) (now (ways .entry)) this (record { train = t; code = 0 })
+        (now (figures .entry)) (now (marks .entry)) → t < r .trains
+        → Visited r (this .n) (record { train = suc t; code = 0 }) (Apart r (this .n) (now (figures .entry)) 0 (this .m) t)
+        (now (figures .entry)) (now (settings .entry)) (now (figures .exit)) (now (settings .exit)) (now (marks .exit))) ⌝ }
 {
     if dues::shares_weight(table, t) {
         return;
     }
+    let n = this.n;
+    let m = this.m;
     if n == 0 {
         return;
     }
@@ -164,6 +208,10 @@ fn round_by(
     let mut c: u32 = 0;
     while c < m {
         let upto = stretch_end(c, m);
+        let codes = Codes {
+            from: c,
+            upto: upto,
+        };
         visit_stretch(
             table,
             ways,
@@ -171,12 +219,9 @@ fn round_by(
             figures,
             settings,
             marks,
-            m,
-            n,
-            soon,
+            this,
             t,
-            c,
-            upto,
+            codes,
         );
         c = upto;
     }
@@ -194,8 +239,8 @@ fn stretch_end(c: u32, m: u32) -> u32
     c + STRETCH
 }
 
-// Round n for a stretch, if the weight of train t makes it due: what is one move of a train of that weight before its placements of the frontier, and then when it
-// is due again.
+// This round for a stretch, if the weight of train t makes it due: what is one move of a train of that weight before its placements of the
+// frontier, and then when it is due again.
 fn visit_stretch(
     table: &Table,
     ways: &Ways,
@@ -203,16 +248,23 @@ fn visit_stretch(
     figures: &mut [u32],
     settings: &mut [u32],
     marks: &mut [u32],
-    m: u32,
-    n: u32,
-    soon: Soon,
+    this: ThisRound,
     t: u8,
-    from: u32,
-    upto: u32,
+    codes: Codes,
 )
-    requires { ⌜ (m ≤ length (now figures)) × (m ≤ length (now settings)) × (from < upto) × (upto ≤ m) ⌝ }
-    ensures { λ u. ⌜ ((r : Railway) → Behind r (now (behind .entry)) → Round r (now (table .entry)) (now (ways .entry)) m n soon (record { train = t; code = from }) (now (figures .entry)) (now (marks .entry)) → t < r .trains → First r t → Stretch m from upto → Visited r n (record { train = t; code = upto }) (Ahead r n (weightOf r t) (now (figures .entry)) from upto) (now (figures .entry)) (now (settings .entry)) (now (figures .exit)) (now (settings .exit)) (now (marks .exit))) ⌝ }
+    requires { ⌜ (this .m ≤ length (now figures)) × (this .m ≤ length (now settings))
+        × (codes .from < codes .upto) × (codes .upto ≤ this .m) ⌝ }
+    ensures { λ u. ⌜ ((r : Railway) → Behind r (now (behind .entry))
+        → Round r (now (table .entry)) (now (ways .entry)) this (record { train = t; code = codes .from })
+        (now (figures .entry)) (now (marks .entry))
+        → t < r .trains → First r t → Stretch (this .m) (codes .from) (codes .upto)
+        → Visited r (this .n) (record { train = t; code = codes .upto })
+        (Ahead r (this .n) (weightOf r t) (now (figures .entry)) (codes .from) (codes .upto))
+        (now (figures .entry)) (now (settings .entry)) (now (figures .exit)) (now (settings .exit)) (now (marks .exit))) ⌝ }
 {
+    let n = this.n;
+    let from = codes.from;
+    let upto = codes.upto;
     if n < marks::due_at(marks, t, from) {
         return;
     }
@@ -224,19 +276,16 @@ fn visit_stretch(
         figures,
         settings,
         marks,
-        m,
-        n,
-        soon,
+        this,
         w,
-        from,
-        upto,
+        codes,
     );
     let most = marks::most_at(marks, from);
     let due = dues::due_behind(table, figures, most, n, from, upto, t);
     marks::set_due(marks, t, from, due);
 }
 
-// Round n for what is one move of a train of weight w before the placements with codes in a range whose figure makes n with w.
+// This round for what is one move of a train of weight w before the placements with codes in a range whose figure makes its number with w.
 fn visit_codes(
     table: &Table,
     ways: &Ways,
@@ -244,35 +293,27 @@ fn visit_codes(
     figures: &mut [u32],
     settings: &mut [u32],
     marks: &mut [u32],
-    m: u32,
-    n: u32,
-    soon: Soon,
+    this: ThisRound,
     w: u8,
-    from: u32,
-    upto: u32,
+    codes: Codes,
 )
-    requires { ⌜ (m ≤ length (now figures)) × (m ≤ length (now settings)) × (upto ≤ m) ⌝ }
-    ensures { λ u. ⌜ ((r : Railway) (d : Turned) → Behind r (now (behind .entry)) → Round r (now (table .entry)) (now (ways .entry)) m n soon d (now (figures .entry)) (now (marks .entry)) → Visited r n d (Ahead r n w (now (figures .entry)) from upto) (now (figures .entry)) (now (settings .entry)) (now (figures .exit)) (now (settings .exit)) (now (marks .exit))) ⌝ }
+    requires { ⌜ (this .m ≤ length (now figures)) × (this .m ≤ length (now settings)) × (codes .upto ≤ this .m) ⌝ }
+    ensures { λ u. ⌜ ((r : Railway) (d : Turned) → Behind r (now (behind .entry))
+        → Round r (now (table .entry)) (now (ways .entry)) this d (now (figures .entry)) (now (marks .entry))
+        → Visited r (this .n) d (Ahead r (this .n) w (now (figures .entry)) (codes .from) (codes .upto))
+        (now (figures .entry)) (now (settings .entry))
+        (now (figures .exit)) (now (settings .exit)) (now (marks .exit))) ⌝ }
 {
+    let n = this.n;
+    let from = codes.from;
+    let upto = codes.upto;
     if n < (w as u32) {
         return;
     }
     let last = n - (w as u32);
     let mut c = next_with(figures, last, from, upto);
     while c < upto {
-        visit_before(
-            table,
-            ways,
-            behind,
-            figures,
-            settings,
-            marks,
-            m,
-            n,
-            soon,
-            w,
-            c,
-        );
+        visit_before(table, ways, behind, figures, settings, marks, this, w, c);
         c = next_with(figures, last, c + 1, upto);
     }
 }
@@ -328,7 +369,7 @@ fn has_figure(figures: &[u32], figure: u32, from: u32, upto: u32) -> bool
     has
 }
 
-// Round n for what is one move of a train of weight w before the placement of code c, train by train.
+// This round for what is one move of a train of weight w before the placement of code c, train by train.
 fn visit_before(
     table: &Table,
     ways: &Ways,
@@ -336,14 +377,15 @@ fn visit_before(
     figures: &mut [u32],
     settings: &mut [u32],
     marks: &mut [u32],
-    m: u32,
-    n: u32,
-    soon: Soon,
+    this: ThisRound,
     w: u8,
     c: u32,
 )
-    requires { ⌜ (m ≤ length (now figures)) × (m ≤ length (now settings)) × (c < m) ⌝ }
-    ensures { λ u. ⌜ ((r : Railway) (d : Turned) → Behind r (now (behind .entry)) → Round r (now (table .entry)) (now (ways .entry)) m n soon d (now (figures .entry)) (now (marks .entry)) → Visited r n d (Comes r w c (r .trains)) (now (figures .entry)) (now (settings .entry)) (now (figures .exit)) (now (settings .exit)) (now (marks .exit))) ⌝ }
+    requires { ⌜ (this .m ≤ length (now figures)) × (this .m ≤ length (now settings)) × (c < this .m) ⌝ }
+    ensures { λ u. ⌜ ((r : Railway) (d : Turned) → Behind r (now (behind .entry))
+        → Round r (now (table .entry)) (now (ways .entry)) this d (now (figures .entry)) (now (marks .entry))
+        → Visited r (this .n) d (Comes r w c (r .trains)) (now (figures .entry)) (now (settings .entry))
+        (now (figures .exit)) (now (settings .exit)) (now (marks .exit))) ⌝ }
 {
     let q = moves::placement_of(table, c);
     let s = compiled::sections_in(table);
@@ -351,6 +393,12 @@ fn visit_before(
     let mut stride: u32 = 1;
     let mut t: u8 = 0;
     while t < k {
+        let mover = Mover {
+            placement: q,
+            code: c,
+            train: t,
+            stride: stride,
+        };
         visit_weighing(
             table,
             ways,
@@ -358,21 +406,16 @@ fn visit_before(
             figures,
             settings,
             marks,
-            m,
-            n,
-            soon,
+            this,
             w,
-            q,
-            c,
-            t,
-            stride,
+            mover,
         );
         stride = next_stride(stride, s, t);
         t += 1;
     }
 }
 
-// The same for train t, if that is its weight. Its stride is handed in.
+// The same for one train, if that is its weight.
 fn visit_weighing(
     table: &Table,
     ways: &Ways,
@@ -380,36 +423,20 @@ fn visit_weighing(
     figures: &mut [u32],
     settings: &mut [u32],
     marks: &mut [u32],
-    m: u32,
-    n: u32,
-    soon: Soon,
+    this: ThisRound,
     w: u8,
-    q: Placement,
-    c: u32,
-    t: u8,
-    stride: u32,
+    mover: Mover,
 )
-    requires { ⌜ (m ≤ length (now figures)) × (m ≤ length (now settings)) ⌝ }
-    ensures { λ u. ⌜ ((r : Railway) (d : Turned) → Behind r (now (behind .entry)) → Round r (now (table .entry)) (now (ways .entry)) m n soon d (now (figures .entry)) (now (marks .entry)) → On r c (now (table .entry)) q → c < placements r → t < r .trains → stride ≡ strideOf (r .sections) t → Visited r n d (ByWeight r w c t) (now (figures .entry)) (now (settings .entry)) (now (figures .exit)) (now (settings .exit)) (now (marks .exit))) ⌝ }
+    requires { ⌜ (this .m ≤ length (now figures)) × (this .m ≤ length (now settings)) ⌝ }
+    ensures { λ u. ⌜ ((r : Railway) (d : Turned) → MoverOf r (now (table .entry)) (now (behind .entry)) mover
+        → Round r (now (table .entry)) (now (ways .entry)) this d (now (figures .entry)) (now (marks .entry))
+        → Visited r (this .n) d (ByWeight r w (mover .code) (mover .train)) (now (figures .entry)) (now (settings .entry))
+        (now (figures .exit)) (now (settings .exit)) (now (marks .exit))) ⌝ }
 {
-    if compiled::weight_in(table, t) != w {
+    if compiled::weight_in(table, mover.train) != w {
         return;
     }
-    visit_train(
-        table,
-        ways,
-        behind,
-        figures,
-        settings,
-        marks,
-        m,
-        n,
-        soon,
-        q,
-        c,
-        t,
-        stride,
-    );
+    visit_train(table, ways, behind, figures, settings, marks, this, mover);
 }
 
 // The stride of the train behind train t, from that of train t, among s sections.
@@ -422,8 +449,7 @@ fn next_stride(stride: u32, s: u8, t: u8) -> u32
     stride
 }
 
-// Round n for what is one move of train t before the placement of code c: the train stands on a section behind, one for each way back. Its stride is handed
-// in.
+// This round for what is one move of a train before a placement: the train stands on a section behind, one for each way back.
 fn visit_train(
     table: &Table,
     ways: &Ways,
@@ -431,18 +457,17 @@ fn visit_train(
     figures: &mut [u32],
     settings: &mut [u32],
     marks: &mut [u32],
-    m: u32,
-    n: u32,
-    soon: Soon,
-    q: Placement,
-    c: u32,
-    t: u8,
-    stride: u32,
+    this: ThisRound,
+    mover: Mover,
 )
-    requires { ⌜ (m ≤ length (now figures)) × (m ≤ length (now settings)) ⌝ }
-    ensures { λ u. ⌜ ((r : Railway) (d : Turned) → Behind r (now (behind .entry)) → Round r (now (table .entry)) (now (ways .entry)) m n soon d (now (figures .entry)) (now (marks .entry)) → On r c (now (table .entry)) q → c < placements r → t < r .trains → stride ≡ strideOf (r .sections) t → Visited r n d (By r c t) (now (figures .entry)) (now (settings .entry)) (now (figures .exit)) (now (settings .exit)) (now (marks .exit))) ⌝ }
+    requires { ⌜ (this .m ≤ length (now figures)) × (this .m ≤ length (now settings)) ⌝ }
+    ensures { λ u. ⌜ ((r : Railway) (d : Turned) → MoverOf r (now (table .entry)) (now (behind .entry)) mover
+        → Round r (now (table .entry)) (now (ways .entry)) this d (now (figures .entry)) (now (marks .entry))
+        → Visited r (this .n) d (By r (mover .code) (mover .train)) (now (figures .entry)) (now (settings .entry))
+        (now (figures .exit)) (now (settings .exit)) (now (marks .exit))) ⌝ }
 {
-    let x = placement::section_at(q, t);
+    let t = mover.train;
+    let x = placement::section_at(mover.placement, t);
     let e = predecessors::end_behind(table, t, x);
     let mut j: u8 = 0;
     while j < MOST_WAYS {
@@ -450,55 +475,35 @@ fn visit_train(
         if y == NO_SECTION {
             return;
         }
-        let p = moves::code_put(c, stride, x, y);
-        visit_put(
-            table,
-            ways,
-            figures,
-            settings,
-            marks,
-            m,
-            n,
-            soon,
-            q,
-            t,
-            y,
-            p,
-        );
+        let p = moves::code_put(mover.code, mover.stride, x, y);
+        visit_put(table, ways, figures, settings, marks, this, mover, y, p);
         j += 1;
     }
 }
 
-// Round n for train t on section y and the others as in q, if that placement has no figure yet; p is its code.
+// This round for the placement with the train on section y and the others as they are, if it has no figure yet; p is its code.
 fn visit_put(
     table: &Table,
     ways: &Ways,
     figures: &mut [u32],
     settings: &mut [u32],
     marks: &mut [u32],
-    m: u32,
-    n: u32,
-    soon: Soon,
-    q: Placement,
-    t: u8,
+    this: ThisRound,
+    mover: Mover,
     y: u8,
     p: u32,
 )
-    requires { ⌜ (m ≤ length (now figures)) × (m ≤ length (now settings)) ⌝ }
-    ensures { λ u. ⌜ ((r : Railway) (c : ℕ) (d : Turned) → Round r (now (table .entry)) (now (ways .entry)) m n soon d (now (figures .entry)) (now (marks .entry)) → On r c (now (table .entry)) q → t < r .trains → y < r .sections → p ≡ codeWith r c t y → Visited r n d (One p) (now (figures .entry)) (now (settings .entry)) (now (figures .exit)) (now (settings .exit)) (now (marks .exit))) ⌝ }
+    requires { ⌜ (this .m ≤ length (now figures)) × (this .m ≤ length (now settings)) ⌝ }
+    ensures { λ u. ⌜ ((r : Railway) (d : Turned)
+        → Round r (now (table .entry)) (now (ways .entry)) this d (now (figures .entry)) (now (marks .entry))
+        → On r (mover .code) (now (table .entry)) (mover .placement) → mover .train < r .trains → y < r .sections
+        → p ≡ codeWith r (mover .code) (mover .train) y
+        → Visited r (this .n) d (One p) (now (figures .entry)) (now (settings .entry))
+        (now (figures .exit)) (now (settings .exit)) (now (marks .exit))) ⌝ }
 {
-    if waits(figures, m, p) {
-        visit(
-            table,
-            ways,
-            figures,
-            settings,
-            marks,
-            moves::put_on(q, t, y),
-            p,
-            n,
-            soon,
-        );
+    if waits(figures, this.m, p) {
+        let q = moves::put_on(mover.placement, mover.train, y);
+        visit(table, ways, figures, settings, marks, this, q, p);
         return;
     }
 }
@@ -515,21 +520,25 @@ fn waits(figures: &[u32], m: u32, p: u32) -> bool
     figures[at] == NO_FIGURE
 }
 
-// Round n at one placement without a figure: if it gets one, that is marked for its stretch.
+// This round at one placement without a figure: if it gets one, that is marked for its stretch.
 fn visit(
     table: &Table,
     ways: &Ways,
     figures: &mut [u32],
     settings: &mut [u32],
     marks: &mut [u32],
+    this: ThisRound,
     q: Placement,
     p: u32,
-    n: u32,
-    soon: Soon,
 )
     requires { ⌜ (p < length (now figures)) × (p < length (now settings)) ⌝ }
-    ensures { λ u. ⌜ ((r : Railway) (m : ℕ) (d : Turned) → Round r (now (table .entry)) (now (ways .entry)) m n soon d (now (figures .entry)) (now (marks .entry)) → On r p (now (table .entry)) q → p < placements r → figureIn (now (figures .entry)) p ≡ none → Visited r n d (One p) (now (figures .entry)) (now (settings .entry)) (now (figures .exit)) (now (settings .exit)) (now (marks .exit))) ⌝ }
+    ensures { λ u. ⌜ ((r : Railway) (d : Turned)
+        → Round r (now (table .entry)) (now (ways .entry)) this d (now (figures .entry)) (now (marks .entry))
+        → On r p (now (table .entry)) q → p < placements r → figureIn (now (figures .entry)) p ≡ none
+        → Visited r (this .n) d (One p) (now (figures .entry)) (now (settings .entry))
+        (now (figures .exit)) (now (settings .exit)) (now (marks .exit))) ⌝ }
 {
+    let n = this.n;
     let found = settings::find_in(table, ways, figures, q, p, n);
     let Found::Entry(v) = found else {
         return;
@@ -537,5 +546,5 @@ fn visit(
     let at = p as usize;
     figures[at] = n;
     settings[at] = v;
-    marks::gain(marks, p, n, soon);
+    marks::gain(marks, p, n, this.soon);
 }

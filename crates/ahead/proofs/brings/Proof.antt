@@ -1,16 +1,16 @@
--- `ahead::brings` meets its contract. The loop's invariant: nothing gains that is before the frontier by the weight of one of the first t trains.
--- Assumes nothing.
+-- `ahead::brings` meets its contract. The loop's invariant: nothing gains that is before the frontier by the weight of
+-- one of the first t trains. Assumes nothing.
 use borrow.Author.Needs.{needs}
 use native.Mathlib.Omega.{arith}
 use mathlib.Core.List.{List}
-use Prim.Native.Nat.{ℕ, _+_, _-_}
+use Prim.Native.Nat.{ℕ, _-_}
 use Rattle.railway.specs.declared.Railway.{Railway}
 use Rattle.railway.specs.Record.{isClosed}
 use Rattle.tables.specs.Rounds.{RoundTables}
 use Rattle.routes.specs.Routes.{Laid}
 use Rattle.compiled.specs.Table.{Compiled}
 use Rattle.predecessors.specs.Behind.{Behind}
-use Rattle.rounds.specs.Visits.{MarkedFor, Apart, Weighed}
+use Rattle.rounds.specs.Visits.{MarkedFor, Weighed}
 use Rattle.rounds.proofs.Visits.{round-homed}
 use Rattle.rounds.proofs.Loops.{no-weight, weight-next, train-there}
 use Rattle.ahead.specs.Bringing.{Looking}
@@ -20,40 +20,55 @@ use Rattle.ahead.proofs.brings.Statement.{statement}
 use Rattle.ahead.proofs.brings.Tie as tie
 
 abbrev Inv-loop : tie.InvT-loop
-Inv-loop table ways behind figures marks n m k t₀ t = RestsTo (λ r. Looking r table ways behind m figures × MarkedFor r n figures marks) n figures (λ r i. Weighed r n figures 0 m i) t
+Inv-loop table ways behind figures marks n m k t₀ t =
+    RestsTo (λ r. Looking r table ways behind m figures × MarkedFor r n figures marks) n figures
+    (λ r i. Weighed r n figures 0 m i) t
 
 abbrev μ-loop : tie.MeasureT-loop
 μ-loop table ways behind figures marks n m k t₀ t = k - t
 
--- before the loop, and what is given of a railway
+-- before the loop, how many placements there are, and what is given of a railway
 abbrev start : tie.After-trains-in Inv-loop μ-loop → tie.Start Inv-loop μ-loop
 start b = b .before .before .before .before
 
+abbrev count : tie.After-trains-in Inv-loop μ-loop → ℕ
+count b = b .before .placements .result
+
 abbrev Given : tie.After-trains-in Inv-loop μ-loop → Railway → Type 0
 Given b r =
-    Looking r (start b .args .table .now) (start b .args .ways .now) (start b .args .behind .now) (b .before .placements .result) (start b .args .figures .now)
-    × MarkedFor r (start b .args .n) (start b .args .figures .now) (start b .args .marks .now)
+    let a = start b .args in
+    Looking r (a .table .now) (a .ways .now) (a .behind .now) (count b) (a .figures .now)
+    × MarkedFor r (a .n) (a .figures .now) (a .marks .now)
 
-given : (b : tie.After-trains-in Inv-loop μ-loop) (r : Railway) (k : ℕ) (sets : List ℕ) → Compiled r (start b .args .table .now) → Laid r (isClosed r) (start b .args .ways .now) → Behind r (start b .args .behind .now)
-    → RoundTables r k (start b .args .figures .now) sets → MarkedFor r (start b .args .n) (start b .args .figures .now) (start b .args .marks .now) → Given b r
-given b r k sets h laid back t marked = (record { compiled = h; laid = laid; back = back; counted = b .before .placements .ensures r h; homed = round-homed r k (start b .args .figures .now) sets t }, marked)
+given : (b : tie.After-trains-in Inv-loop μ-loop) (r : Railway) (k : ℕ) (sets : List ℕ)
+    → Compiled r (start b .args .table .now) → Laid r (isClosed r) (start b .args .ways .now)
+    → Behind r (start b .args .behind .now) → RoundTables r k (start b .args .figures .now) sets
+    → MarkedFor r (start b .args .n) (start b .args .figures .now) (start b .args .marks .now) → Given b r
+given b r k sets h laid back t marked = (
+  record {
+    compiled = h;
+    laid = laid;
+    back = back;
+    counted = b .before .placements .ensures r h;
+    homed = round-homed r k (start b .args .figures .now) sets t;
+  },
+  marked,
+)
 
 loop-holds : tie.Need-loop-holds Inv-loop μ-loop
-loop-holds b =
-    let a = start b .args in
-    rests-start (Given b) (a .n) (a .figures .now) (λ r i. Weighed r (a .n) (a .figures .now) 0 (b .before .placements .result) i) 0 (λ r q k. no-weight r (a .n) (a .figures .now) 0 (b .before .placements .result) q k)
+loop-holds b = rests-start (λ r q k. no-weight k)
 
 returns : tie.Need-returns Inv-loop μ-loop
-returns p =
-    let v = p .before in
+returns c =
+    let v = c .before in
     let i = v .before in
     let l = i .before in
     let b = l .before in
-    let a = start b .args in
     λ r k sets h laid back is t marked.
     let g = given b r k sets h laid back t marked in
-    says-yes r (h .accepted) k (a .figures .now) sets t (a .n) is (Apart r (a .n) (a .figures .now) 0 (b .before .placements .result) (l .loop .t)) _
-    (v .brings-by .ensures r (g .0) marked (train-there r _ _ (b .trains-in .ensures r h) (i .loop-test .taken))) (p .if1 .taken)
+    says-yes (h .accepted) t is
+    (v .brings-by .ensures r (g .0) marked (train-there r _ _ (b .trains-in .ensures r h) (i .loop-test .taken)))
+    (c .if1 .taken)
 
 add-t : tie.Need-add-t Inv-loop μ-loop
 add-t c = omega (arith, c .before .before .loop-test .taken)
@@ -62,26 +77,26 @@ loop-less : tie.Need-loop-less Inv-loop μ-loop
 loop-less c = omega (arith, c .before .before .loop-test .taken)
 
 loop-again : tie.Need-loop-again Inv-loop μ-loop
-loop-again p =
-    let v = p .before in
+loop-again c =
+    let v = c .before in
     let i = v .before in
     let l = i .before in
     let b = l .before in
-    let a = start b .args in
-    let m = b .before .placements .result in
-    rests-next (Given b) (a .n) (a .figures .now) (λ r i. Weighed r (a .n) (a .figures .now) 0 m i) _ (l .loop .inv) (λ r. Apart r (a .n) (a .figures .now) 0 m (l .loop .t)) (l .loop .t + 1)
+    rests-next (l .loop .inv)
     (λ r g.
-    told-no r (a .n) (a .figures .now) (Apart r (a .n) (a .figures .now) 0 m (l .loop .t)) _ (v .brings-by .ensures r (g .0) (g .1) (train-there r _ _ (b .trains-in .ensures r (g .0 .compiled)) (i .loop-test .taken))) (p .if1 .left))
-    (λ r g q lq k. weight-next r (a .n) (a .figures .now) 0 m (l .loop .t) q k)
+    told-no (v .brings-by .ensures r (g .0) (g .1)
+    (train-there r _ _ (b .trains-in .ensures r (g .0 .compiled)) (i .loop-test .taken)))
+    (c .if1 .left))
+    (λ r g q lq k. weight-next (l .loop .t) k)
 
 returns-2 : tie.Need-returns-2 Inv-loop μ-loop
-returns-2 p =
-    let l = p .before in
+returns-2 c =
+    let l = c .before in
     let b = l .before in
-    let a = start b .args in
     λ r k sets h laid back is t marked.
     let g = given b r k sets h laid back t marked in
-    says-no r (h .accepted) k (a .figures .now) sets t (a .n) is (b .before .placements .result) (l .loop .t) (g .0 .counted) (let z = b .trains-in .ensures r h in omega (arith, z, p .loop-test .left)) (l .loop .inv .resting r g)
+    says-no (h .accepted) t is (g .0 .counted)
+    (let z = b .trains-in .ensures r h in omega (arith, z, c .loop-test .left)) (l .loop .inv .resting r g)
 
 pub brings-spec : {M : Type 1} → statement M
 brings-spec =

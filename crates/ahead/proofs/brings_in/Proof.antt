@@ -3,9 +3,8 @@
 use borrow.Author.Needs.{needs}
 use native.Mathlib.Omega.{arith}
 use mathlib.Core.Logic.{⊎-elim}
-use Prim.Native.Nat.{_+_, _-_, _≤_}
-use Rattle.railway.specs.declared.Railway.{Railway}
-use Rattle.rounds.specs.Visits.{Comes, Ahead}
+use Prim.Native.Nat.{_-_, _≤_}
+use Rattle.rounds.specs.Visits.{Ahead}
 use Rattle.rounds.proofs.Loops.{no-code, codes-less, before-one, too-heavy}
 use Rattle.ahead.specs.Bringing.{Looking}
 use Rattle.ahead.proofs.Telling.{told-yes, told-no, told-none, RestsTo, rests-start, rests-next, rests-end}
@@ -14,37 +13,24 @@ use Rattle.ahead.proofs.brings_in.Statement.{statement}
 use Rattle.ahead.proofs.brings_in.Tie as tie
 
 abbrev Inv-loop : tie.InvT-loop
-Inv-loop table ways behind figures m n w from upto last c₀ c = RestsTo (λ r. Looking r table ways behind m figures × (upto ≤ m)) n figures (λ r i. Ahead r n w figures from i) c
+Inv-loop table ways behind figures m n w from upto last c₀ c =
+    RestsTo (λ r. Looking r table ways behind m figures × (upto ≤ m)) n figures (λ r i. Ahead r n w figures from i) c
 
 abbrev μ-loop : tie.MeasureT-loop
 μ-loop table ways behind figures m n w from upto last c₀ c = upto - c
 
 returns : tie.Need-returns Inv-loop μ-loop
-returns p =
-    let a = p .before .before .args in
-    λ r o l.
-    told-none r (a .n) (a .figures .now) (Ahead r (a .n) (a .w) (a .figures .now) (a .from) (a .upto)) (λ q lq k. too-heavy r (a .n) (a .w) (a .figures .now) (p .if1 .taken) (a .from) (a .upto) q k)
-
--- before the loop, and what is given of a railway
-abbrev start : tie.Else1 Inv-loop μ-loop → tie.Start Inv-loop μ-loop
-start b = b .before .before
-
-abbrev Given : tie.Else1 Inv-loop μ-loop → Railway → Type 0
-Given b r = Looking r (start b .args .table .now) (start b .args .ways .now) (start b .args .behind .now) (start b .args .m) (start b .args .figures .now) × (start b .args .upto ≤ start b .args .m)
+returns c = λ r o l. told-none (λ q lq k. too-heavy (c .if1 .taken) k)
 
 loop-holds : tie.Need-loop-holds Inv-loop μ-loop
-loop-holds b =
-    let a = start b .args in
-    rests-start (Given b) (a .n) (a .figures .now) (λ r i. Ahead r (a .n) (a .w) (a .figures .now) (a .from) i) (a .from) (λ r q k. no-code r (a .n) (a .w) (a .figures .now) (a .from) q k)
+loop-holds b = rests-start (λ r q k. no-code k)
 
 returns-2 : tie.Need-returns-2 Inv-loop μ-loop
-returns-2 p =
-    let v = p .before in
+returns-2 c =
+    let v = c .before in
     let i = v .before .before .before in
-    let l = i .before in
-    let a = start (l .before) .args in
     λ r o upto.
-    told-yes r (a .n) (a .figures .now) (Comes r (a .w) (l .loop .c) (r .trains)) _ (v .brings-before .ensures r o (omega (arith, i .loop-test .taken, o .counted))) (p .if3 .taken) (Ahead r (a .n) (a .w) (a .figures .now) (a .from) (a .upto))
+    told-yes (v .brings-before .ensures r o (omega (arith, i .loop-test .taken, o .counted))) (c .if3 .taken)
 
 add-c : tie.Need-add-c Inv-loop μ-loop
 add-c c = omega (arith, c .before .before .loop-test .taken)
@@ -53,30 +39,22 @@ loop-less : tie.Need-loop-less Inv-loop μ-loop
 loop-less c = omega (arith, c .before .before .loop-test .taken)
 
 loop-again : tie.Need-loop-again Inv-loop μ-loop
-loop-again p =
-    let e = p .before in
+loop-again c =
+    let e = c .before in
     let i = e .before in
     let l = i .before in
-    let b = l .before in
-    let a = start b .args in
-    rests-next (Given b) (a .n) (a .figures .now) (λ r i. Ahead r (a .n) (a .w) (a .figures .now) (a .from) i) _ (l .loop .inv) (λ r. Ahead r (a .n) (a .w) (a .figures .now) (l .loop .c) (l .loop .c + 1)) (l .loop .c + 1)
+    rests-next (l .loop .inv)
     (λ r g.
     ⊎-elim
     (λ z q lq k.
-    told-no r (a .n) (a .figures .now) (Comes r (a .w) (l .loop .c) (r .trains)) _ (z .1 .ensures r (g .0) (omega (arith, i .loop-test .taken, g .0 .counted, g .1))) (z .2 .left) q lq
-    (before-one r (a .n) (a .w) (a .figures .now) (l .loop .c) q k))
-    (λ z q lq k. absurd (other-figure r (a .n) (a .w) (a .figures .now) (l .loop .c) _ (e .entry-at .ensures) (z .left) q k))
-    (p .if2 .came))
-    (λ r g q lq k. codes-part r (a .n) (a .w) (a .figures .now) (a .from) (l .loop .c) (l .loop .c + 1) q k)
+    told-no (z .1 .ensures r (g .0) (omega (arith, i .loop-test .taken, g .0 .counted, g .1))) (z .2 .left) q lq
+    (before-one (l .loop .c) k))
+    (λ z q lq k. absurd (other-figure (l .loop .c) _ (e .entry-at .ensures) (z .left) k))
+    (c .if2 .came))
+    (λ r g q lq k. codes-part (l .loop .c) k)
 
 returns-3 : tie.Need-returns-3 Inv-loop μ-loop
-returns-3 p =
-    let l = p .before in
-    let b = l .before in
-    let a = start b .args in
-    λ r o upto.
-    rests-end (Given b) (a .n) (a .figures .now) (λ r i. Ahead r (a .n) (a .w) (a .figures .now) (a .from) i) _ (l .loop .inv) (λ r. Ahead r (a .n) (a .w) (a .figures .now) (a .from) (a .upto))
-    (λ r g q lq k. codes-less r (a .n) (a .w) (a .figures .now) (a .from) (a .upto) _ q (p .loop-test .left) k) r (o, upto)
+returns-3 c = λ r o upto. rests-end (c .before .loop .inv) (λ r g q lq k. codes-less (c .loop-test .left) k) r (o, upto)
 
 pub brings-in-spec : {M : Type 1} → statement M
 brings-in-spec =

@@ -1,5 +1,4 @@
--- `ahead::stands_in` meets its contract. The loop's invariant: no entry before c is n.
--- Assumes nothing.
+-- `ahead::stands_in` meets its contract. The loop's invariant: no entry before c is n. Assumes nothing.
 use borrow.Author.Needs.{needs}
 use native.Mathlib.Omega.{arith}
 use mathlib.Core.Path.{sym, _∙_}
@@ -21,10 +20,14 @@ loop-holds c = λ q l h. absurd (omega arith)
 returns : tie.Need-returns Inv-loop μ-loop
 returns p =
     let x = p .before in
-    stands (x .before .before .loop .c) (omega (arith, x .before .loop-test .taken)) (sym (x .entry-at .ensures) ∙ p .if1 .taken)
+    stands (x .before .before .loop .c) (omega (arith, x .before .loop-test .taken))
+    (sym (x .entry-at .ensures) ∙ p .if1 .taken)
 
 add-c : tie.Need-add-c Inv-loop μ-loop
-add-c p = let i = p .before .before in let a = i .before .before .before in omega (arith, i .loop-test .taken, a .fits .upto)
+add-c p =
+    let i = p .before .before in
+    let a = i .before .before .before in
+    omega (arith, i .loop-test .taken, a .fits .upto)
 
 loop-less : tie.Need-loop-less Inv-loop μ-loop
 loop-less p = omega (arith, p .before .before .loop-test .taken)

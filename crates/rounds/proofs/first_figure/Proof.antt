@@ -1,5 +1,5 @@
--- `rounds::first_figure` meets its contract: home's code is that of home, which is not lost, and who has another code is not home.
--- Assumes nothing.
+-- `rounds::first_figure` meets its contract: home's code is that of home, which is not lost, and who has another code
+-- is not home. Assumes nothing.
 use Rattle.rounds.proofs.Entries.{first-home, first-other}
 use Rattle.rounds.proofs.first_figure.Statement.{statement}
 use Rattle.rounds.proofs.first_figure.Tie as tie

@@ -1,5 +1,5 @@
--- `rounds::has_figure` meets its contract. The loop's invariant: unless the figure has been seen, it is not among those up to e.
--- Assumes nothing.
+-- `rounds::has_figure` meets its contract. The loop's invariant: unless the figure has been seen, it is not among those
+-- up to e. Assumes nothing.
 use native.Mathlib.Omega.{arith}
 use borrow.Author.Needs.{needs}
 use mathlib.Core.Path.{_≡_, sym, _∙_}
@@ -29,7 +29,8 @@ loop-again c =
       omega (arith, i .loop-test .taken),
       λ h.
           ⊎-elim (λ w. clash (w .1) h)
-          (λ w. passed-next (a .args .figures .now) (a .args .figure) (a .args .from) (a .args .upto) (l .loop .e) (l .loop .inv .1 (sym (w .1) ∙ h)) (i .loop-test .taken) (a .pre .1) (w .0 .left))
+          (λ w. passed-next (a .args .figures .now) (a .args .figure) (a .args .from) (a .args .upto) (l .loop .e)
+          (l .loop .inv .1 (sym (w .1) ∙ h)) (i .loop-test .taken) (a .pre .1) (w .0 .left))
           (c .if1 .came),
     )
 
@@ -37,7 +38,8 @@ returns : tie.Need-returns Inv-loop μ-loop
 returns c =
     let l = c .before in
     let a = l .before in
-    λ h. passed-end (a .args .figures .now) (a .args .figure) (a .args .from) (a .args .upto) (l .loop .e) (l .loop .inv .1 h) (l .loop .inv .0) (c .loop-test .left)
+    λ h. passed-end (a .args .figures .now) (a .args .figure) (a .args .from) (a .args .upto) (l .loop .e)
+    (l .loop .inv .1 h) (l .loop .inv .0) (c .loop-test .left)
 
 pub has-figure-spec : {M : Type 1} → statement M
 has-figure-spec =

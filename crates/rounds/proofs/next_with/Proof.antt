@@ -30,7 +30,8 @@ loop-again c =
     let i = c .before .before in
     let l = i .before in
     let a = l .before .before .before in
-    passed-next (a .args .figures .now) (a .args .figure) (a .args .c) (a .args .upto) (l .loop .e) (l .loop .inv) (i .loop-test .taken) (a .pre) (c .if1 .left)
+    passed-next (a .args .figures .now) (a .args .figure) (a .args .c) (a .args .upto) (l .loop .e) (l .loop .inv)
+    (i .loop-test .taken) (a .pre) (c .if1 .left)
 
 returns-2 : tie.Need-returns-2 Inv-loop μ-loop
 returns-2 c = (c .before .loop .inv, λ h. absurd (omega (arith, c .loop-test .left)))

@@ -21,7 +21,10 @@ returns : tie.Need-returns Inv-loop μ-loop
 returns c = c .before .before .loop .inv
 
 returns-2 : tie.Need-returns-2 Inv-loop μ-loop
-returns-2 c = c .before .before .before .before .loop .inv
+returns-2 c =
+    let block = c .before .before in
+    let l = block .before .before in
+    l .loop .inv
 
 loop-again : tie.Need-loop-again Inv-loop μ-loop
 loop-again c =
@@ -29,7 +32,9 @@ loop-again c =
     let e = f .before in
     let l = e .before .before in
     let a = l .before .before in
-    passed-more (a .args .figures .now) (a .args .figure) (a .args .c) (a .args .upto) (l .loop .e) (l .loop .e + 16) (l .loop .inv) (f .has-figure .ensures (c .if2 .left)) (omega (arith, e .if1 .left, e .before .loop-test .taken))
+    passed-more (a .args .figures .now) (a .args .figure) (a .args .c) (a .args .upto) (l .loop .e)
+    (l .loop .e + 16) (l .loop .inv) (f .has-figure .ensures (c .if2 .left))
+    (omega (arith, e .if1 .left, e .before .loop-test .taken))
 
 returns-3 : tie.Need-returns-3 Inv-loop μ-loop
 returns-3 c = c .before .loop .inv

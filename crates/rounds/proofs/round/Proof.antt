@@ -9,7 +9,8 @@ returns : tie.Need-returns
 returns c = (λ l. l, λ r k h w b lf ls. absurd (omega (arith, c .before .placements .ensures r h, c .if1 .taken, lf)))
 
 returns-2 : tie.Need-returns-2
-returns-2 c = (λ l. l, λ r k h w b lf ls. absurd (omega (arith, c .before .before .placements .ensures r h, c .if2 .taken, ls)))
+returns-2 c =
+    (λ l. l, λ r k h w b lf ls. absurd (omega (arith, c .before .before .placements .ensures r h, c .if2 .taken, ls)))
 
 returns-3 : tie.Need-returns-3
 returns-3 c = (λ l. l, λ r k h w b lf ls few. absurd (omega (arith, c .if3 .taken, few)))
@@ -17,8 +18,11 @@ returns-3 c = (λ l. l, λ r k h w b lf ls few. absurd (omega (arith, c .if3 .ta
 returns-4 : tie.Need-returns-4
 returns-4 c =
     let o = c .before .before .before .before .before .before in
-    let p = o .before .before .before .before .before .before .before in
-    (λ l. o .one-round .ensures .0, λ r k h w b lf ls few en t marked. o .one-round .ensures .1 r k h w b (p .placements .ensures r h) en t marked)
+    let p = o .before .before .before .before .before .before .before in (
+      λ l. o .one-round .ensures .0,
+      λ r k h w b lf ls few en t marked.
+          o .one-round .ensures .1 r k h w b (p .placements .ensures r h) en t marked,
+    )
 
 pub round-spec : {M : Type 1} → statement M
 round-spec =

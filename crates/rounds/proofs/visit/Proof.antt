@@ -1,5 +1,4 @@
--- `rounds::visit` meets its contract: nothing is found, or what is found is entered and marked.
--- Assumes nothing.
+-- `rounds::visit` meets its contract: nothing is found, or what is found is entered and marked. Assumes nothing.
 use mathlib.Core.Path.{sym, ap}
 use Rattle.settings.specs.Answers.{entryFound}
 use Rattle.moves.proofs.Round.{code-back}
@@ -8,24 +7,30 @@ use borrow.Author.Needs.{needs}
 use Rattle.rounds.proofs.visit.Statement.{statement}
 use Rattle.rounds.proofs.visit.Tie as tie
 
+-- before the search
+abbrev start : tie.After-find-in → tie.Start
+start f = f .before .before .before .before .before
+
 returns : tie.Need-returns
 returns c =
-    let f = c .before .before in
-    let a = f .before .before .before .before .before in
-    λ r m d o on l empty.
-    visit-rests r (a .args .table .now) (a .args .ways .now) m (a .args .n) (a .args .soon) d (a .args .p) (a .args .figures .now) (a .args .settings .now) (a .args .marks .now) o l empty _
-    (f .find-in .ensures r _ on (o .laid) (sym (code-back r _ (o .compiled) _ _ on l))) (ap entryFound (c .enum-told .given .1))
+    let searched = c .before .before in
+    let a = start searched .args in
+    λ r d o on l empty.
+    visit-rests o (a .p) l empty _
+    (searched .find-in .ensures r _ on (o .laid) (sym (code-back r _ (o .compiled) _ _ on l)))
+    (ap entryFound (c .enum-told .given .1))
 
 returns-2 : tie.Need-returns-2
 returns-2 c =
-    let k = c .before .before in
-    let w = k .before .before .before in
-    let f = w .before .before in
-    let a = f .before .before .before .before .before in
-    λ r m d o on l empty.
-    visit-gains r (a .args .table .now) (a .args .ways .now) m (a .args .n) (a .args .soon) d (a .args .p) (a .args .figures .now) (a .args .settings .now) (a .args .marks .now) o l empty _
-    (f .find-in .ensures r _ on (o .laid) (sym (code-back r _ (o .compiled) _ _ on l))) (a .pre .0) (a .pre .1) _ (k .gain .ensures) _
-    (ap entryFound (w .found .given .1))
+    let marked = c .before .before in
+    let found = marked .before .before .before in
+    let searched = found .before .before in
+    let a = start searched .args in
+    let long = start searched .pre in
+    λ r d o on l empty.
+    visit-gains o (a .p) l empty _
+    (searched .find-in .ensures r _ on (o .laid) (sym (code-back r _ (o .compiled) _ _ on l)))
+    (long .0) _ (marked .gain .ensures) (long .1) _ (ap entryFound (found .found .given .1))
 
 pub visit-spec : {M : Type 1} → statement M
 visit-spec =

@@ -1,35 +1,40 @@
--- `rounds::visit_put` meets its contract: the placement waits for a visit and gets one, or does not.
--- Assumes nothing.
+-- `rounds::visit_put` meets its contract: the placement waits for a visit and gets one, or does not. Assumes nothing.
 use native.Mathlib.Omega.{arith}
 use Rattle.rounds.proofs.Retracing.{waits-inside, no-visit, one-visit}
 use borrow.Author.Needs.{needs}
 use Rattle.rounds.proofs.visit_put.Statement.{statement}
 use Rattle.rounds.proofs.visit_put.Tie as tie
 
+-- before the test
+abbrev start : tie.After-waits → tie.Start
+start t = t .before .before .before .before .before
+
 visit-requires : tie.Need-visit-requires
 visit-requires c κs =
-    let i = c .before .before .before .before in
-    let w = i .before in
-    let a = w .before .before .before .before .before in
-    let l = waits-inside (a .args .figures .now) (a .args .m) (a .args .p) _ (w .waits .ensures) (i .if1 .taken) in
-    (omega (arith, l, a .pre .0), omega (arith, l, a .pre .1))
+    let waiting = c .before .before .before .before in
+    let test = waiting .before in
+    let s = start test in
+    let l = waits-inside (s .args .figures .now) (s .args .this .m) (s .args .p) _ (test .waits .ensures)
+    (waiting .if1 .taken) in
+    (omega (arith, l, s .pre .0), omega (arith, l, s .pre .1))
 
 returns : tie.Need-returns
-returns p =
-    let v = p .before .before .before .before .before .before in
-    let i = v .before .before .before .before .before in
-    let w = i .before in
-    let a = w .before .before .before .before .before in
-    λ r c d o on lt there put.
-    one-visit r (a .args .table .now) (a .args .ways .now) (a .args .m) (a .args .n) (a .args .soon) d c (a .args .t) (a .args .y) (a .args .p) (a .args .figures .now) (a .args .settings .now) (a .args .marks .now) o there put (a .args .q) _ on lt _ (w .waits .ensures) (i .if1 .taken)
-    (v .before .put-on .ensures) _ _ _ (v .visit .ensures)
+returns c =
+    let visited = c .before .before .before .before .before .before in
+    let put = visited .before .before .before .before in
+    let waiting = put .before in
+    let test = waiting .before in
+    let a = start test .args in
+    λ r d o on lt there is.
+    one-visit o (a .mover .code) (a .mover .train) (a .y) (a .p) there is (a .mover .placement) _ on lt _
+    (test .waits .ensures) (waiting .if1 .taken) (put .put-on .ensures) (visited .visit .ensures)
 
 returns-2 : tie.Need-returns-2
-returns-2 p =
-    let w = p .before in
-    let a = w .before .before .before .before .before in
-    λ r c d o on lt there put.
-    no-visit r (a .args .table .now) (a .args .ways .now) (a .args .m) (a .args .n) (a .args .soon) d c (a .args .t) (a .args .y) (a .args .p) (a .args .figures .now) (a .args .settings .now) (a .args .marks .now) o there put _ (w .waits .ensures) (p .if1 .left)
+returns-2 c =
+    let test = c .before in
+    let a = start test .args in
+    λ r d o on lt there is.
+    no-visit o (a .mover .code) (a .mover .train) (a .y) (a .p) there is _ (test .waits .ensures) (c .if1 .left)
 
 pub visit-put-spec : {M : Type 1} → statement M
 visit-put-spec =
