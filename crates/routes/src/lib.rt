@@ -74,7 +74,8 @@ fn lay_ways(ways: &mut Ways, links: &Links, closed: &Closed)
 fn put_past(ways: &mut Ways, links: &Links, closed: &Closed, at: usize, walk: Walk, j: u8) -> usize
     requires { ⌜ at + 3 * 2 ^ walk .left ≤ wayWords ⌝ }
     ensures room { λ next. ⌜ next ≤ at + 3 * 2 ^ walk .left ⌝ }
-    ensures put { λ next. ⌜ ((r : Railway) → LinksOf r (now (links .entry)) → Put (routes r (flagged (now (closed .entry))) (walk .left) (walk .care) (walk .want) (joinedBy j)) at (now (ways .entry)) (now (ways .exit)) next) ⌝ }
+    ensures put { λ next. ⌜ ((r : Railway) → LinksOf r (now (links .entry))
+        → Put (routes r (flagged (now (closed .entry))) (walk .left) (walk .care) (walk .want) (joinedBy j)) at (now (ways .entry)) (now (ways .exit)) next) ⌝ }
 {
     if j < Railway::SECTION_ENDS {
         let x = j / 2;
@@ -116,7 +117,9 @@ fn put_over(
     requires { ⌜ at + 3 * (2 * 2 ^ walk .left) ≤ wayWords ⌝ }
     requires { ⌜ n < mostPoints ⌝ }
     ensures room { λ next. ⌜ next ≤ at + 3 * (2 * 2 ^ walk .left) ⌝ }
-    ensures put { λ next. ⌜ ((r : Railway) → LinksOf r (now (links .entry)) → Put (routesOver r (routes r (flagged (now (closed .entry))) (walk .left)) (walk .care) (walk .want) (record { 0 = n }) (legAt leg)) at (now (ways .entry)) (now (ways .exit)) next) ⌝ }
+    ensures put { λ next. ⌜ ((r : Railway) → LinksOf r (now (links .entry))
+        → Put (routesOver r (routes r (flagged (now (closed .entry))) (walk .left)) (walk .care) (walk .want) (record { 0 = n }) (legAt leg))
+        at (now (ways .entry)) (now (ways .exit)) next) ⌝ }
 {
     if leg == 0 {
         let next = put_laid(ways, links, closed, at, walk, n, false, 2);
@@ -143,7 +146,9 @@ fn put_laid(
     requires { ⌜ n < mostPoints ⌝ }
     requires { ⌜ out < 3 ⌝ }
     ensures room { λ next. ⌜ next ≤ at + 3 * 2 ^ walk .left ⌝ }
-    ensures put { λ next. ⌜ ((r : Railway) → LinksOf r (now (links .entry)) → Put (routesLaid r (routes r (flagged (now (closed .entry))) (walk .left)) (walk .care) (walk .want) (record { 0 = n }) plus (legAt out)) at (now (ways .entry)) (now (ways .exit)) next) ⌝ }
+    ensures put { λ next. ⌜ ((r : Railway) → LinksOf r (now (links .entry))
+        → Put (routesLaid r (routes r (flagged (now (closed .entry))) (walk .left)) (walk .care) (walk .want) (record { 0 = n }) plus (legAt out))
+        at (now (ways .entry)) (now (ways .exit)) next) ⌝ }
 {
     if barred(walk.care, walk.want, n, plus) {
         return at;

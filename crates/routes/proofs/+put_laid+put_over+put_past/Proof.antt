@@ -1,11 +1,11 @@
 -- `routes::put_past`, `put_over` and `put_laid` meet their contracts. They call each other with the points allowed falling: past a link, over a point with one
 -- fewer allowed, with the point laid, and past the next link. Each return is one law of `Putting`. The ways of the minus leg are written first, and those of
 -- the plus leg behind them, where there is room for as many again. Assumes nothing.
-use Prim.Native.Nat.{ℕ, _<_, _*_, _+_}
+use Prim.Native.Nat.{ℕ, _<_, _≤_, _*_, _+_}
 use borrow.Author.Needs.{needs}
 use native.Mathlib.Omega.{arith}
 use mathlib.Core.Path.{sym, _∙_}
-use Rattle.routes.specs.Routes.{flagged, routes}
+use Rattle.routes.specs.Routes.{wayWords, flagged, routes}
 use Rattle.routes.proofs.Putting.{past-shut, past-section, past-none, past-last, past-port}
 use Rattle.routes.proofs.Putting.{over-stem, over-plus, over-minus, laid-barred, laid-on, room-one, room-less}
 use borrow.Fn.Kinds.{In}
@@ -149,19 +149,12 @@ module _ (t : ℕ) where
       let w = a .walk in
       (omega arith, λ r h. past-shut r _ (w .left) (w .care) (w .want) (a .j) (a .at) _ (section .if1 .taken) (c .if2 .taken))
 
-  put-past-element-write-ways : put-past-lts.Need-element-write-ways put-past-calls put-past-at put-past.Post
-  put-past-element-write-ways c =
-      let start = c .before .before .before in
-      omega (arith, start .pre .1, room-one (start .args .at) (start .args .walk .left))
-
-  put-past-element-write-ways-2 : put-past-lts.Need-element-write-ways-2 put-past-calls put-past-at put-past.Post
-  put-past-element-write-ways-2 c =
-      let start = c .before .before .before in
-      omega (arith, start .pre .1, room-one (start .args .at) (start .args .walk .left))
-
-  put-past-element-write-ways-3 : put-past-lts.Need-element-write-ways-3 put-past-calls put-past-at put-past.Post
-  put-past-element-write-ways-3 c =
-      let start = c .before .before .before in
+  -- there is room for the three words of a way
+  put-past-room : (c : put-past-lts.Else2 put-past-calls put-past-at put-past.Post)
+      → c .before .before .before .args .at + 3 ≤ wayWords
+  put-past-room c =
+      let section = c .before .before in
+      let start = section .before in
       omega (arith, start .pre .1, room-one (start .args .at) (start .args .walk .left))
 
   put-past-returns-2 : put-past-lts.Need-returns-2 put-past-calls put-past-at put-past.Post
@@ -184,7 +177,8 @@ module _ (t : ℕ) where
   put-past-put-over-requires c κs =
       let port = c .before .before in
       let left = port .before in
-      let start = left .before .before .before in
+      let on = left .before .before in
+      let start = on .before in
       let room = room-less (start .args .at) (start .args .walk .left) (left .if3 .left) in
       (omega (arith, start .pre .0), (omega (arith, start .pre .1, room), omega arith))
 
@@ -204,7 +198,8 @@ module _ (t : ℕ) where
 
   put-past-returns-5 : put-past-lts.Need-returns-5 put-past-calls put-past-at put-past.Post
   put-past-returns-5 c =
-      let on = c .before .before .before in
+      let left = c .before in
+      let on = left .before .before in
       let a = on .before .args in
       let w = a .walk in
       (omega arith, λ r h. past-none r _ (w .left) (w .care) (w .want) (a .j) (a .at) _ (c .if4 .left))
@@ -220,7 +215,7 @@ pub +put-laid+put-over+put-past-spec : {M : Type 1} → statement M
     (put-over-returns t) (put-over-returns-2 t) (put-over-returns-3 t))
     λ t. put-past-lts.spec (put-past-calls t) (put-past-at t) put-past.Post
     (λ c. search needs) (λ c. search needs) (put-past-returns t) (λ c. search needs) (λ c. search needs)
-    (put-past-element-write-ways t) (λ c. search needs) (λ c. search needs) (put-past-element-write-ways-2 t)
-    (λ c. search needs) (λ c. search needs) (put-past-element-write-ways-3 t) (λ c. search needs)
+    (λ c. omega (arith, put-past-room t c)) (λ c. search needs) (λ c. search needs) (λ c. omega (arith, put-past-room t c))
+    (λ c. search needs) (λ c. search needs) (λ c. omega (arith, put-past-room t c)) (λ c. search needs)
     (put-past-returns-2 t) (put-past-returns-3 t) (λ c. search needs) (put-past-put-over-requires t)
     (put-past-returns-4 t) (put-past-returns-5 t)
