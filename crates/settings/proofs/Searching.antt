@@ -20,7 +20,8 @@ use Rattle.game.specs.Setting.{headsFor, free}
 use Rattle.tables.specs.Find.{endsGood, isGood}
 use Rattle.routes.specs.Routes.{Way, suits, nth, reachedBy, oneOf}
 use Rattle.routes.proofs.Ways.{nth-gone}
-use Rattle.routes.proofs.Routes.{suits-bits, bits-suit, from-enters}
+use Rattle.routes.proofs.Suits.{suits-bits, bits-suit}
+use Rattle.routes.proofs.Routes.{from-enters}
 use Rattle.routes.proofs.Walking.{goes-of, of-goes}
 use Rattle.settings.specs.Search.{goodAt, Smallest, Goes, waysOf, OnWay, Placed, From, ByWay}
 
