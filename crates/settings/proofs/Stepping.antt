@@ -110,10 +110,12 @@ module _ (r : Railway) (p : ℕ) (table : List ℕ) (q : Placement) (on : On r p
             go (some w) is h = record { way = w; is = is; leads = h }
 
       -- what it wants, and what it cares for
-      pub wants-is : (want : ℕ) → (e < sectionEnds → want ≡ wayWord (nth (routesFrom r (isClosed r) (endAt e)) j) 2) → (w : Way) → nth (waysOf r p t) j ≡ some w → want ≡ w .want
+      pub wants-is : (want : ℕ) → (e < sectionEnds → want ≡ wayWord (nth (routesFrom r (isClosed r) (endAt e)) j) 2)
+          → (w : Way) → nth (waysOf r p t) j ≡ some w → want ≡ w .want
       wants-is want h w is = h front-below ∙ ap (λ (o : Option Way). wayWord o 2) (front-way ∙ is)
 
-      pub cares-is : (care : ℕ) → (e < sectionEnds → care ≡ wayWord (nth (routesFrom r (isClosed r) (endAt e)) j) 1) → (w : Way) → nth (waysOf r p t) j ≡ some w → care ≡ w .care
+      cares-is : (care : ℕ) → (e < sectionEnds → care ≡ wayWord (nth (routesFrom r (isClosed r) (endAt e)) j) 1)
+          → (w : Way) → nth (waysOf r p t) j ≡ some w → care ≡ w .care
       cares-is care h w is = h front-below ∙ ap (λ (o : Option Way). wayWord o 1) (front-way ∙ is)
 
       -- one way more of those that are looked at
@@ -163,8 +165,17 @@ module _ (r : Railway) (p : ℕ) (table : List ℕ) (q : Placement) (on : On r p
       enters-good z g h = free-is-good g (h ∙ sym (ap (isGood (endsGood r F p n t)) (enters-y z)))
 
   -- A WAY TOGETHER WITH WHAT IS WANTED ALREADY
-  module _ (F : ℕ → Option ℕ) (n t care want best : ℕ) (placed : Placed r care want) (j to cares wants : ℕ) (w : Way) (is : nth (waysOf r p t) j ≡ some w) (et : to ≡ w .to) (ec : cares ≡ w .care)
-      (ew : wants ≡ w .want) where
+  module _ (F : ℕ → Option ℕ) (n t care want best : ℕ) (placed : Placed r care want)
+      (e : ℕ) (front : e ≡ endIndex (headsFor r p t)) (j to cares wants : ℕ)
+      (care-read : e < sectionEnds → cares ≡ wayWord (nth (routesFrom r (isClosed r) (endAt e)) j) 1)
+      (want-read : e < sectionEnds → wants ≡ wayWord (nth (routesFrom r (isClosed r) (endAt e)) j) 2)
+      (w : Way) (is : nth (waysOf r p t) j ≡ some w) (et : to ≡ w .to) where
+    ec : cares ≡ w .care
+    ec = cares-is t e front j cares care-read w is
+
+    ew : wants ≡ w .want
+    ew = wants-is t e front j wants want-read w is
+
     parts : bitAnd (bitOr want wants) cares ≡ bitAnd (bitOr want (w .want)) (w .care)
     parts = rw (ec, ew)
 

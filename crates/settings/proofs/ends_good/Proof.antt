@@ -17,8 +17,11 @@ returns c =
     let s = w .before in
     let a = s .before .before .args in
     λ r p on code l inside.
-    ends-unless r p _ _ on (a .figures .now) (a .n) (a .t) (a .y) l inside _ _ _ _ _ code (s .sections-in .ensures r (on .compiled)) (w .power .ensures) (x .section-at .ensures) (u .code-put .ensures) _ (e .entry-at .ensures)
-    _ (h .weight-in .ensures r (on .compiled)) _ (i .is-within .ensures) (o .before .if1 .taken) _ _ (o .trains-in .ensures r (on .compiled)) (c .other-in .ensures)
+    let table = on .compiled in
+    ends-unless r p _ _ on (a .figures .now) (a .aim .figure) (a .t) (a .y) l inside _ _ _ _ _ code
+    (s .sections-in .ensures r table) (w .power .ensures) (x .section-at .ensures) (u .code-put .ensures) _
+    (e .entry-at .ensures) _ (h .weight-in .ensures r table) _ (i .is-within .ensures)
+    (o .before .if1 .taken) _ _ (o .trains-in .ensures r table) (c .other-in .ensures)
 
 returns-2 : tie.Need-returns-2
 returns-2 c =
@@ -31,8 +34,10 @@ returns-2 c =
     let s = w .before in
     let a = s .before .before .args in
     λ r p on code l inside.
-    ends-not r p _ _ on (a .figures .now) (a .n) (a .t) (a .y) l inside _ _ _ _ _ code (s .sections-in .ensures r (on .compiled)) (w .power .ensures) (x .section-at .ensures) (u .code-put .ensures) _ (e .entry-at .ensures)
-    _ (h .weight-in .ensures r (on .compiled)) _ (i .is-within .ensures) (c .if1 .left)
+    let table = on .compiled in
+    ends-not r p _ _ on (a .figures .now) (a .aim .figure) (a .t) (a .y) l inside _ _ _ _ _ code
+    (s .sections-in .ensures r table) (w .power .ensures) (x .section-at .ensures) (u .code-put .ensures) _
+    (e .entry-at .ensures) _ (h .weight-in .ensures r table) _ (i .is-within .ensures) (c .if1 .left)
 
 pub ends-good-spec : {M : Type 1} → statement M
 ends-good-spec =
