@@ -46,8 +46,8 @@ abbrev over-ways-Inv-loop : over-ways-lts.InvT-loop
 over-ways-Inv-loop table ways figures aim k t sum e least₀ j₀ least j =
     (j ≤ 16)
     × ((r : Railway) (p : ℕ) → Asked r p table ways (aim .placement) (aim .code) k → Placed r (sum .care) (sum .want)
-        → Smallest (Tried (ByWay r (figureIn figures) p (aim .figure) t (sum .care) (sum .want)) (waysOf r p t) j)
-        (r .points) (sum .best) least)
+    → Smallest (Tried (ByWay r (figureIn figures) p (aim .figure) t (sum .care) (sum .want)) (waysOf r p t) j)
+    (r .points) (sum .best) least)
 
 abbrev over-ways-μ-loop : over-ways-lts.MeasureT-loop
 over-ways-μ-loop table ways figures aim k t sum e least₀ j₀ least j = 16 - j

@@ -17,7 +17,7 @@ abbrev Inv-loop : tie.InvT-loop
 Inv-loop table ways figures aim k bits t₀ t =
     (t ≤ k)
     × ((r : Railway) (p : ℕ) → Asked r p table ways (aim .placement) (aim .code) k
-        → allBelow (freeGood r (figureIn figures) p (aim .figure) bits) t ≡ true)
+    → allBelow (freeGood r (figureIn figures) p (aim .figure) bits) t ≡ true)
 
 abbrev μ-loop : tie.MeasureT-loop
 μ-loop table ways figures aim k bits t₀ t = k - t

@@ -15,7 +15,7 @@ abbrev Inv-loop : tie.InvT-loop
 Inv-loop table ways figures aim t e best₀ j₀ best j =
     (j ≤ 16)
     × ((r : Railway) (p : ℕ) → Looks r p table ways (aim .placement) (aim .code) → t < r .trains
-        → Smallest (Tried (OnWay r (figureIn figures) p (aim .figure) t) (waysOf r p t) j) (r .points) noBits best)
+    → Smallest (Tried (OnWay r (figureIn figures) p (aim .figure) t) (waysOf r p t) j) (r .points) noBits best)
 
 abbrev μ-loop : tie.MeasureT-loop
 μ-loop table ways figures aim t e best₀ j₀ best j = 16 - j

@@ -22,7 +22,7 @@ Inv-loop table ways figures aim k count₀ all₀ most₀ t₀ count all most t 
     (t ≤ k)
     × (count ≤ t)
     × ((r : Railway) (p : ℕ) → Asked r p table ways (aim .placement) (aim .code) k
-        → Seen r (figureIn figures) p (aim .figure) t count all most)
+    → Seen r (figureIn figures) p (aim .figure) t count all most)
 
 abbrev μ-loop : tie.MeasureT-loop
 μ-loop table ways figures aim k count₀ all₀ most₀ t₀ count all most t = k - t

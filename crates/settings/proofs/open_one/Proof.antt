@@ -30,7 +30,7 @@ abbrev Inv-loop : tie.InvT-loop
 Inv-loop table ways figures aim k u₀ u =
     (u ≤ k)
     × ((r : Railway) (p : ℕ) → Asked r p table ways (aim .placement) (aim .code) k → anyBelow (free r p) (r .trains) ≡ false
-        → firstFound (λ u. tryOpen r (figureIn figures) p (aim .figure) (eqb u)) u ≡ none)
+    → firstFound (λ u. tryOpen r (figureIn figures) p (aim .figure) (eqb u)) u ≡ none)
 
 abbrev μ-loop : tie.MeasureT-loop
 μ-loop table ways figures aim k u₀ u = k - u
