@@ -83,7 +83,8 @@ union-parts a c₁ w₁ c₂ w₂ h k =
     two true false false u v x y = rw (← x, ← y)
     two false q s u v x y = rw (← x, ← y)
 
-pub placed-more : (r : Railway) (care want cares wants : ℕ) → Placed r care want → ((i : ℕ) → bit wants i ≡ true → bit cares i ≡ true) → wants < 2 ^ (r .points) → Placed r (bitOr care cares) (bitOr want wants)
+pub placed-more : (r : Railway) (care want cares wants : ℕ) → Placed r care want
+    → ((i : ℕ) → bit wants i ≡ true → bit cares i ≡ true) → wants < 2 ^ (r .points) → Placed r (bitOr care cares) (bitOr want wants)
 placed-more r care want cares wants h within l =
     record {
       within = λ i e. bit-or care cares i ∙ elim (either (bit want i) (bit wants i) (sym (bit-or want wants i) ∙ e)) [
@@ -214,7 +215,9 @@ module _ (r : Railway) (F : ℕ → Option ℕ) (p n t : ℕ) where
 
     -- one way
     module _ (w : Way) where
-      pub way-against : (best : ℕ) → (((suits (bitOr want (w .want)) care want ≡ true) × (suits (bitOr want (w .want)) (w .care) (w .want) ≡ true)) → ⊥) → Smallest (ByWay r F p n t care want w) (r .points) best best
+      pub way-against : (best : ℕ)
+          → (((suits (bitOr want (w .want)) care want ≡ true) × (suits (bitOr want (w .want)) (w .care) (w .want) ≡ true)) → ⊥)
+          → Smallest (ByWay r F p n t care want w) (r .points) best best
       way-against best h = none-smaller (λ a k l. h (union-parts a care want (w .care) (w .want) (k .suited) (k .way .suited)))
 
       pub way-bad : (best : ℕ) → endsGood r F p n t (w .to) ≡ false → Smallest (ByWay r F p n t care want w) (r .points) best best

@@ -33,10 +33,11 @@ const FIRST_TRAIN: u32 = 1u32 << Railway::POINTS;
 // What stands for no point bits: points have the bits below.
 const NO_BITS: u32 = FIRST_TRAIN;
 
-// What is looked for: a setting that keeps this figure at this placement, which is told by value and by its code.
+// What is looked for: a setting that keeps this figure at this placement of so many trains, which is told by value and by its code.
 struct Aim {
     placement: Placement,
     code: u32,
+    trains: u8,
     figure: u32,
 }
 
@@ -84,9 +85,10 @@ pub fn find_in(table: &Table, ways: &Ways, figures: &[u32], q: Placement, c: u32
     let aim = Aim {
         placement: q,
         code: c,
+        trains: k,
         figure: n,
     };
-    look(table, ways, figures, aim, k)
+    look(table, ways, figures, aim)
 }
 
 // EACH TRAIN BY ITSELF. Entering section y ends the move of train t in a figure that is smaller than n by at least its weight. The figure is looked at first:
@@ -152,16 +154,16 @@ fn larger(a: u32, b: u32) -> u32
 }
 
 // Looks at each free train. If one has no good way, nothing is found, whatever is opened: opening a signal only adds moves.
-fn look(table: &Table, ways: &Ways, figures: &[u32], aim: Aim, k: u8) -> Found
-    requires { ⌜ k ≤ mostTrains ⌝ }
-    ensures { λ f. ⌜ ((r : Railway) (p : ℕ) → Asked r p (now (table .entry)) (now (ways .entry)) (aim .placement) (aim .code) k
+fn look(table: &Table, ways: &Ways, figures: &[u32], aim: Aim) -> Found
+    requires { ⌜ aim .trains ≤ mostTrains ⌝ }
+    ensures { λ f. ⌜ ((r : Railway) (p : ℕ) → Asked r p (now (table .entry)) (now (ways .entry)) (aim .placement) (aim .code) (aim .trains)
         → entryFound f ≡ find r (figureIn (now (figures .entry))) p (aim .figure)) ⌝ }
 {
     let mut count: u8 = 0;
     let mut all: u32 = 0;
     let mut most: u32 = 0;
     let mut t: u8 = 0;
-    while t < k {
+    while t < aim.trains {
         if moves::free_in(table, aim.placement, t) {
             let w = least_way(table, ways, figures, aim, t);
             if NO_BITS <= w {
@@ -173,7 +175,7 @@ fn look(table: &Table, ways: &Ways, figures: &[u32], aim: Aim, k: u8) -> Found
         }
         t += 1;
     }
-    settle(table, ways, figures, aim, k, count, all, most)
+    settle(table, ways, figures, aim, count, all, most)
 }
 
 // What follows from that. No train free: one is opened. One free, or all content with every point at minus: the union of what they want. If that is no more than
@@ -183,18 +185,17 @@ fn settle(
     ways: &Ways,
     figures: &[u32],
     aim: Aim,
-    k: u8,
     count: u8,
     all: u32,
     most: u32,
 ) -> Found
-    requires { ⌜ k ≤ mostTrains ⌝ }
-    ensures { λ f. ⌜ ((r : Railway) (p : ℕ) → Asked r p (now (table .entry)) (now (ways .entry)) (aim .placement) (aim .code) k
+    requires { ⌜ aim .trains ≤ mostTrains ⌝ }
+    ensures { λ f. ⌜ ((r : Railway) (p : ℕ) → Asked r p (now (table .entry)) (now (ways .entry)) (aim .placement) (aim .code) (aim .trains)
         → Seen r (figureIn (now (figures .entry))) p (aim .figure) (r .trains) count all most
         → entryFound f ≡ find r (figureIn (now (figures .entry))) p (aim .figure)) ⌝ }
 {
     if count == 0 {
-        return open_one(table, ways, figures, aim, k);
+        return open_one(table, ways, figures, aim);
     }
     if count == 1 {
         return Found::Entry(all);
@@ -202,39 +203,31 @@ fn settle(
     if all == 0 {
         return Found::Entry(0);
     }
-    if union_serves(table, ways, figures, aim, k, all, most) {
+    if union_serves(table, ways, figures, aim, all, most) {
         return Found::Entry(all);
     }
-    combine(table, ways, figures, aim, k)
+    combine(table, ways, figures, aim)
 }
 
 // The union is no more than one train wants, and good for each that is free.
-fn union_serves(
-    table: &Table,
-    ways: &Ways,
-    figures: &[u32],
-    aim: Aim,
-    k: u8,
-    all: u32,
-    most: u32,
-) -> bool
-    ensures { λ b. ⌜ ((r : Railway) (p : ℕ) → Asked r p (now (table .entry)) (now (ways .entry)) (aim .placement) (aim .code) k
+fn union_serves(table: &Table, ways: &Ways, figures: &[u32], aim: Aim, all: u32, most: u32) -> bool
+    ensures { λ b. ⌜ ((r : Railway) (p : ℕ) → Asked r p (now (table .entry)) (now (ways .entry)) (aim .placement) (aim .code) (aim .trains)
         → b ≡ (eqb all most && allBelow (freeGood r (figureIn (now (figures .entry))) p (aim .figure) all) (r .trains))) ⌝ }
 {
     if all == most {
-        all_good(table, ways, figures, aim, k, all)
+        all_good(table, ways, figures, aim, all)
     } else {
         false
     }
 }
 
 // Each free train has a good way with the points by these bits.
-fn all_good(table: &Table, ways: &Ways, figures: &[u32], aim: Aim, k: u8, bits: u32) -> bool
-    ensures { λ b. ⌜ ((r : Railway) (p : ℕ) → Asked r p (now (table .entry)) (now (ways .entry)) (aim .placement) (aim .code) k
+fn all_good(table: &Table, ways: &Ways, figures: &[u32], aim: Aim, bits: u32) -> bool
+    ensures { λ b. ⌜ ((r : Railway) (p : ℕ) → Asked r p (now (table .entry)) (now (ways .entry)) (aim .placement) (aim .code) (aim .trains)
         → b ≡ allBelow (freeGood r (figureIn (now (figures .entry))) p (aim .figure) bits) (r .trains)) ⌝ }
 {
     let mut t: u8 = 0;
-    while t < k {
+    while t < aim.trains {
         if free_good(table, ways, figures, aim, bits, t) {
             t += 1;
         } else {
@@ -261,8 +254,8 @@ fn free_good(table: &Table, ways: &Ways, figures: &[u32], aim: Aim, bits: u32, t
 }
 
 // ALL FREE TRAINS TOGETHER: the smallest bits under which each has a good way.
-fn combine(table: &Table, ways: &Ways, figures: &[u32], aim: Aim, k: u8) -> Found
-    ensures { λ f. ⌜ ((r : Railway) (p : ℕ) → Asked r p (now (table .entry)) (now (ways .entry)) (aim .placement) (aim .code) k
+fn combine(table: &Table, ways: &Ways, figures: &[u32], aim: Aim) -> Found
+    ensures { λ f. ⌜ ((r : Railway) (p : ℕ) → Asked r p (now (table .entry)) (now (ways .entry)) (aim .placement) (aim .code) (aim .trains)
         → anyBelow (free r p) (r .trains) ≡ true → entryFound f ≡ find r (figureIn (now (figures .entry))) p (aim .figure)) ⌝ }
 {
     let nothing = Combined {
@@ -270,7 +263,7 @@ fn combine(table: &Table, ways: &Ways, figures: &[u32], aim: Aim, k: u8) -> Foun
         want: 0,
         best: NO_BITS,
     };
-    let bits = over_train(table, ways, figures, aim, k, 0, nothing);
+    let bits = over_train(table, ways, figures, aim, 0, nothing);
     if bits < NO_BITS {
         Found::Entry(bits)
     } else {
@@ -280,43 +273,27 @@ fn combine(table: &Table, ways: &Ways, figures: &[u32], aim: Aim, k: u8) -> Foun
 
 // The smallest bits below `best` that have the points of `care` as wanted, and under which each free train from t on has a good way; else `best`. They are
 // the union of what such ways want, so no more is looked at once that is not below `best`.
-fn over_train(
-    table: &Table,
-    ways: &Ways,
-    figures: &[u32],
-    aim: Aim,
-    k: u8,
-    t: u8,
-    sum: Combined,
-) -> u32
-    ensures { λ b. ⌜ ((r : Railway) (p : ℕ) → Asked r p (now (table .entry)) (now (ways .entry)) (aim .placement) (aim .code) k → Placed r (sum .care) (sum .want)
+fn over_train(table: &Table, ways: &Ways, figures: &[u32], aim: Aim, t: u8, sum: Combined) -> u32
+    ensures { λ b. ⌜ ((r : Railway) (p : ℕ) → Asked r p (now (table .entry)) (now (ways .entry)) (aim .placement) (aim .code) (aim .trains) → Placed r (sum .care) (sum .want)
         → Smallest (From r (figureIn (now (figures .entry))) p (aim .figure) t (sum .care) (sum .want)) (r .points) (sum .best) b) ⌝ }
 {
     if sum.best <= sum.want {
         return sum.best;
     }
-    if k <= t {
+    if aim.trains <= t {
         return sum.want;
     }
     if moves::free_in(table, aim.placement, t) {
-        over_ways(table, ways, figures, aim, k, t, sum)
+        over_ways(table, ways, figures, aim, t, sum)
     } else {
-        over_train(table, ways, figures, aim, k, t + 1, sum)
+        over_train(table, ways, figures, aim, t + 1, sum)
     }
 }
 
 // The same with train t, which is free: way after way.
-fn over_ways(
-    table: &Table,
-    ways: &Ways,
-    figures: &[u32],
-    aim: Aim,
-    k: u8,
-    t: u8,
-    sum: Combined,
-) -> u32
-    requires { ⌜ t < k ⌝ }
-    ensures { λ b. ⌜ ((r : Railway) (p : ℕ) → Asked r p (now (table .entry)) (now (ways .entry)) (aim .placement) (aim .code) k → Placed r (sum .care) (sum .want)
+fn over_ways(table: &Table, ways: &Ways, figures: &[u32], aim: Aim, t: u8, sum: Combined) -> u32
+    requires { ⌜ t < aim .trains ⌝ }
+    ensures { λ b. ⌜ ((r : Railway) (p : ℕ) → Asked r p (now (table .entry)) (now (ways .entry)) (aim .placement) (aim .code) (aim .trains) → Placed r (sum .care) (sum .want)
         → free r p t ≡ true → Smallest (From r (figureIn (now (figures .entry))) p (aim .figure) t (sum .care) (sum .want)) (r .points) (sum .best) b) ⌝ }
 {
     let e = moves::front_in(table, aim.placement, t);
@@ -337,7 +314,7 @@ fn over_ways(
             want: sum.want,
             best: least,
         };
-        least = over_way(table, ways, figures, aim, k, t, way, below);
+        least = over_way(table, ways, figures, aim, t, way, below);
         j += 1;
     }
     least
@@ -349,13 +326,12 @@ fn over_way(
     ways: &Ways,
     figures: &[u32],
     aim: Aim,
-    k: u8,
     t: u8,
     way: WayAt,
     sum: Combined,
 ) -> u32
-    requires { ⌜ t < k ⌝ }
-    ensures { λ b. ⌜ ((r : Railway) (p : ℕ) (w : Way) → Asked r p (now (table .entry)) (now (ways .entry)) (aim .placement) (aim .code) k
+    requires { ⌜ t < aim .trains ⌝ }
+    ensures { λ b. ⌜ ((r : Railway) (p : ℕ) (w : Way) → Asked r p (now (table .entry)) (now (ways .entry)) (aim .placement) (aim .code) (aim .trains)
         → Placed r (sum .care) (sum .want) → way .end ≡ endIndex (headsFor r p t) → nth (waysOf r p t) (way .number) ≡ some w → way .to ≡ w .to
         → Smallest (ByWay r (figureIn (now (figures .entry))) p (aim .figure) t (sum .care) (sum .want) w) (r .points) (sum .best) b) ⌝ }
 {
@@ -374,20 +350,20 @@ fn over_way(
             want: both,
             best: sum.best,
         };
-        over_train(table, ways, figures, aim, k, t + 1, more)
+        over_train(table, ways, figures, aim, t + 1, more)
     } else {
         sum.best
     }
 }
 
 // NO TRAIN FREE: the lowest train whose signal alone keeps the figure.
-fn open_one(table: &Table, ways: &Ways, figures: &[u32], aim: Aim, k: u8) -> Found
-    requires { ⌜ k ≤ mostTrains ⌝ }
-    ensures { λ f. ⌜ ((r : Railway) (p : ℕ) → Asked r p (now (table .entry)) (now (ways .entry)) (aim .placement) (aim .code) k
+fn open_one(table: &Table, ways: &Ways, figures: &[u32], aim: Aim) -> Found
+    requires { ⌜ aim .trains ≤ mostTrains ⌝ }
+    ensures { λ f. ⌜ ((r : Railway) (p : ℕ) → Asked r p (now (table .entry)) (now (ways .entry)) (aim .placement) (aim .code) (aim .trains)
         → anyBelow (free r p) (r .trains) ≡ false → entryFound f ≡ find r (figureIn (now (figures .entry))) p (aim .figure)) ⌝ }
 {
     let mut u: u8 = 0;
-    while u < k {
+    while u < aim.trains {
         let one = open_train(table, ways, figures, aim, u);
         let Found::Nothing = one else {
             return one;

@@ -4,9 +4,12 @@
 use native.Mathlib.Omega.{arith}
 use borrow.Author.Needs.{needs}
 use Prim.Native.Nat.{ℕ, _*_, _-_, _≤_, _<_}
-use mathlib.Core.Path.{sym, _∙_}
+use mathlib.Core.Path.{_≡_, sym, _∙_}
+use mathlib.Core.Option.{some}
 use Rattle.railway.specs.declared.Railway.{Railway}
 use Rattle.tables.specs.Tables.{figureIn}
+use Rattle.tables.specs.Find.{endsGood}
+use Rattle.routes.specs.Routes.{Way, nth}
 use Rattle.moves.proofs.Moving.{as-there}
 use Rattle.settings.specs.Search.{Asked, Smallest, waysOf, Placed, ByWay}
 use Rattle.settings.proofs.Searching.{Tried, tried-start, step-cut, step-end, step-stays, ways-together}
@@ -34,23 +37,23 @@ use Rattle.settings.proofs.+over_train+over_way+over_ways.Tie.{close}
 
 -- THE MEASURES: three times the trains ahead, and less by one or two on the way to the next train
 abbrev μ-over-train : Measures 3 over-train-kinds.ps ℕ
-μ-over-train κs a = 3 * (a .1 .1 .1 .1 .0 - a .1 .1 .1 .1 .1 .0)
+μ-over-train κs a = 3 * (a .1 .1 .1 .0 .trains - a .1 .1 .1 .1 .0)
 
 abbrev μ-over-way : Measures 3 over-way-kinds.ps ℕ
-μ-over-way κs a = 3 * (a .1 .1 .1 .1 .0 - a .1 .1 .1 .1 .1 .0) - 2
+μ-over-way κs a = 3 * (a .1 .1 .1 .0 .trains - a .1 .1 .1 .1 .0) - 2
 
 abbrev μ-over-ways : Measures 3 over-ways-kinds.ps ℕ
-μ-over-ways κs a = 3 * (a .1 .1 .1 .1 .0 - a .1 .1 .1 .1 .1 .0) - 1
+μ-over-ways κs a = 3 * (a .1 .1 .1 .0 .trains - a .1 .1 .1 .1 .0) - 1
 
 abbrev over-ways-Inv-loop : over-ways-lts.InvT-loop
-over-ways-Inv-loop table ways figures aim k t sum e least₀ j₀ least j =
+over-ways-Inv-loop table ways figures aim t sum e least₀ j₀ least j =
     (j ≤ 16)
-    × ((r : Railway) (p : ℕ) → Asked r p table ways (aim .placement) (aim .code) k → Placed r (sum .care) (sum .want)
+    × ((r : Railway) (p : ℕ) → Asked r p table ways (aim .placement) (aim .code) (aim .trains) → Placed r (sum .care) (sum .want)
     → Smallest (Tried (ByWay r (figureIn figures) p (aim .figure) t (sum .care) (sum .want)) (waysOf r p t) j)
     (r .points) (sum .best) least)
 
 abbrev over-ways-μ-loop : over-ways-lts.MeasureT-loop
-over-ways-μ-loop table ways figures aim k t sum e least₀ j₀ least j = 16 - j
+over-ways-μ-loop table ways figures aim t sum e least₀ j₀ least j = 16 - j
 
 module _ (t : ℕ) where
   abbrev over-train-at : In 3 over-train-kinds.ps
@@ -87,7 +90,8 @@ module _ (t : ℕ) where
 
   over-train-returns-2 : over-train-lts.Need-returns-2 over-train-calls over-train-at over-train.Post
   over-train-returns-2 c =
-      λ r p h pl. step-end r _ p _ _ _ _ _ (c .before .if1 .left) (omega (arith, h .trains, c .if2 .taken)) pl
+      let on = c .before .before in
+      λ r p h pl. step-end r _ p _ _ _ _ _ (on .if1 .left) (omega (arith, h .trains, c .if2 .taken)) pl
 
   over-train-returns-3 : over-train-lts.Need-returns-3 over-train-calls over-train-at over-train.Post
   over-train-returns-3 c =
@@ -120,69 +124,78 @@ module _ (t : ℕ) where
     over-train.Post,
   )
 
+  -- what is known once the way has been read
+  abbrev over-way-read : over-way-lts.After-struct-known3 over-way-calls over-way-at over-way.Post
+      → over-way-lts.After-way-want over-way-calls over-way-at over-way.Post
+  over-way-read k = let two = k .before in two .before .before
+
+  abbrev over-way-start : over-way-lts.After-struct-known3 over-way-calls over-way-at over-way.Post
+      → over-way-lts.Start over-way-calls over-way-at over-way.Post
+  over-way-start k = let care = over-way-read k .before in care .before .before
+
   over-way-returns : over-way-lts.Need-returns over-way-calls over-way-at over-way.Post
   over-way-returns c =
-      let known = c .before .before in
-      let w = known .before .before in
-      let k = w .before in
-      let a = k .before .before .args in
+      let w = over-way-read (c .before) in
+      let a = over-way-start (c .before) .args in
       λ r p v h pl front is to.
       let laid = h .looks .laid in
       out-first r p _ _ (h .looks .on) _ (a .aim .figure) (a .t) (a .sum .care) (a .sum .want) (a .sum .best) pl _ front _
-      _ _ _ (k .way-care .ensures .0 r _ laid) (w .way-want .ensures .0 r _ laid) v is to (c .if1 .taken)
+      _ _ _ (w .before .way-care .ensures .0 r _ laid) (w .way-want .ensures .0 r _ laid) v is to (c .if1 .taken)
 
   over-way-returns-2 : over-way-lts.Need-returns-2 over-way-calls over-way-at over-way.Post
   over-way-returns-2 c =
-      let first = c .before in
-      let known = first .before .before in
-      let w = known .before .before in
-      let k = w .before in
-      let a = k .before .before .args in
+      let k = c .before .before in
+      let w = over-way-read k in
+      let a = over-way-start k .args in
       λ r p v h pl front is to.
       let laid = h .looks .laid in
       out-second r p _ _ (h .looks .on) _ (a .aim .figure) (a .t) (a .sum .care) (a .sum .want) (a .sum .best) pl _ front _
-      _ _ _ (k .way-care .ensures .0 r _ laid) (w .way-want .ensures .0 r _ laid) v is to (c .if2 .taken)
+      _ _ _ (w .before .way-care .ensures .0 r _ laid) (w .way-want .ensures .0 r _ laid) v is to (c .if2 .taken)
+
+  -- where the move of train t ends on it
+  abbrev over-way-known : over-way-lts.After-ends-good over-way-calls over-way-at over-way.Post
+      → over-way-lts.After-struct-known3 over-way-calls over-way-at over-way.Post
+  over-way-known g = let second = g .before in second .before .before
+
+  over-way-ends : (g : over-way-lts.After-ends-good over-way-calls over-way-at over-way.Post) (r : Railway) (p : ℕ) (v : Way)
+      → let a = over-way-start (over-way-known g) .args in
+      Asked r p (a .table .now) (a .ways .now) (a .aim .placement) (a .aim .code) (a .aim .trains)
+      → nth (waysOf r p (a .t)) (a .way .number) ≡ some v → a .way .to ≡ v .to
+      → g .ends-good .result ≡ endsGood r (figureIn (a .figures .now)) p (a .aim .figure) (a .t) (a .way .to)
+  over-way-ends g r p v h is to =
+      let s = over-way-start (over-way-known g) in
+      let a = s .args in
+      let on = h .looks .on in
+      g .ends-good .ensures r p on (h .looks .code) (omega (arith, h .trains, s .pre .1))
+      (to-inside r p _ _ on (a .t) (a .way .number) (a .way .to) v is to)
 
   over-way-returns-3 : over-way-lts.Need-returns-3 over-way-calls over-way-at over-way.Post
   over-way-returns-3 c =
       let i = c .before .before in
       let g = i .before in
-      let e = g .before in
-      let first = e .before in
-      let known = first .before .before in
-      let w = known .before .before in
-      let k = w .before in
-      let s = k .before .before in
-      let a = s .args in
+      let second = g .before in
+      let w = over-way-read (over-way-known g) in
+      let a = over-way-start (over-way-known g) .args in
       λ r p v h pl front is to.
       let on = h .looks .on in
-      let laid = h .looks .laid in
-      let inside = to-inside r p _ _ on (a .t) (a .way .number) (a .way .to) v is to in
-      let good = g .ends-good .ensures r p on (h .looks .code) (rw (h .trains) at (s .pre .1)) inside in
-      let placed =
-      placed-on r p _ _ on (figureIn (a .figures .now)) (a .aim .figure) (a .t) (a .sum .care) (a .sum .want) (a .sum .best) pl
-      _ front _ _ _ _ (k .way-care .ensures .0 r _ laid) (w .way-want .ensures .0 r _ laid) v is to in
-      goes-on r p _ _ on _ (a .aim .figure) (a .t) (a .sum .care) (a .sum .want) (a .sum .best) pl _ front _ _ _ _
-      (k .way-care .ensures .0 r _ laid) (w .way-want .ensures .0 r _ laid) v is to _ good _ (first .if1 .left)
-      (e .if2 .left) (i .if3 .taken) (c .over-train .ensures r p h placed)
+      let care = w .before .way-care .ensures .0 r _ (h .looks .laid) in
+      let want = w .way-want .ensures .0 r _ (h .looks .laid) in
+      goes-on r p _ _ on _ (a .aim .figure) (a .t) (a .sum .care) (a .sum .want) (a .sum .best) pl _ front _ _ _ _ care want v
+      is to _ (over-way-ends g r p v h is to) _ (second .before .if1 .left) (second .if2 .left) (i .if3 .taken)
+      (c .over-train .ensures r p h
+      (placed-on r p _ _ on (figureIn (a .figures .now)) (a .aim .figure) (a .t) (a .sum .care) (a .sum .want) (a .sum .best)
+      pl _ front _ _ _ _ care want v is to))
 
   over-way-returns-4 : over-way-lts.Need-returns-4 over-way-calls over-way-at over-way.Post
   over-way-returns-4 c =
       let g = c .before in
-      let e = g .before in
-      let first = e .before in
-      let known = first .before .before in
-      let w = known .before .before in
-      let k = w .before in
-      let s = k .before .before in
-      let a = s .args in
+      let w = over-way-read (over-way-known g) in
+      let a = over-way-start (over-way-known g) .args in
       λ r p v h pl front is to.
-      let on = h .looks .on in
       let laid = h .looks .laid in
-      let inside = to-inside r p _ _ on (a .t) (a .way .number) (a .way .to) v is to in
-      let good = g .ends-good .ensures r p on (h .looks .code) (rw (h .trains) at (s .pre .1)) inside in
-      out-bad r p _ _ on _ (a .aim .figure) (a .t) (a .sum .care) (a .sum .want) (a .sum .best) pl _ front _ _ _ _
-      (k .way-care .ensures .0 r _ laid) (w .way-want .ensures .0 r _ laid) v is to _ good (c .if3 .left)
+      out-bad r p _ _ (h .looks .on) _ (a .aim .figure) (a .t) (a .sum .care) (a .sum .want) (a .sum .best) pl _ front _ _ _ _
+      (w .before .way-care .ensures .0 r _ laid) (w .way-want .ensures .0 r _ laid) v is to _ (over-way-ends g r p v h is to)
+      (c .if3 .left)
 
   -- TRAIN t WAY AFTER WAY
   abbrev over-ways-calls : over-ways-lts.Claims
