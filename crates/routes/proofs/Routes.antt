@@ -202,7 +202,8 @@ over-few r f m h care want n Stem =
 over-few r f m h care want n Plus = omega (arith, laid-few r f m h care want n true Stem)
 over-few r f m h care want n Minus = omega (arith, laid-few r f m h care want n false Stem)
 
-past-few : (shut : ℕ → Bool) (f : PointNo → Leg → List Way) (m : ℕ) → 1 ≤ m → ((n : PointNo) (l : Leg) → length (f n l) ≤ m) → (care want : ℕ) (j : Joined) → length (routesPast shut f care want j) ≤ m
+past-few : (shut : ℕ → Bool) (f : PointNo → Leg → List Way) (m : ℕ) → 1 ≤ m → ((n : PointNo) (l : Leg) → length (f n l) ≤ m)
+    → (care want : ℕ) (j : Joined) → length (routesPast shut f care want j) ≤ m
 past-few shut f m o h care want Nothing = omega arith
 past-few shut f m o h care want (With (Section n s)) = go (shut (n .0))
   where

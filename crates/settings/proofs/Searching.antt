@@ -62,7 +62,8 @@ part-suits a c₁ w₁ c₂ w h k = bits-suit a c₁ w₁ (λ i.
     go false q s u v x y = rw (← x) at y
 
 -- the wants of a union that something suits suit each part
-union-parts : (a c₁ w₁ c₂ w₂ : ℕ) → suits a c₁ w₁ ≡ true → suits a c₂ w₂ ≡ true → (suits (bitOr w₁ w₂) c₁ w₁ ≡ true) × (suits (bitOr w₁ w₂) c₂ w₂ ≡ true)
+union-parts : (a c₁ w₁ c₂ w₂ : ℕ) → suits a c₁ w₁ ≡ true → suits a c₂ w₂ ≡ true
+    → (suits (bitOr w₁ w₂) c₁ w₁ ≡ true) × (suits (bitOr w₁ w₂) c₂ w₂ ≡ true)
 union-parts a c₁ w₁ c₂ w₂ h k =
     let x : (i : ℕ) → (bit a i && bit c₁ i) ≡ bit w₁ i = suits-bits a c₁ w₁ h in
     let y : (i : ℕ) → (bit a i && bit c₂ i) ≡ bit w₂ i = suits-bits a c₂ w₂ k in (
@@ -168,7 +169,9 @@ module _ (r : Railway) (F : ℕ → Option ℕ) (p n t : ℕ) where
     pub way-is-bad : endsGood r F p n t (w .to) ≡ false → Smallest (OnWay r F p n t w) m best best
     way-is-bad e = none-smaller (λ a k x. clash (k .ends) e)
 
-    pub way-is-good : w .want < best → endsGood r F p n t (w .to) ≡ true → ((i : ℕ) → bit (w .want) i ≡ true → bit (w .care) i ≡ true) → w .want < 2 ^ m → Smallest (OnWay r F p n t w) m best (w .want)
+    pub way-is-good : w .want < best → endsGood r F p n t (w .to) ≡ true
+        → ((i : ℕ) → bit (w .want) i ≡ true → bit (w .care) i ≡ true) → w .want < 2 ^ m
+        → Smallest (OnWay r F p n t w) m best (w .want)
     way-is-good l e within s =
         record {
           upto = omega arith;

@@ -150,11 +150,14 @@ module _ (t : ℕ) where
       (omega arith, λ r h. past-shut r _ (w .left) (w .care) (w .want) (a .j) (a .at) _ (section .if1 .taken) (c .if2 .taken))
 
   -- there is room for the three words of a way
+  abbrev put-past-start : put-past-lts.Else2 put-past-calls put-past-at put-past.Post
+      → put-past-lts.Start put-past-calls put-past-at put-past.Post
+  put-past-start c = let section = c .before .before in section .before
+
   put-past-room : (c : put-past-lts.Else2 put-past-calls put-past-at put-past.Post)
-      → c .before .before .before .args .at + 3 ≤ wayWords
+      → put-past-start c .args .at + 3 ≤ wayWords
   put-past-room c =
-      let section = c .before .before in
-      let start = section .before in
+      let start = put-past-start c in
       omega (arith, start .pre .1, room-one (start .args .at) (start .args .walk .left))
 
   put-past-returns-2 : put-past-lts.Need-returns-2 put-past-calls put-past-at put-past.Post
