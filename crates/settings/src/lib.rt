@@ -91,8 +91,8 @@ pub fn find_in(table: &Table, ways: &Ways, figures: &[u32], q: Placement, c: u32
     look(table, ways, figures, aim)
 }
 
-// EACH TRAIN BY ITSELF. Entering section y ends the move of train t in a figure that is smaller than n by at least its weight. The figure is looked at first:
-// seldom is there a train to collide with where it is small enough.
+// EACH TRAIN BY ITSELF. Entering section y ends the move of train t in a figure that is smaller than the one to be kept by at least its weight. The figure is
+// looked at first: seldom is there a train to collide with where it is small enough.
 fn ends_good(table: &Table, figures: &[u32], aim: Aim, t: u8, y: u8) -> bool
     ensures { λ b. ⌜ ((r : Railway) (p : ℕ) → On r p (now (table .entry)) (aim .placement) → aim .code ≡ codeOn r (sectionIn (aim .placement))
         → t < r .trains → y < r .sections → b ≡ endsGood r (figureIn (now (figures .entry))) p (aim .figure) t y) ⌝ }
@@ -274,8 +274,8 @@ fn combine(table: &Table, ways: &Ways, figures: &[u32], aim: Aim) -> Found
 // The smallest bits below `best` that have the points of `care` as wanted, and under which each free train from t on has a good way; else `best`. They are
 // the union of what such ways want, so no more is looked at once that is not below `best`.
 fn over_train(table: &Table, ways: &Ways, figures: &[u32], aim: Aim, t: u8, sum: Combined) -> u32
-    ensures { λ b. ⌜ ((r : Railway) (p : ℕ) → Asked r p (now (table .entry)) (now (ways .entry)) (aim .placement) (aim .code) (aim .trains) → Placed r (sum .care) (sum .want)
-        → Smallest (From r (figureIn (now (figures .entry))) p (aim .figure) t (sum .care) (sum .want)) (r .points) (sum .best) b) ⌝ }
+    ensures { λ b. ⌜ ((r : Railway) (p : ℕ) → Asked r p (now (table .entry)) (now (ways .entry)) (aim .placement) (aim .code) (aim .trains)
+        → Placed r (sum .care) (sum .want) → Smallest (From r (figureIn (now (figures .entry))) p (aim .figure) t (sum .care) (sum .want)) (r .points) (sum .best) b) ⌝ }
 {
     if sum.best <= sum.want {
         return sum.best;
@@ -293,8 +293,8 @@ fn over_train(table: &Table, ways: &Ways, figures: &[u32], aim: Aim, t: u8, sum:
 // The same with train t, which is free: way after way.
 fn over_ways(table: &Table, ways: &Ways, figures: &[u32], aim: Aim, t: u8, sum: Combined) -> u32
     requires { ⌜ t < aim .trains ⌝ }
-    ensures { λ b. ⌜ ((r : Railway) (p : ℕ) → Asked r p (now (table .entry)) (now (ways .entry)) (aim .placement) (aim .code) (aim .trains) → Placed r (sum .care) (sum .want)
-        → free r p t ≡ true → Smallest (From r (figureIn (now (figures .entry))) p (aim .figure) t (sum .care) (sum .want)) (r .points) (sum .best) b) ⌝ }
+    ensures { λ b. ⌜ ((r : Railway) (p : ℕ) → Asked r p (now (table .entry)) (now (ways .entry)) (aim .placement) (aim .code) (aim .trains)
+        → Placed r (sum .care) (sum .want) → free r p t ≡ true → Smallest (From r (figureIn (now (figures .entry))) p (aim .figure) t (sum .care) (sum .want)) (r .points) (sum .best) b) ⌝ }
 {
     let e = moves::front_in(table, aim.placement, t);
     let mut least = sum.best;
