@@ -1,5 +1,6 @@
 pub mod Examples
 pub mod Ways
+pub mod Suits
 pub mod Routes
 pub mod Putting
 pub mod Walking

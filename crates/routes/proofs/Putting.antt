@@ -159,8 +159,10 @@ module _ (r : Railway) (f : ℕ → ℕ → Joined → List Way) (care want : �
   pub laid-barred : true ≡ bars care want (n .0) plus → Put (routesLaid r f care want n plus (legAt out)) at old old at
   laid-barred e = put-none at old (routesLaid r f care want n plus (legAt out)) (rw (← e))
 
-  pub laid-on : (one lies j : ℕ) (new : List ℕ) (next : ℕ) → n .0 < mostPoints → out < 3 → false ≡ bars care want (n .0) plus → one ≡ 2 ^ n .0 → lies ≡ wantWith want (n .0) plus
-      → j ≡ getD (r .links) (sectionEnds + 3 * n .0 + out) noLink → Put (f (bitOr care one) lies (joinedBy j)) at old new next → Put (routesLaid r f care want n plus (legAt out)) at old new next
+  pub laid-on : (one lies j : ℕ) (new : List ℕ) (next : ℕ) → n .0 < mostPoints → out < 3
+      → false ≡ bars care want (n .0) plus → one ≡ 2 ^ n .0 → lies ≡ wantWith want (n .0) plus
+      → j ≡ getD (r .links) (sectionEnds + 3 * n .0 + out) noLink
+      → Put (f (bitOr care one) lies (joinedBy j)) at old new next → Put (routesLaid r f care want n plus (legAt out)) at old new next
   laid-on one lies j new next l h e o w d p =
       let z : joinedBy j ≡ joined r (Port n (legAt out)) = ap joinedBy d ∙ sym (port-link r n out l h) in
       put-same at old (routesLaid r f care want n plus (legAt out)) (f (bitOr care one) lies (joinedBy j)) new next (rw (← e) (sym (same one o lies w (joinedBy j) z))) p

@@ -168,7 +168,8 @@ module _ (ways : List ℕ) (e points at : ℕ) (h : Walked ways e points at) whe
         none-byte (entered r (bit points) (endAt e))
         (sym (from-enters r points (endAt e)) ∙ walk-end points ws (h .number) (h .passed r laid) (omega (arith, h .place, from-few r (isClosed r) (endAt e))))
 
-  pub walked-next : e < sectionEnds → at < 48 * e + 48 → (getD ways at 0 % 256 ≡ noSection → ⊥) → (bitAnd points (getD ways (at + 1) 0) ≡ getD ways (at + 2) 0 → ⊥) → Walked ways e points (at + 3)
+  pub walked-next : e < sectionEnds → at < 48 * e + 48 → (getD ways at 0 % 256 ≡ noSection → ⊥)
+      → (bitAnd points (getD ways (at + 1) 0) ≡ getD ways (at + 2) 0 → ⊥) → Walked ways e points (at + 3)
   walked-next l m q s = record {
     number = h .number + 1;
     few = omega (arith, h .place);
@@ -198,7 +199,8 @@ goes-of b g (w ∷ ws) e = elim (bool? (suits b (w .care) (w .want))) [
     later : Goes b g ws → Goes b g (w ∷ ws)
     later h = record { number = suc (h .number); way = h .way; is = h .is; suited = h .suited; ends = h .ends }
 
-pub of-goes : (b : ℕ) (g : ℕ → Bool) (ws : List Way) (i : ℕ) (w : Way) → nth ws i ≡ some w → suits b (w .care) (w .want) ≡ true → g (w .to) ≡ true → any g (reachedBy b ws) ≡ true
+pub of-goes : (b : ℕ) (g : ℕ → Bool) (ws : List Way) (i : ℕ) (w : Way) → nth ws i ≡ some w
+    → suits b (w .care) (w .want) ≡ true → g (w .to) ≡ true → any g (reachedBy b ws) ≡ true
 unfolding reachedBy any nth
 of-goes b g [] i w e s h = some-none e refl
 of-goes b g (v ∷ ws) zero w e s h = let z : v ≡ w = some-one e in rw z (rw s (or-left (g (w .to)) (any g (reachedBy b ws)) h))

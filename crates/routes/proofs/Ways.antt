@@ -119,7 +119,10 @@ written-there (w ∷ ws) at old l zero i h g =
 written-there (w ∷ ws) at old l (suc j) i h g =
     let z : at + (3 * suc j + i) ≡ at + 3 + (3 * j + i) = omega arith in
     let three = set (set (set old at (w .to)) (at + 1) (w .care)) (at + 2) (w .want) in
-    let n : length three ≡ length old = length-set (set (set old at (w .to)) (at + 1) (w .care)) (at + 2) (w .want) ∙ length-set (set old at (w .to)) (at + 1) (w .care) ∙ length-set old at (w .to) in
+    let n : length three ≡ length old =
+    length-set (set (set old at (w .to)) (at + 1) (w .care)) (at + 2) (w .want)
+    ∙ length-set (set old at (w .to)) (at + 1) (w .care)
+    ∙ length-set old at (w .to) in
     rw z (written-there ws (at + 3) three (omega arith) j i (omega arith) g)
 
 -- THE TABLE, up to end e: the ways of the ends before it stand there, and behind them no way does

@@ -36,6 +36,13 @@ pub const ALL_WORDS: usize = WORDS * (Railway::SECTION_ENDS as usize);
 // The ways of a railway: for each section end so many, and of each the section, the points that matter, and those of them that have to lie at plus.
 pub type Ways = [u16; ALL_WORDS];
 
+// A walk from a section end, so far: how many points it may still meet, which points matter, and which of those have to lie at plus.
+struct Walk {
+    left: u8,
+    care: u16,
+    want: u16,
+}
+
 // The ways of every railway with these links, to sections that are not flagged.
 pub fn ways_of(links: &Links, closed: &Closed) -> Ways
     ensures { λ ways. ⌜ ((r : Railway) → LinksOf r (now (links .entry)) → Laid r (flagged (now (closed .entry))) ways) ⌝ }
@@ -53,25 +60,22 @@ fn lay_ways(ways: &mut Ways, links: &Links, closed: &Closed)
     while e < Railway::SECTION_ENDS {
         let at = WORDS * (e as usize);
         let j = railway::link_in(links, e);
-        put_past(ways, links, closed, at, MOST_MET, 0, 0, j);
+        let walk = Walk {
+            left: MOST_MET,
+            care: 0,
+            want: 0,
+        };
+        put_past(ways, links, closed, at, walk, j);
         e += 1;
     }
 }
 
-// Writes the ways past a link from a place on, with so many points allowed, and with what matters so far. Tells the place behind them.
-fn put_past(
-    ways: &mut Ways,
-    links: &Links,
-    closed: &Closed,
-    at: usize,
-    left: u8,
-    care: u16,
-    want: u16,
-    j: u8,
-) -> usize
-    requires { ⌜ at + 3 * 2 ^ left ≤ wayWords ⌝ }
-    ensures room { λ next. ⌜ next ≤ at + 3 * 2 ^ left ⌝ }
-    ensures put { λ next. ⌜ ((r : Railway) → LinksOf r (now (links .entry)) → Put (routes r (flagged (now (closed .entry))) left care want (joinedBy j)) at (now (ways .entry)) (now (ways .exit)) next) ⌝ }
+// Writes the ways past a link from a place on. Tells the place behind them.
+fn put_past(ways: &mut Ways, links: &Links, closed: &Closed, at: usize, walk: Walk, j: u8) -> usize
+    requires { ⌜ at + 3 * 2 ^ walk .left ≤ wayWords ⌝ }
+    ensures room { λ next. ⌜ next ≤ at + 3 * 2 ^ walk .left ⌝ }
+    ensures put { λ next. ⌜ ((r : Railway) → LinksOf r (now (links .entry))
+        → Put (routes r (flagged (now (closed .entry))) (walk .left) (walk .care) (walk .want) (joinedBy j)) at (now (ways .entry)) (now (ways .exit)) next) ⌝ }
 {
     if j < Railway::SECTION_ENDS {
         let x = j / 2;
@@ -80,16 +84,21 @@ fn put_past(
             return at;
         }
         ways[at] = x as u16;
-        ways[at + 1] = care;
-        ways[at + 2] = want;
+        ways[at + 1] = walk.care;
+        ways[at + 2] = walk.want;
         return at + 3;
     }
-    if left == 0 {
+    if walk.left == 0 {
         return at;
     }
     if j < Railway::ENDS {
         let p = j - Railway::SECTION_ENDS;
-        put_over(ways, links, closed, at, left - 1, care, want, p / 3, p % 3)
+        let over = Walk {
+            left: walk.left - 1,
+            care: walk.care,
+            want: walk.want,
+        };
+        put_over(ways, links, closed, at, over, p / 3, p % 3)
     } else {
         at
     }
@@ -101,24 +110,24 @@ fn put_over(
     links: &Links,
     closed: &Closed,
     at: usize,
-    left: u8,
-    care: u16,
-    want: u16,
+    walk: Walk,
     n: u8,
     leg: u8,
 ) -> usize
-    requires { ⌜ at + 3 * (2 * 2 ^ left) ≤ wayWords ⌝ }
+    requires { ⌜ at + 3 * (2 * 2 ^ walk .left) ≤ wayWords ⌝ }
     requires { ⌜ n < mostPoints ⌝ }
-    ensures room { λ next. ⌜ next ≤ at + 3 * (2 * 2 ^ left) ⌝ }
-    ensures put { λ next. ⌜ ((r : Railway) → LinksOf r (now (links .entry)) → Put (routesOver r (routes r (flagged (now (closed .entry))) left) care want (record { 0 = n }) (legAt leg)) at (now (ways .entry)) (now (ways .exit)) next) ⌝ }
+    ensures room { λ next. ⌜ next ≤ at + 3 * (2 * 2 ^ walk .left) ⌝ }
+    ensures put { λ next. ⌜ ((r : Railway) → LinksOf r (now (links .entry))
+        → Put (routesOver r (routes r (flagged (now (closed .entry))) (walk .left)) (walk .care) (walk .want) (record { 0 = n }) (legAt leg))
+        at (now (ways .entry)) (now (ways .exit)) next) ⌝ }
 {
     if leg == 0 {
-        let next = put_laid(ways, links, closed, at, left, care, want, n, false, 2);
-        put_laid(ways, links, closed, next, left, care, want, n, true, 1)
+        let next = put_laid(ways, links, closed, at, walk, n, false, 2);
+        put_laid(ways, links, closed, next, walk, n, true, 1)
     } else if leg == 1 {
-        put_laid(ways, links, closed, at, left, care, want, n, true, 0)
+        put_laid(ways, links, closed, at, walk, n, true, 0)
     } else {
-        put_laid(ways, links, closed, at, left, care, want, n, false, 0)
+        put_laid(ways, links, closed, at, walk, n, false, 0)
     }
 }
 
@@ -128,26 +137,31 @@ fn put_laid(
     links: &Links,
     closed: &Closed,
     at: usize,
-    left: u8,
-    care: u16,
-    want: u16,
+    walk: Walk,
     n: u8,
     plus: bool,
     out: u8,
 ) -> usize
-    requires { ⌜ at + 3 * 2 ^ left ≤ wayWords ⌝ }
+    requires { ⌜ at + 3 * 2 ^ walk .left ≤ wayWords ⌝ }
     requires { ⌜ n < mostPoints ⌝ }
     requires { ⌜ out < 3 ⌝ }
-    ensures room { λ next. ⌜ next ≤ at + 3 * 2 ^ left ⌝ }
-    ensures put { λ next. ⌜ ((r : Railway) → LinksOf r (now (links .entry)) → Put (routesLaid r (routes r (flagged (now (closed .entry))) left) care want (record { 0 = n }) plus (legAt out)) at (now (ways .entry)) (now (ways .exit)) next) ⌝ }
+    ensures room { λ next. ⌜ next ≤ at + 3 * 2 ^ walk .left ⌝ }
+    ensures put { λ next. ⌜ ((r : Railway) → LinksOf r (now (links .entry))
+        → Put (routesLaid r (routes r (flagged (now (closed .entry))) (walk .left)) (walk .care) (walk .want) (record { 0 = n }) plus (legAt out))
+        at (now (ways .entry)) (now (ways .exit)) next) ⌝ }
 {
-    if barred(care, want, n, plus) {
+    if barred(walk.care, walk.want, n, plus) {
         return at;
     }
     let one = point_bit(n);
-    let lies = want_with(want, one, plus);
+    let lies = want_with(walk.want, one, plus);
     let j = railway::link_in(links, Railway::SECTION_ENDS + 3 * n + out);
-    put_past(ways, links, closed, at, left, care | one, lies, j)
+    let past = Walk {
+        left: walk.left,
+        care: walk.care | one,
+        want: lies,
+    };
+    put_past(ways, links, closed, at, past, j)
 }
 
 // Point n cannot lie so: it lies otherwise already.

@@ -25,7 +25,8 @@ use Rattle.game.proofs.Accepted.{Facts, facts}
 use Rattle.game.proofs.Agreeing.{passes-same}
 use Rattle.routes.specs.Routes.{Way, suits, routesFrom, nth, reachedBy, oneOf, mostWays}
 use Rattle.routes.proofs.Ways.{nth-past}
-use Rattle.routes.proofs.Routes.{bits-suit, Within, from-enters, from-few, from-small}
+use Rattle.routes.proofs.Suits.{bits-suit, Within}
+use Rattle.routes.proofs.Routes.{from-enters, from-few, from-small}
 use Rattle.routes.proofs.Walking.{Goes, goes-of, of-goes}
 use Rattle.runs.specs.Runs.{Enters}
 use Rattle.run_tables.specs.Filling.{LeadsTo}

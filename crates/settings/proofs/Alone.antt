@@ -88,5 +88,6 @@ module _ (r : Railway) (F : ℕ → Option ℕ) (p n : ℕ) where
               (same ∙ sym (is ∙ larger-zero most w y), rw same (good-more w (λ u l f. clash f (any-false (free r p) t (h .nobody z) u l)) (s .made found .0)))
 
 -- the trains before the last are all
-pub seen-all : (r : Railway) (F : ℕ → Option ℕ) (p n k t count all most : ℕ) → k ≡ r .trains → t ≤ k → k ≤ t → Seen r F p n t count all most → Seen r F p n (r .trains) count all most
+pub seen-all : (r : Railway) (F : ℕ → Option ℕ) (p n k t count all most : ℕ) → k ≡ r .trains → t ≤ k → k ≤ t
+    → Seen r F p n t count all most → Seen r F p n (r .trains) count all most
 seen-all r F p n k t count all most e l m h = let z : t ≡ r .trains = omega arith in rw z at h

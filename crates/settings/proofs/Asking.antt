@@ -22,7 +22,8 @@ use Rattle.settings.specs.Search.{Asked}
 pub trains-few : (r : Railway) (table : List ℕ) → Compiled r table → (k : ℕ) → k ≡ r .trains → mostTrains < k → (o : Option ℕ) → none ≡ o
 trains-few r table c k e l o = absurd (omega (arith, few-trains r table c k e))
 
-module _ (r : Railway) (p : ℕ) (table ways : List ℕ) (q : Placement) (c k : ℕ) (on : On r p table q) (laid : Laid r (isClosed r) ways) (code : c ≡ codeOn r (sectionIn q)) (trains : k ≡ r .trains) where
+module _ (r : Railway) (p : ℕ) (table ways : List ℕ) (q : Placement) (c k : ℕ) (on : On r p table q)
+    (laid : Laid r (isClosed r) ways) (code : c ≡ codeOn r (sectionIn q)) (trains : k ≡ r .trains) where
   pub asked : (lost : Bool) → lost ≡ shared r p → lost ≡ false → Asked r p table ways q c k
   asked lost is e = record { looks = record { on = on; laid = laid; code = code }; trains = trains; apart = sym is ∙ e }
 

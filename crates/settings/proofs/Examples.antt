@@ -112,5 +112,7 @@ abbrev given : First → Option ℕ
 given x = firstKeeping (x .yard) (figureIn (x .figures)) (x .code) (x .figure)
 
 pub firsts-hold : map given firsts ≡ map (λ x. x .entry) firsts
-unfolding firstKeeping find tryOpen firstFound keepsTest settingAt entryFrom fromBits lowest moveOf passes follow occupied mayMove free held signalOpen headsFor standsOn sectionsIn codeOf sumBelow trainOf weightOf endAt joinedBy joined hasSignal allBelow anyBelow shared withJoin withSignal withLegs withTrain entered isClosed
+unfolding firstKeeping find tryOpen firstFound keepsTest settingAt entryFrom fromBits lowest moveOf passes follow occupied mayMove free
+    held signalOpen headsFor standsOn sectionsIn codeOf sumBelow trainOf weightOf endAt joinedBy joined hasSignal
+    allBelow anyBelow shared withJoin withSignal withLegs withTrain entered isClosed
 firsts-hold = refl

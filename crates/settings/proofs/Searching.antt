@@ -20,7 +20,8 @@ use Rattle.game.specs.Setting.{headsFor, free}
 use Rattle.tables.specs.Find.{endsGood, isGood}
 use Rattle.routes.specs.Routes.{Way, suits, nth, reachedBy, oneOf}
 use Rattle.routes.proofs.Ways.{nth-gone}
-use Rattle.routes.proofs.Routes.{suits-bits, bits-suit, from-enters}
+use Rattle.routes.proofs.Suits.{suits-bits, bits-suit}
+use Rattle.routes.proofs.Routes.{from-enters}
 use Rattle.routes.proofs.Walking.{goes-of, of-goes}
 use Rattle.settings.specs.Search.{goodAt, Smallest, Goes, waysOf, OnWay, Placed, From, ByWay}
 
@@ -61,7 +62,8 @@ part-suits a c₁ w₁ c₂ w h k = bits-suit a c₁ w₁ (λ i.
     go false q s u v x y = rw (← x) at y
 
 -- the wants of a union that something suits suit each part
-union-parts : (a c₁ w₁ c₂ w₂ : ℕ) → suits a c₁ w₁ ≡ true → suits a c₂ w₂ ≡ true → (suits (bitOr w₁ w₂) c₁ w₁ ≡ true) × (suits (bitOr w₁ w₂) c₂ w₂ ≡ true)
+union-parts : (a c₁ w₁ c₂ w₂ : ℕ) → suits a c₁ w₁ ≡ true → suits a c₂ w₂ ≡ true
+    → (suits (bitOr w₁ w₂) c₁ w₁ ≡ true) × (suits (bitOr w₁ w₂) c₂ w₂ ≡ true)
 union-parts a c₁ w₁ c₂ w₂ h k =
     let x : (i : ℕ) → (bit a i && bit c₁ i) ≡ bit w₁ i = suits-bits a c₁ w₁ h in
     let y : (i : ℕ) → (bit a i && bit c₂ i) ≡ bit w₂ i = suits-bits a c₂ w₂ k in (
@@ -82,7 +84,8 @@ union-parts a c₁ w₁ c₂ w₂ h k =
     two true false false u v x y = rw (← x, ← y)
     two false q s u v x y = rw (← x, ← y)
 
-pub placed-more : (r : Railway) (care want cares wants : ℕ) → Placed r care want → ((i : ℕ) → bit wants i ≡ true → bit cares i ≡ true) → wants < 2 ^ (r .points) → Placed r (bitOr care cares) (bitOr want wants)
+pub placed-more : (r : Railway) (care want cares wants : ℕ) → Placed r care want
+    → ((i : ℕ) → bit wants i ≡ true → bit cares i ≡ true) → wants < 2 ^ (r .points) → Placed r (bitOr care cares) (bitOr want wants)
 placed-more r care want cares wants h within l =
     record {
       within = λ i e. bit-or care cares i ∙ elim (either (bit want i) (bit wants i) (sym (bit-or want wants i) ∙ e)) [
@@ -166,7 +169,9 @@ module _ (r : Railway) (F : ℕ → Option ℕ) (p n t : ℕ) where
     pub way-is-bad : endsGood r F p n t (w .to) ≡ false → Smallest (OnWay r F p n t w) m best best
     way-is-bad e = none-smaller (λ a k x. clash (k .ends) e)
 
-    pub way-is-good : w .want < best → endsGood r F p n t (w .to) ≡ true → ((i : ℕ) → bit (w .want) i ≡ true → bit (w .care) i ≡ true) → w .want < 2 ^ m → Smallest (OnWay r F p n t w) m best (w .want)
+    pub way-is-good : w .want < best → endsGood r F p n t (w .to) ≡ true
+        → ((i : ℕ) → bit (w .want) i ≡ true → bit (w .care) i ≡ true) → w .want < 2 ^ m
+        → Smallest (OnWay r F p n t w) m best (w .want)
     way-is-good l e within s =
         record {
           upto = omega arith;
@@ -213,7 +218,9 @@ module _ (r : Railway) (F : ℕ → Option ℕ) (p n t : ℕ) where
 
     -- one way
     module _ (w : Way) where
-      pub way-against : (best : ℕ) → (((suits (bitOr want (w .want)) care want ≡ true) × (suits (bitOr want (w .want)) (w .care) (w .want) ≡ true)) → ⊥) → Smallest (ByWay r F p n t care want w) (r .points) best best
+      pub way-against : (best : ℕ)
+          → (((suits (bitOr want (w .want)) care want ≡ true) × (suits (bitOr want (w .want)) (w .care) (w .want) ≡ true)) → ⊥)
+          → Smallest (ByWay r F p n t care want w) (r .points) best best
       way-against best h = none-smaller (λ a k l. h (union-parts a care want (w .care) (w .want) (k .suited) (k .way .suited)))
 
       pub way-bad : (best : ℕ) → endsGood r F p n t (w .to) ≡ false → Smallest (ByWay r F p n t care want w) (r .points) best best

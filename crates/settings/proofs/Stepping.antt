@@ -52,21 +52,28 @@ module _ (r : Railway) (p : ℕ) (table : List ℕ) (q : Placement) (on : On r p
   ok = facts r (on .compiled .accepted)
 
   -- ENTERING A SECTION, the figure looked at before the other trains
-  module _ (figs : List ℕ) (n t y : ℕ) (there : t < r .trains) (inside : y < r .sections) (c s w x b : ℕ) (code : c ≡ codeOn r (sectionIn q)) (sections : s ≡ r .sections) (stride : w ≡ strideOf s t)
-      (here : x ≡ sectionIn q t) (put : b ≡ codePut c w x y) (f : ℕ) (is : f ≡ getD figs b noFigure) (heavy : ℕ) (weighs : heavy ≡ weightOf r t) (d : Bool) (within : d ≡ isWithin n heavy (figureEntry f)) where
-    ends-by : (o : Bool) → o ≡ occupied r p t y → cond o false d ≡ endsGood r (figureIn figs) p n t y
+  module _ (figs : List ℕ) (n t y : ℕ) (there : t < r .trains) (inside : y < r .sections) (c s w x b : ℕ)
+      (code : c ≡ codeOn r (sectionIn q)) (sections : s ≡ r .sections) (stride : w ≡ strideOf s t)
+      (here : x ≡ sectionIn q t) (put : b ≡ codePut c w x y) (f : ℕ) (is : f ≡ getD figs b noFigure)
+      (heavy : ℕ) (weighs : heavy ≡ weightOf r t) (d : Bool) (within : d ≡ isWithin n heavy (figureEntry f)) where
+    pub ends-by : (o : Bool) → o ≡ occupied r p t y → cond o false d ≡ endsGood r (figureIn figs) p n t y
     ends-by true e = rw (← e)
-    ends-by false e = let z : b ≡ codeWith r p t y = code-put-is r p table q on t y there inside c x w s b code here sections stride put in rw (within, is, weighs, z, ← e)
+    ends-by false e =
+        let z : b ≡ codeWith r p t y = code-put-is r p table q on t y there inside c x w s b code here sections stride put in
+        rw (within, is, weighs, z, ← e)
 
-    pub ends-not : d ≡ false → false ≡ endsGood r (figureIn figs) p n t y
-    ends-not l = either-way (occupied r p t y) ∙ ends-by (occupied r p t y) refl
+  module _ (F : ℕ → Option ℕ) (n t y : ℕ) (d : Bool)
+      (by : (o : Bool) → o ≡ occupied r p t y → cond o false d ≡ endsGood r F p n t y) where
+    pub ends-not : d ≡ false → false ≡ endsGood r F p n t y
+    ends-not l = either-way (occupied r p t y) ∙ by (occupied r p t y) refl
       where
         either-way : (o : Bool) → false ≡ cond o false d
         either-way true = refl
         either-way false = sym l
 
-    pub ends-unless : d ≡ true → (k : ℕ) (o : Bool) → k ≡ r .trains → o ≡ anyBelow (otherIn q t y) k → not o ≡ endsGood r (figureIn figs) p n t y
-    ends-unless l k o ek e = turned o ∙ ends-by o (other-on r p table q on t y k o ek e)
+    pub ends-unless : d ≡ true → (k : ℕ) (o : Bool) → k ≡ r .trains → o ≡ anyBelow (otherIn q t y) k
+        → not o ≡ endsGood r F p n t y
+    ends-unless l k o ek e = turned o ∙ by o (other-on r p table q on t y k o ek e)
       where
         turned : (o : Bool) → not o ≡ cond o false d
         turned true = refl
@@ -110,16 +117,22 @@ module _ (r : Railway) (p : ℕ) (table : List ℕ) (q : Placement) (on : On r p
             go (some w) is h = record { way = w; is = is; leads = h }
 
       -- what it wants, and what it cares for
-      pub wants-is : (want : ℕ) → (e < sectionEnds → want ≡ wayWord (nth (routesFrom r (isClosed r) (endAt e)) j) 2) → (w : Way) → nth (waysOf r p t) j ≡ some w → want ≡ w .want
+      pub wants-is : (want : ℕ) → (e < sectionEnds → want ≡ wayWord (nth (routesFrom r (isClosed r) (endAt e)) j) 2)
+          → (w : Way) → nth (waysOf r p t) j ≡ some w → want ≡ w .want
       wants-is want h w is = h front-below ∙ ap (λ (o : Option Way). wayWord o 2) (front-way ∙ is)
 
-      pub cares-is : (care : ℕ) → (e < sectionEnds → care ≡ wayWord (nth (routesFrom r (isClosed r) (endAt e)) j) 1) → (w : Way) → nth (waysOf r p t) j ≡ some w → care ≡ w .care
+      cares-is : (care : ℕ) → (e < sectionEnds → care ≡ wayWord (nth (routesFrom r (isClosed r) (endAt e)) j) 1)
+          → (w : Way) → nth (waysOf r p t) j ≡ some w → care ≡ w .care
       cares-is care h w is = h front-below ∙ ap (λ (o : Option Way). wayWord o 1) (front-way ∙ is)
 
       -- one way more of those that are looked at
-      pub one-more : (P : Way → ℕ → Type 0) (m best least b to : ℕ) → (e < sectionEnds → to ≡ toByte (nth (routesFrom r (isClosed r) (endAt e)) j)) → (to ≡ noSection → ⊥)
-          → ((w : Way) → nth (waysOf r p t) j ≡ some w → to ≡ w .to → Smallest (P w) m least b) → Smallest (Tried P (waysOf r p t) j) m best least → Smallest (Tried P (waysOf r p t) (j + 1)) m best b
-      one-more P m best least b to leads z one h = let y = way-here to leads z in tried-next P (waysOf r p t) m best least b j (y .way) (y .is) h (one (y .way) (y .is) (y .leads))
+      pub one-more : (P : Way → ℕ → Type 0) (m best least b to : ℕ)
+          → (e < sectionEnds → to ≡ toByte (nth (routesFrom r (isClosed r) (endAt e)) j)) → (to ≡ noSection → ⊥)
+          → ((w : Way) → nth (waysOf r p t) j ≡ some w → to ≡ w .to → Smallest (P w) m least b)
+          → Smallest (Tried P (waysOf r p t) j) m best least → Smallest (Tried P (waysOf r p t) (j + 1)) m best b
+      one-more P m best least b to leads z one h =
+          let y = way-here to leads z in
+          tried-next P (waysOf r p t) m best least b j (y .way) (y .is) h (one (y .way) (y .is) (y .leads))
 
   -- ONE WAY BY ITSELF
   module _ (F : ℕ → Option ℕ) (n t j to want best : ℕ) (w : Way) (is : nth (waysOf r p t) j ≡ some w) (et : to ≡ w .to) (ew : want ≡ w .want) where
@@ -163,8 +176,17 @@ module _ (r : Railway) (p : ℕ) (table : List ℕ) (q : Placement) (on : On r p
       enters-good z g h = free-is-good g (h ∙ sym (ap (isGood (endsGood r F p n t)) (enters-y z)))
 
   -- A WAY TOGETHER WITH WHAT IS WANTED ALREADY
-  module _ (F : ℕ → Option ℕ) (n t care want best : ℕ) (placed : Placed r care want) (j to cares wants : ℕ) (w : Way) (is : nth (waysOf r p t) j ≡ some w) (et : to ≡ w .to) (ec : cares ≡ w .care)
-      (ew : wants ≡ w .want) where
+  module _ (F : ℕ → Option ℕ) (n t care want best : ℕ) (placed : Placed r care want)
+      (e : ℕ) (front : e ≡ endIndex (headsFor r p t)) (j to cares wants : ℕ)
+      (care-read : e < sectionEnds → cares ≡ wayWord (nth (routesFrom r (isClosed r) (endAt e)) j) 1)
+      (want-read : e < sectionEnds → wants ≡ wayWord (nth (routesFrom r (isClosed r) (endAt e)) j) 2)
+      (w : Way) (is : nth (waysOf r p t) j ≡ some w) (et : to ≡ w .to) where
+    ec : cares ≡ w .care
+    ec = cares-is t e front j cares care-read w is
+
+    ew : wants ≡ w .want
+    ew = wants-is t e front j wants want-read w is
+
     parts : bitAnd (bitOr want wants) cares ≡ bitAnd (bitOr want (w .want)) (w .care)
     parts = rw (ec, ew)
 

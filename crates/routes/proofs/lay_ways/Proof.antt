@@ -17,7 +17,9 @@ use Rattle.routes.proofs.lay_ways.Statement.{statement}
 use Rattle.routes.proofs.lay_ways.Tie as tie
 
 abbrev Inv-loop : tie.InvT-loop
-Inv-loop ways₀ links closed e₀ ways e = (e ≤ sectionEnds) × (ways₀ ≡ replicate wayWords noSection → (r : Railway) → LinksOf r links → LaidTo r (flagged closed) e ways)
+Inv-loop ways₀ links closed e₀ ways e =
+    (e ≤ sectionEnds)
+    × (ways₀ ≡ replicate wayWords noSection → (r : Railway) → LinksOf r links → LaidTo r (flagged closed) e ways)
 
 abbrev μ-loop : tie.MeasureT-loop
 μ-loop ways₀ links closed e₀ ways e = sectionEnds - e

@@ -29,8 +29,10 @@ returns-2 : tie.Need-returns-2 Inv-loop μ-loop
 returns-2 c =
     let i = c .before .before in
     let l = i .before in
-    let w = l .loop .inv .2 in
-    (λ r laid h. walked-none _ _ _ _ w r laid h (i .loop-test .taken) (c .if2 .taken), λ h. absurd (omega (arith, l .before .if1 .left)))
+    let w = l .loop .inv .2 in (
+      λ r laid h. walked-none _ _ _ _ w r laid h (i .loop-test .taken) (c .if2 .taken),
+      λ h. absurd (omega (arith, l .before .if1 .left)),
+    )
 
 element-copy-out-wide : tie.Need-element-copy-out-wide Inv-loop μ-loop
 element-copy-out-wide c =
@@ -40,7 +42,8 @@ element-copy-out-wide c =
 
 element-copy-out-wide-2 : tie.Need-element-copy-out-wide-2 Inv-loop μ-loop
 element-copy-out-wide-2 c =
-    let i = c .before .before .before .before in
+    let a = c .before .before in
+    let i = a .before .before in
     let l = i .before in
     omega (arith, l .before .if1 .left, walked-room _ _ _ _ (l .loop .inv .2) (i .loop-test .taken))
 
@@ -51,8 +54,10 @@ returns-3 c =
     let o = a .before .before in
     let i = o .before .before in
     let l = i .before in
-    let w = l .loop .inv .2 in (
-      λ r laid h. walked-hit _ _ _ _ w r laid h (i .loop-test .taken) (o .if2 .left) (suit (l .before .before .args .points) (a .wide .ensures) (b .wide2 .ensures) (c .if3 .taken)),
+    let w = l .loop .inv .2 in
+    let start = l .before .before in
+    let fit = suit (start .args .points) (a .wide .ensures) (b .wide2 .ensures) (c .if3 .taken) in (
+      λ r laid h. walked-hit _ _ _ _ w r laid h (i .loop-test .taken) (o .if2 .left) fit,
       λ h. absurd (omega (arith, l .before .if1 .left)),
     )
 
@@ -64,13 +69,18 @@ loop-again c =
     let i = o .before .before in
     let l = i .before in
     let w = l .loop .inv .2 in
-    let n = walked-next _ _ _ _ w (omega (arith, l .before .if1 .left)) (i .loop-test .taken) (o .if2 .left) (λ s. c .if3 .left (unsuit (l .before .before .args .points) (a .wide .ensures) (b .wide2 .ensures) s)) in
+    let start = l .before .before in
+    let n =
+    walked-next _ _ _ _ w (omega (arith, l .before .if1 .left)) (i .loop-test .taken) (o .if2 .left)
+    (λ s. c .if3 .left (unsuit (start .args .points) (a .wide .ensures) (b .wide2 .ensures) s)) in
     (l .loop .inv .0, walked-inside _ _ _ _ n, n)
 
 returns-4 : tie.Need-returns-4 Inv-loop μ-loop
 returns-4 c =
-    let l = c .before in
-    (λ r laid h. walked-end _ _ _ _ (l .loop .inv .2) r laid h (c .loop-test .left), λ h. absurd (omega (arith, l .before .if1 .left)))
+    let l = c .before in (
+      λ r laid h. walked-end _ _ _ _ (l .loop .inv .2) r laid h (c .loop-test .left),
+      λ h. absurd (omega (arith, l .before .if1 .left)),
+    )
 
 pub section-by-spec : {M : Type 1} → statement M
 section-by-spec =

@@ -14,10 +14,13 @@ use Rattle.settings.proofs.all_good.Statement.{statement}
 use Rattle.settings.proofs.all_good.Tie as tie
 
 abbrev Inv-loop : tie.InvT-loop
-Inv-loop table ways figures q c n k bits t₀ t = (t ≤ k) × ((r : Railway) (p : ℕ) → Asked r p table ways q c k → allBelow (freeGood r (figureIn figures) p n bits) t ≡ true)
+Inv-loop table ways figures aim bits t₀ t =
+    (t ≤ aim .trains)
+    × ((r : Railway) (p : ℕ) → Asked r p table ways (aim .placement) (aim .code) (aim .trains)
+    → allBelow (freeGood r (figureIn figures) p (aim .figure) bits) t ≡ true)
 
 abbrev μ-loop : tie.MeasureT-loop
-μ-loop table ways figures q c n k bits t₀ t = k - t
+μ-loop table ways figures aim bits t₀ t = aim .trains - t
 
 loop-holds : tie.Need-loop-holds Inv-loop μ-loop
 unfolding allBelow
@@ -26,24 +29,34 @@ loop-holds c = (omega arith, λ r p h. refl)
 loop-again : tie.Need-loop-again Inv-loop μ-loop
 loop-again c =
     let g = c .before in
-    let l = g .before .before in
-    let a = l .before .before .args in
-    (omega arith, λ r p h. all-next (freeGood r (figureIn (a .figures .now)) p (a .n) (a .bits)) _ (l .loop .inv .1 r p h) (sym (g .free-good .ensures r p (h .looks) (rw (h .trains) at (g .before .loop-test .taken))) ∙ c .if1 .taken))
+    let i = g .before in
+    let l = i .before .before in
+    let a = l .before .before .args in (
+      omega arith,
+      λ r p h.
+          let lt = rw (h .trains) at (i .if1 .taken) in
+          all-next (freeGood r (figureIn (a .figures .now)) p (a .aim .figure) (a .bits)) _ (l .loop .inv .1 r p h)
+          (sym (g .free-good .ensures r p (h .looks) lt) ∙ c .if2 .taken),
+    )
 
 returns : tie.Need-returns Inv-loop μ-loop
 returns c =
     let g = c .before in
-    let l = g .before .before in
+    let i = g .before in
+    let l = i .before .before in
     let a = l .before .before .args in
-    λ r p h. let lt = rw (h .trains) at (g .before .loop-test .taken) in
-    all-but (freeGood r (figureIn (a .figures .now)) p (a .n) (a .bits)) (r .trains) (l .loop .t) lt (sym (g .free-good .ensures r p (h .looks) lt) ∙ c .if1 .left)
+    λ r p h.
+    let lt = rw (h .trains) at (i .if1 .taken) in
+    all-but (freeGood r (figureIn (a .figures .now)) p (a .aim .figure) (a .bits)) (r .trains) (l .loop .t) lt
+    (sym (g .free-good .ensures r p (h .looks) lt) ∙ c .if2 .left)
 
 returns-2 : tie.Need-returns-2 Inv-loop μ-loop
 returns-2 c =
-    let l = c .before in
+    let l = c .before .before in
     let a = l .before .before .args in
     λ r p h.
-    all-each (freeGood r (figureIn (a .figures .now)) p (a .n) (a .bits)) (r .trains) (l .loop .t) (l .loop .inv .1 r p h) (rw (h .trains) at (l .loop .inv .0)) (rw (h .trains) at (c .loop-test .left))
+    all-each (freeGood r (figureIn (a .figures .now)) p (a .aim .figure) (a .bits)) (r .trains) (l .loop .t)
+    (l .loop .inv .1 r p h) (rw (h .trains) at (l .loop .inv .0)) (rw (h .trains) at (c .if1 .left))
 
 pub all-good-spec : {M : Type 1} → statement M
 all-good-spec =

@@ -13,13 +13,15 @@ returns-2 c =
     let g = c .before in
     let i = g .before in
     λ r p j w on code l is to want.
-    by-good r p _ _ on _ _ _ j _ _ _ w is to want _ (g .ends-good .ensures r p on code l (to-inside r p _ _ on _ j _ w is to)) (i .if1 .left) (c .if2 .taken)
+    let good = g .ends-good .ensures r p on code l (to-inside r p _ _ on _ j _ w is to) in
+    by-good r p _ _ on _ _ _ j _ _ _ w is to want _ good (i .if1 .left) (c .if2 .taken)
 
 returns-3 : tie.Need-returns-3
 returns-3 c =
     let g = c .before in
     λ r p j w on code l is to want.
-    by-bad r p _ _ on _ _ _ j _ _ _ w is to want _ (g .ends-good .ensures r p on code l (to-inside r p _ _ on _ j _ w is to)) (c .if2 .left)
+    let good = g .ends-good .ensures r p on code l (to-inside r p _ _ on _ j _ w is to) in
+    by-bad r p _ _ on _ _ _ j _ _ _ w is to want _ good (c .if2 .left)
 
 pub by-way-spec : {M : Type 1} → statement M
 by-way-spec = tie.close (tie.spec returns (λ c κs. search needs) returns-2 returns-3)

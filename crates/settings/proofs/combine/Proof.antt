@@ -7,10 +7,16 @@ use Rattle.settings.proofs.combine.Statement.{statement}
 use Rattle.settings.proofs.combine.Tie as tie
 
 returns : tie.Need-returns
-returns c = λ r p h f. together-found r (facts r (h .looks .on .compiled .accepted)) p (h .apart) _ _ f _ (c .before .over-train .ensures r p h (nothing-placed r)) (c .if1 .taken)
+returns c =
+    λ r p h f.
+    let k = facts r (h .looks .on .compiled .accepted) in
+    together-found r k p (h .apart) _ _ f _ (c .before .over-train .ensures r p h (nothing-placed r)) (c .if1 .taken)
 
 returns-2 : tie.Need-returns-2
-returns-2 c = λ r p h f. together-none r (facts r (h .looks .on .compiled .accepted)) p (h .apart) _ _ f _ (c .before .over-train .ensures r p h (nothing-placed r)) (c .if1 .left)
+returns-2 c =
+    λ r p h f.
+    let k = facts r (h .looks .on .compiled .accepted) in
+    together-none r k p (h .apart) _ _ f _ (c .before .over-train .ensures r p h (nothing-placed r)) (c .if1 .left)
 
 pub combine-spec : {M : Type 1} → statement M
 combine-spec = tie.close (tie.spec (λ c κs. search needs) returns returns-2)

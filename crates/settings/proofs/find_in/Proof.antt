@@ -7,7 +7,8 @@ use Rattle.settings.proofs.find_in.Statement.{statement}
 use Rattle.settings.proofs.find_in.Tie as tie
 
 returns : tie.Need-returns
-returns c = λ r p on ways e. trains-few r _ (on .compiled) _ (c .before .trains-in .ensures r (on .compiled)) (c .if1 .taken) _
+returns c =
+    λ r p on ways e. trains-few r _ (on .compiled) _ (c .before .trains-in .ensures r (on .compiled)) (c .if1 .taken) _
 
 returns-2 : tie.Need-returns-2
 returns-2 c = λ r p on ways e. lost-none r _ _ _ _ (c .before .lost-in .ensures r p on) (c .if2 .taken)
@@ -19,7 +20,9 @@ returns-3 c =
     let k = l .before .before in
     λ r p on ways e.
     let lost = l .lost-in .ensures r p on in
-    found-first r _ _ _ _ lost (i .if2 .left) _ (c .look .ensures r p (asked r p _ _ _ _ _ on ways e (k .trains-in .ensures r (on .compiled)) _ lost (i .if2 .left)))
+    let trains = k .trains-in .ensures r (on .compiled) in
+    found-first r _ _ _ _ lost (i .if2 .left) _
+    (c .look .ensures r p (asked r p _ _ _ _ _ on ways e trains _ lost (i .if2 .left)))
 
 pub find-in-spec : {M : Type 1} → statement M
 find-in-spec =

@@ -13,7 +13,9 @@ returns c =
     let f = i .before in
     let a = f .before .before .args in
     λ r p h l.
-    nowhere-good r p _ _ (h .on) (a .bits) (a .t) _ (y .leads-to .ensures r p (h .on) (h .laid)) _ (a .n) _ (as-there r p _ _ (h .on) _ l _ _ (f .free-in .ensures r p (h .on))) (i .if1 .taken) (c .if2 .taken)
+    let on = h .on in
+    nowhere-good r p _ _ on (a .bits) (a .t) _ (y .leads-to .ensures r p on (h .laid)) _ (a .aim .figure) _
+    (as-there r p _ _ on _ l _ _ (f .free-in .ensures r p on)) (i .if1 .taken) (c .if2 .taken)
 
 returns-2 : tie.Need-returns-2
 returns-2 c =
@@ -23,16 +25,19 @@ returns-2 c =
     let f = i .before in
     let a = f .before .before .args in
     λ r p h l.
-    let leads = y .leads-to .ensures r p (h .on) (h .laid) in
-    let inside = y-inside r p _ _ (h .on) (a .bits) (a .t) _ leads (j .if2 .left) in
-    enters-good r p _ _ (h .on) (a .bits) (a .t) _ leads _ _ _ (as-there r p _ _ (h .on) _ l _ _ (f .free-in .ensures r p (h .on))) (i .if1 .taken) (j .if2 .left) _
-    (c .ends-good .ensures r p (h .on) (h .code) l inside)
+    let on = h .on in
+    let leads = y .leads-to .ensures r p on (h .laid) in
+    let inside = y-inside r p _ _ on (a .bits) (a .t) _ leads (j .if2 .left) in
+    enters-good r p _ _ on (a .bits) (a .t) _ leads _ _ _ (as-there r p _ _ on _ l _ _ (f .free-in .ensures r p on))
+    (i .if1 .taken) (j .if2 .left) _ (c .ends-good .ensures r p on (h .code) l inside)
 
 returns-3 : tie.Need-returns-3
 returns-3 c =
     let f = c .before in
     let a = f .before .before .args in
-    λ r p h l. not-free-good r _ p (a .n) (a .bits) _ _ (as-there r p _ _ (h .on) _ l _ _ (f .free-in .ensures r p (h .on))) (c .if1 .left)
+    λ r p h l.
+    let on = h .on in
+    not-free-good r _ p (a .aim .figure) (a .bits) _ _ (as-there r p _ _ on _ l _ _ (f .free-in .ensures r p on)) (c .if1 .left)
 
 pub free-good-spec : {M : Type 1} → statement M
 free-good-spec =

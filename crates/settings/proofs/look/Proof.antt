@@ -18,11 +18,14 @@ use Rattle.settings.proofs.look.Statement.{statement}
 use Rattle.settings.proofs.look.Tie as tie
 
 abbrev Inv-loop : tie.InvT-loop
-Inv-loop table ways figures q c n k count₀ all₀ most₀ t₀ count all most t =
-    (t ≤ k) × (count ≤ t) × ((r : Railway) (p : ℕ) → Asked r p table ways q c k → Seen r (figureIn figures) p n t count all most)
+Inv-loop table ways figures aim count₀ all₀ most₀ t₀ count all most t =
+    (t ≤ aim .trains)
+    × (count ≤ t)
+    × ((r : Railway) (p : ℕ) → Asked r p table ways (aim .placement) (aim .code) (aim .trains)
+    → Seen r (figureIn figures) p (aim .figure) t count all most)
 
 abbrev μ-loop : tie.MeasureT-loop
-μ-loop table ways figures q c n k count₀ all₀ most₀ t₀ count all most t = k - t
+μ-loop table ways figures aim count₀ all₀ most₀ t₀ count all most t = aim .trains - t
 
 loop-holds : tie.Need-loop-holds Inv-loop μ-loop
 loop-holds c = (omega arith, omega arith, λ r p h. seen-start r _ p _)
@@ -31,16 +34,19 @@ returns : tie.Need-returns Inv-loop μ-loop
 returns c =
     let w = c .before in
     let f = w .before .before in
+    let i = f .before in
     λ r p h.
     let on = h .looks .on in
-    let lt = rw (h .trains) at (f .before .loop-test .taken) in
-    let is = sym (as-there r p _ _ on _ lt _ _ (f .free-in .ensures r p on)) ∙ w .before .if1 .taken in
-    no-way r (facts r (on .compiled .accepted)) p (h .apart) _ _ (any-of (free r p) (r .trains) _ lt is) _ _ lt is (w .least-way .ensures r p (h .looks) lt) (c .if2 .taken)
+    let lt = rw (h .trains) at (i .if1 .taken) in
+    let is = sym (as-there r p _ _ on _ lt _ _ (f .free-in .ensures r p on)) ∙ w .before .if2 .taken in
+    no-way r (facts r (on .compiled .accepted)) p (h .apart) _ _ (any-of (free r p) (r .trains) _ lt is) _ _ lt is
+    (w .least-way .ensures r p (h .looks) lt) (c .if3 .taken)
 
 loop-again : tie.Need-loop-again Inv-loop μ-loop
 loop-again c =
     let f = c .before in
-    let l = f .before .before in
+    let i = f .before in
+    let l = i .before .before in
     ⊎-elim
     (λ w.
     rw (w .4, w .5, w .6) (
@@ -48,8 +54,10 @@ loop-again c =
       omega (arith, l .loop .inv .1),
       λ r p h.
           let on = h .looks .on in
-          let lt = rw (h .trains) at (f .before .loop-test .taken) in
-          seen-one r _ p _ _ _ _ _ (l .loop .inv .2 r p h) (sym (as-there r p _ _ on _ lt _ _ (f .free-in .ensures r p on)) ∙ w .0 .taken) _ (w .1 .ensures r p (h .looks) lt) (w .2 .left) _ (w .3 .ensures),
+          let lt = rw (h .trains) at (i .if1 .taken) in
+          seen-one r _ p _ _ _ _ _ (l .loop .inv .2 r p h)
+          (sym (as-there r p _ _ on _ lt _ _ (f .free-in .ensures r p on)) ∙ w .0 .taken) _
+          (w .1 .ensures r p (h .looks) lt) (w .2 .left) _ (w .3 .ensures),
     ))
     (λ w.
     rw (w .1, w .2, w .3) (
@@ -57,15 +65,19 @@ loop-again c =
       omega (arith, l .loop .inv .1),
       λ r p h.
           let on = h .looks .on in
-          let lt = rw (h .trains) at (f .before .loop-test .taken) in
-          seen-not r _ p _ _ _ _ _ (l .loop .inv .2 r p h) (sym (as-there r p _ _ on _ lt _ _ (f .free-in .ensures r p on)) ∙ w .0 .left),
+          let lt = rw (h .trains) at (i .if1 .taken) in
+          seen-not r _ p _ _ _ _ _ (l .loop .inv .2 r p h)
+          (sym (as-there r p _ _ on _ lt _ _ (f .free-in .ensures r p on)) ∙ w .0 .left),
     ))
-    (c .if1 .came)
+    (c .if2 .came)
 
 returns-2 : tie.Need-returns-2 Inv-loop μ-loop
 returns-2 c =
-    let l = c .before .before in
-    λ r p h. c .settle .ensures r p h (seen-all r _ p _ _ _ _ _ _ (h .trains) (l .loop .inv .0) (c .before .loop-test .left) (l .loop .inv .2 r p h))
+    let i = c .before in
+    let l = i .before .before in
+    λ r p h.
+    c .settle .ensures r p h
+    (seen-all r _ p _ _ _ _ _ _ (h .trains) (l .loop .inv .0) (i .if1 .left) (l .loop .inv .2 r p h))
 
 pub look-spec : {M : Type 1} → statement M
 look-spec =

@@ -10,18 +10,32 @@ returns : tie.Need-returns
 returns c = λ r p h s. c .open-one .ensures r p h (s .nobody (c .before .if1 .taken))
 
 returns-2 : tie.Need-returns-2
-returns-2 c = λ r p h s. settled-single r (facts r (h .looks .on .compiled .accepted)) p (h .apart) _ _ (s .somebody (c .before .if1 .left)) _ _ _ s (c .if2 .taken)
+returns-2 c =
+    λ r p h s.
+    let k = facts r (h .looks .on .compiled .accepted) in
+    settled-single r k p (h .apart) _ _ (s .somebody (c .before .if1 .left)) _ _ _ s (c .if2 .taken)
 
 returns-3 : tie.Need-returns-3
-returns-3 c = λ r p h s. settled-zero r (facts r (h .looks .on .compiled .accepted)) p (h .apart) _ _ (s .somebody (c .before .before .if1 .left)) _ _ _ s (c .if3 .taken)
+returns-3 c =
+    λ r p h s.
+    let k = facts r (h .looks .on .compiled .accepted) in
+    settled-zero r k p (h .apart) _ _ (s .somebody (c .before .before .if1 .left)) _ _ _ s (c .if3 .taken)
 
 returns-4 : tie.Need-returns-4
 returns-4 c =
     let u = c .before in
-    λ r p h s. settled-union r (facts r (h .looks .on .compiled .accepted)) p (h .apart) _ _ (s .somebody (u .before .before .before .if1 .left)) _ _ _ s _ (u .union-serves .ensures r p h) (c .if4 .taken)
+    let some = u .before in
+    let several = some .before in
+    λ r p h s.
+    let k = facts r (h .looks .on .compiled .accepted) in
+    settled-union r k p (h .apart) _ _ (s .somebody (several .before .if1 .left)) _ _ _ s _ (u .union-serves .ensures r p h)
+    (c .if4 .taken)
 
 returns-5 : tie.Need-returns-5
-returns-5 c = λ r p h s. c .combine .ensures r p h (s .somebody (c .before .before .before .before .before .if1 .left))
+returns-5 c =
+    let u = c .before .before in
+    let several = u .before .before in
+    λ r p h s. c .combine .ensures r p h (s .somebody (several .before .if1 .left))
 
 pub settle-spec : {M : Type 1} → statement M
 settle-spec =
