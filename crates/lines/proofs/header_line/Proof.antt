@@ -1,67 +1,31 @@
--- `lines::header_line` meets its contract: each field is read where the one before it ends, and the first that is not in form ends the line.
+-- `lines::header_line` meets its contract: each field is read from where the one before it ended.
 -- Assumes nothing.
 use borrow.Author.Needs.{needs}
-use native.Mathlib.Omega.{arith}
 use denote.Ref.{now}
-use mathlib.Core.Path.{refl, sym, _∙_, ap}
-use Rattle.text.specs.Answers.{numberGot}
-use Rattle.casefile.specs.Reading.{Counts, headerAt}
-use Rattle.text.proofs.Chain.{byte-fails, byte-goes}
-use Rattle.lines.proofs.Chain.{Left, whole, onward, tab-fails, tab-goes}
+use mathlib.Core.Path.{refl}
+use Rattle.casefile.specs.Reading.{Counts}
+use Rattle.casefile.specs.Reading.{headerAt}
+use Rattle.lines.proofs.Chain.{Left, whole, on, reached, missed}
 use Rattle.lines.proofs.header_line.Statement.{statement}
 use Rattle.lines.proofs.header_line.Tie as tie
 
--- the line behind each of its fields
-abbrev past-letter : tie.After-c1 → Left Counts
+-- the line behind its last field
+abbrev read : tie.After-byte-field5 → Left Counts
 unfolding headerAt
-past-letter k =
-    let a = k .before .before .before .before .args in
-    onward (whole (headerAt (now (a .text)) (a .c .at))) (byte-goes _ 72 _ (omega arith) _ (k .before .before .byte-at .ensures) _ (k .c1 .given .1) _ refl)
-
-abbrev past-sections : tie.After-sections → Left Counts
-unfolding headerAt
-past-sections k = onward (past-letter (k .before .before .before .before)) (tab-goes _ _ _ _ (sym (k .before .before .tab-number .ensures) ∙ ap numberGot (k .sections .given .1)) refl)
-
-abbrev past-points : tie.After-points → Left Counts
-unfolding headerAt
-past-points k = onward (past-sections (k .before .before .before .before)) (tab-goes _ _ _ _ (sym (k .before .before .tab-number2 .ensures) ∙ ap numberGot (k .points .given .1)) refl)
-
-abbrev past-trains : tie.After-trains → Left Counts
-unfolding headerAt
-past-trains k = onward (past-points (k .before .before .before .before)) (tab-goes _ _ _ _ (sym (k .before .before .tab-number3 .ensures) ∙ ap numberGot (k .trains .given .1)) refl)
-
-abbrev past-end : tie.After-c5 → Left Counts
-unfolding headerAt
-past-end k = onward (past-trains (k .before .before .before .before)) (byte-goes _ 10 _ (omega arith) _ (k .before .before .byte-at2 .ensures) _ (k .c5 .given .1) _ refl)
-
-returns : tie.Need-returns
-unfolding headerAt
-returns c = byte-fails (now (c .before .before .before .before .args .text)) 72 _ (omega arith) _ (c .before .before .byte-at .ensures) (c .enum-told .given .1) _
-
-returns-2 : tie.Need-returns-2
-unfolding headerAt
-returns-2 c = tab-fails _ _ _ _ (sym (c .before .before .tab-number .ensures) ∙ ap numberGot (c .enum-told2 .given .1)) ∙ past-letter (c .before .before .before .before) .gives
-
-returns-3 : tie.Need-returns-3
-unfolding headerAt
-returns-3 c = tab-fails _ _ _ _ (sym (c .before .before .tab-number2 .ensures) ∙ ap numberGot (c .enum-told3 .given .1)) ∙ past-sections (c .before .before .before .before) .gives
-
-returns-4 : tie.Need-returns-4
-unfolding headerAt
-returns-4 c = tab-fails _ _ _ _ (sym (c .before .before .tab-number3 .ensures) ∙ ap numberGot (c .enum-told4 .given .1)) ∙ past-points (c .before .before .before .before) .gives
-
-returns-5 : tie.Need-returns-5
-unfolding headerAt
-returns-5 c = byte-fails _ 10 _ (omega arith) _ (c .before .before .byte-at2 .ensures) (c .enum-told5 .given .1) _ ∙ past-trains (c .before .before .before .before) .gives
-
-returns-6 : tie.Need-returns-6
-unfolding headerAt
-returns-6 c = past-end (c .before) .gives
+read k =
+    let n = k .before in let v = n .before in let p = v .before in let u = p .before in let s = u .before in
+    let t = s .before in let h = t .before in let a = h .before .before .args in
+    let whole-line = whole (headerAt (now (a .text))) (a .c .at) in
+    on _ (on _ (on _ (on _ (on _ (on _ (on _ (on _ whole-line (h .byte-field .ensures) refl)
+    (t .byte-field2 .ensures) refl) (s .number-field .ensures) refl) (u .byte-field3 .ensures) refl)
+    (p .number-field2 .ensures) refl) (v .byte-field4 .ensures) refl) (n .number-field3 .ensures) refl)
+    (k .byte-field5 .ensures) refl
 
 pub header-line-spec : {M : Type 1} → statement M
+unfolding headerAt
 header-line-spec =
     tie.close (tie.spec
-    (λ c κs. search needs) (λ c. search needs) (λ c. search needs) returns (λ c κs. search needs)
-    (λ c. search needs) (λ c. search needs) returns-2 (λ c κs. search needs) (λ c. search needs)
-    (λ c. search needs) returns-3 (λ c κs. search needs) (λ c. search needs) (λ c. search needs) returns-4
-    (λ c κs. search needs) (λ c. search needs) (λ c. search needs) returns-5 returns-6)
+    (λ c κs. search needs) (λ c κs. search needs) (λ c κs. search needs) (λ c κs. search needs)
+    (λ c κs. search needs) (λ c κs. search needs) (λ c κs. search needs) (λ c κs. search needs)
+    (λ c. reached (read (c .before)) (c .if1 .taken))
+    (λ c. missed (read (c .before)) (c .if1 .left)))

@@ -1,60 +1,30 @@
--- `lines::join_line` meets its contract: each field is read where the one before it ends, and the first that is not in form ends the line.
+-- `lines::join_line` meets its contract: each field is read from where the one before it ended.
 -- Assumes nothing.
 use borrow.Author.Needs.{needs}
-use native.Mathlib.Omega.{arith}
 use denote.Ref.{now}
-use mathlib.Core.Path.{refl, sym, _∙_, ap}
+use mathlib.Core.Path.{refl}
 use Rattle.casefile.specs.Form.{JoinLine}
 use Rattle.casefile.specs.Reading.{joinLineAt}
-use Rattle.lines.specs.Answers.{endGot}
-use Rattle.text.proofs.Chain.{byte-fails, byte-goes}
-use Rattle.lines.proofs.Chain.{Left, whole, onward, tab-fails, tab-goes}
+use Rattle.lines.proofs.Chain.{Left, whole, on, reached, missed}
 use Rattle.lines.proofs.join_line.Statement.{statement}
 use Rattle.lines.proofs.join_line.Tie as tie
 
--- the line behind each of its fields
-abbrev past-letter : tie.After-c1 → Left JoinLine
+-- the line behind its last field
+abbrev read : tie.After-byte-field4 → Left JoinLine
 unfolding joinLineAt
-past-letter k =
-    let a = k .before .before .before .before .args in
-    onward (whole (joinLineAt (now (a .text)) (a .c .at))) (byte-goes _ 74 _ (omega arith) _ (k .before .before .byte-at .ensures) _ (k .c1 .given .1) _ refl)
-
-abbrev past-one : tie.After-one → Left JoinLine
-unfolding joinLineAt
-past-one k = onward (past-letter (k .before .before .before .before)) (tab-goes _ _ _ _ (sym (k .before .before .tab-end .ensures) ∙ ap endGot (k .one .given .1)) refl)
-
-abbrev past-other : tie.After-other → Left JoinLine
-unfolding joinLineAt
-past-other k = onward (past-one (k .before .before .before .before)) (tab-goes _ _ _ _ (sym (k .before .before .tab-end2 .ensures) ∙ ap endGot (k .other .given .1)) refl)
-
-abbrev past-end : tie.After-c4 → Left JoinLine
-unfolding joinLineAt
-past-end k = onward (past-other (k .before .before .before .before)) (byte-goes _ 10 _ (omega arith) _ (k .before .before .byte-at2 .ensures) _ (k .c4 .given .1) _ refl)
-
-returns : tie.Need-returns
-unfolding joinLineAt
-returns c = byte-fails (now (c .before .before .before .before .args .text)) 74 _ (omega arith) _ (c .before .before .byte-at .ensures) (c .enum-told .given .1) _
-
-returns-2 : tie.Need-returns-2
-unfolding joinLineAt
-returns-2 c = tab-fails _ _ _ _ (sym (c .before .before .tab-end .ensures) ∙ ap endGot (c .enum-told2 .given .1)) ∙ past-letter (c .before .before .before .before) .gives
-
-returns-3 : tie.Need-returns-3
-unfolding joinLineAt
-returns-3 c = tab-fails _ _ _ _ (sym (c .before .before .tab-end2 .ensures) ∙ ap endGot (c .enum-told3 .given .1)) ∙ past-one (c .before .before .before .before) .gives
-
-returns-4 : tie.Need-returns-4
-unfolding joinLineAt
-returns-4 c = byte-fails _ 10 _ (omega arith) _ (c .before .before .byte-at2 .ensures) (c .enum-told4 .given .1) _ ∙ past-other (c .before .before .before .before) .gives
-
-returns-5 : tie.Need-returns-5
-unfolding joinLineAt
-returns-5 c = past-end (c .before) .gives
+read k =
+    let other = k .before in let u = other .before in let one = u .before in let t = one .before in
+    let l = t .before in let a = l .before .before .args in
+    let whole-line = whole (joinLineAt (now (a .text))) (a .c .at) in
+    on _ (on _ (on _ (on _ (on _ (on _ whole-line (l .byte-field .ensures) refl) (t .byte-field2 .ensures) refl)
+    (one .end-field .ensures) refl) (u .byte-field3 .ensures) refl) (other .end-field2 .ensures) refl)
+    (k .byte-field4 .ensures) refl
 
 pub join-line-spec : {M : Type 1} → statement M
+unfolding joinLineAt
 join-line-spec =
     tie.close (tie.spec
-    (λ c κs. search needs) (λ c. search needs) (λ c. search needs) returns (λ c κs. search needs)
-    (λ c. search needs) (λ c. search needs) returns-2 (λ c κs. search needs) (λ c. search needs)
-    (λ c. search needs) returns-3 (λ c κs. search needs) (λ c. search needs) (λ c. search needs) returns-4
-    returns-5)
+    (λ c κs. search needs) (λ c κs. search needs) (λ c κs. search needs) (λ c κs. search needs)
+    (λ c κs. search needs) (λ c κs. search needs)
+    (λ c. reached (read (c .before)) (c .if1 .taken))
+    (λ c. missed (read (c .before)) (c .if1 .left)))

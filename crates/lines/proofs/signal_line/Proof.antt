@@ -1,61 +1,29 @@
--- `lines::signal_line` meets its contract: each field is read where the one before it ends, and the first that is not in form ends the line.
+-- `lines::signal_line` meets its contract: each field is read from where the one before it ended.
 -- Assumes nothing.
 use borrow.Author.Needs.{needs}
-use native.Mathlib.Omega.{arith}
 use denote.Ref.{now}
-use mathlib.Core.Path.{refl, sym, _∙_, ap}
-use Rattle.text.specs.Answers.{numberGot}
+use mathlib.Core.Path.{refl}
 use Rattle.casefile.specs.Form.{SignalLine}
 use Rattle.casefile.specs.Reading.{signalLineAt}
-use Rattle.lines.specs.Answers.{sideGot}
-use Rattle.text.proofs.Chain.{fails, goes, byte-fails, byte-goes}
-use Rattle.lines.proofs.Chain.{Left, whole, onward, tab-fails, tab-goes}
+use Rattle.lines.proofs.Chain.{Left, whole, on, reached, missed}
 use Rattle.lines.proofs.signal_line.Statement.{statement}
 use Rattle.lines.proofs.signal_line.Tie as tie
 
--- the line behind each of its fields
-abbrev past-letter : tie.After-c1 → Left SignalLine
+-- the line behind its last field
+abbrev read : tie.After-byte-field3 → Left SignalLine
 unfolding signalLineAt
-past-letter k =
-    let a = k .before .before .before .before .args in
-    onward (whole (signalLineAt (now (a .text)) (a .c .at))) (byte-goes _ 71 _ (omega arith) _ (k .before .before .byte-at .ensures) _ (k .c1 .given .1) _ refl)
-
-abbrev past-number : tie.After-n → Left SignalLine
-unfolding signalLineAt
-past-number k = onward (past-letter (k .before .before .before .before)) (tab-goes _ _ _ _ (sym (k .before .before .tab-number .ensures) ∙ ap numberGot (k .n .given .1)) refl)
-
-abbrev past-side : tie.After-side → Left SignalLine
-unfolding signalLineAt
-past-side k = onward (past-number (k .before .before .before .before)) (goes _ (sym (k .before .before .side-field .ensures) ∙ ap sideGot (k .side .given .1)) refl)
-
-abbrev past-end : tie.After-c4 → Left SignalLine
-unfolding signalLineAt
-past-end k = onward (past-side (k .before .before .before .before)) (byte-goes _ 10 _ (omega arith) _ (k .before .before .byte-at2 .ensures) _ (k .c4 .given .1) _ refl)
-
-returns : tie.Need-returns
-unfolding signalLineAt
-returns c = byte-fails (now (c .before .before .before .before .args .text)) 71 _ (omega arith) _ (c .before .before .byte-at .ensures) (c .enum-told .given .1) _
-
-returns-2 : tie.Need-returns-2
-unfolding signalLineAt
-returns-2 c = tab-fails _ _ _ _ (sym (c .before .before .tab-number .ensures) ∙ ap numberGot (c .enum-told2 .given .1)) ∙ past-letter (c .before .before .before .before) .gives
-
-returns-3 : tie.Need-returns-3
-unfolding signalLineAt
-returns-3 c = fails _ (sym (c .before .before .side-field .ensures) ∙ ap sideGot (c .enum-told3 .given .1)) ∙ past-number (c .before .before .before .before) .gives
-
-returns-4 : tie.Need-returns-4
-unfolding signalLineAt
-returns-4 c = byte-fails _ 10 _ (omega arith) _ (c .before .before .byte-at2 .ensures) (c .enum-told4 .given .1) _ ∙ past-side (c .before .before .before .before) .gives
-
-returns-5 : tie.Need-returns-5
-unfolding signalLineAt
-returns-5 c = past-end (c .before) .gives
+read k =
+    let s = k .before in let n = s .before in let t = n .before in let l = t .before in
+    let a = l .before .before .args in
+    let whole-line = whole (signalLineAt (now (a .text))) (a .c .at) in
+    on _ (on _ (on _ (on _ (on _ whole-line (l .byte-field .ensures) refl) (t .byte-field2 .ensures) refl)
+    (n .number-field .ensures) refl) (s .side-field .ensures) refl) (k .byte-field3 .ensures) refl
 
 pub signal-line-spec : {M : Type 1} → statement M
+unfolding signalLineAt
 signal-line-spec =
     tie.close (tie.spec
-    (λ c κs. search needs) (λ c. search needs) (λ c. search needs) returns (λ c κs. search needs)
-    (λ c. search needs) (λ c. search needs) returns-2 (λ c κs. search needs) (λ c. search needs)
-    (λ c. search needs) returns-3 (λ c κs. search needs) (λ c. search needs) (λ c. search needs) returns-4
-    returns-5)
+    (λ c κs. search needs) (λ c κs. search needs) (λ c κs. search needs) (λ c κs. search needs)
+    (λ c κs. search needs)
+    (λ c. reached (read (c .before)) (c .if1 .taken))
+    (λ c. missed (read (c .before)) (c .if1 .left)))
