@@ -16,7 +16,7 @@ use Rattle.railway.specs.declared.Leg.{Leg}
 use Rattle.casefile.specs.Form.{section, port}
 use Rattle.casefile.specs.Reading.{caseNumberAt, sideFieldAt, legFieldAt, markAt, weightFieldAt}
 use Rattle.lines.specs.declared.Way.{Way}
-use Rattle.lines.specs.Answers.{behind, Field}
+use Rattle.lines.specs.Answers.{wayAt, behind, Field}
 
 -- READ WHERE THERE IS A WAY
 module _ {A : Type 0} {read : ℕ → Got A} {from : Way} (t : from .there ≡ true) where
@@ -56,7 +56,7 @@ cond-and g false p = refl
 
 module _ {B : Type 0} where
   abbrev pub whole : (ℕ → Got B) → ℕ → Left B
-  whole line at = record { line = line at; way = record { there = true; at = at }; rest = line; gives = refl }
+  whole line at = record { line = line at; way = wayAt at; rest = line; gives = refl }
 
   abbrev pub on : {A : Type 0} {read : ℕ → Got A} {x : A} {next : Way} (rest : A → ℕ → Got B) (l : Left B) →
       Field (l .way) read x next → l .rest ≡ (λ c. then (read c) rest) → Left B

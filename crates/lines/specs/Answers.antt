@@ -1,6 +1,6 @@
 -- What the answers of the line functions stand for. Contracts cite these; nothing of document 01 rests on them. Assumes nothing.
 use mathlib.Core.Path.{_≡_}
-use mathlib.Core.Bool.{cond}
+use mathlib.Core.Bool.{true, cond}
 use mathlib.Core.Option.{Option, none, some}
 use Prim.Native.Nat.{ℕ}
 use Rattle.text.specs.Reading.{Got, bad, got}
@@ -22,6 +22,10 @@ use Rattle.lines.specs.declared.NamedWeight.{NamedWeight}
 use Rattle.lines.specs.declared.NamedWeight.the-variants.{Unsaid, Said}
 use Rattle.lines.specs.declared.TrainRead.{TrainRead}
 use Rattle.lines.specs.declared.TrainRead.the-variants.{NoTrain, TrainIs}
+
+-- The way on at a place.
+abbrev pub wayAt : ℕ → Way
+wayAt at = record { there = true; at = at }
 
 -- What is read further on, if there is a way on.
 abbrev pub behind : {A : Type 0} → Way → (ℕ → Got A) → Got A

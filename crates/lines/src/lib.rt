@@ -6,7 +6,7 @@ ghost use Prim.Native.Nat.{_<_};
 ghost use Rattle.text.specs.Answers.{numberGot};
 ghost use Rattle.text.specs.Reading.{byteAt};
 ghost use Rattle.casefile.specs.Reading.{caseNumberAt, sideFieldAt, legFieldAt, endFieldAt, headerAt, pointLineAt, joinLineAt, signalLineAt, closedLineAt, weightFieldAt, trainLineAt};
-ghost use Rattle.lines.specs.Answers.{Field, endNamed, weightNamed, sideGot, countsGot, joinGot, signalGot, trainGot};
+ghost use Rattle.lines.specs.Answers.{wayAt, Field, endNamed, weightNamed, sideGot, countsGot, joinGot, signalGot, trainGot};
 use railway::Leg;
 use railway::Side;
 use text::Byte;
@@ -109,27 +109,35 @@ fn byte_field(text: &[u8], from: Way, b: u8) -> Way
     from
 }
 
+// The letter that a line begins with.
+fn letter_at(text: &[u8], c: Cursor, b: u8) -> Way
+    requires { ⌜ 0 < b ⌝ }
+    ensures { λ r. ⌜ Field (wayAt (c .at)) (byteAt (now (text .entry)) b) b r ⌝ }
+{
+    let start = Way {
+        there: true,
+        at: c.at,
+    };
+    byte_field(text, start, b)
+}
+
 fn number_field(text: &[u8], from: Way) -> NumberOn
     ensures { λ r. ⌜ Field from (caseNumberAt (now (text .entry))) (r .value) (r .on) ⌝ }
 {
     let at = from.at;
     if from.there {
         let Number::Value(n, next) = text::number_at(text, Cursor { at: at }, Width::Three) else {
-            return NumberOn {
-                value: 0,
-                on: Way {
-                    there: false,
-                    at: at,
-                },
+            let none = Way {
+                there: false,
+                at: at,
             };
+            return NumberOn { value: 0, on: none };
         };
-        return NumberOn {
-            value: n,
-            on: Way {
-                there: true,
-                at: next.at,
-            },
+        let on = Way {
+            there: true,
+            at: next.at,
         };
+        return NumberOn { value: n, on: on };
     }
     NumberOn { value: 0, on: from }
 }
@@ -145,10 +153,9 @@ fn side_field(text: &[u8], from: Way) -> SideOn
             on: up,
         };
     }
-    let down = byte_field(text, from, b'd');
     SideOn {
         value: Side::Down,
-        on: down,
+        on: byte_field(text, from, b'd'),
     }
 }
 
@@ -170,10 +177,9 @@ fn leg_field(text: &[u8], from: Way) -> LegOn
             on: plus,
         };
     }
-    let minus = byte_field(text, from, b'-');
     LegOn {
         value: Leg::Minus,
-        on: minus,
+        on: byte_field(text, from, b'-'),
     }
 }
 
@@ -223,14 +229,7 @@ fn weight_field(text: &[u8], from: Way) -> WeightOn
 pub fn header_line(text: &[u8], c: Cursor) -> HeaderRead
     ensures { λ r. ⌜ countsGot r ≡ headerAt (now (text .entry)) (c .at) ⌝ }
 {
-    let letter = byte_field(
-        text,
-        Way {
-            there: true,
-            at: c.at,
-        },
-        b'H',
-    );
+    let letter = letter_at(text, c, b'H');
     let sections = number_field(text, byte_field(text, letter, TAB));
     let points = number_field(text, byte_field(text, sections.on, TAB));
     let trains = number_field(text, byte_field(text, points.on, TAB));
@@ -250,14 +249,7 @@ pub fn header_line(text: &[u8], c: Cursor) -> HeaderRead
 pub fn point_line(text: &[u8], c: Cursor, n: u64) -> SideRead
     ensures { λ r. ⌜ sideGot r ≡ pointLineAt (now (text .entry)) n (c .at) ⌝ }
 {
-    let letter = byte_field(
-        text,
-        Way {
-            there: true,
-            at: c.at,
-        },
-        b'P',
-    );
+    let letter = letter_at(text, c, b'P');
     let number = number_field(text, byte_field(text, letter, TAB));
     let legs = side_field(text, byte_field(text, number.on, TAB));
     let end = byte_field(text, legs.on, LINE_END);
@@ -272,14 +264,7 @@ pub fn point_line(text: &[u8], c: Cursor, n: u64) -> SideRead
 pub fn join_line(text: &[u8], c: Cursor) -> JoinRead
     ensures { λ r. ⌜ joinGot r ≡ joinLineAt (now (text .entry)) (c .at) ⌝ }
 {
-    let letter = byte_field(
-        text,
-        Way {
-            there: true,
-            at: c.at,
-        },
-        b'J',
-    );
+    let letter = letter_at(text, c, b'J');
     let one = end_field(text, byte_field(text, letter, TAB));
     let other = end_field(text, byte_field(text, one.on, TAB));
     let end = byte_field(text, other.on, LINE_END);
@@ -295,14 +280,7 @@ pub fn join_line(text: &[u8], c: Cursor) -> JoinRead
 pub fn signal_line(text: &[u8], c: Cursor) -> SignalRead
     ensures { λ r. ⌜ signalGot r ≡ signalLineAt (now (text .entry)) (c .at) ⌝ }
 {
-    let letter = byte_field(
-        text,
-        Way {
-            there: true,
-            at: c.at,
-        },
-        b'G',
-    );
+    let letter = letter_at(text, c, b'G');
     let number = number_field(text, byte_field(text, letter, TAB));
     let mark = side_field(text, number.on);
     let end = byte_field(text, mark.on, LINE_END);
@@ -317,14 +295,7 @@ pub fn signal_line(text: &[u8], c: Cursor) -> SignalRead
 pub fn closed_line(text: &[u8], c: Cursor) -> Number
     ensures { λ r. ⌜ numberGot r ≡ closedLineAt (now (text .entry)) (c .at) ⌝ }
 {
-    let letter = byte_field(
-        text,
-        Way {
-            there: true,
-            at: c.at,
-        },
-        b'X',
-    );
+    let letter = letter_at(text, c, b'X');
     let number = number_field(text, byte_field(text, letter, TAB));
     let end = byte_field(text, number.on, LINE_END);
     if end.there {
@@ -337,14 +308,7 @@ pub fn closed_line(text: &[u8], c: Cursor) -> Number
 pub fn train_line(text: &[u8], c: Cursor, n: u64) -> TrainRead
     ensures { λ r. ⌜ trainGot r ≡ trainLineAt (now (text .entry)) n (c .at) ⌝ }
 {
-    let letter = byte_field(
-        text,
-        Way {
-            there: true,
-            at: c.at,
-        },
-        b'T',
-    );
+    let letter = letter_at(text, c, b'T');
     let number = number_field(text, byte_field(text, letter, TAB));
     let headed = side_field(text, byte_field(text, number.on, TAB));
     let start = number_field(text, byte_field(text, headed.on, TAB));
@@ -354,13 +318,8 @@ pub fn train_line(text: &[u8], c: Cursor, n: u64) -> TrainRead
     if end.there & (number.value == n) {
         let heading = headed.value;
         let weight = weighed.value;
-        return TrainRead::TrainIs(
-            heading,
-            start.value,
-            destination.value,
-            weight,
-            Cursor { at: end.at },
-        );
+        let next = Cursor { at: end.at };
+        return TrainRead::TrainIs(heading, start.value, destination.value, weight, next);
     }
     TrainRead::NoTrain
 }

@@ -10,15 +10,15 @@ use Rattle.lines.proofs.join_line.Statement.{statement}
 use Rattle.lines.proofs.join_line.Tie as tie
 
 -- the line behind its last field
-abbrev read : tie.After-byte-field4 → Left JoinLine
+abbrev read : tie.After-byte-field3 → Left JoinLine
 unfolding joinLineAt
 read k =
     let other = k .before in let u = other .before in let one = u .before in let t = one .before in
     let l = t .before in let a = l .before .before .args in
     let whole-line = whole (joinLineAt (now (a .text))) (a .c .at) in
-    on _ (on _ (on _ (on _ (on _ (on _ whole-line (l .byte-field .ensures) refl) (t .byte-field2 .ensures) refl)
-    (one .end-field .ensures) refl) (u .byte-field3 .ensures) refl) (other .end-field2 .ensures) refl)
-    (k .byte-field4 .ensures) refl
+    on _ (on _ (on _ (on _ (on _ (on _ whole-line (l .letter-at .ensures) refl) (t .byte-field .ensures) refl)
+    (one .end-field .ensures) refl) (u .byte-field2 .ensures) refl) (other .end-field2 .ensures) refl)
+    (k .byte-field3 .ensures) refl
 
 pub join-line-spec : {M : Type 1} → statement M
 unfolding joinLineAt

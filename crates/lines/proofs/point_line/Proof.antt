@@ -10,15 +10,15 @@ use Rattle.lines.proofs.point_line.Statement.{statement}
 use Rattle.lines.proofs.point_line.Tie as tie
 
 -- the line behind its last field
-abbrev read : tie.After-byte-field4 → Left Side
+abbrev read : tie.After-byte-field3 → Left Side
 unfolding pointLineAt
 read k =
     let s = k .before in let u = s .before in let n = u .before in let t = n .before in let l = t .before in
     let a = l .before .before .args in
     let whole-line = whole (pointLineAt (now (a .text)) (a .n)) (a .c .at) in
-    on _ (on _ (on _ (on _ (on _ (on _ whole-line (l .byte-field .ensures) refl) (t .byte-field2 .ensures) refl)
-    (n .number-field .ensures) refl) (u .byte-field3 .ensures) refl) (s .side-field .ensures) refl)
-    (k .byte-field4 .ensures) refl
+    on _ (on _ (on _ (on _ (on _ (on _ whole-line (l .letter-at .ensures) refl) (t .byte-field .ensures) refl)
+    (n .number-field .ensures) refl) (u .byte-field2 .ensures) refl) (s .side-field .ensures) refl)
+    (k .byte-field3 .ensures) refl
 
 pub point-line-spec : {M : Type 1} → statement M
 unfolding pointLineAt

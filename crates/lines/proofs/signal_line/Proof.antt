@@ -10,14 +10,14 @@ use Rattle.lines.proofs.signal_line.Statement.{statement}
 use Rattle.lines.proofs.signal_line.Tie as tie
 
 -- the line behind its last field
-abbrev read : tie.After-byte-field3 → Left SignalLine
+abbrev read : tie.After-byte-field2 → Left SignalLine
 unfolding signalLineAt
 read k =
     let s = k .before in let n = s .before in let t = n .before in let l = t .before in
     let a = l .before .before .args in
     let whole-line = whole (signalLineAt (now (a .text))) (a .c .at) in
-    on _ (on _ (on _ (on _ (on _ whole-line (l .byte-field .ensures) refl) (t .byte-field2 .ensures) refl)
-    (n .number-field .ensures) refl) (s .side-field .ensures) refl) (k .byte-field3 .ensures) refl
+    on _ (on _ (on _ (on _ (on _ whole-line (l .letter-at .ensures) refl) (t .byte-field .ensures) refl)
+    (n .number-field .ensures) refl) (s .side-field .ensures) refl) (k .byte-field2 .ensures) refl
 
 pub signal-line-spec : {M : Type 1} → statement M
 unfolding signalLineAt
