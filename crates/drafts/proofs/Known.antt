@@ -89,7 +89,9 @@ module _ (d : Description) where
         rw (← there-known (w .railway) z (section (g .number) (g .side)))
         (at-unknown (isThere (w .railway) (section (g .number) (g .side))) (endOf (section (g .number) (g .side))))
 
-    closed-cases : (a b v : Bool) (r : Railway) → a ≡ b → cond a (record { railway = r; weight = w .weight; unknown = w .unknown; wrong = w .wrong; double = v }) (unknownIn w) .unknown ≡ (w .unknown || not b)
+    closed-cases : (a b v : Bool) (r : Railway) → a ≡ b
+        → cond a (record { railway = r; weight = w .weight; unknown = w .unknown; wrong = w .wrong; double = v })
+        (unknownIn w) .unknown ≡ (w .unknown || not b)
     closed-cases a true v r e = rw e (sym (or-nothing (w .unknown)))
     closed-cases a false v r e = rw e (sym (or-all (w .unknown)))
 

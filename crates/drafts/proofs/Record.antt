@@ -110,7 +110,17 @@ signal-keeps : (r : Railway) (e : End) → SignalsKeep r (withSignal r e)
 unfolding withSignal
 signal-keeps r e = cases (ltb (endIndex e) sectionEnds)
   where
-    cases : (c : Bool) → SignalsKeep r (cond c (record { sections = r .sections; points = r .points; trains = r .trains; legs = r .legs; links = r .links; signals = set (r .signals) (endIndex e) true; closed = r .closed; roster = r .roster }) r)
+    cases : (c : Bool)
+        → SignalsKeep r (cond c (record {
+          sections = r .sections;
+          points = r .points;
+          trains = r .trains;
+          legs = r .legs;
+          links = r .links;
+          signals = set (r .signals) (endIndex e) true;
+          closed = r .closed;
+          roster = r .roster;
+        }) r)
     cases true = record { legs = refl; links = refl; closed = refl; roster = refl }
     cases false = record { legs = refl; links = refl; closed = refl; roster = refl }
 
@@ -132,7 +142,17 @@ closed-keeps : (r : Railway) (x : ℕ) → ClosedKeep r (withClosed r x)
 unfolding withClosed
 closed-keeps r x = cases (ltb x mostSections)
   where
-    cases : (c : Bool) → ClosedKeep r (cond c (record { sections = r .sections; points = r .points; trains = r .trains; legs = r .legs; links = r .links; signals = r .signals; closed = set (r .closed) x true; roster = r .roster }) r)
+    cases : (c : Bool)
+        → ClosedKeep r (cond c (record {
+          sections = r .sections;
+          points = r .points;
+          trains = r .trains;
+          legs = r .legs;
+          links = r .links;
+          signals = r .signals;
+          closed = set (r .closed) x true;
+          roster = r .roster;
+        }) r)
     cases true = record { legs = refl; links = refl; signals = refl; roster = refl }
     cases false = record { legs = refl; links = refl; signals = refl; roster = refl }
 
@@ -162,7 +182,9 @@ module _ (s p k : ℕ) where
 
 pub record-same : (r q : Railway) → r .sections ≡ q .sections → r .points ≡ q .points → r .trains ≡ q .trains → r .legs ≡ q .legs → r .links ≡ q .links
     → r .signals ≡ q .signals → r .closed ≡ q .closed → r .roster ≡ q .roster → r ≡ q
-record-same r q a b c e f g i h = go (r .sections) (q .sections) (r .points) (q .points) (r .trains) (q .trains) (r .legs) (q .legs) (r .links) (q .links) (r .signals) (q .signals) (r .closed) (q .closed) (r .roster) (q .roster) a b c e f g i h
+record-same r q a b c e f g i h =
+    go (r .sections) (q .sections) (r .points) (q .points) (r .trains) (q .trains) (r .legs) (q .legs) (r .links)
+    (q .links) (r .signals) (q .signals) (r .closed) (q .closed) (r .roster) (q .roster) a b c e f g i h
   where
     go : (s s′ p p′ k k′ : ℕ) (l l′ : List Legs) (m m′ : List ℕ) (n n′ x x′ : List Bool) (o o′ : List Train) → s ≡ s′ → p ≡ p′ → k ≡ k′ → l ≡ l′ → m ≡ m′ → n ≡ n′ → x ≡ x′ → o ≡ o′
         → _≡_ {A = Railway} (record { sections = s; points = p; trains = k; legs = l; links = m; signals = n; closed = x; roster = o })
@@ -203,7 +225,17 @@ module _ (d : Description) (f : WellFormed d) (b : Bounded (d .sections) (d .poi
   pub sized-points : SizedBy d withPoints
   sized-points =
       let z = sized-bare (d .sections) (d .points) (d .trains) in
-      record { sections = refl; points = refl; trains = refl; legs = store-length (map legsRow (d .legs)) (start .legs) 0 ∙ z .legs; links = z .links; signals = z .signals; closed = z .closed; roster = z .roster }
+      record {
+        sections = refl;
+        points = refl;
+        trains = refl;
+        legs = store-length (map legsRow (d .legs))
+            (start .legs) 0 ∙ z .legs;
+        links = z .links;
+        signals = z .signals;
+        closed = z .closed;
+        roster = z .roster;
+      }
 
   sized-2 : SizedBy d withJoins
   sized-2 = sized-joins (d .sections) (d .points) (d .trains) (d .joins) withPoints sized-points
@@ -267,7 +299,9 @@ module _ (d : Description) (f : WellFormed d) (b : Bounded (d .sections) (d .poi
         sized = sized-points;
         legs = λ n h.
             let m = b .few-points in
-            rw (lt-ltb n (d .points) h) (ap (λ (l : List Legs). getD l n noLegs .side) legs-built ∙ ap (λ (l : Legs). l .side) (list-get (λ n. record { side = getD (d .legs) n Up }) mostPoints n noLegs (omega arith)));
+            rw (lt-ltb n (d .points) h) (ap (λ (l : List Legs). getD l n noLegs .side) legs-built
+            ∙ ap (λ (l : Legs). l .side)
+            (list-get (λ n. record { side = getD (d .legs) n Up }) mostPoints n noLegs (omega arith)));
       }
 
   none-there : (i : ℕ) → linkAt withPoints i ≡ Nothing
@@ -325,7 +359,8 @@ module _ (d : Description) (f : WellFormed d) (b : Bounded (d .sections) (d .poi
     roster-built =
         let m = roster-many in
         let h = b .few-trains in
-        let e : withAllClosed .roster ≡ replicate mostTrains noTrain = closeds-keep (d .closed) withSignals .roster ∙ signals-keep (d .signals) withJoins .roster ∙ joins-keep (d .joins) withPoints .roster in
+        let e : withAllClosed .roster ≡ replicate mostTrains noTrain =
+        closeds-keep (d .closed) withSignals .roster ∙ signals-keep (d .signals) withJoins .roster ∙ joins-keep (d .joins) withPoints .roster in
         ap (λ (l : List Train). storeFrom l 0 (map trainOfLine (d .roster))) e
         ∙ store-all (map trainOfLine (d .roster)) mostTrains noTrain (omega arith) ∙ list-same _ _ mostTrains (λ i l. List·getD-map trainOfLine (d .roster) i noTrainLine)
 

@@ -79,7 +79,17 @@ kept : (r : Railway) → length (r .signals) ≡ sectionEnds → (e : End) → l
 unfolding withSignal
 kept r room e = cases (ltb (endIndex e) sectionEnds)
   where
-    cases : (c : Bool) → length (cond c (record { sections = r .sections; points = r .points; trains = r .trains; legs = r .legs; links = r .links; signals = set (r .signals) (endIndex e) true; closed = r .closed; roster = r .roster }) r .signals) ≡ sectionEnds
+    cases : (c : Bool)
+        → length (cond c (record {
+          sections = r .sections;
+          points = r .points;
+          trains = r .trains;
+          legs = r .legs;
+          links = r .links;
+          signals = set (r .signals) (endIndex e) true;
+          closed = r .closed;
+          roster = r .roster;
+        }) r .signals) ≡ sectionEnds
     cases true = simp length-set room
     cases false = room
 

@@ -112,7 +112,14 @@ module _ (s p k : ℕ) where
     sized-put-closed n = cases (within n (d .railway .sections))
       where
         cases : (b : Bool)
-            → SizedDraft (cond b (record { railway = withClosed (d .railway) (n - 1); weight = d .weight; unknown = d .unknown; wrong = d .wrong; double = d .double || isClosed (d .railway) (n - 1) }) (unknownIn d))
+            → SizedDraft (cond b (record {
+              railway = withClosed (d .railway) (n - 1);
+              weight = d .weight;
+              unknown = d .unknown;
+              wrong = d .wrong;
+              double = d .double || isClosed (d .railway) (n - 1);
+            })
+            (unknownIn d))
         cases true = sized-closed (d .railway) z (n - 1)
         cases false = z
 
@@ -120,7 +127,9 @@ module _ (s p k : ℕ) where
     unfolding putTrain
     sized-put-train n t = cases (within n (d .railway .trains) && (within (t .start) (d .railway .sections) && within (t .destination) (d .railway .sections)))
       where
-        cases : (b : Bool) → SizedDraft (cond b (withRailway (weighedIn d (saidWeight (t .weight))) (withTrain (d .railway) (n - 1) (trainInByte t))) (unknownIn (weighedIn d (saidWeight (t .weight)))))
+        cases : (b : Bool)
+            → SizedDraft (cond b (withRailway (weighedIn d (saidWeight (t .weight)))
+            (withTrain (d .railway) (n - 1) (trainInByte t))) (unknownIn (weighedIn d (saidWeight (t .weight)))))
         cases true = sized-train (d .railway) z (n - 1) (trainInByte t)
         cases false = z
 

@@ -46,7 +46,13 @@ module _ (w : Draft) where
   closed-keeps n = cases (within n (w .railway .sections))
     where
       cases : (a : Bool)
-          → cond a (record { railway = withClosed (w .railway) (n - 1); weight = w .weight; unknown = w .unknown; wrong = w .wrong; double = w .double || isClosed (w .railway) (n - 1) }) (unknownIn w) .weight
+          → cond a (record {
+            railway = withClosed (w .railway) (n - 1);
+            weight = w .weight;
+            unknown = w .unknown;
+            wrong = w .wrong;
+            double = w .double || isClosed (w .railway) (n - 1);
+          }) (unknownIn w) .weight
           ≡ w .weight
       cases true = refl
       cases false = refl

@@ -178,7 +178,10 @@ module _ (r : Railway) (ok : recordRefusal r ≡ none) (text : List ℕ) (at : �
           unfolding fits
           start-read {y} e₃ =
               a-line (startLine n) (lt-ltb n noFigure (figure-below text c₁ n c₂ e₂)) x
-              (word-sound text firstWord at u c₁ e₁ ∙ ap (λ (l : List ℕ). firstWord ++ l) (figure-sound text c₁ n c₂ e₂ ∙ ap (λ (l : List ℕ). decimal n ++ l) (byte-sound text lineEnd c₂ y (x .end) (omega arith) e₃)) ∙ sym (start-spelled n (drop (x .end) text)))
+              (word-sound text firstWord at u c₁ e₁ ∙ ap (λ (l : List ℕ). firstWord ++ l)
+              (figure-sound text c₁ n c₂ e₂ ∙ ap (λ (l : List ℕ). decimal n ++ l)
+              (byte-sound text lineEnd c₂ y (x .end) (omega arith) e₃)) ∙ sym
+              (start-spelled n (drop (x .end) text)))
               (byte-end text lineEnd c₂ y (x .end) (omega arith) e₃)
 
   -- A LINE FOR A PLACEMENT, by the counts that code has
@@ -224,7 +227,15 @@ module _ (r : Railway) (ok : recordRefusal r ≡ none) (text : List ℕ) (at : �
           taken-fits : fits r (placementLine taken) ≡ true
           unfolding fits
           taken-fits =
-              rw (list-length (sectionIn q) k, each-there, lt-ltb n noFigure (figure-below text c₁ n c₂ e₂), got-entry .each-train, got-entry .each-point, eq-eqb k (r .trains) ek, eq-eqb m (r .points) em)
+              rw (
+                list-length (sectionIn q) k,
+                each-there,
+                lt-ltb n noFigure (figure-below text c₁ n c₂ e₂),
+                got-entry .each-train,
+                got-entry .each-point,
+                eq-eqb k (r .trains) ek,
+                eq-eqb m (r .points) em,
+              )
 
           taken-spelled : Spelled (placementLine taken) (drop (x .end) text)
           unfolding spell
@@ -232,7 +243,9 @@ module _ (r : Railway) (ok : recordRefusal r ≡ none) (text : List ℕ) (at : �
               sections-sound text s k at a b c d c₁ e₁
               ∙ ap (λ (t : List ℕ). piece k 0 a (piece k 1 b (piece k 2 c (piece k 3 d t))))
               (figure-sound text c₁ n c₂ e₂ ∙ ap (λ (t : List ℕ). decimal n ++ t) (got-entry .spelled) ∙ sym (last-fields taken (drop (x .end) text)))
-              ∙ sym (ap (λ (qs : List ℕ). line (map sectionField (listBelow (λ t. getD qs t 0) k) ++ lastFields taken) ++ drop (x .end) text) is ∙ sections-spelled k a b c d (drop (x .end) text) taken few)
+              ∙ sym (ap (λ (qs : List ℕ). line
+              (map sectionField (listBelow (λ t. getD qs t 0) k) ++ lastFields taken) ++ drop (x .end) text) is
+              ∙ sections-spelled k a b c d (drop (x .end) text) taken few)
 
           taken-entry : v ≡ lineEntry r taken
           taken-entry = got-entry .bits ∙ entry-weighed r (got-entry .points) (got-entry .opens) (got-entry .each-point ∙ em) (got-entry .each-train ∙ ek)

@@ -25,21 +25,27 @@ module _ {A : Type 0} where
   module _ (l : Left A) where
     -- a number
     abbrev pub number-on : {g : Got ℕ} (k : ℕ → ℕ → Got A) {r : Number} {n : ℕ} {c : Cursor} →
-      numberGot r ≡ g → r ≡ Value n c → l .rest ≡ then g k → Left A
+        numberGot r ≡ g → r ≡ Value n c → l .rest ≡ then g k → Left A
     number-on k {r} {n} {c} e v h = record {
-      line = l .line; rest = k n (c .at); gives = goes k (sym e ∙ ap numberGot v) refl ∙ sym h ∙ l .gives }
+      line = l .line;
+      rest = k n (c .at);
+      gives = goes k (sym e ∙ ap numberGot v) refl ∙ sym h ∙ l .gives;
+    }
 
     pub number-off : {g : Got ℕ} (k : ℕ → ℕ → Got A) {r : Number} →
-      numberGot r ≡ g → r ≡ None → l .rest ≡ then g k → bad ≡ l .line
+        numberGot r ≡ g → r ≡ None → l .rest ≡ then g k → bad ≡ l .line
     number-off k e v h = fails k (sym e ∙ ap numberGot v) ∙ sym h ∙ l .gives
 
     -- a byte
     module _ (s : List ℕ) (b at : ℕ) (pos : 0 < b) (k : ℕ → ℕ → Got A) where
       abbrev pub byte-on : {r : Byte} {c : Cursor} →
-        byteGot b r ≡ byteInside s b at → r ≡ Past c → l .rest ≡ then (byteAt s b at) k → Left A
+          byteGot b r ≡ byteInside s b at → r ≡ Past c → l .rest ≡ then (byteAt s b at) k → Left A
       byte-on {r} {c} e v h = record {
-        line = l .line; rest = k b (c .at); gives = byte-goes s b at pos r e c v k refl ∙ sym h ∙ l .gives }
+        line = l .line;
+        rest = k b (c .at);
+        gives = byte-goes s b at pos r e c v k refl ∙ sym h ∙ l .gives;
+      }
 
       pub byte-off : {r : Byte} →
-        byteGot b r ≡ byteInside s b at → r ≡ Other → l .rest ≡ then (byteAt s b at) k → bad ≡ l .line
+          byteGot b r ≡ byteInside s b at → r ≡ Other → l .rest ≡ then (byteAt s b at) k → bad ≡ l .line
       byte-off {r} e v h = byte-fails s b at pos r e v k ∙ sym h ∙ l .gives

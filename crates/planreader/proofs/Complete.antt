@@ -66,7 +66,8 @@ module _ (text : List ℕ) where
       go-on toFigure (number-complete text rest stop 9 n c (omega arith) (omega arith) t) (λ c t. rw (lt-ltb n noFigure l) (stop-here t))
 
   -- OPEN TRAINS, from train t on
-  trains-complete : (os : List Bool) (rest : List ℕ) (t v c : ℕ) → Lies text c (openDigits t os ++ (tab ∷ rest)) → Reads text (trainsAt text (length os) t v c) (v + weigh (2 ^ (trainBits + t)) os) (tab ∷ rest)
+  trains-complete : (os : List Bool) (rest : List ℕ) (t v c : ℕ) → Lies text c (openDigits t os ++ (tab ∷ rest))
+      → Reads text (trainsAt text (length os) t v c) (v + weigh (2 ^ (trainBits + t)) os) (tab ∷ rest)
   unfolding trainsAt openDigits weigh
   trains-complete [] rest t v c i = let z : v + 0 ≡ v = omega arith in rw z (stop-here i)
   trains-complete (true ∷ os) rest t v c i =
@@ -76,7 +77,9 @@ module _ (text : List ℕ) where
       let y : v + weigh (2 ^ (trainBits + suc t)) os ≡ v + (0 + weigh (2 * 2 ^ (trainBits + t)) os) = rw (next-bit t) (omega arith) in
       rw (ne-eqb (getD text c 0) (trainDigit t) (λ e. first-other os rest t (suc t) (omega arith) (sym (here i) ∙ e)), ← y) (trains-complete os rest (suc t) v c i)
 
-  opens-by : (os : List Bool) (rest ds : List ℕ) (c : ℕ) → openDigits 0 os ≡ ds → Lies text c (orByte (byte "0") ds ++ (tab ∷ rest)) → Reads text (opensAt text (length os) c) (weigh (2 ^ trainBits) os) (tab ∷ rest)
+  opens-by : (os : List Bool) (rest ds : List ℕ) (c : ℕ) → openDigits 0 os ≡ ds
+      → Lies text c (orByte (byte "0") ds ++ (tab ∷ rest))
+      → Reads text (opensAt text (length os) c) (weigh (2 ^ trainBits) os) (tab ∷ rest)
   unfolding opensAt
   opens-by os rest [] c e i =
       rw (here i, weigh-none os 0 (2 ^ trainBits) e) (record { cursor = c + 1; is = refl; left = past (byte "0" ∷ []) (tab ∷ rest) i })
@@ -85,7 +88,9 @@ module _ (text : List ℕ) where
       let w = weigh-some os 0 (2 ^ trainBits) d ds (omega arith) e in
       let z : 0 + weigh (2 ^ (trainBits + 0)) os ≡ weigh (2 ^ trainBits) os = omega arith in
       rw (ne-eqb (getD text c 0) (byte "0") (λ f. omega (arith, here i, b)))
-      (go-on toOpens (rw z at (trains-complete os rest 0 0 c (record { text = i .text ∙ ap (λ (l : List ℕ). l ++ (tab ∷ rest)) (sym e) }))) (λ c i. rw (ne-eqb (weigh (2 ^ trainBits) os) 0 (λ f. omega (arith, w))) (stop-here i)))
+      (go-on toOpens (rw z at (trains-complete os rest 0 0 c
+      (record { text = i .text ∙ ap (λ (l : List ℕ). l ++ (tab ∷ rest)) (sym e) })))
+      (λ c i. rw (ne-eqb (weigh (2 ^ trainBits) os) 0 (λ f. omega (arith, w))) (stop-here i)))
 
   opens-complete : (os : List Bool) (rest : List ℕ) (c : ℕ) → Lies text c (openField os ++ (tab ∷ rest)) → Reads text (opensAt text (length os) c) (weigh (2 ^ trainBits) os) (tab ∷ rest)
   opens-complete os rest c i = opens-by os rest (openDigits 0 os) c refl (rw (open-field os) at i)
@@ -182,9 +187,21 @@ walked-on : (text : List ℕ) (s k at : ℕ) (d : PlacementLine) (rest four : Li
     → Reads text (sectionsAt text s k at) four (line (lastFields d) ++ rest) → Walked text s k (length (d .plus)) at
 unfolding isDigit
 walked-on text s k at d rest four n few m f x =
-    let y = figure-complete text (tab ∷ (openField (d .opens) ++ (tab ∷ (pointField (d .plus) ++ (lineEnd ∷ rest))))) (d .figure) (x .cursor) refl f (record { text = x .left .text ∙ last-fields d rest }) in
+    let behind = tab ∷ (openField (d .opens) ++ (tab ∷ (pointField (d .plus) ++ (lineEnd ∷ rest)))) in
+    let y = figure-complete text behind (d .figure) (x .cursor) refl f (record { text = x .left .text ∙ last-fields d rest }) in
     let z = entry-complete text (d .opens) (d .plus) rest (y .cursor) (omega arith) m (y .left) in
-    record { four = four; one = x .cursor; sections = x .is; number = d .figure; two = y .cursor; figure = y .is; bits = _; three = z .cursor; entry = ap (λ (j : ℕ). entryAt text j (length (d .plus)) (y .cursor)) (sym n) ∙ z .is }
+    record {
+      four = four;
+      one = x .cursor;
+      sections = x .is;
+      number = d .figure;
+      two = y .cursor;
+      figure = y .is;
+      bits = _;
+      three = z .cursor;
+      entry = ap (λ (j : ℕ). entryAt text j (length (d .plus)) (y .cursor)) (sym n)
+          ∙ z .is;
+    }
 
 pub walked : (r : Railway) → Bounded (r .sections) (r .points) (r .trains) → (text : List ℕ) (at : ℕ) (d : PlacementLine) (rest : List ℕ) → fits r (placementLine d) ≡ true
     → drop at text ≡ spell (placementLine d) ++ rest → Walked text (r .sections) (r .trains) (r .points) at

@@ -73,7 +73,8 @@ weighed x [] = omega arith
 weighed x (b ∷ bs) =
     let h : weigh (2 * x) bs ≡ 2 * x * fromBits (λ i. getD bs i false) (length bs) = weighed (2 * x) bs in
     let c : 2 * x ≡ x * 2 = omega arith in
-    let a : weigh (2 * x) bs ≡ x * (2 * fromBits (λ i. getD bs i false) (length bs)) = h ∙ ap (λ (y : ℕ). y * fromBits (λ i. getD bs i false) (length bs)) c ∙ mul-assoc x 2 (fromBits (λ i. getD bs i false) (length bs)) in
+    let n = fromBits (λ i. getD bs i false) (length bs) in
+    let a : weigh (2 * x) bs ≡ x * (2 * n) = h ∙ ap (λ (y : ℕ). y * n) c ∙ mul-assoc x 2 n in
     rw (a, mul-add x (cond b 1 0) (2 * fromBits (λ i. getD bs i false) (length bs))) (ap (λ (y : ℕ). y + x * (2 * fromBits (λ i. getD bs i false) (length bs))) (one b))
   where
     one : (b : Bool) → cond b x 0 ≡ x * cond b 1 0

@@ -93,7 +93,9 @@ module _ (text : List ℕ) where
       let g : w′ ≡ w = cc in
       let h : c₄ ≡ d = cc in
       rw (← a, ← b, ← f, ← g, ← h)
-      (section-sound s k 0 c x′ c₁ ex ∙ ap (piece k 0 x′) (section-sound s k 1 c₁ y′ c₂ ey ∙ ap (piece k 1 y′) (section-sound s k 2 c₂ z′ c₃ ez ∙ ap (piece k 2 z′) (section-sound s k 3 c₃ w′ c₄ ew))))))))
+      (section-sound s k 0 c x′ c₁ ex ∙ ap (piece k 0 x′)
+      (section-sound s k 1 c₁ y′ c₂ ey ∙ ap (piece k 1 y′)
+      (section-sound s k 2 c₂ z′ c₃ ez ∙ ap (piece k 2 z′) (section-sound s k 3 c₃ w′ c₄ ew))))))))
 
   -- A FIGURE
   pub figure-sound : (c n d : ℕ) → figureAt text c ≡ got n d → drop c text ≡ decimal n ++ drop d text
@@ -174,7 +176,9 @@ module _ (text : List ℕ) where
           record {
             opens = replicate k false;
             long = length-replicate k false;
-            spelled = rw (← z) (stands text c (byte "0") (omega arith) (eqb-true (getD text c 0) (byte "0") h) ∙ ap (λ (l : List ℕ). l ++ drop (c + 1) text) (sym (open-field (replicate k false) ∙ ap (orByte (byte "0")) (none-open k 0))));
+            spelled =
+                rw (← z) (stands text c (byte "0") (omega arith) (eqb-true (getD text c 0) (byte "0") h)
+                ∙ ap (λ (l : List ℕ). l ++ drop (c + 1) text) (sym (open-field (replicate k false) ∙ ap (orByte (byte "0")) (none-open k 0))));
             bits = sym y ∙ sym (weigh-false k (2 ^ trainBits));
           }
       go false h e = on (trainsAt text k 0 0 c) toOpens o d e (λ w b f e. some-digits k c w b o d (eqb w 0) refl (trains-sound k 0 0 c w b f) e)
@@ -210,7 +214,8 @@ module _ (text : List ℕ) where
   unfolding signsAt weigh
   signs-sound zero i v c w d e = let z : c ≡ d = cc in let y : v ≡ w = cc in record { points = []; long = refl; spelled = rw z; bits = omega arith }
   signs-sound (suc left) i v c w d e =
-      signs-step left i v c w d (eqb (getD text c 0) (byte "+")) (eqb (getD text c 0) (byte "-")) refl refl (signs-sound left (suc i) (v + 2 ^ i) (c + 1) w d) (signs-sound left (suc i) v (c + 1) w d) e
+      signs-step left i v c w d (eqb (getD text c 0) (byte "+")) (eqb (getD text c 0) (byte "-")) refl refl
+      (signs-sound left (suc i) (v + 2 ^ i) (c + 1) w d) (signs-sound left (suc i) v (c + 1) w d) e
 
   -- the field of points
   pub record Points (m c p d : ℕ) : Type 0 where

@@ -84,7 +84,9 @@ sections-below text s k at c qs e l t h =
     on (sectionAt text s k 3 c₃) _ qs c e (λ w c₄ ew e.
     let q : x ∷ y ∷ z ∷ w ∷ [] ≡ qs = cc in
     rw (← q)
-    (of-four (λ t u. t < k → u < s) 0 x y z w (section-below text s k 0 at x c₁ ex) (section-below text s k 1 c₁ y c₂ ey) (section-below text s k 2 c₂ z c₃ ez) (section-below text s k 3 c₃ w c₄ ew) t (omega arith) h)))))
+    (of-four (λ t u. t < k → u < s) 0 x y z w (section-below text s k 0 at x c₁ ex)
+    (section-below text s k 1 c₁ y c₂ ey) (section-below text s k 2 c₂ z c₃ ez)
+    (section-below text s k 3 c₃ w c₄ ew) t (omega arith) h)))))
 
 -- FIGURES
 module _ (text : List ℕ) (c : ℕ) where

@@ -58,17 +58,17 @@ returns-3 c =
     let b = c .before .before in
     byte-off (past-opens (b .before .before)) _ 9 _ (omega arith) _ (b .byte-at2 .ensures) (c .enum-told3 .given .1) refl
 
-returns-4 : tie.Need-returns-4
-unfolding fieldsAt
-returns-4 c =
-    let b = c .before .before in
-    number-off (past-tab-2 (b .before .before)) _ (b .points-at .ensures) (c .enum-told4 .given .1) refl
-
 returns-5 : tie.Need-returns-5
 unfolding fieldsAt
 returns-5 c =
     let b = c .before .before in
     byte-off (past-points (b .before .before)) _ 10 _ (omega arith) _ (b .byte-at3 .ensures) (c .enum-told5 .given .1) refl
+
+returns-4 : tie.Need-returns-4
+unfolding fieldsAt
+returns-4 c =
+    let b = c .before .before in
+    number-off (past-tab-2 (b .before .before)) _ (b .points-at .ensures) (c .enum-told4 .given .1) refl
 
 add-t17 : tie.Need-add-t17
 add-t17 c =
@@ -77,10 +77,12 @@ add-t17 c =
     let tab = points .before .before .before .before in
     let opens = tab .before .before .before .before in
     let b = opens .before .before in
-    let start = b .before .before .before .before .before .before in
-    omega (arith,
-    opens-small (now (start .args .text)) _ _ _ _ (sym (b .opens-at .ensures) ∙ ap numberGot (opens .opens .given .1)) (start .pre .0),
-    points-small (now (start .args .text)) _ _ _ _ (sym (points .before .before .points-at .ensures) ∙ ap numberGot (points .points .given .1)) (start .pre .1))
+    let first = b .before .before .before .before in
+    let start = first .before .before in
+    let trains = sym (b .opens-at .ensures) ∙ ap numberGot (opens .opens .given .1) in
+    let signs = sym (points .before .before .points-at .ensures) ∙ ap numberGot (points .points .given .1) in
+    let text = now (start .args .text) in
+    omega (arith, opens-small text _ _ _ _ trains (start .pre .0), points-small text _ _ _ _ signs (start .pre .1))
 
 returns-6 : tie.Need-returns-6
 unfolding fieldsAt

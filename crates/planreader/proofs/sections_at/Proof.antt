@@ -71,29 +71,41 @@ start k = let b = k .before .before in b .before .before
 cast-t17 : tie.Need-cast-t17
 cast-t17 c =
     let x = first (second (third (c .before))) in
-    omega (arith, section-byte _ (start x .args .s) _ _ _ _ _
-    (sym (x .before .before .section-at .ensures) ∙ ap numberGot (x .a .given .1)) (omega (arith, start x .fits .s)))
+    omega (
+      arith,
+      section-byte _ (start x .args .s) _ _ _ _ _
+          (sym (x .before .before .section-at .ensures) ∙ ap numberGot (x .a .given .1)) (omega (arith, start x .fits .s)),
+    )
 
 cast-t18 : tie.Need-cast-t18
 cast-t18 c =
     let y = second (third (c .before)) in
     let x = first y in
-    omega (arith, section-byte _ (start x .args .s) _ _ _ _ _
-    (sym (y .before .before .section-at2 .ensures) ∙ ap numberGot (y .b .given .1)) (omega (arith, start x .fits .s)))
+    omega (
+      arith,
+      section-byte _ (start x .args .s) _ _ _ _ _
+          (sym (y .before .before .section-at2 .ensures) ∙ ap numberGot (y .b .given .1)) (omega (arith, start x .fits .s)),
+    )
 
 cast-t19 : tie.Need-cast-t19
 cast-t19 c =
     let z = third (c .before) in
     let x = first (second z) in
-    omega (arith, section-byte _ (start x .args .s) _ _ _ _ _
-    (sym (z .before .before .section-at3 .ensures) ∙ ap numberGot (z .c .given .1)) (omega (arith, start x .fits .s)))
+    omega (
+      arith,
+      section-byte _ (start x .args .s) _ _ _ _ _
+          (sym (z .before .before .section-at3 .ensures) ∙ ap numberGot (z .c .given .1)) (omega (arith, start x .fits .s)),
+    )
 
 cast-t20 : tie.Need-cast-t20
 cast-t20 c =
     let k = c .before in
     let x = first (second (third k)) in
-    omega (arith, section-byte _ (start x .args .s) _ _ _ _ _
-    (sym (k .before .before .section-at4 .ensures) ∙ ap numberGot (k .d .given .1)) (omega (arith, start x .fits .s)))
+    omega (
+      arith,
+      section-byte _ (start x .args .s) _ _ _ _ _
+          (sym (k .before .before .section-at4 .ensures) ∙ ap numberGot (k .d .given .1)) (omega (arith, start x .fits .s)),
+    )
 
 returns-5 : tie.Need-returns-5
 unfolding sectionsAt
