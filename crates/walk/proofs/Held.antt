@@ -149,7 +149,10 @@ module _ {M : Type 1} (𝓤 : URA M) (H : Heap 𝓤) (A : Atoms 𝓤) (W : Given
     Pair = (slice ∷ [], (vint w64 (d .at) ∷ [], tt))
 
     pub apart-pair : d .at < 2 ^ 64
-        → ent 𝓤 (⋆ 𝓤 H A ((‵ (flft κ q) ⊛ ‵ ftrue) ∷ ‵ (Own κ d) ∷ [])) (sep 𝓤 (sep 𝓤 (sep 𝓤 (sep 𝓤 (A .lft κ q) (emp 𝓤)) (sem 𝓤 H A (owns (ShrSlice (named 0) κ u8 ∷ usize ∷ []) (d .text, (d .at, tt)) Pair))) (emp 𝓤)) (sem 𝓤 H A (Own κ d)))
+        → ent 𝓤 (⋆ 𝓤 H A ((‵ (flft κ q) ⊛ ‵ ftrue) ∷ ‵ (Own κ d) ∷ []))
+        (sep 𝓤 (sep 𝓤 (sep 𝓤 (sep 𝓤 (A .lft κ q) (emp 𝓤))
+        (sem 𝓤 H A (owns (ShrSlice (named 0) κ u8 ∷ usize ∷ []) (d .text, (d .at, tt)) Pair))) (emp 𝓤))
+        (sem 𝓤 H A (Own κ d)))
     apart-pair fits =
         qed W ((‵ (flft κ q) ⊛ ‵ ftrue) ∷ ‵ (Own κ d) ∷ []) ∵ move ! (1 ∷ []) $ use1 W (‵ (ShrSlice (named 0) κ u8 .own (d .text) (slice ∷ [])) ⊛ ‵ (Own κ d)) taken $ split ! $
         nothing ! $ owned ! usize (Is usize) (uint-makes 𝓤 H A W w64) (d .at) _ (refl, fits) $ fjoin ! $ move ! (1 ∷ 0 ∷ []) $ fjoin ! $
@@ -164,8 +167,12 @@ module _ {M : Type 1} (𝓤 : URA M) (H : Heap 𝓤) (A : Atoms 𝓤) (W : Given
       Apart = owns (ShrSlice (named 0) κ u8 ∷ usize ∷ K.the-row ∷ []) (d .text, (d .at, (w, tt))) Passed
 
       pub apart : d .at < 2 ^ 64 → Is K.the-row w (v ∷ [])
-          → ent 𝓤 (⋆ 𝓤 H A ((‵ (flft κ q) ⊛ ‵ ftrue) ∷ ‵ (Own κ d) ∷ [])) (sep 𝓤 (sep 𝓤 (sep 𝓤 (sep 𝓤 (A .lft κ q) (emp 𝓤)) (sem 𝓤 H A (owns (ShrSlice (named 0) κ u8 ∷ usize ∷ K.the-row ∷ []) (d .text, (d .at, (w, tt))) Passed))) (emp 𝓤)) (sem 𝓤 H A (Own κ d)))
+          → ent 𝓤 (⋆ 𝓤 H A ((‵ (flft κ q) ⊛ ‵ ftrue) ∷ ‵ (Own κ d) ∷ []))
+          (sep 𝓤 (sep 𝓤 (sep 𝓤 (sep 𝓤 (A .lft κ q) (emp 𝓤))
+          (sem 𝓤 H A (owns (ShrSlice (named 0) κ u8 ∷ usize ∷ K.the-row ∷ []) (d .text, (d .at, (w, tt))) Passed)))
+          (emp 𝓤)) (sem 𝓤 H A (Own κ d)))
       apart fits is =
           qed W ((‵ (flft κ q) ⊛ ‵ ftrue) ∷ ‵ (Own κ d) ∷ []) ∵ move ! (1 ∷ []) $ use1 W (‵ (ShrSlice (named 0) κ u8 .own (d .text) (slice ∷ [])) ⊛ ‵ (Own κ d)) taken $ split ! $
-          nothing ! $ owned ! K.the-row (Is K.the-row) (LL.makes K.the-type K′.the-plain 𝓤 H A) w (v ∷ []) is $ fjoin ! $ owned ! usize (Is usize) (uint-makes 𝓤 H A W w64) (d .at) _ (refl, fits) $ fjoin ! $
+          nothing ! $ owned ! K.the-row (Is K.the-row) (LL.makes K.the-type K′.the-plain 𝓤 H A) w (v ∷ []) is $
+          fjoin ! $ owned ! usize (Is usize) (uint-makes 𝓤 H A W w64) (d .at) _ (refl, fits) $ fjoin ! $
           move ! (1 ∷ 0 ∷ []) $ fjoin ! $ move ! (2 ∷ 0 ∷ []) $ use2 W (raw (sep 𝓤 (sep 𝓤 (sep 𝓤 (A .lft κ q) (emp 𝓤)) (sem 𝓤 H A Apart)) (emp 𝓤))) (asking κ q Apart) $ frame ! $ done !

@@ -241,7 +241,9 @@ module _ (s : List ℕ) where
 
 -- A WALK OF WHICH NOTHING IS READ has all lines of its kind left
 pub rest-all : (s : List ℕ) (kind : Kind) (count : ℕ) (before : Lines)
-    → then (linesGot before) (λ d c. restInto s (record { kind = kind; count = count; read = 0; good = before .good; draft = before .draft }) c d) ≡ then (linesGot before) (λ d c. linesInto s kind count c d)
+    → then (linesGot before) (λ d c. restInto s
+    (record { kind = kind; count = count; read = 0; good = before .good; draft = before .draft }) c d) ≡ then
+    (linesGot before) (λ d c. linesInto s kind count c d)
 rest-all s kind count before = let z : count - 0 ≡ count = omega arith in let y : 0 + 1 ≡ 1 = omega arith in rw (z, y)
 
 -- WHAT THE WALK GAVE, as an answer

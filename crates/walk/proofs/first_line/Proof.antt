@@ -113,7 +113,10 @@ module _ {M : Type 1} (𝓤 : URA M) (H : Heap 𝓤) (A : Atoms 𝓤) (W : Given
       suffices ! _ (ends-at 𝓤 H A first.ended stayed (first.clauses 𝓤 H A mem run) W (((κ, tt), (q, tt), tt, (s, tt), (text ∷ [], tt)), tt) u r (tt, tt) (tt, tt)) $ says ! e $
       move ! (1 ∷ []) $ frame ! $ nothing ! $ move ! (2 ∷ 0 ∷ []) $ fjoin ! $ frame ! $ done !
 
-  walk : (𝓣 : Tables 𝓤 H) → Triple 𝓤 (𝓣 .C #new) (New 𝓤 H A mem run) → Triple 𝓤 (𝓣 .C #header) (Header 𝓤 H A mem run) → (τ : Ty) → ((r : HeaderRead) (u : Val) → Is S.the-row r (u ∷ []) → Typed τ u) → Is (ShrSlice (named 0) κ u8) s (text ∷ [])
+  walk : (𝓣 : Tables 𝓤 H) → Triple 𝓤 (𝓣 .C #new) (New 𝓤 H A mem run)
+      → Triple 𝓤 (𝓣 .C #header) (Header 𝓤 H A mem run) → (τ : Ty)
+      → ((r : HeaderRead) (u : Val) → Is S.the-row r (u ∷ []) → Typed τ u)
+      → Is (ShrSlice (named 0) κ u8) s (text ∷ [])
       → ent 𝓤 (onEntry 𝓤 H A first.signature (κ, tt) (q, tt) (s, tt) (text ∷ [], tt)) (WpFn 𝓤 H (𝓣 .C) (𝓣 .Λ) (function τ) (text ∷ []) Post)
   walk 𝓣 known-new known-header τ tr is =
       qed W (token ∷ ‵ (owns (ShrSlice (named 0) κ u8 ∷ []) (s, tt) (text ∷ [], tt)) ∷ []) ∵ enter ! (𝓣 .C) (𝓣 .Λ) (function τ) (text ∷ []) _ $
@@ -128,21 +131,30 @@ module _ {M : Type 1} (𝓤 : URA M) (H : Heap 𝓤) (A : Atoms 𝓤) (W : Given
       -- [the reader's; the token; the text's; _2; ..]
       peeks ! (Readers (κ, tt)) (Is (Readers (κ, tt))) (shows 𝓤 H A (Readers (κ, tt))) d (u ∷ []) (λ id.
       land ! (from ! (stop !)) (init ! 3 refl (local-typed 𝓤 H A W κ d u id)) $
-      nothing ! $ move ! (1 ∷ 0 ∷ []) $ fjoin ! $ move ! (1 ∷ 0 ∷ []) $ use2 W (raw (Header 𝓤 H A mem run .pre (to-header d u))) (asking 𝓤 H A W κ q (owns (Readers (κ, tt) ∷ []) (d, tt) (u ∷ [], tt))) $
+      nothing ! $ move ! (1 ∷ 0 ∷ []) $ fjoin ! $ move ! (1 ∷ 0 ∷ []) $ use2 W
+      (raw (Header 𝓤 H A mem run .pre (to-header d u)))
+      (asking 𝓤 H A W κ q (owns (Readers (κ, tt) ∷ []) (d, tt) (u ∷ [], tt))) $
       calls-at ! (fmOf 𝓤 H (W .laws) 𝓣) (Header 𝓤 H A mem run) known-header (to-header d u) (and-then ! (load ! (from ! (stop !)) (look ! 2 refl)) (no-more !)) (λ y.
-      use1 W (later (some (λ (r : HeaderRead). (token ⊛ ‵ (S.the-row .own r (y ∷ []))) ⊛ raw (ensured 𝓤 H A header.ended (header.clauses 𝓤 H A mem run) (κ, tt) (d, tt) tt r)))) (id⊢ 𝓤 _) $ await ! tt $ pick ! (λ r.
+      use1 W (later (some (λ (r : HeaderRead).
+      (token ⊛ ‵ (S.the-row .own r (y ∷ []))) ⊛ raw (ensured 𝓤 H A header.ended (header.clauses 𝓤 H A mem run)
+      (κ, tt) (d, tt) tt r)))) (id⊢ 𝓤 _) $ await ! tt $ pick ! (λ r.
       split ! $ move ! (1 ∷ []) $ use1 W (raw (fact 𝓤 (Read d r))) (header-said d r) $ heard ! (Read d r) (λ h. split ! $ move ! (1 ∷ []) $
       peeks ! S.the-row (Is S.the-row) (shows 𝓤 H A S.the-row) r (y ∷ []) (λ ok.
       -- [the answer; the token; the text's; _2; ..; _1; ..; _0; ..]
       land ! (from ! (stop !)) (init ! 7 refl (tr r y ok)) $ returns ! (look ! 7 refl) $ forget ! 3 refl $ forget ! 5 refl $ forget ! 7 refl $
       move ! (7 ∷ 8 ∷ []) $ free1 ! $ move ! (5 ∷ 6 ∷ []) $ free1 ! $ move ! (3 ∷ 4 ∷ []) $ free1 ! $ free0 ! $ by ! (exits r y (at-first d r m h)))))))))))))
 
-first-meets : {M : Type 1} (𝓤 : URA M) (H : Heap 𝓤) (A : Atoms 𝓤) (W : Given 𝓤 H A) (mem : Memory → SProp 𝓤) (run : Routine → Fun 𝓤) (𝓣 : Tables 𝓤 H) → Triple 𝓤 (𝓣 .C #new) (New 𝓤 H A mem run) → Triple 𝓤 (𝓣 .C #header) (Header 𝓤 H A mem run)
+first-meets : {M : Type 1} (𝓤 : URA M) (H : Heap 𝓤) (A : Atoms 𝓤) (W : Given 𝓤 H A) (mem : Memory → SProp 𝓤)
+    (run : Routine → Fun 𝓤) (𝓣 : Tables 𝓤 H)
+    → Triple 𝓤 (𝓣 .C #new) (New 𝓤 H A mem run) → Triple 𝓤 (𝓣 .C #header) (Header 𝓤 H A mem run)
     → Meets 𝓤 H A first.signature (WpFn 𝓤 H (𝓣 .C) (𝓣 .Λ) code.function) (first.spec 𝓤 H A mem run)
 first-meets 𝓤 H A W mem run 𝓣 known-new known-header =
-    walk-meets 𝓤 H A first.ended stayed W (goes-none-slice 𝓤 H A W 1 (0 ∷ []) tt (plain (λ _. u8)) yes, tt) (first.clauses 𝓤 H A mem run) (WpFn 𝓤 H (𝓣 .C) (𝓣 .Λ) code.function) (WpFn-mono 𝓤 H (W .laws) 𝓣 code.function)
+    walk-meets 𝓤 H A first.ended stayed W (goes-none-slice 𝓤 H A W 1 (0 ∷ []) tt (plain (λ _. u8)) yes, tt)
+    (first.clauses 𝓤 H A mem run) (WpFn 𝓤 H (𝓣 .C) (𝓣 .Λ) code.function) (WpFn-mono 𝓤 H (W .laws) 𝓣 code.function)
     (walked 𝓤 H A first.ended stayed (first.clauses 𝓤 H A mem run) (WpFn 𝓤 H (𝓣 .C) (𝓣 .Λ) code.function) (λ κs. (slice-vals, tt)) (λ κs. (shr-slice-tells (named 0) (κs .0) u8, tt))
-    (λ κs qs bounds a g are. via 𝓤 _ (fst∗ 𝓤 _ (emp 𝓤)) (walk 𝓤 H A W mem run (κs .0) (qs .0) (a .0) 𝓣 known-new known-header S′.mir (λ r u ok. EL.lawful S.the-type S′.the-laws 𝓤 H A W tt .typed r (u ∷ []) ok .0) (are .0))))
+    (λ κs qs bounds a g are. via 𝓤 _ (fst∗ 𝓤 _ (emp 𝓤))
+    (walk 𝓤 H A W mem run (κs .0) (qs .0) (a .0) 𝓣 known-new known-header S′.mir
+    (λ r u ok. EL.lawful S.the-type S′.the-laws 𝓤 H A W tt .typed r (u ∷ []) ok .0) (are .0))))
 
 pub first-line-spec : {M : Type 1} → stated.statement M
 unfolding code.routine tablesOf

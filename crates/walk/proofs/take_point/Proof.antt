@@ -13,7 +13,12 @@ returns : tie.Need-returns
 returns c = let t = c .before in ap linesGot (c .not-in-form .ensures) ∙ fails _ (sym (t .before .before .point-line .ensures) ∙ ap sideGot (t .enum-told .given .1))
 
 returns-2 : tie.Need-returns-2
-returns-2 c = let p = c .before in let k = p .before in ap linesGot (c .in-form .ensures) ∙ goes _ (sym (k .before .before .before .point-line .ensures) ∙ ap sideGot (k .before .side .given .1)) (put-same (p .put-point .ensures))
+returns-2 c =
+    let p = c .before in
+    let k = p .before in
+    ap linesGot (c .in-form .ensures) ∙ goes _
+    (sym (k .before .before .before .point-line .ensures) ∙ ap sideGot (k .before .side .given .1))
+    (put-same (p .put-point .ensures))
 
 pub take-point-spec : {M : Type 1} → statement M
 take-point-spec =

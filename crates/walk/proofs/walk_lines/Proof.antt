@@ -112,7 +112,10 @@ function σ τ ρ μ = record {
   lifetimes = 1;
   outlives = [];
   params = 3;
-  locals = local μ valueLocal ∷ local σ valueLocal ∷ local (tyInt w64) valueLocal ∷ local τ valueLocal ∷ local ρ valueLocal ∷ local τ valueLocal ∷ local μ valueLocal ∷ local tyBool valueLocal ∷ local ρ valueLocal ∷ local ρ valueLocal ∷ local ρ valueLocal ∷ local (tyInt w64) valueLocal ∷ local ρ valueLocal ∷ [];
+  locals =
+      local μ valueLocal ∷ local σ valueLocal ∷ local (tyInt w64) valueLocal ∷ local τ valueLocal
+      ∷ local ρ valueLocal ∷ local τ valueLocal ∷ local μ valueLocal ∷ local tyBool valueLocal ∷ local ρ valueLocal
+      ∷ local ρ valueLocal ∷ local ρ valueLocal ∷ local (tyInt w64) valueLocal ∷ local ρ valueLocal ∷ [];
   body = seq (call #new (copy (place 1 []) ∷ copy (place 2 []) ∷ []) (place 4 [])) (seq (assign (place 5 []) (rvOpd (copy (place 3 [])))) (seq (block (loop turn)) after));
 }
 
@@ -148,7 +151,8 @@ module _ {M : Type 1} (𝓤 : URA M) (H : Heap 𝓤) (A : Atoms 𝓤) (mem : Mem
   abbrev SoFar : Contract 𝓤
   SoFar = tripleOf 𝓤 H A so-far.signature (so-far.spec 𝓤 H A mem run)
 
-module _ {M : Type 1} (𝓤 : URA M) (H : Heap 𝓤) (A : Atoms 𝓤) (W : Given 𝓤 H A) (mem : Memory → SProp 𝓤) (run : Routine → Fun 𝓤) (κ : Lft) (q : Share) (s : RefT (List ℕ)) (from₀ : ℕ) (w₀ : Walk) (v₀ : Val) where
+module _ {M : Type 1} (𝓤 : URA M) (H : Heap 𝓤) (A : Atoms 𝓤) (W : Given 𝓤 H A) (mem : Memory → SProp 𝓤)
+    (run : Routine → Fun 𝓤) (κ : Lft) (q : Share) (s : RefT (List ℕ)) (from₀ : ℕ) (w₀ : Walk) (v₀ : Val) where
   abbrev text : Val
   text = sliceVal (s .ptr) (length (s .now))
 
@@ -251,10 +255,13 @@ module _ {M : Type 1} (𝓤 : URA M) (H : Heap 𝓤) (A : Atoms 𝓤) (W : Given
       qed W (token ∷ ‵ Text ∷ []) ∵
       suffices ! _ (ends-at 𝓤 H A lines.ended stayed (lines.clauses 𝓤 H A mem run) W (((κ, tt), (q, tt), tt, (s, (from₀, (w₀, tt))), at), tt) z l (tt, (tt, (tt, tt))) (tt, (tt, (tt, tt)))) $
       says ! (left-done (now s) from₀ w₀ (x .reader .at) (x .walk) (x .turns) (x .left) e n f l g) $ frame ! $
-      nothing ! $ owned ! K.the-row (Is K.the-row) walk-makes w₀ (v₀ ∷ []) is₀ $ fjoin ! $ owned ! usize (Is usize) (uint-makes 𝓤 H A W w64) from₀ _ (refl, fits) $ fjoin ! $ move ! (1 ∷ 0 ∷ []) $ fjoin ! $ frame ! $
+      nothing ! $ owned ! K.the-row (Is K.the-row) walk-makes w₀ (v₀ ∷ []) is₀ $ fjoin ! $ owned ! usize (Is usize)
+      (uint-makes 𝓤 H A W w64) from₀ _ (refl, fits) $ fjoin ! $ move ! (1 ∷ 0 ∷ []) $ fjoin ! $ frame ! $
       owned ! L.the-row (Is L.the-row) lines-makes l (z ∷ []) ok $ done !
 
-  module _ (𝓣 : Tables 𝓤 H) (known-new : Triple 𝓤 (𝓣 .C #new) (New 𝓤 H A mem run)) (known-goes : Triple 𝓤 (𝓣 .C #goes-on) (GoesOn 𝓤 H A mem run)) (known-line : Triple 𝓤 (𝓣 .C #line) (Line 𝓤 H A mem run))
+  module _ (𝓣 : Tables 𝓤 H) (known-new : Triple 𝓤 (𝓣 .C #new) (New 𝓤 H A mem run))
+      (known-goes : Triple 𝓤 (𝓣 .C #goes-on) (GoesOn 𝓤 H A mem run))
+      (known-line : Triple 𝓤 (𝓣 .C #line) (Line 𝓤 H A mem run))
       (known-moved : Triple 𝓤 (𝓣 .C #moved) (Moved 𝓤 H A mem run)) (known-with : Triple 𝓤 (𝓣 .C #with-line) (WithLine 𝓤 H A mem run))
       (known-place : Triple 𝓤 (𝓣 .C #place) (Place 𝓤 H A mem run)) (known-so-far : Triple 𝓤 (𝓣 .C #so-far) (SoFar 𝓤 H A mem run))
       (σ τ ρ μ : Ty) (typed-reader : (d : Reader) (u : Val) → Is (Readers (κ, tt)) d (u ∷ []) → Typed ρ u) (typed-walk : (w : Walk) (v : Val) → Is K.the-row w (v ∷ []) → Typed τ v)
@@ -292,7 +299,9 @@ module _ {M : Type 1} (𝓤 : URA M) (H : Heap 𝓤) (A : Atoms 𝓤) (W : Given
       -- before a turn: the token, what the reader and the text own, and the locals, of which only the reader and the walk are full
       abbrev At : State → List (Item 𝓤)
       At x = token ∷ ‵ (Has κ (x .reader) (x .u)) ∷ ‵ Text
-          ∷ ‵ (froom ρ l₁₂ 0) ∷ ‵ (fdies ρ l₁₂) ∷ ‵ (froom (tyInt w64) l₁₁ 0) ∷ ‵ (fdies (tyInt w64) l₁₁) ∷ ‵ (froom ρ l₁₀ 0) ∷ ‵ (fdies ρ l₁₀) ∷ ‵ (froom ρ l₉ 0) ∷ ‵ (fdies ρ l₉) ∷ ‵ (froom ρ l₈ 0) ∷ ‵ (fdies ρ l₈)
+          ∷ ‵ (froom ρ l₁₂ 0) ∷ ‵ (fdies ρ l₁₂) ∷ ‵ (froom (tyInt w64) l₁₁ 0) ∷ ‵ (fdies (tyInt w64) l₁₁)
+          ∷ ‵ (froom ρ l₁₀ 0) ∷ ‵ (fdies ρ l₁₀) ∷ ‵ (froom ρ l₉ 0) ∷ ‵ (fdies ρ l₉) ∷ ‵ (froom ρ l₈ 0)
+          ∷ ‵ (fdies ρ l₈)
           ∷ ‵ (froom tyBool l₇ 0) ∷ ‵ (fdies tyBool l₇) ∷ ‵ (froom μ l₆ 0) ∷ ‵ (fdies μ l₆) ∷ ‵ (fat fullShare τ l₅ 0 (x .v)) ∷ ‵ (fdies τ l₅) ∷ ‵ (fat fullShare ρ l₄ 0 (x .u)) ∷ ‵ (fdies ρ l₄)
           ∷ ‵ (froom τ l₃ 0) ∷ ‵ (fdies τ l₃) ∷ ‵ (froom (tyInt w64) l₂ 0) ∷ ‵ (fdies (tyInt w64) l₂) ∷ ‵ (froom σ l₁ 0) ∷ ‵ (fdies σ l₁) ∷ ‵ (froom μ l₀ 0) ∷ ‵ (fdies μ l₀) ∷ []
 
@@ -305,16 +314,28 @@ module _ {M : Type 1} (𝓤 : URA M) (H : Heap 𝓤) (A : Atoms 𝓤) (W : Given
       unfolding afterTurn
       reads x e =
           assigns ! (of-opd ! (load ! (from ! (stop !)) (look ! 19 refl))) (from ! (stop !)) (init ! 9 refl (typed-reader (x .reader) (x .u) (x .reader-is))) $
-          use2 W (raw (Line 𝓤 H A mem run .pre (to-line (x .reader) (x .u) (x .walk) (x .v))) ⊛ ‵ (Has κ (x .reader) (x .u))) (passed 𝓤 H A W κ q (x .reader) (x .u) K.the-row walk-makes (x .walk) (x .v) (x .walk-is)) $ split ! $
-          calls-at ! fm (Line 𝓤 H A mem run) known-line (to-line (x .reader) (x .u) (x .walk) (x .v)) (and-then ! (load ! (from ! (stop !)) (look ! 9 refl)) (and-then ! (load ! (from ! (stop !)) (look ! 17 refl)) (no-more !))) (λ z.
-          use1 W (later (some (λ (l : Lines). (token ⊛ ‵ (L.the-row .own l (z ∷ []))) ⊛ raw (ensured 𝓤 H A line.ended (line.clauses 𝓤 H A mem run) (κ, tt) (x .reader, (x .walk, tt)) tt l)))) (id⊢ 𝓤 _) $ await ! tt $ pick ! (λ l.
-          split ! $ move ! (1 ∷ []) $ use1 W (raw (fact 𝓤 (Read (x .reader) (x .walk) l))) (line-said (x .reader) (x .walk) l) $ heard ! (Read (x .reader) (x .walk) l) (λ h. split ! $ move ! (1 ∷ []) $
+          use2 W (raw (Line 𝓤 H A mem run .pre (to-line (x .reader) (x .u) (x .walk) (x .v))) ⊛ ‵ (Has κ (x .reader)
+          (x .u))) (passed 𝓤 H A W κ q (x .reader) (x .u) K.the-row walk-makes (x .walk) (x .v) (x .walk-is)) $
+          split ! $
+          calls-at ! fm (Line 𝓤 H A mem run) known-line (to-line (x .reader) (x .u) (x .walk) (x .v))
+          (and-then ! (load ! (from ! (stop !)) (look ! 9 refl))
+          (and-then ! (load ! (from ! (stop !)) (look ! 17 refl)) (no-more !))) (λ z.
+          use1 W (later (some (λ (l : Lines).
+          (token ⊛ ‵ (L.the-row .own l (z ∷ []))) ⊛ raw (ensured 𝓤 H A line.ended (line.clauses 𝓤 H A mem run)
+          (κ, tt) (x .reader, (x .walk, tt)) tt l)))) (id⊢ 𝓤 _) $ await ! tt $ pick ! (λ l.
+          split ! $ move ! (1 ∷ []) $ use1 W (raw (fact 𝓤 (Read (x .reader) (x .walk) l)))
+          (line-said (x .reader) (x .walk) l) $ heard ! (Read (x .reader) (x .walk) l)
+          (λ h. split ! $ move ! (1 ∷ []) $
           facts ! L.the-row (Is L.the-row) (shows 𝓤 H A L.the-row) l (z ∷ []) (λ ok.
           land ! (from ! (stop !)) (init ! 15 refl (typed-lines l z ok)) $
           assigns ! (of-opd ! (load ! (from ! (stop !)) (look ! 19 refl))) (from ! (stop !)) (init ! 7 refl (typed-reader (x .reader) (x .u) (x .reader-is))) $
           use2 W (raw (Moved 𝓤 H A mem run .pre (to-moved (x .reader) (x .u) l z)) ⊛ ‵ (Has κ (x .reader) (x .u))) (passed 𝓤 H A W κ q (x .reader) (x .u) L.the-row lines-makes l z ok) $ split ! $
-          calls-at ! fm (Moved 𝓤 H A mem run) known-moved (to-moved (x .reader) (x .u) l z) (and-then ! (load ! (from ! (stop !)) (look ! 7 refl)) (and-then ! (load ! (from ! (stop !)) (look ! 15 refl)) (no-more !))) (λ y.
-          use1 W (later (some (λ (p : Reader). (token ⊛ ‵ (Has κ p y)) ⊛ raw (ensured 𝓤 H A moved.ended (moved.clauses 𝓤 H A mem run) (κ, tt) (x .reader, (l, tt)) tt p)))) (id⊢ 𝓤 _) $ await ! tt $ pick ! (λ p.
+          calls-at ! fm (Moved 𝓤 H A mem run) known-moved (to-moved (x .reader) (x .u) l z)
+          (and-then ! (load ! (from ! (stop !)) (look ! 7 refl))
+          (and-then ! (load ! (from ! (stop !)) (look ! 15 refl)) (no-more !))) (λ y.
+          use1 W (later (some (λ (p : Reader).
+          (token ⊛ ‵ (Has κ p y)) ⊛ raw (ensured 𝓤 H A moved.ended (moved.clauses 𝓤 H A mem run) (κ, tt)
+          (x .reader, (l, tt)) tt p)))) (id⊢ 𝓤 _) $ await ! tt $ pick ! (λ p.
           split ! $ move ! (1 ∷ []) $ use1 W (raw (fact 𝓤 (On (x .reader) l p))) (moved-said (x .reader) l p) $ heard ! (On (x .reader) l p) (λ f. split ! $ move ! (1 ∷ []) $
           -- [the new reader's; the token; the old reader's; the text's; _12; ..]
           peeks ! (Readers (κ, tt)) (Is (Readers (κ, tt))) (shows 𝓤 H A (Readers (κ, tt))) p (y ∷ []) (λ is.
@@ -322,8 +343,12 @@ module _ {M : Type 1} (𝓤 : URA M) (H : Heap 𝓤) (A : Atoms 𝓤) (W : Given
           -- [the token; the reader's; the text's; _12; ..]: what is plain is passed on
           nothing ! $ owned ! L.the-row (Is L.the-row) lines-makes l (z ∷ []) ok $ fjoin ! $ owned ! K.the-row (Is K.the-row) walk-makes (x .walk) (x .v ∷ []) (x .walk-is) $ fjoin ! $
           use1 W (raw (WithLine 𝓤 H A mem run .pre (to-with (x .walk) (x .v) l z))) (asking-plain 𝓤 H A W (owns (K.the-row ∷ L.the-row ∷ []) (x .walk, (l, tt)) (x .v ∷ [], (z ∷ [], tt)))) $
-          calls-at-last ! fm (WithLine 𝓤 H A mem run) known-with (to-with (x .walk) (x .v) l z) (and-then ! (load ! (from ! (stop !)) (look ! 18 refl)) (and-then ! (load ! (from ! (stop !)) (look ! 16 refl)) (no-more !))) (λ v.
-          use1 W (later (some (λ (r : Walk). (‵ ftrue ⊛ ‵ (K.the-row .own r (v ∷ []))) ⊛ raw (ensured 𝓤 H A with-line.ended (with-line.clauses 𝓤 H A mem run) tt (x .walk, (l, tt)) tt r)))) (id⊢ 𝓤 _) $ await ! tt $ pick ! (λ r.
+          calls-at-last ! fm (WithLine 𝓤 H A mem run) known-with (to-with (x .walk) (x .v) l z)
+          (and-then ! (load ! (from ! (stop !)) (look ! 18 refl))
+          (and-then ! (load ! (from ! (stop !)) (look ! 16 refl)) (no-more !))) (λ v.
+          use1 W (later (some (λ (r : Walk).
+          (‵ ftrue ⊛ ‵ (K.the-row .own r (v ∷ []))) ⊛ raw (ensured 𝓤 H A with-line.ended
+          (with-line.clauses 𝓤 H A mem run) tt (x .walk, (l, tt)) tt r)))) (id⊢ 𝓤 _) $ await ! tt $ pick ! (λ r.
           split ! $ move ! (1 ∷ []) $ use1 W (raw (fact 𝓤 (Noted (x .walk) l r))) (with-said (x .walk) l r) $ heard ! (Noted (x .walk) l r) (λ g. split ! $ drop ! $
           facts ! K.the-row (Is K.the-row) (shows 𝓤 H A K.the-row) r (v ∷ []) (λ ir.
           land-last ! (from ! (stop !)) (store ! 17 refl (typed-walk r v ir)) $ forget ! 7 refl $ forget ! 9 refl $ forget ! 15 refl $
@@ -336,30 +361,47 @@ module _ {M : Type 1} (𝓤 : URA M) (H : Heap 𝓤) (A : Atoms 𝓤) (W : Given
           assigns ! (of-opd ! (load ! (from ! (stop !)) (look ! 19 refl))) (from ! (stop !)) (init ! 3 refl (typed-reader (x .reader) (x .u) (x .reader-is))) $
           use2 W (raw (Place 𝓤 H A mem run .pre (to-place (x .reader) (x .u))) ⊛ ‵ (Has κ (x .reader) (x .u))) (passed-alone 𝓤 H A W κ q (x .reader) (x .u)) $ split ! $
           calls-at ! fm (Place 𝓤 H A mem run) known-place (to-place (x .reader) (x .u)) (and-then ! (load ! (from ! (stop !)) (look ! 3 refl)) (no-more !)) (λ y.
-          use1 W (later (some (λ (n : ℕ). (token ⊛ ‵ (usize .own n (y ∷ []))) ⊛ raw (ensured 𝓤 H A place-of.ended (place-of.clauses 𝓤 H A mem run) (κ, tt) (x .reader, tt) tt n)))) (id⊢ 𝓤 _) $ await ! tt $ pick ! (λ n.
+          use1 W (later (some (λ (n : ℕ).
+          (token ⊛ ‵ (usize .own n (y ∷ []))) ⊛ raw (ensured 𝓤 H A place-of.ended (place-of.clauses 𝓤 H A mem run)
+          (κ, tt) (x .reader, tt) tt n)))) (id⊢ 𝓤 _) $ await ! tt $ pick ! (λ n.
           split ! $ move ! (1 ∷ []) $ use1 W (raw (fact 𝓤 (Stands (x .reader) n))) (place-said (x .reader) n) $ heard ! (Stands (x .reader) n) (λ f. split ! $ move ! (1 ∷ []) $
           facts ! usize (Is usize) (shows 𝓤 H A usize) n (y ∷ []) (λ is.
           land ! (from ! (stop !)) (init ! 5 refl (number-typed 𝓤 H A W n y is)) $
           nothing ! $ owned ! usize (Is usize) (uint-makes 𝓤 H A W w64) n (y ∷ []) is $ fjoin ! $ owned ! K.the-row (Is K.the-row) walk-makes (x .walk) (x .v ∷ []) (x .walk-is) $ fjoin ! $
           use1 W (raw (SoFar 𝓤 H A mem run .pre (to-so-far (x .walk) (x .v) n y))) (asking-plain 𝓤 H A W (owns (K.the-row ∷ usize ∷ []) (x .walk, (n, tt)) (x .v ∷ [], (y ∷ [], tt)))) $
-          calls-at ! fm (SoFar 𝓤 H A mem run) known-so-far (to-so-far (x .walk) (x .v) n y) (and-then ! (load ! (from ! (stop !)) (look ! 18 refl)) (and-then ! (load ! (from ! (stop !)) (look ! 6 refl)) (no-more !))) (λ z.
-          use1 W (later (some (λ (l : Lines). (‵ ftrue ⊛ ‵ (L.the-row .own l (z ∷ []))) ⊛ raw (ensured 𝓤 H A so-far.ended (so-far.clauses 𝓤 H A mem run) tt (x .walk, (n, tt)) tt l)))) (id⊢ 𝓤 _) $ await ! tt $ pick ! (λ l.
+          calls-at ! fm (SoFar 𝓤 H A mem run) known-so-far (to-so-far (x .walk) (x .v) n y)
+          (and-then ! (load ! (from ! (stop !)) (look ! 18 refl))
+          (and-then ! (load ! (from ! (stop !)) (look ! 6 refl)) (no-more !))) (λ z.
+          use1 W (later (some (λ (l : Lines).
+          (‵ ftrue ⊛ ‵ (L.the-row .own l (z ∷ []))) ⊛ raw (ensured 𝓤 H A so-far.ended
+          (so-far.clauses 𝓤 H A mem run) tt (x .walk, (n, tt)) tt l)))) (id⊢ 𝓤 _) $ await ! tt $ pick ! (λ l.
           split ! $ move ! (1 ∷ []) $ use1 W (raw (fact 𝓤 (Given-so-far (x .walk) n l))) (so-far-said (x .walk) n l) $ heard ! (Given-so-far (x .walk) n l) (λ g. split ! $ drop ! $
           facts ! L.the-row (Is L.the-row) (shows 𝓤 H A L.the-row) l (z ∷ []) (λ ok.
           land ! (from ! (stop !)) (init ! 27 refl (typed-lines l z ok)) $
           returns ! (look ! 27 refl) $ forget ! 3 refl $ forget ! 5 refl $ forget ! 17 refl $ forget ! 19 refl $ forget ! 27 refl $
-          move ! (27 ∷ 28 ∷ []) $ free1 ! $ move ! (25 ∷ 26 ∷ []) $ free1 ! $ move ! (23 ∷ 24 ∷ []) $ free1 ! $ move ! (21 ∷ 22 ∷ []) $ free1 ! $ move ! (19 ∷ 20 ∷ []) $ free1 ! $ move ! (17 ∷ 18 ∷ []) $ free1 ! $ move ! (15 ∷ 16 ∷ []) $ free1 ! $
-          move ! (13 ∷ 14 ∷ []) $ free1 ! $ move ! (11 ∷ 12 ∷ []) $ free1 ! $ move ! (9 ∷ 10 ∷ []) $ free1 ! $ move ! (7 ∷ 8 ∷ []) $ free1 ! $ move ! (5 ∷ 6 ∷ []) $ free1 ! $ move ! (3 ∷ 4 ∷ []) $ free1 ! $ free0 ! $
+          move ! (27 ∷ 28 ∷ []) $ free1 ! $ move ! (25 ∷ 26 ∷ []) $ free1 ! $ move ! (23 ∷ 24 ∷ []) $ free1 ! $
+          move ! (21 ∷ 22 ∷ []) $ free1 ! $ move ! (19 ∷ 20 ∷ []) $ free1 ! $ move ! (17 ∷ 18 ∷ []) $ free1 ! $
+          move ! (15 ∷ 16 ∷ []) $ free1 ! $
+          move ! (13 ∷ 14 ∷ []) $ free1 ! $ move ! (11 ∷ 12 ∷ []) $ free1 ! $ move ! (9 ∷ 10 ∷ []) $ free1 ! $
+          move ! (7 ∷ 8 ∷ []) $ free1 ! $ move ! (5 ∷ 6 ∷ []) $ free1 ! $ move ! (3 ∷ 4 ∷ []) $ free1 ! $ free0 ! $
           move ! (1 ∷ []) $ drop ! $ by ! (exits fits is₀ x e n f l z g ok)))))))))
 
       turns : from₀ < 2 ^ 64 → Is K.the-row w₀ (v₀ ∷ []) → (x : State) → Sq W (At x) (runs (𝓣 .C) (𝓣 .Λ) En turn (anyQ (Turned x)))
       unfolding afterTurn
       turns fits is₀ x =
           assigns ! (of-opd ! (load ! (from ! (stop !)) (look ! 19 refl))) (from ! (stop !)) (init ! 11 refl (typed-reader (x .reader) (x .u) (x .reader-is))) $
-          use2 W (raw (GoesOn 𝓤 H A mem run .pre (to-goes (x .reader) (x .u) (x .walk) (x .v))) ⊛ ‵ (Has κ (x .reader) (x .u))) (passed 𝓤 H A W κ q (x .reader) (x .u) K.the-row walk-makes (x .walk) (x .v) (x .walk-is)) $ split ! $
-          calls-at ! fm (GoesOn 𝓤 H A mem run) known-goes (to-goes (x .reader) (x .u) (x .walk) (x .v)) (and-then ! (load ! (from ! (stop !)) (look ! 11 refl)) (and-then ! (load ! (from ! (stop !)) (look ! 17 refl)) (no-more !))) (λ z.
-          use1 W (later (some (λ (b : Bool). (token ⊛ ‵ (Boolean .own b (z ∷ []))) ⊛ raw (ensured 𝓤 H A goes.ended (goes.clauses 𝓤 H A mem run) (κ, tt) (x .reader, (x .walk, tt)) tt b)))) (id⊢ 𝓤 _) $ await ! tt $ pick ! (λ b.
-          split ! $ move ! (1 ∷ []) $ use1 W (raw (fact 𝓤 (Tested (x .reader) (x .walk) b))) (goes-said (x .reader) (x .walk) b) $ heard ! (Tested (x .reader) (x .walk) b) (λ e. split ! $ move ! (1 ∷ []) $
+          use2 W (raw (GoesOn 𝓤 H A mem run .pre (to-goes (x .reader) (x .u) (x .walk) (x .v))) ⊛ ‵ (Has κ
+          (x .reader) (x .u))) (passed 𝓤 H A W κ q (x .reader) (x .u) K.the-row walk-makes (x .walk) (x .v)
+          (x .walk-is)) $ split ! $
+          calls-at ! fm (GoesOn 𝓤 H A mem run) known-goes (to-goes (x .reader) (x .u) (x .walk) (x .v))
+          (and-then ! (load ! (from ! (stop !)) (look ! 11 refl))
+          (and-then ! (load ! (from ! (stop !)) (look ! 17 refl)) (no-more !))) (λ z.
+          use1 W (later (some (λ (b : Bool).
+          (token ⊛ ‵ (Boolean .own b (z ∷ []))) ⊛ raw (ensured 𝓤 H A goes.ended (goes.clauses 𝓤 H A mem run) (κ, tt)
+          (x .reader, (x .walk, tt)) tt b)))) (id⊢ 𝓤 _) $ await ! tt $ pick ! (λ b.
+          split ! $ move ! (1 ∷ []) $ use1 W (raw (fact 𝓤 (Tested (x .reader) (x .walk) b)))
+          (goes-said (x .reader) (x .walk) b) $ heard ! (Tested (x .reader) (x .walk) b)
+          (λ e. split ! $ move ! (1 ∷ []) $
           facts ! Boolean (Is Boolean) (shows 𝓤 H A Boolean) b (z ∷ []) (λ ok.
           land ! (from ! (stop !)) (init ! 13 refl (subst (λ (y : Val). Typed tyBool y) (sym (ap only ok)) (tt, tt))) $ rewrite ! 13 (λ (y : Val). ‵ (fat fullShare tyBool l₇ 0 y)) (ap only ok) refl $
           first ! $ branches ! (load ! (from ! (stop !)) (look ! 13 refl))
@@ -384,14 +426,30 @@ module _ {M : Type 1} (𝓤 : URA M) (H : Heap 𝓤) (A : Atoms 𝓤) (W : Given
         land ! (from ! (stop !)) (init ! 19 refl (typed-reader p y ip)) $ move ! (1 ∷ []) $
         assigns ! (of-opd ! (load ! (from ! (stop !)) (look ! 21 refl))) (from ! (stop !)) (init ! 17 refl (typed-walk w₀ v₀ is₀)) $ forget ! 21 refl $ forget ! 23 refl $ forget ! 25 refl $
         first ! $ blocks ! $ loops ! 𝓣 Nearer nearer-wf (At l₀ l₁ l₂ l₃ l₄ l₅ l₆ l₇ l₈ l₉ l₁₀ l₁₁ l₁₂) (turns l₀ l₁ l₂ l₃ l₄ l₅ l₆ l₇ l₈ l₉ l₁₀ l₁₁ l₁₂ fits is₀)
-        (record { turns = turns-of (now s) w₀; reader = p; u = y; walk = w₀; v = v₀; text-is = f .0; reader-is = ip; walk-is = is₀; left = left-start (now s) from₀ w₀ (p .at) (f .1) }))))))))))))))))))
+        (record {
+          turns = turns-of (now s) w₀;
+          reader = p;
+          u = y;
+          walk = w₀;
+          v = v₀;
+          text-is = f .0;
+          reader-is = ip;
+          walk-is = is₀;
+          left = left-start (now s) from₀ w₀ (p .at) (f .1);
+        }))))))))))))))))))
 
 lines-meets : {M : Type 1} (𝓤 : URA M) (H : Heap 𝓤) (A : Atoms 𝓤) (W : Given 𝓤 H A) (mem : Memory → SProp 𝓤) (run : Routine → Fun 𝓤) (𝓣 : Tables 𝓤 H) → Triple 𝓤 (𝓣 .C #new) (New 𝓤 H A mem run)
     → Triple 𝓤 (𝓣 .C #goes-on) (GoesOn 𝓤 H A mem run) → Triple 𝓤 (𝓣 .C #line) (Line 𝓤 H A mem run) → Triple 𝓤 (𝓣 .C #moved) (Moved 𝓤 H A mem run) → Triple 𝓤 (𝓣 .C #with-line) (WithLine 𝓤 H A mem run)
     → Triple 𝓤 (𝓣 .C #place) (Place 𝓤 H A mem run) → Triple 𝓤 (𝓣 .C #so-far) (SoFar 𝓤 H A mem run)
     → Meets 𝓤 H A lines.signature (WpFn 𝓤 H (𝓣 .C) (𝓣 .Λ) code.function) (lines.spec 𝓤 H A mem run)
 lines-meets 𝓤 H A W mem run 𝓣 kn kg kl km kw kp ks =
-    walk-meets 𝓤 H A lines.ended stayed W (goes-none-slice 𝓤 H A W 1 (0 ∷ []) tt (plain (λ _. u8)) yes, (goes-none 𝓤 H A W 1 (λ _. usize) yes (λ κs x f. refl), (goes-none 𝓤 H A W 1 (λ _. K.the-row) yes (λ κs x f. refl), tt)))
+    walk-meets 𝓤 H A lines.ended stayed W (
+      goes-none-slice 𝓤 H A W 1 (0 ∷ []) tt (plain (λ _. u8)) yes,
+      (
+        goes-none 𝓤 H A W 1 (λ _. usize) yes (λ κs x f. refl),
+        (goes-none 𝓤 H A W 1 (λ _. K.the-row) yes (λ κs x f. refl), tt),
+      ),
+    )
     (lines.clauses 𝓤 H A mem run) (WpFn 𝓤 H (𝓣 .C) (𝓣 .Λ) code.function) (WpFn-mono 𝓤 H (W .laws) 𝓣 code.function)
     (walked 𝓤 H A lines.ended stayed (lines.clauses 𝓤 H A mem run) (WpFn 𝓤 H (𝓣 .C) (𝓣 .Λ) code.function) (λ κs. (slice-vals, ((λ n. vint w64 n ∷ []), ((λ w. K′.lowered w ∷ []), tt))))
     (λ κs. (shr-slice-tells (named 0) (κs .0) u8, ((λ n vs is. is .0), (K′.lowers .val-is, tt))))

@@ -92,8 +92,12 @@ module _ {M : Type 1} (𝓤 : URA M) (H : Heap 𝓤) (A : Atoms 𝓤) (W : Given
       assigns ! (of-opd ! (load ! (from ! (fld ! refl (stop !))) (look-in ! 4 (sub ! 1 refl (whole !))))) (from ! (stop !)) (init ! 0 refl (tt, td .1 .1 .0)) $
       move ! (9 ∷ []) $ fsplit ! $ move ! (1 ∷ []) $ drop ! $ move ! (9 ∷ 0 ∷ []) $
       use2 W (raw (Called 𝓤 H A mem run .pre to) ⊛ ‵ (Own κ d)) (apart-pair 𝓤 H A W κ q d (td .1 .1 .0 .fits)) $ split ! $
-      calls-at ! (fmOf 𝓤 H (W .laws) 𝓣) (Called 𝓤 H A mem run) known to (and-then ! (load ! (from ! (stop !)) (look ! 4 refl)) (and-then ! (load ! (from ! (stop !)) (look ! 2 refl)) (no-more !))) (λ u.
-      use1 W (later (some (λ (r : HeaderRead). ((‵ (flft κ q) ⊛ ‵ ftrue) ⊛ ‵ (S.the-row .own r (u ∷ []))) ⊛ raw (ensured 𝓤 H A callee.ended (callee.clauses 𝓤 H A mem run) (κ, tt) (d .text, (d .at, tt)) tt r)))) (id⊢ 𝓤 _) $ await ! tt $ pick ! (λ r.
+      calls-at ! (fmOf 𝓤 H (W .laws) 𝓣) (Called 𝓤 H A mem run) known to
+      (and-then ! (load ! (from ! (stop !)) (look ! 4 refl))
+      (and-then ! (load ! (from ! (stop !)) (look ! 2 refl)) (no-more !))) (λ u.
+      use1 W (later (some (λ (r : HeaderRead).
+      ((‵ (flft κ q) ⊛ ‵ ftrue) ⊛ ‵ (S.the-row .own r (u ∷ []))) ⊛ raw (ensured 𝓤 H A callee.ended
+      (callee.clauses 𝓤 H A mem run) (κ, tt) (d .text, (d .at, tt)) tt r)))) (id⊢ 𝓤 _) $ await ! tt $ pick ! (λ r.
       split ! $ move ! (1 ∷ []) $ use1 W (raw (fact 𝓤 (Says r))) (said r) $ heard ! (Says r) (λ e. split ! $ move ! (1 ∷ []) $
       -- [the answer; the token; what the reader owns; _3; ..; _2; ..; _1; ..; _0; ..]
       peeks ! S.the-row (Is S.the-row) (shows 𝓤 H A S.the-row) r (u ∷ []) (λ ok.
@@ -104,9 +108,12 @@ module _ {M : Type 1} (𝓤 : URA M) (H : Heap 𝓤) (A : Atoms 𝓤) (W : Given
 header-meets : {M : Type 1} (𝓤 : URA M) (H : Heap 𝓤) (A : Atoms 𝓤) → Given 𝓤 H A → (mem : Memory → SProp 𝓤) (run : Routine → Fun 𝓤) (𝓣 : Tables 𝓤 H) → Triple 𝓤 (𝓣 .C #callee) (Called 𝓤 H A mem run)
     → Meets 𝓤 H A header.signature (WpFn 𝓤 H (𝓣 .C) (𝓣 .Λ) code.function) (header.spec 𝓤 H A mem run)
 header-meets 𝓤 H A W mem run 𝓣 known =
-    walk-meets 𝓤 H A header.ended stayed W (goes-none 𝓤 H A W 1 Readers yes (λ κs x f. refl), tt) (header.clauses 𝓤 H A mem run) (WpFn 𝓤 H (𝓣 .C) (𝓣 .Λ) code.function) (WpFn-mono 𝓤 H (W .laws) 𝓣 code.function)
+    walk-meets 𝓤 H A header.ended stayed W (goes-none 𝓤 H A W 1 Readers yes (λ κs x f. refl), tt)
+    (header.clauses 𝓤 H A mem run) (WpFn 𝓤 H (𝓣 .C) (𝓣 .Λ) code.function) (WpFn-mono 𝓤 H (W .laws) 𝓣 code.function)
     (walked 𝓤 H A header.ended stayed (header.clauses 𝓤 H A mem run) (WpFn 𝓤 H (𝓣 .C) (𝓣 .Λ) code.function) one-val one-tells
-    (λ κs qs bounds a g are. via 𝓤 _ (fst∗ 𝓤 _ (emp 𝓤)) (walk 𝓤 H A W mem run (κs .0) (qs .0) (a .0) 𝓣 known (reader-typed 𝓤 H A W (κs .0) (a .0) (are .0)) S′.mir (λ r u ok. EL.lawful S.the-type S′.the-laws 𝓤 H A W tt .typed r (u ∷ []) ok .0))))
+    (λ κs qs bounds a g are. via 𝓤 _ (fst∗ 𝓤 _ (emp 𝓤))
+    (walk 𝓤 H A W mem run (κs .0) (qs .0) (a .0) 𝓣 known (reader-typed 𝓤 H A W (κs .0) (a .0) (are .0)) S′.mir
+    (λ r u ok. EL.lawful S.the-type S′.the-laws 𝓤 H A W tt .typed r (u ∷ []) ok .0))))
 
 pub header-spec : {M : Type 1} → stated.statement M
 unfolding code.routine tablesOf
