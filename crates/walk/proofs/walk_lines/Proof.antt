@@ -55,7 +55,7 @@ use Rattle.walk.proofs.Reader.Laws as R′
 use Rattle.walk.proofs.Walk as K
 use Rattle.walk.proofs.Walk.Laws as K′
 use Rattle.walk.proofs.Turns.{Left, turns-of, left-start, left-next, left-done}
-use Rattle.walk.proofs.Held.{Readers, Has, Typed, local-typed, walk-typed, lines-typed, number-typed, asking, asking-plain, passed-alone, passed}
+use Rattle.walk.proofs.Held.{Readers, Has, Typed, local-typed, walk-typed, lines-typed, number-typed, asking, asking-plain, passed-alone, passed, answered}
 use Rattle.walk.proofs.Reader.new as new
 use Rattle.walk.proofs.Reader.new.Symbol as new-def
 use Rattle.walk.proofs.Reader.new.Symbol.{name as #new}
@@ -320,12 +320,7 @@ module _ {M : Type 1} (𝓤 : URA M) (H : Heap 𝓤) (A : Atoms 𝓤) (W : Given
           calls-at ! fm (Line 𝓤 H A mem run) known-line (to-line (x .reader) (x .u) (x .walk) (x .v))
           (and-then ! (load ! (from ! (stop !)) (look ! 9 refl))
           (and-then ! (load ! (from ! (stop !)) (look ! 17 refl)) (no-more !))) (λ z.
-          use1 W (later (some (λ (l : Lines).
-          (token ⊛ ‵ (L.the-row .own l (z ∷ []))) ⊛ raw (ensured 𝓤 H A line.ended (line.clauses 𝓤 H A mem run)
-          (κ, tt) (x .reader, (x .walk, tt)) tt l)))) (id⊢ 𝓤 _) $ await ! tt $ pick ! (λ l.
-          split ! $ move ! (1 ∷ []) $ use1 W (raw (fact 𝓤 (Read (x .reader) (x .walk) l)))
-          (line-said (x .reader) (x .walk) l) $ heard ! (Read (x .reader) (x .walk) l)
-          (λ h. split ! $ move ! (1 ∷ []) $
+          answered ! tt token L.the-row z _ _ (line-said (x .reader) (x .walk)) (id⊢ 𝓤 _) (λ l h.
           facts ! L.the-row (Is L.the-row) (shows 𝓤 H A L.the-row) l (z ∷ []) (λ ok.
           land ! (from ! (stop !)) (init ! 15 refl (typed-lines l z ok)) $
           assigns ! (of-opd ! (load ! (from ! (stop !)) (look ! 19 refl))) (from ! (stop !)) (init ! 7 refl (typed-reader (x .reader) (x .u) (x .reader-is))) $
@@ -333,10 +328,7 @@ module _ {M : Type 1} (𝓤 : URA M) (H : Heap 𝓤) (A : Atoms 𝓤) (W : Given
           calls-at ! fm (Moved 𝓤 H A mem run) known-moved (to-moved (x .reader) (x .u) l z)
           (and-then ! (load ! (from ! (stop !)) (look ! 7 refl))
           (and-then ! (load ! (from ! (stop !)) (look ! 15 refl)) (no-more !))) (λ y.
-          use1 W (later (some (λ (p : Reader).
-          (token ⊛ ‵ (Has κ p y)) ⊛ raw (ensured 𝓤 H A moved.ended (moved.clauses 𝓤 H A mem run) (κ, tt)
-          (x .reader, (l, tt)) tt p)))) (id⊢ 𝓤 _) $ await ! tt $ pick ! (λ p.
-          split ! $ move ! (1 ∷ []) $ use1 W (raw (fact 𝓤 (On (x .reader) l p))) (moved-said (x .reader) l p) $ heard ! (On (x .reader) l p) (λ f. split ! $ move ! (1 ∷ []) $
+          answered ! tt token (Readers (κ, tt)) y _ _ (moved-said (x .reader) l) (id⊢ 𝓤 _) (λ p f.
           -- [the new reader's; the token; the old reader's; the text's; _12; ..]
           peeks ! (Readers (κ, tt)) (Is (Readers (κ, tt))) (shows 𝓤 H A (Readers (κ, tt))) p (y ∷ []) (λ is.
           move ! (2 ∷ []) $ drop ! $ move ! (1 ∷ []) $ land ! (from ! (stop !)) (store ! 19 refl (typed-reader p y is)) $
@@ -346,14 +338,11 @@ module _ {M : Type 1} (𝓤 : URA M) (H : Heap 𝓤) (A : Atoms 𝓤) (W : Given
           calls-at-last ! fm (WithLine 𝓤 H A mem run) known-with (to-with (x .walk) (x .v) l z)
           (and-then ! (load ! (from ! (stop !)) (look ! 18 refl))
           (and-then ! (load ! (from ! (stop !)) (look ! 16 refl)) (no-more !))) (λ v.
-          use1 W (later (some (λ (r : Walk).
-          (‵ ftrue ⊛ ‵ (K.the-row .own r (v ∷ []))) ⊛ raw (ensured 𝓤 H A with-line.ended
-          (with-line.clauses 𝓤 H A mem run) tt (x .walk, (l, tt)) tt r)))) (id⊢ 𝓤 _) $ await ! tt $ pick ! (λ r.
-          split ! $ move ! (1 ∷ []) $ use1 W (raw (fact 𝓤 (Noted (x .walk) l r))) (with-said (x .walk) l r) $ heard ! (Noted (x .walk) l r) (λ g. split ! $ drop ! $
+          answered ! tt (‵ ftrue) K.the-row v _ _ (with-said (x .walk) l) (id⊢ 𝓤 _) (λ r g. move ! (1 ∷ []) $ drop ! $
           facts ! K.the-row (Is K.the-row) (shows 𝓤 H A K.the-row) r (v ∷ []) (λ ir.
           land-last ! (from ! (stop !)) (store ! 17 refl (typed-walk r v ir)) $ forget ! 7 refl $ forget ! 9 refl $ forget ! 15 refl $
           (let n = left-next (now s) from₀ w₀ (x .reader .at) (x .walk) (x .turns) (x .left) e l (read-here x l h) (p .at) (f .1) r g in
-          again ! Nearer At x (record { turns = n .left; reader = p; u = y; walk = r; v = v; text-is = f .0 ∙ x .text-is; reader-is = is; walk-is = ir; left = n .still }) (n .less))))))))))))))
+          again ! Nearer At x (record { turns = n .left; reader = p; u = y; walk = r; v = v; text-is = f .0 ∙ x .text-is; reader-is = is; walk-is = ir; left = n .still }) (n .less)))))))))))
 
       -- no line more: what was read is returned, with the place where the reader stands
       ends : from₀ < 2 ^ 64 → Is K.the-row w₀ (v₀ ∷ []) → (x : State) → Goes x false → Sq W (At x) (runs (𝓣 .C) (𝓣 .Λ) En after (atRet En Post))
@@ -361,10 +350,7 @@ module _ {M : Type 1} (𝓤 : URA M) (H : Heap 𝓤) (A : Atoms 𝓤) (W : Given
           assigns ! (of-opd ! (load ! (from ! (stop !)) (look ! 19 refl))) (from ! (stop !)) (init ! 3 refl (typed-reader (x .reader) (x .u) (x .reader-is))) $
           use2 W (raw (Place 𝓤 H A mem run .pre (to-place (x .reader) (x .u))) ⊛ ‵ (Has κ (x .reader) (x .u))) (passed-alone 𝓤 H A W κ q (x .reader) (x .u)) $ split ! $
           calls-at ! fm (Place 𝓤 H A mem run) known-place (to-place (x .reader) (x .u)) (and-then ! (load ! (from ! (stop !)) (look ! 3 refl)) (no-more !)) (λ y.
-          use1 W (later (some (λ (n : ℕ).
-          (token ⊛ ‵ (usize .own n (y ∷ []))) ⊛ raw (ensured 𝓤 H A place-of.ended (place-of.clauses 𝓤 H A mem run)
-          (κ, tt) (x .reader, tt) tt n)))) (id⊢ 𝓤 _) $ await ! tt $ pick ! (λ n.
-          split ! $ move ! (1 ∷ []) $ use1 W (raw (fact 𝓤 (Stands (x .reader) n))) (place-said (x .reader) n) $ heard ! (Stands (x .reader) n) (λ f. split ! $ move ! (1 ∷ []) $
+          answered ! tt token usize y _ _ (place-said (x .reader)) (id⊢ 𝓤 _) (λ n f.
           facts ! usize (Is usize) (shows 𝓤 H A usize) n (y ∷ []) (λ is.
           land ! (from ! (stop !)) (init ! 5 refl (number-typed 𝓤 H A W n y is)) $
           nothing ! $ owned ! usize (Is usize) (uint-makes 𝓤 H A W w64) n (y ∷ []) is $ fjoin ! $ owned ! K.the-row (Is K.the-row) walk-makes (x .walk) (x .v ∷ []) (x .walk-is) $ fjoin ! $
@@ -372,10 +358,7 @@ module _ {M : Type 1} (𝓤 : URA M) (H : Heap 𝓤) (A : Atoms 𝓤) (W : Given
           calls-at ! fm (SoFar 𝓤 H A mem run) known-so-far (to-so-far (x .walk) (x .v) n y)
           (and-then ! (load ! (from ! (stop !)) (look ! 18 refl))
           (and-then ! (load ! (from ! (stop !)) (look ! 6 refl)) (no-more !))) (λ z.
-          use1 W (later (some (λ (l : Lines).
-          (‵ ftrue ⊛ ‵ (L.the-row .own l (z ∷ []))) ⊛ raw (ensured 𝓤 H A so-far.ended
-          (so-far.clauses 𝓤 H A mem run) tt (x .walk, (n, tt)) tt l)))) (id⊢ 𝓤 _) $ await ! tt $ pick ! (λ l.
-          split ! $ move ! (1 ∷ []) $ use1 W (raw (fact 𝓤 (Given-so-far (x .walk) n l))) (so-far-said (x .walk) n l) $ heard ! (Given-so-far (x .walk) n l) (λ g. split ! $ drop ! $
+          answered ! tt (‵ ftrue) L.the-row z _ _ (so-far-said (x .walk) n) (id⊢ 𝓤 _) (λ l g. move ! (1 ∷ []) $ drop ! $
           facts ! L.the-row (Is L.the-row) (shows 𝓤 H A L.the-row) l (z ∷ []) (λ ok.
           land ! (from ! (stop !)) (init ! 27 refl (typed-lines l z ok)) $
           returns ! (look ! 27 refl) $ forget ! 3 refl $ forget ! 5 refl $ forget ! 17 refl $ forget ! 19 refl $ forget ! 27 refl $
@@ -384,7 +367,7 @@ module _ {M : Type 1} (𝓤 : URA M) (H : Heap 𝓤) (A : Atoms 𝓤) (W : Given
           move ! (15 ∷ 16 ∷ []) $ free1 ! $
           move ! (13 ∷ 14 ∷ []) $ free1 ! $ move ! (11 ∷ 12 ∷ []) $ free1 ! $ move ! (9 ∷ 10 ∷ []) $ free1 ! $
           move ! (7 ∷ 8 ∷ []) $ free1 ! $ move ! (5 ∷ 6 ∷ []) $ free1 ! $ move ! (3 ∷ 4 ∷ []) $ free1 ! $ free0 ! $
-          move ! (1 ∷ []) $ drop ! $ by ! (exits fits is₀ x e n f l z g ok)))))))))
+          move ! (1 ∷ []) $ drop ! $ by ! (exits fits is₀ x e n f l z g ok)))))))
 
       turns : from₀ < 2 ^ 64 → Is K.the-row w₀ (v₀ ∷ []) → (x : State) → Sq W (At x) (runs (𝓣 .C) (𝓣 .Λ) En turn (anyQ (Turned x)))
       unfolding afterTurn
@@ -396,17 +379,12 @@ module _ {M : Type 1} (𝓤 : URA M) (H : Heap 𝓤) (A : Atoms 𝓤) (W : Given
           calls-at ! fm (GoesOn 𝓤 H A mem run) known-goes (to-goes (x .reader) (x .u) (x .walk) (x .v))
           (and-then ! (load ! (from ! (stop !)) (look ! 11 refl))
           (and-then ! (load ! (from ! (stop !)) (look ! 17 refl)) (no-more !))) (λ z.
-          use1 W (later (some (λ (b : Bool).
-          (token ⊛ ‵ (Boolean .own b (z ∷ []))) ⊛ raw (ensured 𝓤 H A goes.ended (goes.clauses 𝓤 H A mem run) (κ, tt)
-          (x .reader, (x .walk, tt)) tt b)))) (id⊢ 𝓤 _) $ await ! tt $ pick ! (λ b.
-          split ! $ move ! (1 ∷ []) $ use1 W (raw (fact 𝓤 (Tested (x .reader) (x .walk) b)))
-          (goes-said (x .reader) (x .walk) b) $ heard ! (Tested (x .reader) (x .walk) b)
-          (λ e. split ! $ move ! (1 ∷ []) $
+          answered ! tt token Boolean z _ _ (goes-said (x .reader) (x .walk)) (id⊢ 𝓤 _) (λ b e.
           facts ! Boolean (Is Boolean) (shows 𝓤 H A Boolean) b (z ∷ []) (λ ok.
           land ! (from ! (stop !)) (init ! 13 refl (subst (λ (y : Val). Typed tyBool y) (sym (ap only ok)) (tt, tt))) $ rewrite ! 13 (λ (y : Val). ‵ (fat fullShare tyBool l₇ 0 y)) (ap only ok) refl $
           first ! $ branches ! (load ! (from ! (stop !)) (look ! 13 refl))
           (λ h. forget ! 11 refl $ forget ! 13 refl $ skips ! $ exec ! (𝓣 .C) (𝓣 .Λ) En more (anyQ (Turned x)) $ reads x (asked-here x b e ∙ holds-true b h))
-          (λ h. forget ! 11 refl $ forget ! 13 refl $ jumps ! $ exec ! (𝓣 .C) (𝓣 .Λ) En after (atRet En Post) $ ends fits is₀ x (asked-here x b e ∙ holds-not b h))))))
+          (λ h. forget ! 11 refl $ forget ! 13 refl $ jumps ! $ exec ! (𝓣 .C) (𝓣 .Λ) En after (atRet En Post) $ ends fits is₀ x (asked-here x b e ∙ holds-not b h)))))
 
     walk : Is (ShrSlice (named 0) κ u8) s (text ∷ []) → Typed σ text → from₀ < 2 ^ 64 → Is K.the-row w₀ (v₀ ∷ [])
         → ent 𝓤 (onEntry 𝓤 H A lines.signature (κ, tt) (q, tt) (s, (from₀, (w₀, tt))) at) (WpFn 𝓤 H (𝓣 .C) (𝓣 .Λ) (function σ τ ρ μ) (text ∷ vint w64 from₀ ∷ v₀ ∷ []) Post)
@@ -419,8 +397,7 @@ module _ {M : Type 1} (𝓤 : URA M) (H : Heap 𝓤) (A : Atoms 𝓤) (W : Given
         nothing ! $ owned ! usize (Is usize) (uint-makes 𝓤 H A W w64) from₀ _ (refl, fits) $ fjoin ! $ move ! (1 ∷ 0 ∷ []) $ fjoin ! $
         move ! (28 ∷ 0 ∷ []) $ use2 W (raw (New 𝓤 H A mem run .pre to-new)) (asking 𝓤 H A W κ q (owns (ShrSlice (named 0) κ u8 ∷ usize ∷ []) (s, (from₀, tt)) (text ∷ [], (vint w64 from₀ ∷ [], tt)))) $
         calls-at ! fm (New 𝓤 H A mem run) known-new to-new (and-then ! (load ! (from ! (stop !)) (look ! 24 refl)) (and-then ! (load ! (from ! (stop !)) (look ! 22 refl)) (no-more !))) (λ y.
-        use1 W (later (some (λ (p : Reader). (token ⊛ ‵ (Has κ p y)) ⊛ raw (ensured 𝓤 H A new.ended (new.clauses 𝓤 H A mem run) (κ, tt) (s, (from₀, tt)) tt p)))) (id⊢ 𝓤 _) $ await ! tt $ pick ! (λ p.
-        split ! $ move ! (1 ∷ []) $ use1 W (raw (fact 𝓤 (Made p))) (new-said p) $ heard ! (Made p) (λ f. split ! $ move ! (1 ∷ []) $
+        answered ! tt token (Readers (κ, tt)) y _ _ new-said (id⊢ 𝓤 _) (λ p f.
         peeks ! (Readers (κ, tt)) (Is (Readers (κ, tt))) (shows 𝓤 H A (Readers (κ, tt))) p (y ∷ []) (λ ip.
         -- [the reader's; the token; the text's; _12; ..]
         land ! (from ! (stop !)) (init ! 19 refl (typed-reader p y ip)) $ move ! (1 ∷ []) $
@@ -436,7 +413,7 @@ module _ {M : Type 1} (𝓤 : URA M) (H : Heap 𝓤) (A : Atoms 𝓤) (W : Given
           reader-is = ip;
           walk-is = is₀;
           left = left-start (now s) from₀ w₀ (p .at) (f .1);
-        }))))))))))))))))))
+        })))))))))))))))))
 
 lines-meets : {M : Type 1} (𝓤 : URA M) (H : Heap 𝓤) (A : Atoms 𝓤) (W : Given 𝓤 H A) (mem : Memory → SProp 𝓤) (run : Routine → Fun 𝓤) (𝓣 : Tables 𝓤 H) → Triple 𝓤 (𝓣 .C #new) (New 𝓤 H A mem run)
     → Triple 𝓤 (𝓣 .C #goes-on) (GoesOn 𝓤 H A mem run) → Triple 𝓤 (𝓣 .C #line) (Line 𝓤 H A mem run) → Triple 𝓤 (𝓣 .C #moved) (Moved 𝓤 H A mem run) → Triple 𝓤 (𝓣 .C #with-line) (WithLine 𝓤 H A mem run)
