@@ -12,7 +12,7 @@ use base.Fml.{Lft, Share, ftrue, flft}
 use prog.Wp.{Heap, WpFn, Tables}
 use ghost.Atoms.{Atoms, sem}
 use contract.Monad.{fact}
-use types.Kit.{Given, Item, mean, ‵, raw, _⊛_, ⋆, some, later, _$_, _∵_, !, qed, by, move, drop, use1, use2, split, pick, fsplit, await}
+use types.Kit.{Given, Item, mean, ‵, raw, _⊛_, ⋆, some, later, _$_, _∵_, !, qed, by, move, drop, use2, split, fsplit}
 use types.Part.{whole, sub, look-in}
 use types.Run.{look, init, forget, stop, fld, from, load, of-opd, and-then, no-more, assigns, land, returns, enter, alloc1, alloc0, params1, pass1, pass0, free1, free0}
 use sound.WpLaws.{fmOf}
@@ -20,13 +20,13 @@ use denote.RattleType.{RattleType, owns}
 use denote.Laws.{Is, shows}
 use denote.Builtin.{u8, usize}
 use denote.Slice.{ShrSlice}
-use denote.Steps.{peeks, heard}
+use denote.Steps.{peeks}
 use denote.Triple.Call.{calls-from}
 use Rattle.walk.specs.declared.Reader.{Reader}
 use Rattle.walk.specs.declared.Walk.{Walk}
 use Rattle.walk.proofs.Reader.Laws as R′
 use Rattle.walk.proofs.Walk as K
-use Rattle.walk.proofs.Held.{Readers, Own, reader-local, slice-local, number-local, Typed, slice, Passed, apart}
+use Rattle.walk.proofs.Held.{Readers, Own, reader-local, slice-local, number-local, Typed, slice, Passed, apart, answered}
 
 -- the code of one that calls f, with any types in the places of the answer's and the walk's
 abbrev pub function : Name → Ty → Ty → Fn
@@ -65,10 +65,9 @@ module _ {M : Type 1} (𝓤 : URA M) (H : Heap 𝓤) (A : Atoms 𝓤) (W : Given
         move ! (11 ∷ []) $ fsplit ! $ move ! (1 ∷ []) $ drop ! $ move ! (11 ∷ 0 ∷ []) $ use2 W (raw Asked ⊛ ‵ (Own κ d)) (apart 𝓤 H A W κ q d w v (td .1 .1 .0 .fits) is) $ split ! $
         calls-from ! (fmOf 𝓤 H (W .laws) 𝓣) (raw Asked) (slice 𝓤 H A W κ q d ∷ vint w64 (d .at) ∷ v ∷ []) (Answered R Ensured) known
         (and-then ! (load ! (from ! (stop !)) (look ! 4 refl)) (and-then ! (load ! (from ! (stop !)) (look ! 2 refl)) (and-then ! (load ! (from ! (stop !)) (look ! 6 refl)) (no-more !)))) (λ u.
-        use1 W (later (some (λ (r : R .Denot). (token ⊛ ‵ (R .own r (u ∷ []))) ⊛ raw (Ensured r)))) (id⊢ 𝓤 _) $ await ! tt $ pick ! (λ r.
-        split ! $ move ! (1 ∷ []) $ use1 W (raw (fact 𝓤 (Says r))) (said r) $ heard ! (Says r) (λ e. split ! $ move ! (1 ∷ []) $
+        answered ! tt token R u _ _ said (id⊢ 𝓤 _) (λ r e.
         -- [the answer; the token; what the reader owns; _4; ..; _3; ..; _2; ..; _1; ..; _0; ..]
         peeks ! R (Is R) (shows 𝓤 H A R) r (u ∷ []) (λ ok. land ! (from ! (stop !)) (init ! 11 refl (tr r u ok)) $
         returns ! (look ! 11 refl) $ forget ! 3 refl $ forget ! 5 refl $ forget ! 7 refl $ forget ! 9 refl $ forget ! 11 refl $
         move ! (11 ∷ 12 ∷ []) $ free1 ! $ move ! (9 ∷ 10 ∷ []) $ free1 ! $ move ! (7 ∷ 8 ∷ []) $ free1 ! $
-        move ! (5 ∷ 6 ∷ []) $ free1 ! $ move ! (3 ∷ 4 ∷ []) $ free1 ! $ free0 ! $ by ! (exits r u e))))))))))
+        move ! (5 ∷ 6 ∷ []) $ free1 ! $ move ! (3 ∷ 4 ∷ []) $ free1 ! $ free0 ! $ by ! (exits r u e)))))))))

@@ -17,7 +17,7 @@ use prog.Wp.{Heap, WpFn, Tables}
 use ghost.Atoms.{Atoms, sem}
 use contract.Monad.{Fun, fact}
 use contract.Running.{givenOf, tables, tablesOf}
-use types.Kit.{Given, ‵, raw, _⊛_, some, later, _$_, _∵_, !, qed, by, move, drop, use1, split, pick, rewrite, fsplit, fjoin, suffices, frame, await}
+use types.Kit.{Given, ‵, raw, _⊛_, _$_, _∵_, !, qed, by, move, drop, use1, split, rewrite, fsplit, fjoin, suffices, frame}
 use types.Part.{whole, sub, look-in, agg}
 use types.Run.{look, init, forget, stop, fld, from, load, of-opd, and-then, no-more, assigns, land, returns, enter, alloc1, alloc0, params1, pass1, pass0, free1, free0}
 use sound.WpLaws.{fmOf, WpFn-mono}
@@ -25,7 +25,7 @@ use denote.RattleType.{owns}
 use denote.Laws.{Is, shows}
 use denote.Plain.{uint-makes}
 use denote.Builtin.{usize}
-use denote.Steps.{only, owned, facts, heard, nothing}
+use denote.Steps.{only, owned, facts, nothing}
 use denote.Struct.Laws as LL
 use denote.Struct.Rest.{own-put}
 use denote.Triple.Statement.{Contract, Triple}
@@ -41,7 +41,7 @@ use Rattle.drafts.specs.declared.Lines.{Lines}
 use Rattle.walk.proofs.Reader.Laws as R′
 use Rattle.drafts.proofs.Lines as L
 use Rattle.drafts.proofs.Lines.Laws as L′
-use Rattle.walk.proofs.Held.{Readers, struct, laws, Own, twice, asking-plain, reader-local, slice-local, number-local, Typed, number-typed, reader-typed, lines-typed, both-vals, both-tell}
+use Rattle.walk.proofs.Held.{Readers, struct, laws, Own, twice, asking-plain, reader-local, slice-local, number-local, Typed, number-typed, reader-typed, lines-typed, both-vals, both-tell, answered}
 use Rattle.walk.proofs.ends_at as ends
 use Rattle.walk.proofs.ends_at.Symbol as ends-def
 use Rattle.walk.proofs.ends_at.Symbol.{name as #ends-at}
@@ -109,8 +109,7 @@ module _ {M : Type 1} (𝓤 : URA M) (H : Heap 𝓤) (A : Atoms 𝓤) (W : Given
       assigns ! (of-opd ! (load ! (from ! (fld ! refl (stop !))) (look-in ! 6 (sub ! 0 refl (whole !))))) (from ! (stop !)) (init ! 2 refl (tt, td .1 .0)) $
       owned ! L.the-row (Is L.the-row) (LL.makes L.the-type L′.the-plain 𝓤 H A) l (v ∷ []) is $ use1 W (raw (EndsAt 𝓤 H A mem run .pre to)) asked $
       calls-at ! (fmOf 𝓤 H (W .laws) 𝓣) (EndsAt 𝓤 H A mem run) known to (and-then ! (load ! (from ! (stop !)) (look ! 5 refl)) (no-more !)) (λ u.
-      use1 W (later (some (λ (n : ℕ). (‵ ftrue ⊛ ‵ (usize .own n (u ∷ []))) ⊛ raw (ensured 𝓤 H A ends.ended (ends.clauses 𝓤 H A mem run) tt (l, tt) tt n)))) (id⊢ 𝓤 _) $ await ! tt $ pick ! (λ n.
-      split ! $ move ! (1 ∷ []) $ use1 W (raw (fact 𝓤 (n ≡ l .next .at))) (said n) $ heard ! (n ≡ l .next .at) (λ e. split ! $ drop ! $
+      answered ! tt (‵ ftrue) usize u _ _ said (id⊢ 𝓤 _) (λ n e. move ! (1 ∷ []) $ drop ! $
       -- [the answer; _4; ..; as before]: the answer is a number of the machine
       facts ! usize (Is usize) (shows 𝓤 H A usize) n (u ∷ []) (λ ok.
       land ! (from ! (stop !)) (init ! 0 refl (number-typed 𝓤 H A W n u ok)) $
@@ -119,16 +118,14 @@ module _ {M : Type 1} (𝓤 : URA M) (H : Heap 𝓤) (A : Atoms 𝓤) (W : Given
       (and-then ! (load ! (from ! (stop !)) (look ! 0 refl)) (no-more !)))) (from ! (stop !))
       (init ! 8 refl (tt, (td .1 .0, (record { fits = ok .1 }, tt)))) $
       returns ! (look ! 8 refl) $ forget ! 0 refl $ forget ! 2 refl $ forget ! 4 refl $ forget ! 6 refl $ forget ! 8 refl $
-      move ! (8 ∷ 9 ∷ []) $ free1 ! $ move ! (6 ∷ 7 ∷ []) $ free1 ! $ move ! (4 ∷ 5 ∷ []) $ free1 ! $ move ! (2 ∷ 3 ∷ []) $ free1 ! $ free1 ! $ free0 ! $ by ! (exits n e (ok .1)))))))))))
+      move ! (8 ∷ 9 ∷ []) $ free1 ! $ move ! (6 ∷ 7 ∷ []) $ free1 ! $ move ! (4 ∷ 5 ∷ []) $ free1 ! $ move ! (2 ∷ 3 ∷ []) $ free1 ! $ free1 ! $ free0 ! $ by ! (exits n e (ok .1))))))))))
 
 moved-meets : {M : Type 1} (𝓤 : URA M) (H : Heap 𝓤) (A : Atoms 𝓤) → Given 𝓤 H A → (mem : Memory → SProp 𝓤) (run : Routine → Fun 𝓤) (𝓣 : Tables 𝓤 H) → Triple 𝓤 (𝓣 .C #ends-at) (EndsAt 𝓤 H A mem run)
     → Meets 𝓤 H A moved.signature (WpFn 𝓤 H (𝓣 .C) (𝓣 .Λ) code.function) (moved.spec 𝓤 H A mem run)
 moved-meets 𝓤 H A W mem run 𝓣 known =
-    walk-meets 𝓤 H A moved.ended stayed W (
-      goes-none 𝓤 H A W 1 Readers yes (λ κs x f. refl),
-      (goes-none 𝓤 H A W 1 (λ _. L.the-row) yes (λ κs x f. refl), tt),
-    ) (moved.clauses 𝓤 H A mem run)
-    (WpFn 𝓤 H (𝓣 .C) (𝓣 .Λ) code.function) (WpFn-mono 𝓤 H (W .laws) 𝓣 code.function)
+    walk-meets 𝓤 H A moved.ended stayed W
+    (goes-none 𝓤 H A W 1 Readers yes (λ κs x f. refl), (goes-none 𝓤 H A W 1 (λ _. L.the-row) yes (λ κs x f. refl), tt))
+    (moved.clauses 𝓤 H A mem run) (WpFn 𝓤 H (𝓣 .C) (𝓣 .Λ) code.function) (WpFn-mono 𝓤 H (W .laws) 𝓣 code.function)
     (walked 𝓤 H A moved.ended stayed (moved.clauses 𝓤 H A mem run) (WpFn 𝓤 H (𝓣 .C) (𝓣 .Λ) code.function)
     (both-vals L.the-row (λ l. L′.lowered l ∷ []))
     (both-tell L.the-row (λ l. L′.lowered l ∷ []) (L′.lowers .val-is))
