@@ -44,15 +44,20 @@ module _ (text : List ℕ) where
   unfolding byteInside byteAt
   inside-sound b c x d e = go (ltb c (length text)) (eqb (getD text c 0) b) refl refl e
     where
-      go : (p q : Bool) → ltb c (length text) ≡ p → eqb (getD text c 0) b ≡ q → cond p (cond q (got b (c + 1)) bad) bad ≡ got x d → drop c text ≡ b ∷ drop d text
-      go true true h i e = let z : suc c ≡ d = sym (add-one c) ∙ (let y : c + 1 ≡ d = cc in y) in drop-cons text c 0 (ltb-true c (length text) h) ∙ (rw (eqb-true (getD text c 0) b i, z))
+      go : (p q : Bool) → ltb c (length text) ≡ p → eqb (getD text c 0) b ≡ q
+          → cond p (cond q (got b (c + 1)) bad) bad ≡ got x d → drop c text ≡ b ∷ drop d text
+      go true true h i e =
+          let z : suc c ≡ d = sym (add-one c) ∙ (let y : c + 1 ≡ d = cc in y) in
+          drop-cons text c 0 (ltb-true c (length text) h) ∙ (rw (eqb-true (getD text c 0) b i, z))
       go true false h i e = bad-got refl e
       go false q h i e = bad-got refl e
 
   pub word-sound : (w : List ℕ) (c x d : ℕ) → wordAt text w c ≡ got x d → drop c text ≡ w ++ drop d text
   unfolding wordAt
   word-sound [] c x d e = let z : c ≡ d = cc in rw z
-  word-sound (b ∷ w) c x d e = on (byteInside text b c) (λ y c. wordAt text w c) x d e (λ y k f e. inside-sound b c y k f ∙ ap (λ (l : List ℕ). b ∷ l) (word-sound w k x d e))
+  word-sound (b ∷ w) c x d e =
+      on (byteInside text b c) (λ y c. wordAt text w c) x d e
+      (λ y k f e. inside-sound b c y k f ∙ ap (λ (l : List ℕ). b ∷ l) (word-sound w k x d e))
 
   -- A SECTION
   number-tab : (n c d : ℕ) → numberTab text 2 c ≡ got n d → drop c text ≡ decimal n ++ (tab ∷ drop d text)
@@ -73,14 +78,16 @@ module _ (text : List ℕ) where
   unfolding sectionAt
   section-sound s k t c x d e = go (ltb t k) e
     where
-      go : (p : Bool) → cond p (then (numberTab text 2 c) (toSection s)) (got 0 c) ≡ got x d → drop c text ≡ cond p (sectionField x ++ (tab ∷ drop d text)) (drop d text)
+      go : (p : Bool) → cond p (then (numberTab text 2 c) (toSection s)) (got 0 c) ≡ got x d
+          → drop c text ≡ cond p (sectionField x ++ (tab ∷ drop d text)) (drop d text)
       go true e =
           on (numberTab text 2 c) (toSection s) x d e (λ n a f e.
           let i = to-section s n a x d (eqb n 0) (ltb (n - 1) s) refl e in
           number-tab n c a f ∙ (rw (i .0, i .1)))
       go false e = let z : c ≡ d = cc in rw z
 
-  pub sections-sound : (s k c x y z w d : ℕ) → sectionsAt text s k c ≡ got (x ∷ y ∷ z ∷ w ∷ []) d → drop c text ≡ piece k 0 x (piece k 1 y (piece k 2 z (piece k 3 w (drop d text))))
+  pub sections-sound : (s k c x y z w d : ℕ) → sectionsAt text s k c ≡ got (x ∷ y ∷ z ∷ w ∷ []) d
+      → drop c text ≡ piece k 0 x (piece k 1 y (piece k 2 z (piece k 3 w (drop d text))))
   unfolding sectionsAt
   sections-sound s k c x y z w d e =
       on (sectionAt text s k 0 c) _ (x ∷ y ∷ z ∷ w ∷ []) d e (λ x′ c₁ ex e.
@@ -136,7 +143,8 @@ module _ (text : List ℕ) where
   unfolding trainsAt openDigits weigh
   trains-sound zero t v c w d e = let z : c ≡ d = cc in let y : v ≡ w = cc in record { opens = []; long = refl; spelled = rw z; bits = omega arith }
   trains-sound (suc left) t v c w d e =
-      trains-step left t v c w d (eqb (getD text c 0) (trainDigit t)) refl (trains-sound left (suc t) (v + 2 ^ (trainBits + t)) (c + 1) w d) (trains-sound left (suc t) v c w d) e
+      trains-step left t v c w d (eqb (getD text c 0) (trainDigit t)) refl
+      (trains-sound left (suc t) (v + 2 ^ (trainBits + t)) (c + 1) w d) (trains-sound left (suc t) v c w d) e
 
   -- the field of open trains
   pub record Opens (k c o d : ℕ) : Type 0 where
@@ -154,7 +162,10 @@ module _ (text : List ℕ) where
       record {
         opens = x .opens;
         long = x .long;
-        spelled = rw (← z) (x .spelled ∙ ap (λ (l : List ℕ). l ++ drop b text) (sym (open-field (x .opens) ∙ filled (openDigits 0 (x .opens)) refl (λ j. i (x .bits ∙ omega (arith, j))))));
+        spelled =
+            rw (← z) (x .spelled ∙ ap (λ (l : List ℕ). l ++ drop b text)
+            (sym (open-field (x .opens) ∙ filled (openDigits 0 (x .opens)) refl
+            (λ j. i (x .bits ∙ omega (arith, j))))));
         bits = sym y ∙ x .bits ∙ omega arith;
       }
     where
@@ -190,7 +201,8 @@ module _ (text : List ℕ) where
     spelled : drop c text ≡ map sign points ++ drop d text
     bits : w ≡ v + weigh (2 ^ i) points
 
-  sign-before : (left i v u c w d : ℕ) (b : Bool) → getD text c 0 ≡ sign b → 0 < sign b → u ≡ v + cond b (2 ^ i) 0 → Signs left (suc i) u (c + 1) w d → Signs (suc left) i v c w d
+  sign-before : (left i v u c w d : ℕ) (b : Bool) → getD text c 0 ≡ sign b → 0 < sign b → u ≡ v + cond b (2 ^ i) 0
+      → Signs left (suc i) u (c + 1) w d → Signs (suc left) i v c w d
   unfolding weigh
   sign-before left i v u c w d b h pos j x =
       let z : 2 ^ suc i ≡ 2 * 2 ^ i = pow-succ' 2 i in
@@ -206,8 +218,12 @@ module _ (text : List ℕ) where
       → (signsAt text left (suc i) (v + 2 ^ i) (c + 1) ≡ got w d → Signs left (suc i) (v + 2 ^ i) (c + 1) w d)
       → (signsAt text left (suc i) v (c + 1) ≡ got w d → Signs left (suc i) v (c + 1) w d)
       → cond p (signsAt text left (suc i) (v + 2 ^ i) (c + 1)) (cond q (signsAt text left (suc i) v (c + 1)) bad) ≡ got w d → Signs (suc left) i v c w d
-  signs-step left i v c w d true q h g plus minus e = sign-before left i v (v + 2 ^ i) c w d true (eqb-true (getD text c 0) (byte "+") h) (omega arith) refl (plus e)
-  signs-step left i v c w d false true h g plus minus e = sign-before left i v v c w d false (eqb-true (getD text c 0) (byte "-") g) (omega arith) (omega arith) (minus e)
+  signs-step left i v c w d true q h g plus minus e =
+      sign-before left i v (v + 2 ^ i) c w d true (eqb-true (getD text c 0) (byte "+") h) (omega arith) refl
+      (plus e)
+  signs-step left i v c w d false true h g plus minus e =
+      sign-before left i v v c w d false (eqb-true (getD text c 0) (byte "-") g) (omega arith) (omega arith)
+      (minus e)
   signs-step left i v c w d false false h g plus minus e = bad-got refl e
 
   signs-sound : (left i v c w d : ℕ) → signsAt text left i v c ≡ got w d → Signs left i v c w d
@@ -292,7 +308,10 @@ module _ (text : List ℕ) where
 
 -- BOUNDS: an entry fits into its bits
 bits-few : (bs : List Bool) (most : ℕ) → length bs ≤ most → fromBits (λ i. getD bs i false) (length bs) < 2 ^ most
-bits-few bs most l = let a = bits-below (λ i. getD bs i false) (length bs) in let b = pow-le-pow-right {n = 2} (omega arith) {i = length bs} {j = most} l in omega arith
+bits-few bs most l =
+    let a = bits-below (λ i. getD bs i false) (length bs) in
+    let b = pow-le-pow-right {n = 2} (omega arith) {i = length bs} {j = most} l in
+    omega arith
 
 module _ (text : List ℕ) where
   pub opens-small : (k c o d : ℕ) → opensAt text k c ≡ got o d → k ≤ mostTrains → o < 2 ^ (trainBits + mostTrains)

@@ -170,7 +170,10 @@ module _ (text : List ℕ) (k from at v t : ℕ) (o : OpensTo text k from at v t
 
     -- what is added is small
     pub opens-room : v + (1 * 2 ^ (trainBits + t)) % 2 ^ 64 < 2 ^ 64
-    opens-room = let p = pow-le-pow-right {n = 2} (omega arith) {i = trainBits + t} {j = trainBits + mostTrains} (omega arith) in rw opens-bit (omega (arith, o .small))
+    opens-room =
+        let p = pow-le-pow-right {n = 2} (omega arith) {i = trainBits + t} {j = trainBits + mostTrains}
+        (omega arith) in
+        rw opens-bit (omega (arith, o .small))
 
     left-one : k - t ≡ suc (k - (t + 1))
     left-one = omega arith

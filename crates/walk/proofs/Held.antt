@@ -74,7 +74,8 @@ one-tells κs = (R′.lowers (namedLft 1 0 tt κs) .val-is, tt)
 abbrev pub both-vals : (R : RattleType) → (R .Denot → List Val) → (κs : Lfts 1) → Spells (Readers κs ∷ R ∷ [])
 both-vals R vals κs = ((λ d. R′.lowered d ∷ []), (vals, tt))
 
-pub both-tell : (R : RattleType) (vals : R .Denot → List Val) → Tells R (Is R) vals → (κs : Lfts 1) → Tellss (Readers κs ∷ R ∷ []) (Ises (Readers κs ∷ R ∷ [])) (both-vals R vals κs)
+pub both-tell : (R : RattleType) (vals : R .Denot → List Val) → Tells R (Is R) vals → (κs : Lfts 1)
+    → Tellss (Readers κs ∷ R ∷ []) (Ises (Readers κs ∷ R ∷ [])) (both-vals R vals κs)
 both-tell R vals tells κs = (R′.lowers (namedLft 1 0 tt κs) .val-is, (tells, tt))
 
 abbrev pub Typed : Ty → Val → Type 0
@@ -86,7 +87,9 @@ module _ {M : Type 1} (𝓤 : URA M) (H : Heap 𝓤) (A : Atoms 𝓤) (W : Given
 
   -- in a local of a body the lifetime has no name
   pub local-typed : (κ : Lft) (d : Reader) (u : Val) → Is (Readers (κ, tt)) d (u ∷ []) → Typed (R′.mir erased) u
-  local-typed κ d u is = LL.lawful (R.the-type (record { mir = erased; lft = κ })) (R′.the-laws (record { mir = erased; lft = κ })) 𝓤 H A W .typed d (u ∷ []) is .0
+  local-typed κ d u is =
+      LL.lawful (R.the-type (record { mir = erased; lft = κ }))
+      (R′.the-laws (record { mir = erased; lft = κ })) 𝓤 H A W .typed d (u ∷ []) is .0
 
   pub walk-typed : (w : Walk) (v : Val) → Is K.the-row w (v ∷ []) → Typed K′.mir v
   walk-typed w v is = LL.lawful K.the-type K′.the-laws 𝓤 H A W .typed w (v ∷ []) is .0
@@ -101,7 +104,9 @@ module _ {M : Type 1} (𝓤 : URA M) (H : Heap 𝓤) (A : Atoms 𝓤) (W : Given
   twice κ d u = LL.copy (struct κ) (R′.the-copy (namedLft 1 0 tt (κ, tt))) 𝓤 H A W .twice d (u ∷ [])
 
   -- what is owned on entry is what a contract with no `requires` asks
-  pub asking : (κ : Lft) (q : Share) (P : Fml) → ent 𝓤 (sep 𝓤 (sep 𝓤 (A .lft κ q) (emp 𝓤)) (sem 𝓤 H A P)) (sep 𝓤 (sep 𝓤 (sep 𝓤 (A .lft κ q) (emp 𝓤)) (sem 𝓤 H A P)) (emp 𝓤))
+  pub asking : (κ : Lft) (q : Share) (P : Fml)
+      → ent 𝓤 (sep 𝓤 (sep 𝓤 (A .lft κ q) (emp 𝓤)) (sem 𝓤 H A P))
+      (sep 𝓤 (sep 𝓤 (sep 𝓤 (A .lft κ q) (emp 𝓤)) (sem 𝓤 H A P)) (emp 𝓤))
   asking κ q P = qed W ((‵ (flft κ q) ⊛ ‵ ftrue) ∷ ‵ P ∷ []) ∵ join ! $ frame ! $ done !
 
   -- the same of a function of plain values
@@ -113,17 +118,21 @@ module _ {M : Type 1} (𝓤 : URA M) (H : Heap 𝓤) (A : Atoms 𝓤) (W : Given
     abbrev One : Fml
     One = owns (Readers (κ, tt) ∷ []) (d, tt) (u ∷ [], tt)
 
-    pub passed-alone : ent 𝓤 (⋆ 𝓤 H A ((‵ (flft κ q) ⊛ ‵ ftrue) ∷ ‵ (Has κ d u) ∷ [])) (sep 𝓤 (sep 𝓤 (sep 𝓤 (sep 𝓤 (A .lft κ q) (emp 𝓤)) (sem 𝓤 H A One)) (emp 𝓤)) (sem 𝓤 H A (Has κ d u)))
+    pub passed-alone : ent 𝓤 (⋆ 𝓤 H A ((‵ (flft κ q) ⊛ ‵ ftrue) ∷ ‵ (Has κ d u) ∷ []))
+        (sep 𝓤 (sep 𝓤 (sep 𝓤 (sep 𝓤 (A .lft κ q) (emp 𝓤)) (sem 𝓤 H A One)) (emp 𝓤)) (sem 𝓤 H A (Has κ d u)))
     passed-alone =
         qed W ((‵ (flft κ q) ⊛ ‵ ftrue) ∷ ‵ (Has κ d u) ∷ []) ∵ move ! (1 ∷ []) $ use1 W (‵ (Has κ d u) ⊛ ‵ (Has κ d u)) (twice κ d u) $ split ! $
-        nothing ! $ move ! (1 ∷ 0 ∷ []) $ fjoin ! $ move ! (2 ∷ 0 ∷ []) $ use2 W (raw (sep 𝓤 (sep 𝓤 (sep 𝓤 (A .lft κ q) (emp 𝓤)) (sem 𝓤 H A One)) (emp 𝓤))) (asking κ q One) $ frame ! $ done !
+        nothing ! $ move ! (1 ∷ 0 ∷ []) $ fjoin ! $ move ! (2 ∷ 0 ∷ []) $ use2 W
+        (raw (sep 𝓤 (sep 𝓤 (sep 𝓤 (A .lft κ q) (emp 𝓤)) (sem 𝓤 H A One)) (emp 𝓤))) (asking κ q One) $ frame ! $
+        done !
 
     module _ (R : RattleType) (makes : Makes 𝓤 H A R (Is R)) (x : R .Denot) (v : Val) where
       abbrev pub Both : Fml
       Both = owns (Readers (κ, tt) ∷ R ∷ []) (d, (x, tt)) (u ∷ [], (v ∷ [], tt))
 
       pub passed : Is R x (v ∷ [])
-          → ent 𝓤 (⋆ 𝓤 H A ((‵ (flft κ q) ⊛ ‵ ftrue) ∷ ‵ (Has κ d u) ∷ [])) (sep 𝓤 (sep 𝓤 (sep 𝓤 (sep 𝓤 (A .lft κ q) (emp 𝓤)) (sem 𝓤 H A Both)) (emp 𝓤)) (sem 𝓤 H A (Has κ d u)))
+          → ent 𝓤 (⋆ 𝓤 H A ((‵ (flft κ q) ⊛ ‵ ftrue) ∷ ‵ (Has κ d u) ∷ []))
+          (sep 𝓤 (sep 𝓤 (sep 𝓤 (sep 𝓤 (A .lft κ q) (emp 𝓤)) (sem 𝓤 H A Both)) (emp 𝓤)) (sem 𝓤 H A (Has κ d u)))
       passed is =
           qed W ((‵ (flft κ q) ⊛ ‵ ftrue) ∷ ‵ (Has κ d u) ∷ []) ∵ move ! (1 ∷ []) $ use1 W (‵ (Has κ d u) ⊛ ‵ (Has κ d u)) (twice κ d u) $ split ! $
           -- [the reader's; the reader's; the token]
@@ -142,8 +151,10 @@ module _ {M : Type 1} (𝓤 : URA M) (H : Heap 𝓤) (A : Atoms 𝓤) (W : Given
     taken : ent 𝓤 (sem 𝓤 H A (Own κ d)) (sep 𝓤 (sem 𝓤 H A (ShrSlice (named 0) κ u8 .own (d .text) (slice ∷ []))) (sem 𝓤 H A (Own κ d)))
     taken =
         qed W (‵ (Own κ d) ∷ []) ∵ use1 W (‵ (Own κ d) ⊛ ‵ (Own κ d)) (twice κ d (R′.lowered d)) $ split ! $
-        use1 W (given (R′.lowered d ∷ [] ≡ R′.lowered d ∷ []) (‵ (all-own (struct κ .parts) (laws κ) fields))) (own-open 𝓤 H A W (struct κ) (laws κ) fields (R′.lowered d)) $ learn ! (λ _.
-        use1 W (‵ (ownAt (struct κ .parts) (laws κ) 0 (d .text)) ⊛ ‵ (rest (struct κ .parts) (laws κ) 0 fields)) (own-out 𝓤 H A W (struct κ .parts) (laws κ) 0 fields) $ split ! $
+        use1 W (given (R′.lowered d ∷ [] ≡ R′.lowered d ∷ []) (‵ (all-own (struct κ .parts) (laws κ) fields)))
+        (own-open 𝓤 H A W (struct κ) (laws κ) fields (R′.lowered d)) $ learn ! (λ _.
+        use1 W (‵ (ownAt (struct κ .parts) (laws κ) 0 (d .text)) ⊛ ‵ (rest (struct κ .parts) (laws κ) 0 fields))
+        (own-out 𝓤 H A W (struct κ .parts) (laws κ) 0 fields) $ split ! $
         move ! (1 ∷ []) $ drop ! $ frame ! $ done !)
 
     abbrev pub Pair : Valss (ShrSlice (named 0) κ u8 ∷ usize ∷ [])
@@ -155,9 +166,12 @@ module _ {M : Type 1} (𝓤 : URA M) (H : Heap 𝓤) (A : Atoms 𝓤) (W : Given
         (sem 𝓤 H A (owns (ShrSlice (named 0) κ u8 ∷ usize ∷ []) (d .text, (d .at, tt)) Pair))) (emp 𝓤))
         (sem 𝓤 H A (Own κ d)))
     apart-pair fits =
-        qed W ((‵ (flft κ q) ⊛ ‵ ftrue) ∷ ‵ (Own κ d) ∷ []) ∵ move ! (1 ∷ []) $ use1 W (‵ (ShrSlice (named 0) κ u8 .own (d .text) (slice ∷ [])) ⊛ ‵ (Own κ d)) taken $ split ! $
+        qed W ((‵ (flft κ q) ⊛ ‵ ftrue) ∷ ‵ (Own κ d) ∷ []) ∵ move ! (1 ∷ []) $ use1 W
+        (‵ (ShrSlice (named 0) κ u8 .own (d .text) (slice ∷ [])) ⊛ ‵ (Own κ d)) taken $ split ! $
         nothing ! $ owned ! usize (Is usize) (uint-makes 𝓤 H A W w64) (d .at) _ (refl, fits) $ fjoin ! $ move ! (1 ∷ 0 ∷ []) $ fjoin ! $
-        move ! (2 ∷ 0 ∷ []) $ use2 W (raw (sep 𝓤 (sep 𝓤 (sep 𝓤 (A .lft κ q) (emp 𝓤)) (sem 𝓤 H A (owns (ShrSlice (named 0) κ u8 ∷ usize ∷ []) (d .text, (d .at, tt)) Pair))) (emp 𝓤)))
+        move ! (2 ∷ 0 ∷ []) $ use2 W (raw (sep 𝓤
+        (sep 𝓤 (sep 𝓤 (A .lft κ q) (emp 𝓤))
+        (sem 𝓤 H A (owns (ShrSlice (named 0) κ u8 ∷ usize ∷ []) (d .text, (d .at, tt)) Pair))) (emp 𝓤)))
         (asking κ q (owns (ShrSlice (named 0) κ u8 ∷ usize ∷ []) (d .text, (d .at, tt)) Pair)) $ frame ! $ done !
 
     module _ (w : Walk) (v : Val) where
@@ -173,10 +187,13 @@ module _ {M : Type 1} (𝓤 : URA M) (H : Heap 𝓤) (A : Atoms 𝓤) (W : Given
           (sem 𝓤 H A (owns (ShrSlice (named 0) κ u8 ∷ usize ∷ K.the-row ∷ []) (d .text, (d .at, (w, tt))) Passed)))
           (emp 𝓤)) (sem 𝓤 H A (Own κ d)))
       apart fits is =
-          qed W ((‵ (flft κ q) ⊛ ‵ ftrue) ∷ ‵ (Own κ d) ∷ []) ∵ move ! (1 ∷ []) $ use1 W (‵ (ShrSlice (named 0) κ u8 .own (d .text) (slice ∷ [])) ⊛ ‵ (Own κ d)) taken $ split ! $
+          qed W ((‵ (flft κ q) ⊛ ‵ ftrue) ∷ ‵ (Own κ d) ∷ []) ∵ move ! (1 ∷ []) $ use1 W
+          (‵ (ShrSlice (named 0) κ u8 .own (d .text) (slice ∷ [])) ⊛ ‵ (Own κ d)) taken $ split ! $
           nothing ! $ owned ! K.the-row (Is K.the-row) (LL.makes K.the-type K′.the-plain 𝓤 H A) w (v ∷ []) is $
           fjoin ! $ owned ! usize (Is usize) (uint-makes 𝓤 H A W w64) (d .at) _ (refl, fits) $ fjoin ! $
-          move ! (1 ∷ 0 ∷ []) $ fjoin ! $ move ! (2 ∷ 0 ∷ []) $ use2 W (raw (sep 𝓤 (sep 𝓤 (sep 𝓤 (A .lft κ q) (emp 𝓤)) (sem 𝓤 H A Apart)) (emp 𝓤))) (asking κ q Apart) $ frame ! $ done !
+          move ! (1 ∷ 0 ∷ []) $ fjoin ! $ move ! (2 ∷ 0 ∷ []) $ use2 W
+          (raw (sep 𝓤 (sep 𝓤 (sep 𝓤 (A .lft κ q) (emp 𝓤)) (sem 𝓤 H A Apart)) (emp 𝓤))) (asking κ q Apart) $
+          frame ! $ done !
 
 -- AN ANSWER: what is promised of it is heard, and it lies beside what was passed back
 module _ {M : Type 1} {𝓤 : URA M} {H : Heap 𝓤} {A : Atoms 𝓤} {Key : Type 0} {W : Given 𝓤 H A} {Γ : List (Item 𝓤)} {G : Goal 𝓤 H} where

@@ -24,7 +24,11 @@ returns c =
     (k .closed-at .ensures)
 
 returns-2 : tie.Need-returns-2
-returns-2 c = let e = c .before in let w = e .before in let a = w .before .before .args in c .noted .ensures ∙ closed-not (a .d) (a .n) _ (w .within .ensures .is) (e .if1 .left)
+returns-2 c =
+    let e = c .before in
+    let w = e .before in
+    let a = w .before .before .args in
+    c .noted .ensures ∙ closed-not (a .d) (a .n) _ (w .within .ensures .is) (e .if1 .left)
 
 pub put-closed-spec : {M : Type 1} → statement M
 put-closed-spec =

@@ -7,7 +7,11 @@ use Rattle.drafts.proofs.put_signal.Statement.{statement}
 use Rattle.drafts.proofs.put_signal.Tie as tie
 
 returns : tie.Need-returns
-returns c = let t = c .before in let x = t .before .before in let a = x .before .before .args in c .noted .ensures ∙ signal-not (a .d) (a .n) (a .side) _ (x .end-in .ensures) (t .enum-told .given .1)
+returns c =
+    let t = c .before in
+    let x = t .before .before in
+    let a = x .before .before .args in
+    c .noted .ensures ∙ signal-not (a .d) (a .n) (a .side) _ (x .end-in .ensures) (t .enum-told .given .1)
 
 returns-2 : tie.Need-returns-2
 returns-2 c =

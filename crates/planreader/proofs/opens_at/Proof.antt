@@ -75,13 +75,15 @@ returns-2 : tie.Need-returns-2 Inv-loop μ-loop
 returns-2 c =
     let l = c .before .before in
     let p = l .before .before in
-    opens-none _ _ _ _ _ _ (l .loop .inv) (p .before .before .pre) (c .before .loop-test .left) (λ e. l .before .if1 .left (p .peek .ensures ∙ e)) (omega (arith, c .if3 .taken))
+    opens-none _ _ _ _ _ _ (l .loop .inv) (p .before .before .pre) (c .before .loop-test .left)
+    (λ e. l .before .if1 .left (p .peek .ensures ∙ e)) (omega (arith, c .if3 .taken))
 
 returns-3 : tie.Need-returns-3 Inv-loop μ-loop
 returns-3 c =
     let l = c .before .before in
     let p = l .before .before in
-    opens-some _ _ _ _ _ _ (l .loop .inv) (p .before .before .pre) (c .before .loop-test .left) (λ e. l .before .if1 .left (p .peek .ensures ∙ e)) (c .if3 .left)
+    opens-some _ _ _ _ _ _ (l .loop .inv) (p .before .before .pre) (c .before .loop-test .left)
+    (λ e. l .before .if1 .left (p .peek .ensures ∙ e)) (c .if3 .left)
 
 pub opens-at-spec : {M : Type 1} → statement M
 opens-at-spec =

@@ -13,7 +13,6 @@ take-closed-spec =
     (λ c κs. search needs) (λ c. search needs) (λ c. search needs) (λ c κs. search needs)
     (λ c. let t = c .before in
     not-taken numberGot (t .before .before .closed-line .ensures) (t .enum-told .given .1) _ refl (c .not-in-form .ensures))
-    (λ c κs. search needs) (λ c κs. search needs)
-    (λ c. let p = c .before in let k = p .before .before in
+    (λ c κs. search needs) (λ c κs. search needs) (λ c. let p = c .before in let k = p .before .before in
     taken numberGot (k .before .before .closed-line .ensures) (k .n .given .1) _ (c .in-form .ensures) refl
     (put-same (p .put-closed .ensures))))

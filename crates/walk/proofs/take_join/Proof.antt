@@ -13,7 +13,6 @@ take-join-spec =
     (λ c κs. search needs) (λ c. search needs) (λ c. search needs) (λ c κs. search needs)
     (λ c. let t = c .before in
     not-taken joinGot (t .before .before .join-line .ensures) (t .enum-told .given .1) _ refl (c .not-in-form .ensures))
-    (λ c κs. search needs) (λ c κs. search needs)
-    (λ c. let p = c .before in let k = p .before .before in
+    (λ c κs. search needs) (λ c κs. search needs) (λ c. let p = c .before in let k = p .before .before in
     taken joinGot (k .before .before .join-line .ensures) (k .one .given .1) _ (c .in-form .ensures) refl
     (put-same (p .put-join .ensures))))

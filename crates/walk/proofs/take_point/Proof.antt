@@ -13,7 +13,6 @@ take-point-spec =
     (λ c κs. search needs) (λ c. search needs) (λ c. search needs) (λ c κs. search needs)
     (λ c. let t = c .before in
     not-taken sideGot (t .before .before .point-line .ensures) (t .enum-told .given .1) _ refl (c .not-in-form .ensures))
-    (λ c κs. search needs) (λ c κs. search needs)
-    (λ c. let p = c .before in let k = p .before .before in
+    (λ c κs. search needs) (λ c κs. search needs) (λ c. let p = c .before in let k = p .before .before in
     taken sideGot (k .before .before .point-line .ensures) (k .side .given .1) _ (c .in-form .ensures) refl
     (put-same (p .put-point .ensures))))

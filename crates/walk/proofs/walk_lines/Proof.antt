@@ -303,7 +303,9 @@ module _ {M : Type 1} (𝓤 : URA M) (H : Heap 𝓤) (A : Atoms 𝓤) (W : Given
         → ent 𝓤 (onEntry 𝓤 H A lines.signature (κ, tt) (q, tt) (s, (from₀, (w₀, tt))) at) (WpFn 𝓤 H (𝓣 .C) (𝓣 .Λ) (function σ τ ρ μ) (text ∷ vint w64 from₀ ∷ v₀ ∷ []) Post)
     walk ist ts fits is₀ =
         qed W (token ∷ ‵ (owns (ShrSlice (named 0) κ u8 ∷ usize ∷ K.the-row ∷ []) (s, (from₀, (w₀, tt))) at) ∷ []) ∵ enter ! (𝓣 .C) (𝓣 .Λ) (function σ τ ρ μ) (text ∷ vint w64 from₀ ∷ v₀ ∷ []) _ $
-        alloc1 ! (λ l₀. alloc1 ! (λ l₁. alloc1 ! (λ l₂. alloc1 ! (λ l₃. alloc1 ! (λ l₄. alloc1 ! (λ l₅. alloc1 ! (λ l₆. alloc1 ! (λ l₇. alloc1 ! (λ l₈. alloc1 ! (λ l₉. alloc1 ! (λ l₁₀. alloc1 ! (λ l₁₁. alloc1 ! (λ l₁₂. alloc0 ! $ params1 ! $
+        alloc1 ! (λ l₀. alloc1 ! (λ l₁. alloc1 ! (λ l₂. alloc1 ! (λ l₃. alloc1 ! (λ l₄.
+        alloc1 ! (λ l₅. alloc1 ! (λ l₆. alloc1 ! (λ l₇. alloc1 ! (λ l₈. alloc1 ! (λ l₉.
+        alloc1 ! (λ l₁₀. alloc1 ! (λ l₁₁. alloc1 ! (λ l₁₂. alloc0 ! $ params1 ! $
         pass1 ! (init ! 22 refl ts) $ pass1 ! (init ! 20 refl (tt, record { fits = fits })) $ pass1 ! (init ! 18 refl (typed-walk w₀ v₀ is₀)) $ pass0 ! $
         -- [_12; ..; _0; ..; the token; what the parameters own]: the text's is copied, once for the reader
         move ! (27 ∷ []) $ fsplit ! $ move ! (1 ∷ []) $ drop ! $ use1 W (‵ Text ⊛ ‵ Text) (shr-slice-copy 𝓤 H A W (named 0) κ u8 .twice s (text ∷ [])) $ split ! $

@@ -53,13 +53,22 @@ stayed = (stay-none Readers yes, tt)
 
 -- the code, with any type in the place of the answer's
 abbrev function : Ty → Fn
-function τ = record { lifetimes = 1; outlives = []; params = 1; locals = local τ valueLocal ∷ reader-local (named 0) ∷ slice-local erased ∷ number-local ∷ []; body = code.function .body }
+function τ =
+    record {
+      lifetimes = 1;
+      outlives = [];
+      params = 1;
+      locals = local τ valueLocal ∷ reader-local (named 0)
+          ∷ slice-local erased ∷ number-local ∷ [];
+      body = code.function .body;
+    }
 
 module _ {M : Type 1} (𝓤 : URA M) (H : Heap 𝓤) (A : Atoms 𝓤) (mem : Memory → SProp 𝓤) (run : Routine → Fun 𝓤) where
   abbrev Called : Contract 𝓤
   Called = tripleOf 𝓤 H A callee.signature (callee.spec 𝓤 H A mem run)
 
-module _ {M : Type 1} (𝓤 : URA M) (H : Heap 𝓤) (A : Atoms 𝓤) (W : Given 𝓤 H A) (mem : Memory → SProp 𝓤) (run : Routine → Fun 𝓤) (κ : Lft) (q : Share) (d : Reader) where
+module _ {M : Type 1} (𝓤 : URA M) (H : Heap 𝓤) (A : Atoms 𝓤) (W : Given 𝓤 H A) (mem : Memory → SProp 𝓤)
+    (run : Routine → Fun 𝓤) (κ : Lft) (q : Share) (d : Reader) where
   abbrev at : Vals header.signature (κ, tt)
   at = (R′.lowered d ∷ [], tt)
 
@@ -79,10 +88,12 @@ module _ {M : Type 1} (𝓤 : URA M) (H : Heap 𝓤) (A : Atoms 𝓤) (W : Given
   exits : (r : HeaderRead) (u : Val) → Says r → ent 𝓤 (⋆ 𝓤 H A (‵ (S.the-row .own r (u ∷ [])) ∷ (‵ (flft κ q) ⊛ ‵ ftrue) ∷ ‵ (Own κ d) ∷ [])) (Post u)
   exits r u e =
       qed W (‵ (S.the-row .own r (u ∷ [])) ∷ (‵ (flft κ q) ⊛ ‵ ftrue) ∷ ‵ (Own κ d) ∷ []) ∵
-      suffices ! _ (ends-at 𝓤 H A header.ended stayed (header.clauses 𝓤 H A mem run) W (((κ, tt), (q, tt), tt, (d, tt), at), tt) u r (tt, tt) (tt, tt)) $ says ! e $
+      suffices ! _ (ends-at 𝓤 H A header.ended stayed (header.clauses 𝓤 H A mem run) W
+      (((κ, tt), (q, tt), tt, (d, tt), at), tt) u r (tt, tt) (tt, tt)) $ says ! e $
       move ! (1 ∷ []) $ frame ! $ nothing ! $ move ! (2 ∷ 0 ∷ []) $ fjoin ! $ frame ! $ done !
 
-  walk : (𝓣 : Tables 𝓤 H) → Triple 𝓤 (𝓣 .C #callee) (Called 𝓤 H A mem run) → Typed (R′.mir (named 0)) (R′.lowered d) → (τ : Ty) → ((r : HeaderRead) (u : Val) → Is S.the-row r (u ∷ []) → Typed τ u)
+  walk : (𝓣 : Tables 𝓤 H) → Triple 𝓤 (𝓣 .C #callee) (Called 𝓤 H A mem run) → Typed (R′.mir (named 0)) (R′.lowered d)
+      → (τ : Ty) → ((r : HeaderRead) (u : Val) → Is S.the-row r (u ∷ []) → Typed τ u)
       → ent 𝓤 (onEntry 𝓤 H A header.signature (κ, tt) (q, tt) (d, tt) at) (WpFn 𝓤 H (𝓣 .C) (𝓣 .Λ) (function τ) (R′.lowered d ∷ []) Post)
   walk 𝓣 known td τ tr =
       qed W ((‵ (flft κ q) ⊛ ‵ ftrue) ∷ ‵ (owns (Readers (κ, tt) ∷ []) (d, tt) at) ∷ []) ∵ enter ! (𝓣 .C) (𝓣 .Λ) (function τ) (R′.lowered d ∷ []) _ $
@@ -100,9 +111,12 @@ module _ {M : Type 1} (𝓤 : URA M) (H : Heap 𝓤) (A : Atoms 𝓤) (W : Given
       peeks ! S.the-row (Is S.the-row) (shows 𝓤 H A S.the-row) r (u ∷ []) (λ ok.
       land ! (from ! (stop !)) (init ! 9 refl (tr r u ok)) $
       returns ! (look ! 9 refl) $ forget ! 3 refl $ forget ! 5 refl $ forget ! 7 refl $ forget ! 9 refl $
-      move ! (9 ∷ 10 ∷ []) $ free1 ! $ move ! (7 ∷ 8 ∷ []) $ free1 ! $ move ! (5 ∷ 6 ∷ []) $ free1 ! $ move ! (3 ∷ 4 ∷ []) $ free1 ! $ free0 ! $ by ! (exits r u e))))))))
+      move ! (9 ∷ 10 ∷ []) $ free1 ! $ move ! (7 ∷ 8 ∷ []) $ free1 ! $ move ! (5 ∷ 6 ∷ []) $ free1 ! $
+      move ! (3 ∷ 4 ∷ []) $ free1 ! $ free0 ! $ by ! (exits r u e))))))))
 
-header-meets : {M : Type 1} (𝓤 : URA M) (H : Heap 𝓤) (A : Atoms 𝓤) → Given 𝓤 H A → (mem : Memory → SProp 𝓤) (run : Routine → Fun 𝓤) (𝓣 : Tables 𝓤 H) → Triple 𝓤 (𝓣 .C #callee) (Called 𝓤 H A mem run)
+header-meets : {M : Type 1} (𝓤 : URA M) (H : Heap 𝓤) (A : Atoms 𝓤) → Given 𝓤 H A
+    → (mem : Memory → SProp 𝓤) (run : Routine → Fun 𝓤) (𝓣 : Tables 𝓤 H)
+    → Triple 𝓤 (𝓣 .C #callee) (Called 𝓤 H A mem run)
     → Meets 𝓤 H A header.signature (WpFn 𝓤 H (𝓣 .C) (𝓣 .Λ) code.function) (header.spec 𝓤 H A mem run)
 header-meets 𝓤 H A W mem run 𝓣 known =
     walk-meets 𝓤 H A header.ended stayed W (goes-none 𝓤 H A W 1 Readers yes (λ κs x f. refl), tt)
