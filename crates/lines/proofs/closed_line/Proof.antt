@@ -13,10 +13,11 @@ use Rattle.lines.proofs.closed_line.Tie as tie
 abbrev read : tie.After-byte-field2 → Left ℕ
 unfolding closedLineAt
 read k =
-    let n = k .before in let t = n .before in let l = t .before in let a = l .before .before .args in
+    let number = k .before in let tab = number .before in let letter = tab .before in
+    let a = letter .before .before .args in
     let whole-line = whole (closedLineAt (now (a .text))) (a .c .at) in
-    on _ (on _ (on _ (on _ whole-line (l .letter-at .ensures) refl) (t .byte-field .ensures) refl)
-    (n .number-field .ensures) refl) (k .byte-field2 .ensures) refl
+    on _ (on _ (on _ (on _ whole-line (letter .letter-at .ensures) refl) (tab .byte-field .ensures) refl)
+    (number .number-field .ensures) refl) (k .byte-field2 .ensures) refl
 
 pub closed-line-spec : {M : Type 1} → statement M
 unfolding closedLineAt

@@ -13,12 +13,12 @@ use Rattle.lines.proofs.join_line.Tie as tie
 abbrev read : tie.After-byte-field3 → Left JoinLine
 unfolding joinLineAt
 read k =
-    let other = k .before in let u = other .before in let one = u .before in let t = one .before in
-    let l = t .before in let a = l .before .before .args in
+    let other = k .before in let tab2 = other .before in let one = tab2 .before in let tab1 = one .before in
+    let letter = tab1 .before in let a = letter .before .before .args in
     let whole-line = whole (joinLineAt (now (a .text))) (a .c .at) in
-    on _ (on _ (on _ (on _ (on _ (on _ whole-line (l .letter-at .ensures) refl) (t .byte-field .ensures) refl)
-    (one .end-field .ensures) refl) (u .byte-field2 .ensures) refl) (other .end-field2 .ensures) refl)
-    (k .byte-field3 .ensures) refl
+    on _ (on _ (on _ (on _ (on _ (on _ whole-line (letter .letter-at .ensures) refl)
+    (tab1 .byte-field .ensures) refl) (one .end-field .ensures) refl) (tab2 .byte-field2 .ensures) refl)
+    (other .end-field2 .ensures) refl) (k .byte-field3 .ensures) refl
 
 pub join-line-spec : {M : Type 1} → statement M
 unfolding joinLineAt

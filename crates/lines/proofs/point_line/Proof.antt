@@ -13,12 +13,12 @@ use Rattle.lines.proofs.point_line.Tie as tie
 abbrev read : tie.After-byte-field3 → Left Side
 unfolding pointLineAt
 read k =
-    let s = k .before in let u = s .before in let n = u .before in let t = n .before in let l = t .before in
-    let a = l .before .before .args in
+    let legs = k .before in let tab2 = legs .before in let number = tab2 .before in let tab1 = number .before in
+    let letter = tab1 .before in let a = letter .before .before .args in
     let whole-line = whole (pointLineAt (now (a .text)) (a .n)) (a .c .at) in
-    on _ (on _ (on _ (on _ (on _ (on _ whole-line (l .letter-at .ensures) refl) (t .byte-field .ensures) refl)
-    (n .number-field .ensures) refl) (u .byte-field2 .ensures) refl) (s .side-field .ensures) refl)
-    (k .byte-field3 .ensures) refl
+    on _ (on _ (on _ (on _ (on _ (on _ whole-line (letter .letter-at .ensures) refl)
+    (tab1 .byte-field .ensures) refl) (number .number-field .ensures) refl) (tab2 .byte-field2 .ensures) refl)
+    (legs .side-field .ensures) refl) (k .byte-field3 .ensures) refl
 
 pub point-line-spec : {M : Type 1} → statement M
 unfolding pointLineAt

@@ -13,15 +13,16 @@ use Rattle.lines.proofs.train_line.Tie as tie
 abbrev read : tie.After-byte-field5 → Left TrainLine
 unfolding trainLineAt
 read k =
-    let x = k .before in let d = x .before in let w = d .before in let s = w .before in let v = s .before in
-    let h = v .before in let u = h .before in let m = u .before in let t = m .before in let l = t .before in
-    let a = l .before .before .args in
+    let weight = k .before in let destination = weight .before in let tab4 = destination .before in
+    let start = tab4 .before in let tab3 = start .before in let heading = tab3 .before in
+    let tab2 = heading .before in let number = tab2 .before in let tab1 = number .before in
+    let letter = tab1 .before in let a = letter .before .before .args in
     let whole-line = whole (trainLineAt (now (a .text)) (a .n)) (a .c .at) in
-    on _ (on _ (on _ (on _ (on _ (on _ (on _ (on _ (on _ (on _ (on _ whole-line (l .letter-at .ensures) refl)
-    (t .byte-field .ensures) refl) (m .number-field .ensures) refl) (u .byte-field2 .ensures) refl)
-    (h .side-field .ensures) refl) (v .byte-field3 .ensures) refl) (s .number-field2 .ensures) refl)
-    (w .byte-field4 .ensures) refl) (d .number-field3 .ensures) refl) (x .weight-field .ensures) refl)
-    (k .byte-field5 .ensures) refl
+    on _ (on _ (on _ (on _ (on _ (on _ (on _ (on _ (on _ (on _ (on _ whole-line (letter .letter-at .ensures) refl)
+    (tab1 .byte-field .ensures) refl) (number .number-field .ensures) refl) (tab2 .byte-field2 .ensures) refl)
+    (heading .side-field .ensures) refl) (tab3 .byte-field3 .ensures) refl) (start .number-field2 .ensures) refl)
+    (tab4 .byte-field4 .ensures) refl) (destination .number-field3 .ensures) refl)
+    (weight .weight-field .ensures) refl) (k .byte-field5 .ensures) refl
 
 pub train-line-spec : {M : Type 1} → statement M
 unfolding trainLineAt
