@@ -1,180 +1,119 @@
--- A line as code reads it: field by field, each from where the one before it ended, or from nowhere once one was not in
--- form. `on` is the law of one field, of whichever kind: a line's proof says no more than which calls read its fields. Sides,
--- legs and ends are read by looking for one byte after the other, and a weight where there is a tab.
+-- A line as code reads it: a field behind a tab is one step, read or not; sides, legs and ends are read by looking for one byte after the other, and a weight where there is a tab.
 -- Assumes nothing.
 use Prim.Native.Nat.{ℕ, _+_}
-use mathlib.Core.Path.{_≡_, refl, sym, _∙_, ap}
-use mathlib.Core.Bool.{Bool, true, false, cond, _&&_}
+use mathlib.Core.Path.{_≡_, refl, _∙_}
+use mathlib.Core.Bool.{true, false, cond}
 use mathlib.Core.List.{List}
 use mathlib.Core.Option.{none, some}
 use lib.Dec.{eqb}
 use lib.ListN.{getD}
+use borrow.Author.Tests.{eq-eqb, ne-eqb}
 use Rattle.text.specs.Reading.{Got, bad, got, then, byteAt}
 use Rattle.text.proofs.Walking.{bad-got}
+use Rattle.text.proofs.Chain.{fails, goes}
 use Rattle.railway.specs.declared.Side.{Side}
+use Rattle.railway.specs.declared.Side.the-variants.{Up, Down}
 use Rattle.railway.specs.declared.Leg.{Leg}
-use Rattle.casefile.specs.Form.{section, port}
+use Rattle.railway.specs.declared.Leg.the-variants.{Stem, Plus, Minus}
+use Rattle.casefile.specs.Form.{section, port, sideByte, legByte}
 use Rattle.casefile.specs.Reading.{caseNumberAt, sideFieldAt, legFieldAt, markAt, weightFieldAt}
-use Rattle.lines.specs.declared.Way.{Way}
-use Rattle.lines.specs.Answers.{wayAt, behind, Field}
+use Rattle.lines.specs.Answers.{behindTab}
 
--- READ WHERE THERE IS A WAY
-module _ {A : Type 0} {read : ℕ → Got A} {from : Way} (t : from .there ≡ true) where
-  pub read-there : {x : A} {at : ℕ} → read (from .at) ≡ got x at → Field from read x (record { there = true; at = at })
-  read-there e = record { says = rw (t, e) }
-
-  pub read-none : {x : A} {at : ℕ} → read (from .at) ≡ bad → Field from read x (record { there = false; at = at })
-  read-none e = record { says = rw (t, e) }
-
--- ONE FIELD: what is read behind it is the rest of what is read from where it begins
-module _ {A B : Type 0} (read : ℕ → Got A) (rest : A → ℕ → Got B)
-    {x : A} {from next : Way} (f : Field from read x next) where
-  pub field : behind next (rest x) ≡ behind from (λ c. then (read c) rest)
-  field = cases (from .there) (next .there) (f .says)
-    where
-      cases : (p q : Bool) → cond q (got x (next .at)) bad ≡ cond p (read (from .at)) bad →
-          cond q (rest x (next .at)) bad ≡ cond p (then (read (from .at)) rest) bad
-      cases true true h = rw (← h)
-      cases true false h = rw (← h)
-      cases false true h = bad-got refl (sym h)
-      cases false false h = refl
-
-  -- two fields, one behind the other, are one
-  pub both : {y : B} {last : Way} → Field next (rest x) y last → Field from (λ c. then (read c) rest) y last
-  both g = record { says = g .says ∙ field }
-
--- A LINE WHOSE FIRST FIELDS HAVE BEEN READ: it gives what its rest gives behind them
+-- A LINE WHOSE FIRST FIELDS HAVE BEEN READ: it gives what its rest gives
 pub record Left (A : Type 0) : Type 0 where
   pub line : Got A
-  pub way : Way
-  pub rest : ℕ → Got A
-  pub gives : behind way rest ≡ line
+  pub rest : Got A
+  pub gives : rest ≡ line
 
-cond-and : {A : Type 0} (g : Got A) (q p : Bool) → cond (q && p) g bad ≡ cond q (cond p g bad) bad
-cond-and g true p = refl
-cond-and g false p = refl
+module _ {A : Type 0} where
+  abbrev pub whole : Got A → Left A
+  whole g = record { line = g; rest = g; gives = refl }
 
-module _ {B : Type 0} where
-  abbrev pub whole : (ℕ → Got B) → ℕ → Left B
-  whole line at = record { line = line at; way = wayAt at; rest = line; gives = refl }
+  abbrev pub onward : (l : Left A) {y : Got A} → y ≡ l .rest → Left A
+  onward l {y} h = record { line = l .line; rest = y; gives = h ∙ l .gives }
 
-  abbrev pub on : {A : Type 0} {read : ℕ → Got A} {x : A} {next : Way} (rest : A → ℕ → Got B) (l : Left B) →
-      Field (l .way) read x next → l .rest ≡ (λ c. then (read c) rest) → Left B
-  on {A} {read} {x} {next} rest l f e = record {
-    line = l .line;
-    way = next;
-    rest = rest x;
-    gives = field read rest f ∙ ap (behind (l .way)) (sym e) ∙ l .gives;
-  }
+-- A FIELD BEHIND A TAB
+module _ {A B : Type 0} (s : List ℕ) (field : ℕ → Got A) (at : ℕ) where
+  tab-bad : (g : Got ℕ) (k : A → ℕ → Got B) → then g (λ x c. field c) ≡ bad → bad ≡ then g (λ x c. then (field c) k)
+  tab-bad bad k e = refl
+  tab-bad (got x c) k e = fails k e
 
-  module _ (l : Left B) where
-    way-is : {p : Bool} → l .way .there ≡ p → cond p (l .rest (l .way .at)) bad ≡ l .line
-    way-is e = ap (λ (p : Bool). cond p (l .rest (l .way .at)) bad) (sym e) ∙ l .gives
+  pub tab-fails : (k : A → ℕ → Got B) → behindTab s field at ≡ bad
+      → bad ≡ then (byteAt s 9 at) (λ x c. then (field c) k)
+  tab-fails k e = tab-bad (byteAt s 9 at) k e
 
-    pub missed : l .way .there ≡ false → bad ≡ l .line
-    missed e = way-is e
+  tab-got : (g : Got ℕ) {x : A} {c : ℕ} {y : Got B} (k : A → ℕ → Got B) → then g (λ x c. field c) ≡ got x c
+      → y ≡ k x c → y ≡ then g (λ x c. then (field c) k)
+  tab-got bad k e h = bad-got refl e
+  tab-got (got x c) k e h = goes k e h
 
-    pub reached : l .way .there ≡ true → l .rest (l .way .at) ≡ l .line
-    reached e = way-is e
+  pub tab-goes : {x : A} {c : ℕ} {y : Got B} (k : A → ℕ → Got B) → behindTab s field at ≡ got x c → y ≡ k x c
+      → y ≡ then (byteAt s 9 at) (λ x c. then (field c) k)
+  tab-goes k e h = tab-got (byteAt s 9 at) k e h
 
-    -- a line whose number must be the one that is due
-    module _ (due : Bool) (g : Got B) (r : l .rest (l .way .at) ≡ cond due g bad) where
-      due-is : {p : Bool} → l .way .there && due ≡ p → cond p g bad ≡ l .line
-      due-is e =
-          ap (λ (p : Bool). cond p g bad) (sym e) ∙ cond-and g (l .way .there) due
-          ∙ ap (λ (h : Got B). cond (l .way .there) h bad) (sym r) ∙ l .gives
+-- SIDES AND LEGS
+module _ (s : List ℕ) (at : ℕ) where
+  pub side-up : (c : ℕ) → (eqb (getD s at 0) (sideByte Up) ≡ true) × (c ≡ at + 1) → got Up c ≡ sideFieldAt s at
+  unfolding sideFieldAt
+  side-up c h = rw (h .0, h .1)
 
-      pub reached-due : l .way .there && due ≡ true → g ≡ l .line
-      reached-due e = due-is e
+  module _ (u : eqb (getD s at 0) (sideByte Up) ≡ false) where
+    pub side-down : (c : ℕ) → (eqb (getD s at 0) (sideByte Down) ≡ true) × (c ≡ at + 1) → got Down c ≡ sideFieldAt s at
+    unfolding sideFieldAt
+    side-down c h = rw (u, h .0, h .1)
 
-      pub missed-due : l .way .there && due ≡ false → bad ≡ l .line
-      missed-due e = due-is e
+    pub side-none : eqb (getD s at 0) (sideByte Down) ≡ false → bad ≡ sideFieldAt s at
+    unfolding sideFieldAt
+    side-none d = rw (u, d)
 
--- ONE BYTE, looked for: it stands there, or it does not
-module _ (s : List ℕ) (b : ℕ) {from w : Way} (f : Field from (byteAt s b) b w) where
-  record Hit : Type 0 where
-    there : from .there ≡ true
-    byte : eqb (getD s (from .at) 0) b ≡ true
-    next : w .at ≡ from .at + 1
+  pub leg-stem : (c : ℕ) → (eqb (getD s at 0) (legByte Stem) ≡ true) × (c ≡ at + 1) → got Stem c ≡ legFieldAt s at
+  unfolding legFieldAt
+  leg-stem c h = rw (h .0, h .1)
 
-  hit : w .there ≡ true → Hit
-  unfolding byteAt
-  hit e = cases (from .there) (eqb (getD s (from .at) 0) b) refl refl (rw e at (f .says))
-    where
-      cases : (t p : Bool) → from .there ≡ t → eqb (getD s (from .at) 0) b ≡ p →
-          got b (w .at) ≡ cond t (cond p (got b (from .at + 1)) bad) bad → Hit
-      cases true true x y h = record { there = x; byte = y; next = cc }
-      cases true false x y h = bad-got refl (sym h)
-      cases false p x y h = bad-got refl (sym h)
+  module _ (a : eqb (getD s at 0) (legByte Stem) ≡ false) where
+    pub leg-plus : (c : ℕ) → (eqb (getD s at 0) (legByte Plus) ≡ true) × (c ≡ at + 1) → got Plus c ≡ legFieldAt s at
+    unfolding legFieldAt
+    leg-plus c h = rw (a, h .0, h .1)
 
-  miss : {A : Type 0} (here other : ℕ → Got A) → w .there ≡ false →
-      behind from other ≡ behind from (λ c. cond (eqb (getD s c 0) b) (here c) (other c))
-  unfolding byteAt
-  miss here other e = cases (from .there) (eqb (getD s (from .at) 0) b) (rw e at (f .says))
-    where
-      cases : (t p : Bool) → bad ≡ cond t (cond p (got b (from .at + 1)) bad) bad →
-          cond t (other (from .at)) bad ≡ cond t (cond p (here (from .at)) (other (from .at))) bad
-      cases true true h = bad-got refl h
-      cases true false h = refl
-      cases false p h = refl
+    module _ (p : eqb (getD s at 0) (legByte Plus) ≡ false) where
+      pub leg-minus : (c : ℕ) → (eqb (getD s at 0) (legByte Minus) ≡ true) × (c ≡ at + 1)
+          → got Minus c ≡ legFieldAt s at
+      unfolding legFieldAt
+      leg-minus c h = rw (a, p, h .0, h .1)
 
--- A FIELD OF ONE LETTER OUT OF SOME, each looked for by itself
-module _ {A : Type 0} (s : List ℕ) (b : ℕ) (x : A) where
-  abbrev pub choice : (ℕ → Got A) → ℕ → Got A
-  choice other c = cond (eqb (getD s c 0) b) (got x (c + 1)) (other c)
+      pub leg-none : eqb (getD s at 0) (legByte Minus) ≡ false → bad ≡ legFieldAt s at
+      unfolding legFieldAt
+      leg-none m = rw (a, p, m)
 
-  module _ {from w : Way} (f : Field from (byteAt s b) b w) where
-    pub letter-is : (other : ℕ → Got A) → w .there ≡ true → Field from (choice other) x w
-    letter-is other e = let h = hit s b f e in record { says = rw (e, h .there, h .byte, h .next) }
+  -- the letter behind an end's number
+  pub mark-side : (n : ℕ) (x : Side) (c : ℕ) → sideFieldAt s at ≡ got x c
+      → got (section n x) c ≡ markAt s n at (sideFieldAt s at)
+  mark-side n x c e = rw e
 
-    pub letter-not : (other : ℕ → Got A) → w .there ≡ false →
-        {y : A} {next : Way} → Field from other y next → Field from (choice other) y next
-    letter-not other e g = record { says = g .says ∙ miss s b f (λ c. got x (c + 1)) other e }
+  pub mark-leg : (n : ℕ) (l : Leg) (c : ℕ) → sideFieldAt s at ≡ bad → legFieldAt s at ≡ got l c
+      → got (port n l) c ≡ markAt s n at (sideFieldAt s at)
+  mark-leg n l c e f = rw (e, f)
 
-    -- the last letter
-    pub letter : Field from (choice (λ c. bad)) x w
-    letter = cases (w .there) refl
-      where
-        nothing : (t : Bool) → _≡_ {A = Got A} bad (cond t bad bad)
-        nothing true = refl
-        nothing false = refl
+  pub mark-none : (n : ℕ) → sideFieldAt s at ≡ bad → legFieldAt s at ≡ bad → bad ≡ markAt s n at (sideFieldAt s at)
+  mark-none n e f = rw (e, f)
 
-        cases : (q : Bool) → w .there ≡ q → Field from (choice (λ c. bad)) x w
-        cases true e = letter-is (λ c. bad) e
-        cases false e = letter-not (λ c. bad) e (record { says = rw e (nothing (from .there)) })
-
--- THE LETTER BEHIND AN END'S NUMBER
-module _ (s : List ℕ) (n : ℕ) {from w : Way} {x : Side} (f : Field from (sideFieldAt s) x w) where
-  pub mark-side : w .there ≡ true → Field from (λ c. markAt s n c (sideFieldAt s c)) (section n x) w
-  mark-side e = record { says = rw e (cases (from .there) (sideFieldAt s (from .at)) (rw e at (f .says))) }
-    where
-      cases : (t : Bool) (g : Got Side) → got x (w .at) ≡ cond t g bad →
-          got (section n x) (w .at) ≡ cond t (markAt s n (from .at) g) bad
-      cases true g h = rw (← h)
-      cases false g h = bad-got refl (sym h)
-
-  pub mark-leg : w .there ≡ false → {l : Leg} {next : Way} → Field from (legFieldAt s) l next →
-      Field from (λ c. markAt s n c (sideFieldAt s c)) (port n l) next
-  mark-leg e g = record {
-    says = field (legFieldAt s) (λ l c. got (port n l) c) g
-        ∙ cases (from .there) (sideFieldAt s (from .at)) (rw e at (f .says));
-  }
-    where
-      cases : (t : Bool) (g : Got Side) → bad ≡ cond t g bad →
-          cond t (then (legFieldAt s (from .at)) (λ l c. got (port n l) c)) bad ≡ cond t (markAt s n (from .at) g) bad
-      cases true g h = rw (← h)
-      cases false g h = refl
-
--- THE WEIGHT: no tab, or a tab with a number behind it or none
-module _ (s : List ℕ) {from tab : Way} (f : Field from (byteAt s 9) 9 tab) where
-  pub weight-said : tab .there ≡ true → {w : ℕ} {next : Way} → Field tab (caseNumberAt s) w next →
-      Field from (weightFieldAt s) (some w) next
+  -- THE WEIGHT: no tab, or a tab with a number behind it or none
+  pub weight-unsaid : eqb (getD s at 0) 9 ≡ false → got none at ≡ weightFieldAt s at
   unfolding weightFieldAt
-  weight-said e g =
-      let h = hit s 9 f e in
-      record { says = field (caseNumberAt s) (λ w c. got (some w) c) g ∙ rw (e, h .there, h .byte, h .next) }
+  weight-unsaid t = rw t
 
-  pub weight-unsaid : tab .there ≡ false → Field from (weightFieldAt s) none from
-  unfolding weightFieldAt
-  weight-unsaid e =
-      record { says = miss s 9 f (λ c. then (caseNumberAt s (c + 1)) (λ w c. got (some w) c)) (got none) e }
+  module _ (c : ℕ) (t : (eqb (getD s at 0) 9 ≡ true) × (c ≡ at + 1)) where
+    pub weight-said : (w d : ℕ) → caseNumberAt s c ≡ got w d → got (some w) d ≡ weightFieldAt s at
+    unfolding weightFieldAt
+    weight-said w d e = rw (t .0, ← t .1, e)
+
+    pub weight-none : caseNumberAt s c ≡ bad → bad ≡ weightFieldAt s at
+    unfolding weightFieldAt
+    weight-none e = rw (t .0, ← t .1, e)
+
+-- THE NUMBER THAT IS DUE
+pub number-due : {A : Type 0} (m n : ℕ) {x : A} {c : ℕ} → m ≡ n → got x c ≡ cond (eqb m n) (got x c) bad
+number-due m n e = rw (eq-eqb m n e)
+
+pub number-other : {A : Type 0} (m n : ℕ) (g : Got A) → (m ≡ n → ⊥) → bad ≡ cond (eqb m n) g bad
+number-other m n g e = rw (ne-eqb m n e)

@@ -1,17 +1,21 @@
 -- What the answers of the line functions stand for. Contracts cite these; nothing of document 01 rests on them. Assumes nothing.
-use mathlib.Core.Path.{_≡_}
-use mathlib.Core.Bool.{true, cond}
+use mathlib.Core.List.{List}
 use mathlib.Core.Option.{Option, none, some}
 use Prim.Native.Nat.{ℕ}
-use Rattle.text.specs.Reading.{Got, bad, got}
+use Rattle.text.specs.Text.{tab}
+use Rattle.text.specs.Reading.{Got, bad, got, then, byteAt}
 use Rattle.railway.specs.declared.Side.{Side}
+use Rattle.railway.specs.declared.Leg.{Leg}
 use Rattle.casefile.specs.Form.{EndField, section, port, JoinLine, SignalLine, TrainLine}
 use Rattle.casefile.specs.Reading.{Counts}
-use Rattle.lines.specs.declared.Way.{Way}
 use Rattle.lines.specs.declared.SideRead.{SideRead}
 use Rattle.lines.specs.declared.SideRead.the-variants.{NoSide, SideIs}
+use Rattle.lines.specs.declared.LegRead.{LegRead}
+use Rattle.lines.specs.declared.LegRead.the-variants.{NoLeg, LegIs}
 use Rattle.lines.specs.declared.NamedEnd.{NamedEnd}
 use Rattle.lines.specs.declared.NamedEnd.the-variants.{OfSection, OfPoint}
+use Rattle.lines.specs.declared.EndRead.{EndRead}
+use Rattle.lines.specs.declared.EndRead.the-variants.{NoEnd, EndIs}
 use Rattle.lines.specs.declared.HeaderRead.{HeaderRead}
 use Rattle.lines.specs.declared.HeaderRead.the-variants.{NoHeader, CountsAre}
 use Rattle.lines.specs.declared.JoinRead.{JoinRead}
@@ -20,30 +24,34 @@ use Rattle.lines.specs.declared.SignalRead.{SignalRead}
 use Rattle.lines.specs.declared.SignalRead.the-variants.{NoSignal, SignalIs}
 use Rattle.lines.specs.declared.NamedWeight.{NamedWeight}
 use Rattle.lines.specs.declared.NamedWeight.the-variants.{Unsaid, Said}
+use Rattle.lines.specs.declared.WeightRead.{WeightRead}
+use Rattle.lines.specs.declared.WeightRead.the-variants.{NoWeight, WeightIs}
 use Rattle.lines.specs.declared.TrainRead.{TrainRead}
 use Rattle.lines.specs.declared.TrainRead.the-variants.{NoTrain, TrainIs}
 
--- The way on at a place.
-abbrev pub wayAt : ℕ → Way
-wayAt at = record { there = true; at = at }
+-- A tab, and a field behind it.
+abbrev pub behindTab : {A : Type 0} → List ℕ → (ℕ → Got A) → ℕ → Got A
+behindTab s field c = then (byteAt s tab c) (λ x c. field c)
 
--- What is read further on, if there is a way on.
-abbrev pub behind : {A : Type 0} → Way → (ℕ → Got A) → Got A
-behind w rest = cond (w .there) (rest (w .at)) bad
-
--- What `read` reads from one way on: x, with the next way on behind it; or there is no next.
-pub record Field {A : Type 0} (from : Way) (read : ℕ → Got A) (x : A) (next : Way) : Type 0 where
-  pub says : behind next (got x) ≡ behind from read
-
--- A P line's side, as it was read.
+-- `u` or `d`, as it was read.
 abbrev pub sideGot : SideRead → Got Side
 sideGot NoSide = bad
 sideGot (SideIs s c) = got s (c .at)
+
+-- `s`, `+` or `-`, as it was read.
+abbrev pub legGot : LegRead → Got Leg
+legGot NoLeg = bad
+legGot (LegIs l c) = got l (c .at)
 
 -- An end that code names, as a case file does.
 abbrev pub endNamed : NamedEnd → EndField
 endNamed (OfSection n s) = section n s
 endNamed (OfPoint n l) = port n l
+
+-- An end, as it was read.
+abbrev pub endGot : EndRead → Got EndField
+endGot NoEnd = bad
+endGot (EndIs e c) = got (endNamed e) (c .at)
 
 -- The H line's counts, as they were read.
 abbrev pub countsGot : HeaderRead → Got Counts
@@ -68,6 +76,11 @@ signalGot (SignalIs n s c) = got (record { number = n; side = s }) (c .at)
 abbrev pub weightNamed : NamedWeight → Option ℕ
 weightNamed Unsaid = none
 weightNamed (Said w) = some w
+
+-- A weight, as it was read.
+abbrev pub weightGot : WeightRead → Got (Option ℕ)
+weightGot NoWeight = bad
+weightGot (WeightIs w c) = got (weightNamed w) (c .at)
 
 -- The T line of what code names.
 abbrev pub trainNamed : Side → ℕ → ℕ → NamedWeight → TrainLine

@@ -1,12 +1,9 @@
-// The lines of a case text, each read at a cursor: what it says and the cursor behind it, or it is not in form. Fields are
-// read one behind the other, each from where the one before it ended; behind one that is not the byte, number, end or side that
-// it must be there is no way on, and nothing more is read. Any bytes and any cursor may come in.
+// The lines of a case text, each read at a cursor: what it says and the cursor behind it, or it is not in form. A line is read
+// up to the first field that is not the number, end or side that it must be. Any bytes and any cursor may come in.
 ghost use mathlib.Core.Path.{_≡_};
-ghost use Prim.Native.Nat.{_<_};
 ghost use Rattle.text.specs.Answers.{numberGot};
-ghost use Rattle.text.specs.Reading.{byteAt};
 ghost use Rattle.casefile.specs.Reading.{caseNumberAt, sideFieldAt, legFieldAt, endFieldAt, headerAt, pointLineAt, joinLineAt, signalLineAt, closedLineAt, weightFieldAt, trainLineAt};
-ghost use Rattle.lines.specs.Answers.{wayAt, Field, endNamed, weightNamed, sideGot, countsGot, joinGot, signalGot, trainGot};
+ghost use Rattle.lines.specs.Answers.{behindTab, sideGot, legGot, endGot, countsGot, joinGot, signalGot, weightGot, trainGot};
 use railway::Leg;
 use railway::Side;
 use text::Byte;
@@ -16,28 +13,33 @@ use text::Number;
 use text::TAB;
 use text::Width;
 
+// `u` or `d`.
+pub enum SideRead {
+    NoSide,
+    SideIs(Side, Cursor),
+}
+
+// `s`, `+` or `-`.
+enum LegRead {
+    NoLeg,
+    LegIs(Leg, Cursor),
+}
+
 // An end as it is written, with the document's number.
 pub enum NamedEnd {
     OfSection(u64, Side),
     OfPoint(u64, Leg),
 }
 
-// A weight as it is written, or none.
-pub enum NamedWeight {
-    Unsaid,
-    Said(u64),
+enum EndRead {
+    NoEnd,
+    EndIs(NamedEnd, Cursor),
 }
 
 // The H line: sections, points, trains.
 pub enum HeaderRead {
     NoHeader,
     CountsAre(u64, u64, u64, Cursor),
-}
-
-// A P line: the side of the legs.
-pub enum SideRead {
-    NoSide,
-    SideIs(Side, Cursor),
 }
 
 pub enum JoinRead {
@@ -50,212 +52,134 @@ pub enum SignalRead {
     SignalIs(u64, Side, Cursor),
 }
 
+// A weight as it is written, or none.
+pub enum NamedWeight {
+    Unsaid,
+    Said(u64),
+}
+
+enum WeightRead {
+    NoWeight,
+    WeightIs(NamedWeight, Cursor),
+}
+
 // A T line: heading, start, destination, weight.
 pub enum TrainRead {
     NoTrain,
     TrainIs(Side, u64, u64, NamedWeight, Cursor),
 }
 
-// The way on behind what was read: whether there is one, and the place. Where there is none, the place means nothing.
-struct Way {
-    there: bool,
-    at: usize,
-}
-
-// A field, and the way on behind it. Where there is none, the value means nothing.
-struct NumberOn {
-    value: u64,
-    on: Way,
-}
-
-struct SideOn {
-    value: Side,
-    on: Way,
-}
-
-struct LegOn {
-    value: Leg,
-    on: Way,
-}
-
-struct EndOn {
-    value: NamedEnd,
-    on: Way,
-}
-
-struct WeightOn {
-    value: NamedWeight,
-    on: Way,
-}
-
-// The byte b.
-fn byte_field(text: &[u8], from: Way, b: u8) -> Way
-    requires { ⌜ 0 < b ⌝ }
-    ensures { λ r. ⌜ Field from (byteAt (now (text .entry)) b) b r ⌝ }
+fn side_field(text: &[u8], c: Cursor) -> SideRead
+    ensures { λ r. ⌜ sideGot r ≡ sideFieldAt (now (text .entry)) (c .at) ⌝ }
 {
-    let at = from.at;
-    if from.there {
-        let Byte::Past(next) = text::byte_at(text, Cursor { at: at }, b) else {
-            return Way {
-                there: false,
-                at: at,
-            };
+    let Byte::Past(up) = text::byte_at(text, c, b'u') else {
+        let Byte::Past(down) = text::byte_at(text, c, b'd') else {
+            return SideRead::NoSide;
         };
-        return Way {
-            there: true,
-            at: next.at,
-        };
-    }
-    from
-}
-
-// The letter that a line begins with.
-fn letter_at(text: &[u8], c: Cursor, b: u8) -> Way
-    requires { ⌜ 0 < b ⌝ }
-    ensures { λ r. ⌜ Field (wayAt (c .at)) (byteAt (now (text .entry)) b) b r ⌝ }
-{
-    let start = Way {
-        there: true,
-        at: c.at,
+        return SideRead::SideIs(Side::Down, down);
     };
-    byte_field(text, start, b)
+    SideRead::SideIs(Side::Up, up)
 }
 
-fn number_field(text: &[u8], from: Way) -> NumberOn
-    ensures { λ r. ⌜ Field from (caseNumberAt (now (text .entry))) (r .value) (r .on) ⌝ }
+fn leg_field(text: &[u8], c: Cursor) -> LegRead
+    ensures { λ r. ⌜ legGot r ≡ legFieldAt (now (text .entry)) (c .at) ⌝ }
 {
-    let at = from.at;
-    if from.there {
-        let Number::Value(n, next) = text::number_at(text, Cursor { at: at }, Width::Three) else {
-            let none = Way {
-                there: false,
-                at: at,
+    let Byte::Past(stem) = text::byte_at(text, c, b's') else {
+        let Byte::Past(plus) = text::byte_at(text, c, b'+') else {
+            let Byte::Past(minus) = text::byte_at(text, c, b'-') else {
+                return LegRead::NoLeg;
             };
-            return NumberOn { value: 0, on: none };
+            return LegRead::LegIs(Leg::Minus, minus);
         };
-        let on = Way {
-            there: true,
-            at: next.at,
-        };
-        return NumberOn { value: n, on: on };
-    }
-    NumberOn { value: 0, on: from }
-}
-
-// `u` or `d`.
-fn side_field(text: &[u8], from: Way) -> SideOn
-    ensures { λ r. ⌜ Field from (sideFieldAt (now (text .entry))) (r .value) (r .on) ⌝ }
-{
-    let up = byte_field(text, from, b'u');
-    if up.there {
-        return SideOn {
-            value: Side::Up,
-            on: up,
-        };
-    }
-    SideOn {
-        value: Side::Down,
-        on: byte_field(text, from, b'd'),
-    }
-}
-
-// `s`, `+` or `-`.
-fn leg_field(text: &[u8], from: Way) -> LegOn
-    ensures { λ r. ⌜ Field from (legFieldAt (now (text .entry))) (r .value) (r .on) ⌝ }
-{
-    let stem = byte_field(text, from, b's');
-    if stem.there {
-        return LegOn {
-            value: Leg::Stem,
-            on: stem,
-        };
-    }
-    let plus = byte_field(text, from, b'+');
-    if plus.there {
-        return LegOn {
-            value: Leg::Plus,
-            on: plus,
-        };
-    }
-    LegOn {
-        value: Leg::Minus,
-        on: byte_field(text, from, b'-'),
-    }
+        return LegRead::LegIs(Leg::Plus, plus);
+    };
+    LegRead::LegIs(Leg::Stem, stem)
 }
 
 // An end: its number, then a section's side or a point's leg.
-fn end_field(text: &[u8], from: Way) -> EndOn
-    ensures { λ r. ⌜ Field from (endFieldAt (now (text .entry))) (endNamed (r .value)) (r .on) ⌝ }
+fn end_field(text: &[u8], c: Cursor) -> EndRead
+    ensures { λ r. ⌜ endGot r ≡ endFieldAt (now (text .entry)) (c .at) ⌝ }
 {
-    let number = number_field(text, from);
-    let side = side_field(text, number.on);
-    let behind_side = side.on;
-    if behind_side.there {
-        let end = side.value;
-        return EndOn {
-            value: NamedEnd::OfSection(number.value, end),
-            on: behind_side,
+    let Number::Value(n, mark) = text::number_at(text, c, Width::Three) else {
+        return EndRead::NoEnd;
+    };
+    let SideRead::SideIs(side, next) = side_field(text, mark) else {
+        let LegRead::LegIs(leg, behind) = leg_field(text, mark) else {
+            return EndRead::NoEnd;
         };
-    }
-    let leg = leg_field(text, number.on);
-    let port = leg.value;
-    let behind_leg = leg.on;
-    EndOn {
-        value: NamedEnd::OfPoint(number.value, port),
-        on: behind_leg,
-    }
+        return EndRead::EndIs(NamedEnd::OfPoint(n, leg), behind);
+    };
+    EndRead::EndIs(NamedEnd::OfSection(n, side), next)
 }
 
-// A weight behind a tab, if there is a tab.
-fn weight_field(text: &[u8], from: Way) -> WeightOn
-    ensures { λ r. ⌜ Field from (weightFieldAt (now (text .entry))) (weightNamed (r .value)) (r .on) ⌝ }
+// Fields behind a tab.
+fn tab_number(text: &[u8], c: Cursor) -> Number
+    ensures { λ r. ⌜ numberGot r ≡ behindTab (now (text .entry)) (caseNumberAt (now (text .entry))) (c .at) ⌝ }
 {
-    let tab = byte_field(text, from, TAB);
-    if tab.there {
-        let weight = number_field(text, tab);
-        let on = weight.on;
-        return WeightOn {
-            value: NamedWeight::Said(weight.value),
-            on: on,
-        };
-    }
-    WeightOn {
-        value: NamedWeight::Unsaid,
-        on: from,
-    }
+    let Byte::Past(field) = text::byte_at(text, c, TAB) else {
+        return Number::None;
+    };
+    text::number_at(text, field, Width::Three)
+}
+
+fn tab_side(text: &[u8], c: Cursor) -> SideRead
+    ensures { λ r. ⌜ sideGot r ≡ behindTab (now (text .entry)) (sideFieldAt (now (text .entry))) (c .at) ⌝ }
+{
+    let Byte::Past(field) = text::byte_at(text, c, TAB) else {
+        return SideRead::NoSide;
+    };
+    side_field(text, field)
+}
+
+fn tab_end(text: &[u8], c: Cursor) -> EndRead
+    ensures { λ r. ⌜ endGot r ≡ behindTab (now (text .entry)) (endFieldAt (now (text .entry))) (c .at) ⌝ }
+{
+    let Byte::Past(field) = text::byte_at(text, c, TAB) else {
+        return EndRead::NoEnd;
+    };
+    end_field(text, field)
 }
 
 // `H`, sections, points, trains.
 pub fn header_line(text: &[u8], c: Cursor) -> HeaderRead
     ensures { λ r. ⌜ countsGot r ≡ headerAt (now (text .entry)) (c .at) ⌝ }
 {
-    let letter = letter_at(text, c, b'H');
-    let sections = number_field(text, byte_field(text, letter, TAB));
-    let points = number_field(text, byte_field(text, sections.on, TAB));
-    let trains = number_field(text, byte_field(text, points.on, TAB));
-    let end = byte_field(text, trains.on, LINE_END);
-    if end.there {
-        return HeaderRead::CountsAre(
-            sections.value,
-            points.value,
-            trains.value,
-            Cursor { at: end.at },
-        );
-    }
-    HeaderRead::NoHeader
+    let Byte::Past(c1) = text::byte_at(text, c, b'H') else {
+        return HeaderRead::NoHeader;
+    };
+    let Number::Value(sections, c2) = tab_number(text, c1) else {
+        return HeaderRead::NoHeader;
+    };
+    let Number::Value(points, c3) = tab_number(text, c2) else {
+        return HeaderRead::NoHeader;
+    };
+    let Number::Value(trains, c4) = tab_number(text, c3) else {
+        return HeaderRead::NoHeader;
+    };
+    let Byte::Past(c5) = text::byte_at(text, c4, LINE_END) else {
+        return HeaderRead::NoHeader;
+    };
+    HeaderRead::CountsAre(sections, points, trains, c5)
 }
 
 // `P`, the number n, the side of the legs.
 pub fn point_line(text: &[u8], c: Cursor, n: u64) -> SideRead
     ensures { λ r. ⌜ sideGot r ≡ pointLineAt (now (text .entry)) n (c .at) ⌝ }
 {
-    let letter = letter_at(text, c, b'P');
-    let number = number_field(text, byte_field(text, letter, TAB));
-    let legs = side_field(text, byte_field(text, number.on, TAB));
-    let end = byte_field(text, legs.on, LINE_END);
-    if end.there & (number.value == n) {
-        let side = legs.value;
-        return SideRead::SideIs(side, Cursor { at: end.at });
+    let Byte::Past(c1) = text::byte_at(text, c, b'P') else {
+        return SideRead::NoSide;
+    };
+    let Number::Value(m, c2) = tab_number(text, c1) else {
+        return SideRead::NoSide;
+    };
+    let SideRead::SideIs(side, c3) = tab_side(text, c2) else {
+        return SideRead::NoSide;
+    };
+    let Byte::Past(c4) = text::byte_at(text, c3, LINE_END) else {
+        return SideRead::NoSide;
+    };
+    if m == n {
+        return SideRead::SideIs(side, c4);
     }
     SideRead::NoSide
 }
@@ -264,62 +188,96 @@ pub fn point_line(text: &[u8], c: Cursor, n: u64) -> SideRead
 pub fn join_line(text: &[u8], c: Cursor) -> JoinRead
     ensures { λ r. ⌜ joinGot r ≡ joinLineAt (now (text .entry)) (c .at) ⌝ }
 {
-    let letter = letter_at(text, c, b'J');
-    let one = end_field(text, byte_field(text, letter, TAB));
-    let other = end_field(text, byte_field(text, one.on, TAB));
-    let end = byte_field(text, other.on, LINE_END);
-    if end.there {
-        let first = one.value;
-        let second = other.value;
-        return JoinRead::EndsAre(first, second, Cursor { at: end.at });
-    }
-    JoinRead::NoJoin
+    let Byte::Past(c1) = text::byte_at(text, c, b'J') else {
+        return JoinRead::NoJoin;
+    };
+    let EndRead::EndIs(one, c2) = tab_end(text, c1) else {
+        return JoinRead::NoJoin;
+    };
+    let EndRead::EndIs(other, c3) = tab_end(text, c2) else {
+        return JoinRead::NoJoin;
+    };
+    let Byte::Past(c4) = text::byte_at(text, c3, LINE_END) else {
+        return JoinRead::NoJoin;
+    };
+    JoinRead::EndsAre(one, other, c4)
 }
 
 // `G`, a section end.
 pub fn signal_line(text: &[u8], c: Cursor) -> SignalRead
     ensures { λ r. ⌜ signalGot r ≡ signalLineAt (now (text .entry)) (c .at) ⌝ }
 {
-    let letter = letter_at(text, c, b'G');
-    let number = number_field(text, byte_field(text, letter, TAB));
-    let mark = side_field(text, number.on);
-    let end = byte_field(text, mark.on, LINE_END);
-    if end.there {
-        let side = mark.value;
-        return SignalRead::SignalIs(number.value, side, Cursor { at: end.at });
-    }
-    SignalRead::NoSignal
+    let Byte::Past(c1) = text::byte_at(text, c, b'G') else {
+        return SignalRead::NoSignal;
+    };
+    let Number::Value(n, c2) = tab_number(text, c1) else {
+        return SignalRead::NoSignal;
+    };
+    let SideRead::SideIs(side, c3) = side_field(text, c2) else {
+        return SignalRead::NoSignal;
+    };
+    let Byte::Past(c4) = text::byte_at(text, c3, LINE_END) else {
+        return SignalRead::NoSignal;
+    };
+    SignalRead::SignalIs(n, side, c4)
 }
 
 // `X`, a section.
 pub fn closed_line(text: &[u8], c: Cursor) -> Number
     ensures { λ r. ⌜ numberGot r ≡ closedLineAt (now (text .entry)) (c .at) ⌝ }
 {
-    let letter = letter_at(text, c, b'X');
-    let number = number_field(text, byte_field(text, letter, TAB));
-    let end = byte_field(text, number.on, LINE_END);
-    if end.there {
-        return Number::Value(number.value, Cursor { at: end.at });
-    }
-    Number::None
+    let Byte::Past(c1) = text::byte_at(text, c, b'X') else {
+        return Number::None;
+    };
+    let Number::Value(n, c2) = tab_number(text, c1) else {
+        return Number::None;
+    };
+    let Byte::Past(c3) = text::byte_at(text, c2, LINE_END) else {
+        return Number::None;
+    };
+    Number::Value(n, c3)
+}
+
+// A weight behind a tab, if there is a tab.
+fn weight_field(text: &[u8], c: Cursor) -> WeightRead
+    ensures { λ r. ⌜ weightGot r ≡ weightFieldAt (now (text .entry)) (c .at) ⌝ }
+{
+    let Byte::Past(field) = text::byte_at(text, c, TAB) else {
+        return WeightRead::WeightIs(NamedWeight::Unsaid, c);
+    };
+    let Number::Value(w, next) = text::number_at(text, field, Width::Three) else {
+        return WeightRead::NoWeight;
+    };
+    WeightRead::WeightIs(NamedWeight::Said(w), next)
 }
 
 // `T`, the number n, heading, start, destination, and a weight where one is written.
 pub fn train_line(text: &[u8], c: Cursor, n: u64) -> TrainRead
     ensures { λ r. ⌜ trainGot r ≡ trainLineAt (now (text .entry)) n (c .at) ⌝ }
 {
-    let letter = letter_at(text, c, b'T');
-    let number = number_field(text, byte_field(text, letter, TAB));
-    let headed = side_field(text, byte_field(text, number.on, TAB));
-    let start = number_field(text, byte_field(text, headed.on, TAB));
-    let destination = number_field(text, byte_field(text, start.on, TAB));
-    let weighed = weight_field(text, destination.on);
-    let end = byte_field(text, weighed.on, LINE_END);
-    if end.there & (number.value == n) {
-        let heading = headed.value;
-        let weight = weighed.value;
-        let next = Cursor { at: end.at };
-        return TrainRead::TrainIs(heading, start.value, destination.value, weight, next);
+    let Byte::Past(c1) = text::byte_at(text, c, b'T') else {
+        return TrainRead::NoTrain;
+    };
+    let Number::Value(m, c2) = tab_number(text, c1) else {
+        return TrainRead::NoTrain;
+    };
+    let SideRead::SideIs(heading, c3) = tab_side(text, c2) else {
+        return TrainRead::NoTrain;
+    };
+    let Number::Value(start, c4) = tab_number(text, c3) else {
+        return TrainRead::NoTrain;
+    };
+    let Number::Value(destination, c5) = tab_number(text, c4) else {
+        return TrainRead::NoTrain;
+    };
+    let WeightRead::WeightIs(weight, c6) = weight_field(text, c5) else {
+        return TrainRead::NoTrain;
+    };
+    let Byte::Past(c7) = text::byte_at(text, c6, LINE_END) else {
+        return TrainRead::NoTrain;
+    };
+    if m == n {
+        return TrainRead::TrainIs(heading, start, destination, weight, c7);
     }
     TrainRead::NoTrain
 }

@@ -1,28 +1,51 @@
--- `lines::closed_line` meets its contract: each field is read from where the one before it ended.
+-- `lines::closed_line` meets its contract: each field is read where the one before it ends, and the first that is not in form ends the line.
 -- Assumes nothing.
 use borrow.Author.Needs.{needs}
+use native.Mathlib.Omega.{arith}
 use denote.Ref.{now}
-use mathlib.Core.Path.{refl}
+use mathlib.Core.Path.{refl, sym, _∙_, ap}
 use Prim.Native.Nat.{ℕ}
+use Rattle.text.specs.Answers.{numberGot}
 use Rattle.casefile.specs.Reading.{closedLineAt}
-use Rattle.lines.proofs.Chain.{Left, whole, on, missed, reached}
+use Rattle.text.proofs.Chain.{byte-fails, byte-goes}
+use Rattle.lines.proofs.Chain.{Left, whole, onward, tab-fails, tab-goes}
 use Rattle.lines.proofs.closed_line.Statement.{statement}
 use Rattle.lines.proofs.closed_line.Tie as tie
 
--- the line behind its last field
-abbrev read : tie.After-byte-field2 → Left ℕ
+-- the line behind each of its fields
+abbrev past-letter : tie.After-c1 → Left ℕ
 unfolding closedLineAt
-read k =
-    let number = k .before in let tab = number .before in let letter = tab .before in
-    let a = letter .before .before .args in
-    let whole-line = whole (closedLineAt (now (a .text))) (a .c .at) in
-    on _ (on _ (on _ (on _ whole-line (letter .letter-at .ensures) refl) (tab .byte-field .ensures) refl)
-    (number .number-field .ensures) refl) (k .byte-field2 .ensures) refl
+past-letter k =
+    let a = k .before .before .before .before .args in
+    onward (whole (closedLineAt (now (a .text)) (a .c .at)))
+    (byte-goes _ 88 _ (omega arith) _ (k .before .before .byte-at .ensures) _ (k .c1 .given .1) _ refl)
+
+abbrev past-number : tie.After-n → Left ℕ
+unfolding closedLineAt
+past-number k =
+    let b = k .before .before in
+    onward (past-letter (b .before .before)) (tab-goes _ _ _ _
+    (sym (b .tab-number .ensures) ∙ ap numberGot (k .n .given .1)) refl)
+
+abbrev past-end : tie.After-c3 → Left ℕ
+unfolding closedLineAt
+past-end k =
+    let b = k .before .before in
+    onward (past-number (b .before .before)) (byte-goes _ 10 _ (omega arith) _ (b .byte-at2 .ensures) _
+    (k .c3 .given .1) _ refl)
 
 pub closed-line-spec : {M : Type 1} → statement M
 unfolding closedLineAt
 closed-line-spec =
     tie.close (tie.spec
-    (λ c κs. search needs) (λ c κs. search needs) (λ c κs. search needs) (λ c κs. search needs)
-    (λ c. reached (read (c .before)) (c .if1 .taken))
-    (λ c. missed (read (c .before)) (c .if1 .left)))
+    (λ c κs. search needs) (λ c. search needs) (λ c. search needs)
+    (λ c. let b = c .before .before in byte-fails _ 88 _ (omega arith) _ (b .byte-at .ensures)
+    (c .enum-told .given .1) _)
+    (λ c κs. search needs) (λ c. search needs) (λ c. search needs)
+    (λ c. let b = c .before .before in tab-fails _ _ _ _
+    (sym (b .tab-number .ensures) ∙ ap numberGot (c .enum-told2 .given .1)) ∙ past-letter
+    (b .before .before) .gives)
+    (λ c κs. search needs) (λ c. search needs) (λ c. search needs)
+    (λ c. let b = c .before .before in byte-fails _ 10 _ (omega arith) _ (b .byte-at2 .ensures)
+    (c .enum-told3 .given .1) _ ∙ past-number (b .before .before) .gives)
+    (λ c. past-end (c .before) .gives))

@@ -1,30 +1,63 @@
--- `lines::point_line` meets its contract: each field is read from where the one before it ended.
+-- `lines::point_line` meets its contract: each field is read where the one before it ends, and the first that is not in form ends the line.
 -- Assumes nothing.
 use borrow.Author.Needs.{needs}
+use native.Mathlib.Omega.{arith}
 use denote.Ref.{now}
-use mathlib.Core.Path.{refl}
+use mathlib.Core.Path.{refl, sym, _∙_, ap}
+use Rattle.text.specs.Answers.{numberGot}
 use Rattle.railway.specs.declared.Side.{Side}
 use Rattle.casefile.specs.Reading.{pointLineAt}
-use Rattle.lines.proofs.Chain.{Left, whole, on, reached-due, missed-due}
+use Rattle.lines.specs.Answers.{sideGot}
+use Rattle.text.proofs.Chain.{byte-fails, byte-goes}
+use Rattle.lines.proofs.Chain.{Left, whole, onward, tab-fails, tab-goes, number-due, number-other}
 use Rattle.lines.proofs.point_line.Statement.{statement}
 use Rattle.lines.proofs.point_line.Tie as tie
 
--- the line behind its last field
-abbrev read : tie.After-byte-field3 → Left Side
+-- the line behind each of its fields
+abbrev past-letter : tie.After-c1 → Left Side
 unfolding pointLineAt
-read k =
-    let legs = k .before in let tab2 = legs .before in let number = tab2 .before in let tab1 = number .before in
-    let letter = tab1 .before in let a = letter .before .before .args in
-    let whole-line = whole (pointLineAt (now (a .text)) (a .n)) (a .c .at) in
-    on _ (on _ (on _ (on _ (on _ (on _ whole-line (letter .letter-at .ensures) refl)
-    (tab1 .byte-field .ensures) refl) (number .number-field .ensures) refl) (tab2 .byte-field2 .ensures) refl)
-    (legs .side-field .ensures) refl) (k .byte-field3 .ensures) refl
+past-letter k =
+    let a = k .before .before .before .before .args in
+    onward (whole (pointLineAt (now (a .text)) (a .n) (a .c .at)))
+    (byte-goes _ 80 _ (omega arith) _ (k .before .before .byte-at .ensures) _ (k .c1 .given .1) _ refl)
+
+abbrev past-number : tie.After-m → Left Side
+unfolding pointLineAt
+past-number k =
+    let b = k .before .before in
+    onward (past-letter (b .before .before)) (tab-goes _ _ _ _
+    (sym (b .tab-number .ensures) ∙ ap numberGot (k .m .given .1)) refl)
+
+abbrev past-side : tie.After-side → Left Side
+unfolding pointLineAt
+past-side k =
+    let b = k .before .before in
+    onward (past-number (b .before .before)) (tab-goes _ _ _ _
+    (sym (b .tab-side .ensures) ∙ ap sideGot (k .side .given .1)) refl)
+
+abbrev past-end : tie.After-c4 → Left Side
+unfolding pointLineAt
+past-end k =
+    let b = k .before .before in
+    onward (past-side (b .before .before)) (byte-goes _ 10 _ (omega arith) _ (b .byte-at2 .ensures) _
+    (k .c4 .given .1) _ refl)
 
 pub point-line-spec : {M : Type 1} → statement M
 unfolding pointLineAt
 point-line-spec =
     tie.close (tie.spec
-    (λ c κs. search needs) (λ c κs. search needs) (λ c κs. search needs) (λ c κs. search needs)
-    (λ c κs. search needs) (λ c κs. search needs)
-    (λ c. reached-due (read (c .before .before .before)) _ _ refl (c .if1 .taken))
-    (λ c. missed-due (read (c .before .before .before)) _ _ refl (c .if1 .left)))
+    (λ c κs. search needs) (λ c. search needs) (λ c. search needs)
+    (λ c. let b = c .before .before in byte-fails _ 80 _ (omega arith) _ (b .byte-at .ensures)
+    (c .enum-told .given .1) _)
+    (λ c κs. search needs) (λ c. search needs) (λ c. search needs)
+    (λ c. let b = c .before .before in tab-fails _ _ _ _
+    (sym (b .tab-number .ensures) ∙ ap numberGot (c .enum-told2 .given .1)) ∙ past-letter
+    (b .before .before) .gives)
+    (λ c κs. search needs) (λ c. search needs) (λ c. search needs)
+    (λ c. let b = c .before .before in tab-fails _ _ _ _
+    (sym (b .tab-side .ensures) ∙ ap sideGot (c .enum-told3 .given .1)) ∙ past-number (b .before .before) .gives)
+    (λ c κs. search needs) (λ c. search needs) (λ c. search needs)
+    (λ c. let b = c .before .before in byte-fails _ 10 _ (omega arith) _ (b .byte-at2 .ensures)
+    (c .enum-told4 .given .1) _ ∙ past-side (b .before .before) .gives)
+    (λ c. number-due _ _ (c .if1 .taken) ∙ past-end (c .before .before) .gives)
+    (λ c. number-other _ _ _ (c .if1 .left) ∙ past-end (c .before .before) .gives))
