@@ -1,7 +1,7 @@
 -- A line as code reads it: a field behind a tab is one step, read or not; sides, legs and ends are read by looking for one byte after the other, and a weight where there is a tab.
 -- Assumes nothing.
-use Prim.Native.Nat.{ℕ, _+_}
-use mathlib.Core.Path.{_≡_, refl, _∙_}
+use Prim.Native.Nat.{ℕ, _+_, _<_}
+use mathlib.Core.Path.{_≡_, refl, sym, _∙_, ap}
 use mathlib.Core.Bool.{true, false, cond}
 use mathlib.Core.List.{List}
 use mathlib.Core.Option.{none, some}
@@ -10,7 +10,11 @@ use lib.ListN.{getD}
 use borrow.Author.Tests.{eq-eqb, ne-eqb}
 use Rattle.text.specs.Reading.{Got, bad, got, then, byteAt}
 use Rattle.text.proofs.Walking.{bad-got}
-use Rattle.text.proofs.Chain.{fails, goes}
+use Rattle.text.specs.declared.Cursor.{Cursor}
+use Rattle.text.specs.declared.Byte.{Byte}
+use Rattle.text.specs.declared.Byte.the-variants.{Other, Past}
+use Rattle.text.specs.Answers.{byteGot, byteInside}
+use Rattle.text.proofs.Chain.{fails, goes, byte-fails, byte-goes}
 use Rattle.railway.specs.declared.Side.{Side}
 use Rattle.railway.specs.declared.Side.the-variants.{Up, Down}
 use Rattle.railway.specs.declared.Leg.{Leg}
@@ -50,6 +54,34 @@ module _ {A B : Type 0} (s : List ℕ) (field : ℕ → Got A) (at : ℕ) where
   pub tab-goes : {x : A} {c : ℕ} {y : Got B} (k : A → ℕ → Got B) → behindTab s field at ≡ got x c → y ≡ k x c
       → y ≡ then (byteAt s 9 at) (λ x c. then (field c) k)
   tab-goes k e h = tab-got (byteAt s 9 at) k e h
+
+-- A FIELD'S ANSWER: it was read, and the line goes on behind it; or it was not, and that is the line's answer
+module _ {A R X : Type 0} (l : Left A) (says : R → Got X) where
+  module _ {g : Got X} (k : X → ℕ → Got A) (h : l .rest ≡ then g k) {r m : R} (read : says r ≡ g) (told : r ≡ m) where
+    abbrev pub field-on : {x : X} {c : ℕ} → says m ≡ got x c → Left A
+    field-on {x} {c} e = onward l (goes k (sym read ∙ ap says told ∙ e) refl ∙ sym h)
+
+    pub field-off : says m ≡ bad → bad ≡ l .line
+    field-off e = fails k (sym read ∙ ap says told ∙ e) ∙ sym h ∙ l .gives
+
+  -- behind a tab
+  module _ (s : List ℕ) (field : ℕ → Got X) (at : ℕ) (k : X → ℕ → Got A)
+      (h : l .rest ≡ then (byteAt s 9 at) (λ x c. then (field c) k)) {r m : R}
+      (read : says r ≡ behindTab s field at) (told : r ≡ m) where
+    abbrev pub tab-on : {x : X} {c : ℕ} → says m ≡ got x c → Left A
+    tab-on {x} {c} e = onward l (tab-goes s field at k (sym read ∙ ap says told ∙ e) refl ∙ sym h)
+
+    pub tab-off : says m ≡ bad → bad ≡ l .line
+    tab-off e = tab-fails s field at k (sym read ∙ ap says told ∙ e) ∙ sym h ∙ l .gives
+
+-- a byte's
+module _ {A : Type 0} (l : Left A) (s : List ℕ) (b at : ℕ) (pos : 0 < b) (k : ℕ → ℕ → Got A)
+    (h : l .rest ≡ then (byteAt s b at) k) {r : Byte} (looked : byteGot b r ≡ byteInside s b at) where
+  abbrev pub byte-on : {c : Cursor} → r ≡ Past c → Left A
+  byte-on {c} e = onward l (byte-goes s b at pos r looked c e k refl ∙ sym h)
+
+  pub byte-off : r ≡ Other → bad ≡ l .line
+  byte-off e = byte-fails s b at pos r looked e k ∙ sym h ∙ l .gives
 
 -- SIDES AND LEGS
 module _ (s : List ℕ) (at : ℕ) where
