@@ -80,7 +80,10 @@ unfolding RR.looseRow looseRow railwayOf
 loose-same d b can = B.any-same (RR.looseAt (railwayOf d)) (looseAt d) (d .points) (λ n h. at-point n h)
   where
     at-port : (n : ℕ) (l : Leg) → n < d .points → unjoined (joined (railwayOf d) (Port (record { 0 = n }) l)) ≡ looseEnd d (port (suc n) l)
-    at-port n l h = let q = b .few-points in ap unjoined (joined-at d can (Port (record { 0 = n }) l) (omega arith)) ∙ unjoined-partner (d .joins) (port (suc n) l)
+    at-port n l h =
+        let q = b .few-points in
+        ap unjoined (joined-at d can (Port (record { 0 = n }) l) (omega arith)) ∙ unjoined-partner (d .joins)
+        (port (suc n) l)
 
     at-point : (n : ℕ) → n < d .points → RR.looseAt (railwayOf d) n ≡ looseAt d n
     at-point n h = rw (at-port n Stem h, at-port n Plus h, at-port n Minus h)
@@ -123,7 +126,8 @@ module _ (d : Description) (f : WellFormed d) (b : Bounded (d .sections) (d .poi
       let k = repeats-apart eqb (map p (d .roster)) (p noTrainLine) u t e h (rw (length-map (d .roster) p, o) g) in
       rw (List·getD-map p (d .roster) u noTrainLine, List·getD-map p (d .roster) t noTrainLine) at k
 
-  places-same : anyBelow (RR.sharesAt (railwayOf d)) (d .trains) ≡ (repeats eqb (map (λ t. t .start) (d .roster)) || repeats eqb (map (λ t. t .destination) (d .roster)))
+  places-same : anyBelow (RR.sharesAt (railwayOf d)) (d .trains) ≡
+      (repeats eqb (map (λ t. t .start) (d .roster)) || repeats eqb (map (λ t. t .destination) (d .roster)))
   unfolding shares
   places-same =
       same-test _ _
@@ -132,7 +136,9 @@ module _ (d : Description) (f : WellFormed d) (b : Bounded (d .sections) (d .poi
       sym (shares-same t u h g) ∙ B.any-false (RR.sharesWith (railwayOf d) t) t (B.any-false (RR.sharesAt (railwayOf d)) (d .trains) e t g) u h in
       or-none _ _
       (apart-repeats (λ t. t .start) (λ t u h g. or-false (eqb (nth u .start) (nth t .start)) (eqb (nth u .destination) (nth t .destination)) (no t u h g) .0))
-      (apart-repeats (λ t. t .destination) (λ t u h g. or-false (eqb (nth u .start) (nth t .start)) (eqb (nth u .destination) (nth t .destination)) (no t u h g) .1)))
+      (apart-repeats (λ t. t .destination)
+      (λ t u h g. or-false (eqb (nth u .start) (nth t .start)) (eqb (nth u .destination) (nth t .destination))
+      (no t u h g) .1)))
       (λ e.
       let q = or-false (repeats eqb (map (λ t. t .start) (d .roster))) (repeats eqb (map (λ t. t .destination) (d .roster))) e in
       B.none-any (RR.sharesAt (railwayOf d)) (d .trains) (λ t g. B.none-any (RR.sharesWith (railwayOf d) t) t (λ u h.
@@ -153,7 +159,8 @@ module _ (d : Description) (f : WellFormed d) (b : Bounded (d .sections) (d .poi
       by-roster (trainOf (railwayOf d) t) (roster-at d t h (b .few-trains)) ∙ rw (closed-same (nth t .start) (k .0), closed-same (nth t .destination) (k .1))
     where
       by-roster : (x : Train) → x ≡ trainOfLine (nth t)
-          → (isClosed (railwayOf d) (x .start .0) || isClosed (railwayOf d) (x .destination .0)) ≡ (isClosed (railwayOf d) (nth t .start - 1) || isClosed (railwayOf d) (nth t .destination - 1))
+          → (isClosed (railwayOf d) (x .start .0) || isClosed (railwayOf d) (x .destination .0)) ≡
+          (isClosed (railwayOf d) (nth t .start - 1) || isClosed (railwayOf d) (nth t .destination - 1))
       by-roster x p = rw p
 
   shuts-same : anyBelow (RR.shutOutAt (railwayOf d)) (d .trains) ≡ any (shutOut d) (d .roster)
@@ -177,7 +184,9 @@ module _ (d : Description) (f : WellFormed d) (b : Bounded (d .sections) (d .poi
 module _ (d : Description) (f : WellFormed d) where
   -- ROW 3: the counts of the record are the description's, or none where they are out of bounds
   counts-of : (s p k : ℕ) (w : Draft) → Sized s p k (w .railway)
-      → Sized s p k (putRising putTrain 1 (putEach putClosed (putEach putSignal (putEach putJoin (putRising putPoint 1 w (d .legs)) (d .joins)) (d .signals)) (d .closed)) (d .roster) .railway)
+      → Sized s p k (putRising putTrain 1
+      (putEach putClosed (putEach putSignal (putEach putJoin (putRising putPoint 1 w (d .legs)) (d .joins))
+      (d .signals)) (d .closed)) (d .roster) .railway)
   counts-of s p k w z =
       sized-rising s p k putTrain (sized-put-train s p k) (d .roster) 1 _
       (sized-each s p k putClosed (sized-put-closed s p k) (d .closed) _
@@ -193,7 +202,13 @@ module _ (d : Description) (f : WellFormed d) where
     where
       cases : (c : Bool) → countRow d ≡ c
           → RR.countRow (putRising putTrain 1 (putEach putClosed (putEach putSignal (putEach putJoin (putRising putPoint 1
-          (record { railway = cond c emptyRailway (bareRailway (d .sections) (d .points) (d .trains)); weight = false; unknown = false; wrong = false; double = false })
+          (record {
+            railway = cond c emptyRailway (bareRailway (d .sections) (d .points) (d .trains));
+            weight = false;
+            unknown = false;
+            wrong = false;
+            double = false;
+          })
           (d .legs)) (d .joins)) (d .signals)) (d .closed)) (d .roster) .railway) ≡ c
       cases true e = sized-count 0 0 0 _ (counts-of 0 0 0 _ (sized-bare 0 0 0))
       cases false e =
@@ -230,7 +245,8 @@ module _ (d : Description) (f : WellFormed d) where
       kt : Every (KnownTrain d) (d .roster)
       unfolding weightRow
       kt t m =
-          let k = not-and (within (t .start) (d .sections)) (within (t .destination) (d .sections)) (any-false (unknownTrain d) (d .roster) t (known-parts d h4 .3) m) in
+          let k = not-and (within (t .start) (d .sections)) (within (t .destination) (d .sections))
+          (any-false (unknownTrain d) (d .roster) t (known-parts d h4 .3) m) in
           (k .0, k .1, any-false wrongWeightIn (d .roster) t h16 m)
 
       is : drafted d ≡ record {
@@ -256,7 +272,8 @@ module _ (d : Description) (f : WellFormed d) where
       wrong-same : drafted d .wrong ≡ joinRow d
       wrong-same =
           ap (λ (w : Draft). w .wrong) is
-          ∙ same-test _ _ (λ e. join-of (faults-fit d b (d .joins) _ (ready d f b h3 kj kg kx kt) kj e)) (λ e. fit-faults d b (d .joins) _ (ready d f b h3 kj kg kx kt) kj (fit-of e))
+          ∙ same-test _ _ (λ e. join-of (faults-fit d b (d .joins) _ (ready d f b h3 kj kg kx kt) kj e))
+          (λ e. fit-faults d b (d .joins) _ (ready d f b h3 kj kg kx kt) kj (fit-of e))
 
       -- ROWS 6 TO 8 and 13
       module _ (h5 : joinRow d ≡ false) where
@@ -264,11 +281,15 @@ module _ (d : Description) (f : WellFormed d) where
         railway-same = ap (λ (w : Draft). w .railway) is ∙ built-is d f b h3 kj kg kx kt (fit-of h5)
 
         no-flag : (g : SignalLine) → getD (withJoins d f b h3 kj kg kx kt .signals) (index g) false ≡ false
-        no-flag g = ap (λ (l : List Bool). getD l (index g) false) (joins-keep (d .joins) (withPoints d f b h3 kj kg kx kt) .signals) ∙ same-everywhere sectionEnds false (index g)
+        no-flag g =
+            ap (λ (l : List Bool). getD l (index g) false)
+            (joins-keep (d .joins) (withPoints d f b h3 kj kg kx kt) .signals) ∙ same-everywhere sectionEnds false
+            (index g)
 
         signals-same : doubles (withJoins d f b h3 kj kg kx kt) (d .signals) ≡ repeats sameSignal (d .signals)
         signals-same =
-            let room = sized-joins (d .sections) (d .points) (d .trains) (d .joins) (withPoints d f b h3 kj kg kx kt) (sized-points d f b h3 kj kg kx kt) .signals in
+            let room = sized-joins (d .sections) (d .points) (d .trains) (d .joins)
+            (withPoints d f b h3 kj kg kx kt) (sized-points d f b h3 kj kg kx kt) .signals in
             let p = placed d f b h3 kj kg kx kt (fit-of h5) in
             same-test _ _ (λ e. doubles-single (d .signals) (withJoins d f b h3 kj kg kx kt) room p e .once)
             (λ e. single-doubles (d .signals) (withJoins d f b h3 kj kg kx kt) room p (record { once = e; free = λ g m. no-flag g }))

@@ -91,12 +91,25 @@ module _ (d : Description) where
         rw (e, m, lt-ltb i mostPoints (omega arith))
 
     join-put : (j : JoinLine) → KnownJoin j
-        → putJoin w j ≡ record { railway = withJoin (w .railway) (endOf (j .one)) (endOf (j .other)); weight = w .weight; unknown = w .unknown; wrong = w .wrong || faulty (w .railway) (endOf (j .one)) (endOf (j .other)); double = w .double }
+        → putJoin w j ≡ record {
+          railway = withJoin (w .railway) (endOf (j .one)) (endOf (j .other));
+          weight = w .weight;
+          unknown = w .unknown;
+          wrong = w .wrong || faulty (w .railway) (endOf (j .one))
+              (endOf (j .other));
+          double = w .double;
+        }
     unfolding putJoin
     join-put j h = rw (there-known d (w .railway) z (j .one) ∙ h .0, there-known d (w .railway) z (j .other) ∙ h .1)
 
     signal-put : (g : SignalLine) → KnownSignal g
-        → putSignal w g ≡ record { railway = withSignal (w .railway) (endOf (signalEnd g)); weight = w .weight; unknown = w .unknown; wrong = w .wrong; double = w .double || hasSignal (w .railway) (endOf (signalEnd g)) }
+        → putSignal w g ≡ record {
+          railway = withSignal (w .railway) (endOf (signalEnd g));
+          weight = w .weight;
+          unknown = w .unknown;
+          wrong = w .wrong;
+          double = w .double || hasSignal (w .railway) (endOf (signalEnd g));
+        }
     unfolding putSignal
     signal-put g h = rw (there-known d (w .railway) z (signalEnd g) ∙ h)
 
@@ -105,7 +118,8 @@ module _ (d : Description) where
     unfolding putClosed
     closed-put n h = rw (ap (within n) (z .sections) ∙ h)
 
-    train-put : (i : ℕ) (t : TrainLine) → i < d .trains → d .trains ≤ mostTrains → KnownTrain t → putTrain w (suc i) t ≡ withRailway w (withRoster (w .railway) (set (w .railway .roster) i (trainOfLine t)))
+    train-put : (i : ℕ) (t : TrainLine) → i < d .trains → d .trains ≤ mostTrains → KnownTrain t
+        → putTrain w (suc i) t ≡ withRailway w (withRoster (w .railway) (set (w .railway .roster) i (trainOfLine t)))
     unfolding putTrain withTrain
     train-put i t h b k =
         let e : within (suc i) (w .railway .trains) ≡ true = ap (within (suc i)) (z .trains) ∙ is-within (suc i) (d .trains) (omega arith) (omega arith) in
@@ -158,10 +172,22 @@ module _ (d : Description) where
   trains-put b [] i w z h k = refl
   trains-put b (t ∷ ts) i w z h k =
       let e = train-put w z i t (omega arith) b (k t (List·Memᴰ·head refl)) in
-      rw e (trains-put b ts (suc i) _ (roster-sized (w .railway) z (set (w .railway .roster) i (trainOfLine t)) (set-length (w .railway .roster) i (trainOfLine t))) (omega arith) (λ x m. k x (List·Memᴰ·tail m)))
+      rw e (trains-put b ts (suc i) _
+      (roster-sized (w .railway) z (set (w .railway .roster) i (trainOfLine t))
+      (set-length (w .railway .roster) i (trainOfLine t))) (omega arith) (λ x m. k x (List·Memᴰ·tail m)))
     where
       set-length : (l : List Train) (i : ℕ) (x : Train) → length (set l i x) ≡ length l
       set-length l i x = simp length-set
 
       roster-sized : (r : Railway) → SizedBy d r → (l : List Train) → length l ≡ length (r .roster) → SizedBy d (withRoster r l)
-      roster-sized r z l e = record { sections = z .sections; points = z .points; trains = z .trains; legs = z .legs; links = z .links; signals = z .signals; closed = z .closed; roster = e ∙ z .roster }
+      roster-sized r z l e =
+          record {
+            sections = z .sections;
+            points = z .points;
+            trains = z .trains;
+            legs = z .legs;
+            links = z .links;
+            signals = z .signals;
+            closed = z .closed;
+            roster = e ∙ z .roster;
+          }

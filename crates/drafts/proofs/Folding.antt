@@ -28,14 +28,18 @@ module _ {A R : Type 0} (line : ℕ → ℕ → Got A) (put : R → ℕ → A �
   abbrev numberInto : ℕ → ℕ → R → Got R
   numberInto n c r = then (line n c) (λ x c. got (put r n x) c)
 
-  counted-step : (k n : ℕ) (r : R) → ((c : ℕ) (r : R) → foldCounted numberInto k (suc n) c r ≡ then (counted line k (suc n) c) (λ xs c. got (putRising put (suc n) r xs) c))
+  counted-step : (k n : ℕ) (r : R)
+      → ((c : ℕ) (r : R) → foldCounted numberInto k (suc n) c r ≡ then (counted line k (suc n) c)
+      (λ xs c. got (putRising put (suc n) r xs) c))
       → (g : Got A) → then (then g (λ x c. got (put r n x) c)) (λ r c. foldCounted numberInto k (suc n) c r)
       ≡ then (then g (λ x c. then (counted line k (suc n) c) (λ xs c. got (x ∷ xs) c))) (λ xs c. got (putRising put n r xs) c)
   unfolding putRising
   counted-step k n r ih bad = refl
   counted-step k n r ih (got x d) = ih d (put r n x) ∙ last (counted line k (suc n) d)
     where
-      last : (g : Got (List A)) → then g (λ xs c. got (putRising put (suc n) (put r n x) xs) c) ≡ then (then g (λ xs c. got (x ∷ xs) c)) (λ xs c. got (putRising put n r xs) c)
+      last : (g : Got (List A))
+          → then g (λ xs c. got (putRising put (suc n) (put r n x) xs) c) ≡ then (then g (λ xs c. got (x ∷ xs) c))
+          (λ xs c. got (putRising put n r xs) c)
       last bad = refl
       last (got xs c) = refl
 
@@ -50,12 +54,19 @@ module _ {A R : Type 0} (begins : ℕ → Bool) (line : ℕ → Got A) (put : R 
 
   while-step : (most : ℕ) → ((c : ℕ) (r : R) → foldWhile begins stepInto most c r ≡ then (while begins line most c) (λ xs c. got (putEach put r xs) c))
       → (c : ℕ) (r : R) (p : Bool) → elim p [ true ↦ then (stepInto c r) (λ r c. foldWhile begins stepInto most c r) | false ↦ got r c ]
-      ≡ then (elim p [ true ↦ then (line c) (λ x c. then (while begins line most c) (λ xs c. got (x ∷ xs) c)) | false ↦ got [] c ]) (λ xs c. got (putEach put r xs) c)
+      ≡ then (elim p [
+        | true ↦ then (line c)
+            (λ x c. then (while begins line most c) (λ xs c. got (x ∷ xs) c))
+        | false ↦ got [] c
+      ])
+      (λ xs c. got (putEach put r xs) c)
   unfolding putEach
   while-step most ih c r false = refl
   while-step most ih c r true = go (line c)
     where
-      last : (x : A) (g : Got (List A)) → then g (λ xs c. got (putEach put (put r x) xs) c) ≡ then (then g (λ xs c. got (x ∷ xs) c)) (λ xs c. got (putEach put r xs) c)
+      last : (x : A) (g : Got (List A))
+          → then g (λ xs c. got (putEach put (put r x) xs) c) ≡ then (then g (λ xs c. got (x ∷ xs) c))
+          (λ xs c. got (putEach put r xs) c)
       last x bad = refl
       last x (got xs c) = refl
 

@@ -106,7 +106,11 @@ module _ (d : Description) (b : Bounded (d .sections) (d .points) (d .trains)) w
 
   pair-same : (r : Railway) → Ready r → (j : JoinLine) → KnownJoin d j → wrongPair (RR.tied r (endOf (j .one))) (RR.tied r (endOf (j .other))) ≡ wrongJoin d j
   pair-same r y j h =
-      rw (one-same (j .one) (j .other) (counted-known (j .one) (h .0)) (counted-known (j .other) (h .1)), side-same r y (j .one) (h .0), side-same r y (j .other) (h .1))
+      rw (
+        one-same (j .one) (j .other) (counted-known (j .one) (h .0)) (counted-known (j .other) (h .1)),
+        side-same r y (j .one) (h .0),
+        side-same r y (j .other) (h .1),
+      )
 
   -- J lines that may all be added
   pub record Fit (r : Railway) (js : List JoinLine) : Type 0 where
@@ -181,13 +185,19 @@ module _ (d : Description) (b : Bounded (d .sections) (d .points) (d .trains)) w
       right-j = sym (pair-same r y j k) ∙ parts .0
 
       one-apart : (e : EndField) → List·Memᴰ e (joinEnds js) → sameEnd (j .one) e ≡ false
-      one-apart e m = not-same (j .one) e (λ q. with-nothing (join-first r one other (y .sized .links) n1 n2) (ap (λ (x : EndField). joined next (endOf x)) q ∙ g .free e m))
+      one-apart e m =
+          not-same (j .one) e (λ q. with-nothing (join-first r one other (y .sized .links) n1 n2)
+          (ap (λ (x : EndField). joined next (endOf x)) q ∙ g .free e m))
 
       two-apart : (e : EndField) → List·Memᴰ e (joinEnds js) → sameEnd (j .other) e ≡ false
-      two-apart e m = not-same (j .other) e (λ q. with-nothing (join-second r one other (y .sized .links) n1 n2) (ap (λ (x : EndField). joined next (endOf x)) q ∙ g .free e m))
+      two-apart e m =
+          not-same (j .other) e (λ q. with-nothing (join-second r one other (y .sized .links) n1 n2)
+          (ap (λ (x : EndField). joined next (endOf x)) q ∙ g .free e m))
 
       ends-apart : sameEnd (j .one) (j .other) ≡ false
-      ends-apart = not-same (j .one) (j .other) (λ q. clash (self-wrong d (j .other)) (ap (λ (x : EndField). wrongPair (tied d x) (tied d (j .other))) (sym q) ∙ right-j))
+      ends-apart =
+          not-same (j .one) (j .other) (λ q. clash (self-wrong d (j .other))
+          (ap (λ (x : EndField). wrongPair (tied d x) (tied d (j .other))) (sym q) ∙ right-j))
 
       one-all : (e : EndField) → List·Memᴰ e (j .other ∷ joinEnds js) → sameEnd (j .one) e ≡ false
       one-all e (List·Memᴰ·head q) = rw q ends-apart
@@ -244,13 +254,15 @@ module _ (d : Description) (b : Bounded (d .sections) (d .points) (d .trains)) w
         ih ∙ rw (nothing, u)
     by-cases false false hp hq =
         let u : joined (withJoin r (endOf (j .one)) (endOf (j .other))) e ≡ joined r e =
-        join-rest r _ _ (y .sized .links) (n1 r y j js h) (n2 r y j js h) e (other-than (j .one) (k r y j js h .0) hp) (other-than (j .other) (k r y j js h .1) hq) in
+        join-rest r _ _ (y .sized .links) (n1 r y j js h) (n2 r y j js h) e
+        (other-than (j .one) (k r y j js h .0) hp) (other-than (j .other) (k r y j js h .1) hq) in
         ih ∙ rw u
       where
         other-than : (a : EndField) → known d a ≡ true → sameEnd (fieldOf e) a ≡ false → e ≡ endOf a → ⊥
         other-than a q n p = let z : fieldOf e ≡ a = ap fieldOf p ∙ field-end a (counted-known a q) in clash (rw z (same-self a)) n
 
-  pub joined-all : (js : List JoinLine) (r : Railway) → Ready r → Every (KnownJoin d) js → Fit r js → (e : End) → joined (joinAll r js) e ≡ orJoined (partner js (fieldOf e)) (joined r e)
+  pub joined-all : (js : List JoinLine) (r : Railway) → Ready r → Every (KnownJoin d) js → Fit r js → (e : End)
+      → joined (joinAll r js) e ≡ orJoined (partner js (fieldOf e)) (joined r e)
   unfolding joinAll partner
   joined-all [] r y h f e = refl
   joined-all (j ∷ js) r y h f e =

@@ -54,7 +54,8 @@ module _ (s p k : ℕ) {A : Type 0} (flag : Draft → Bool) (test : A → Bool) 
       ∙ ap (λ (b : Bool). b || any test xs) (h d z n x l (omega arith)) ∙ or-assoc (flag d) (test x) (any test xs)
 
 -- P lines raise no flag
-pub points-keep : (flag : Draft → Bool) → ((w : Draft) (r : Railway) → flag (withRailway w r) ≡ flag w) → (xs : List Side) (n : ℕ) (w : Draft) → flag (putRising putPoint n w xs) ≡ flag w
+pub points-keep : (flag : Draft → Bool) → ((w : Draft) (r : Railway) → flag (withRailway w r) ≡ flag w)
+    → (xs : List Side) (n : ℕ) (w : Draft) → flag (putRising putPoint n w xs) ≡ flag w
 unfolding putRising putPoint
 points-keep flag h [] n w = refl
 points-keep flag h (x ∷ xs) n w = points-keep flag h xs (suc n) (putPoint w n x) ∙ h w _
@@ -89,7 +90,9 @@ module _ (d : Description) where
         rw (← there-known (w .railway) z (section (g .number) (g .side)))
         (at-unknown (isThere (w .railway) (section (g .number) (g .side))) (endOf (section (g .number) (g .side))))
 
-    closed-cases : (a b v : Bool) (r : Railway) → a ≡ b → cond a (record { railway = r; weight = w .weight; unknown = w .unknown; wrong = w .wrong; double = v }) (unknownIn w) .unknown ≡ (w .unknown || not b)
+    closed-cases : (a b v : Bool) (r : Railway) → a ≡ b
+        → cond a (record { railway = r; weight = w .weight; unknown = w .unknown; wrong = w .wrong; double = v })
+        (unknownIn w) .unknown ≡ (w .unknown || not b)
     closed-cases a true v r e = rw e (sym (or-nothing (w .unknown)))
     closed-cases a false v r e = rw e (sym (or-all (w .unknown)))
 
@@ -107,11 +110,14 @@ module _ (d : Description) where
     unfolding putTrain
     train-unknown n t l h =
         let r = w .railway in
-        train-cases (weighedIn w (saidWeight (t .weight))) refl (within n (r .trains)) (within (t .start) (r .sections)) (within (t .destination) (r .sections)) _ _ _
+        train-cases (weighedIn w (saidWeight (t .weight))) refl (within n (r .trains))
+        (within (t .start) (r .sections)) (within (t .destination) (r .sections)) _ _ _
         (ap (within n) (z .trains) ∙ is-within n (d .trains) l h) (ap (within (t .start)) (z .sections)) (ap (within (t .destination)) (z .sections))
 
   pub unknown-noted : (w : Draft) → SizedBy (w .railway) → w .unknown ≡ false → WellFormed d
-      → putRising putTrain 1 (putEach putClosed (putEach putSignal (putEach putJoin (putRising putPoint 1 w (d .legs)) (d .joins)) (d .signals)) (d .closed)) (d .roster) .unknown ≡ unknownRow d
+      → putRising putTrain 1 (putEach putClosed
+      (putEach putSignal (putEach putJoin (putRising putPoint 1 w (d .legs)) (d .joins)) (d .signals)) (d .closed))
+      (d .roster) .unknown ≡ unknownRow d
   unfolding unknownRow
   unknown-noted w z u f =
       let s = d .sections in
@@ -130,5 +136,6 @@ module _ (d : Description) where
       let e2 = flag-each s p k (λ x. x .unknown) (unknownJoin d) putJoin (sized-put-join s p k) join-unknown (d .joins) w1 z1 in
       let e3 = flag-each s p k (λ x. x .unknown) (unknownSignal d) putSignal (sized-put-signal s p k) signal-unknown (d .signals) w2 z2 in
       let e4 = flag-each s p k (λ x. x .unknown) (unknownClosed d) putClosed (sized-put-closed s p k) closed-unknown (d .closed) w3 z3 in
-      let e5 = flag-rising s p k (λ x. x .unknown) (unknownTrain d) putTrain (d .trains) (sized-put-train s p k) train-unknown (d .roster) 1 w4 z4 (omega arith) (omega arith) in
+      let e5 = flag-rising s p k (λ x. x .unknown) (unknownTrain d) putTrain (d .trains)
+      (sized-put-train s p k) train-unknown (d .roster) 1 w4 z4 (omega arith) (omega arith) in
       e5 ∙ rw (e4, e3, e2, e1, u)

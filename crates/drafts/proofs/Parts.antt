@@ -35,7 +35,8 @@ within-by n count h b = record { is = rw (le-leb 1 n h); small = λ e. let l = l
 
 -- ENDS
 module _ (r : Railway) (e : NamedEnd) (b : Bool) where
-  pub section-there : (n : ℕ) (s : Side) → e ≡ OfSection n s → b ≡ within n (r .sections) → b ≡ true → There (Section (record { 0 = n - 1 }) s) ≡ endIn r (endNamed e)
+  pub section-there : (n : ℕ) (s : Side) → e ≡ OfSection n s → b ≡ within n (r .sections) → b ≡ true
+      → There (Section (record { 0 = n - 1 }) s) ≡ endIn r (endNamed e)
   section-there n s p h t = rw (p, sym h ∙ t)
 
   pub section-not : (n : ℕ) (s : Side) → e ≡ OfSection n s → b ≡ within n (r .sections) → b ≡ false → NotThere ≡ endIn r (endNamed e)
@@ -91,7 +92,13 @@ module _ (d : Draft) (n : ℕ) (side : Side) (x : KnownEnd) (hx : x ≡ endIn (d
   signal-not p = rw (← hx, p)
 
   pub signal-in : (e : End) → x ≡ There e → (r : Railway) → r ≡ withSignal (d .railway) e → (v : Bool) → v ≡ hasSignal (d .railway) e
-      → record { railway = r; weight = d .weight; unknown = d .unknown; wrong = d .wrong; double = d .double || v } ≡ putSignal d (record { number = n; side = side })
+      → record {
+        railway = r;
+        weight = d .weight;
+        unknown = d .unknown;
+        wrong = d .wrong;
+        double = d .double || v;
+      } ≡ putSignal d (record { number = n; side = side })
   unfolding putSignal
   signal-in e p r hr v hv = rw (← hx, p, hr, hv)
 

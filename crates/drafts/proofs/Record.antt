@@ -88,7 +88,8 @@ join-as-written : (r : Railway) (a b : End) → AsWritten (r .links) → AsWritt
 unfolding withJoin
 join-as-written r a b w = cases (ltb (endIndex a) allEnds) (ltb (endIndex b) allEnds) refl refl
   where
-    cases : (p q : Bool) → ltb (endIndex a) allEnds ≡ p → ltb (endIndex b) allEnds ≡ q → AsWritten (cond (p && q) (withLinks r (setLink b a (setLink a b (r .links)))) r .links)
+    cases : (p q : Bool) → ltb (endIndex a) allEnds ≡ p → ltb (endIndex b) allEnds ≡ q
+        → AsWritten (cond (p && q) (withLinks r (setLink b a (setLink a b (r .links)))) r .links)
     cases true true hp hq =
         set-as-written (setLink a b (r .links)) (endIndex b) (endIndex a) (ltb-true (endIndex a) allEnds hp)
         (set-as-written (r .links) (endIndex a) (endIndex b) (ltb-true (endIndex b) allEnds hq) w)
@@ -110,7 +111,17 @@ signal-keeps : (r : Railway) (e : End) → SignalsKeep r (withSignal r e)
 unfolding withSignal
 signal-keeps r e = cases (ltb (endIndex e) sectionEnds)
   where
-    cases : (c : Bool) → SignalsKeep r (cond c (record { sections = r .sections; points = r .points; trains = r .trains; legs = r .legs; links = r .links; signals = set (r .signals) (endIndex e) true; closed = r .closed; roster = r .roster }) r)
+    cases : (c : Bool)
+        → SignalsKeep r (cond c (record {
+          sections = r .sections;
+          points = r .points;
+          trains = r .trains;
+          legs = r .legs;
+          links = r .links;
+          signals = set (r .signals) (endIndex e) true;
+          closed = r .closed;
+          roster = r .roster;
+        }) r)
     cases true = record { legs = refl; links = refl; closed = refl; roster = refl }
     cases false = record { legs = refl; links = refl; closed = refl; roster = refl }
 
@@ -132,7 +143,17 @@ closed-keeps : (r : Railway) (x : ℕ) → ClosedKeep r (withClosed r x)
 unfolding withClosed
 closed-keeps r x = cases (ltb x mostSections)
   where
-    cases : (c : Bool) → ClosedKeep r (cond c (record { sections = r .sections; points = r .points; trains = r .trains; legs = r .legs; links = r .links; signals = r .signals; closed = set (r .closed) x true; roster = r .roster }) r)
+    cases : (c : Bool)
+        → ClosedKeep r (cond c (record {
+          sections = r .sections;
+          points = r .points;
+          trains = r .trains;
+          legs = r .legs;
+          links = r .links;
+          signals = r .signals;
+          closed = set (r .closed) x true;
+          roster = r .roster;
+        }) r)
     cases true = record { legs = refl; links = refl; signals = refl; roster = refl }
     cases false = record { legs = refl; links = refl; signals = refl; roster = refl }
 
@@ -162,9 +183,12 @@ module _ (s p k : ℕ) where
 
 pub record-same : (r q : Railway) → r .sections ≡ q .sections → r .points ≡ q .points → r .trains ≡ q .trains → r .legs ≡ q .legs → r .links ≡ q .links
     → r .signals ≡ q .signals → r .closed ≡ q .closed → r .roster ≡ q .roster → r ≡ q
-record-same r q a b c e f g i h = go (r .sections) (q .sections) (r .points) (q .points) (r .trains) (q .trains) (r .legs) (q .legs) (r .links) (q .links) (r .signals) (q .signals) (r .closed) (q .closed) (r .roster) (q .roster) a b c e f g i h
+record-same r q a b c e f g i h =
+    go (r .sections) (q .sections) (r .points) (q .points) (r .trains) (q .trains) (r .legs) (q .legs) (r .links)
+    (q .links) (r .signals) (q .signals) (r .closed) (q .closed) (r .roster) (q .roster) a b c e f g i h
   where
-    go : (s s′ p p′ k k′ : ℕ) (l l′ : List Legs) (m m′ : List ℕ) (n n′ x x′ : List Bool) (o o′ : List Train) → s ≡ s′ → p ≡ p′ → k ≡ k′ → l ≡ l′ → m ≡ m′ → n ≡ n′ → x ≡ x′ → o ≡ o′
+    go : (s s′ p p′ k k′ : ℕ) (l l′ : List Legs) (m m′ : List ℕ) (n n′ x x′ : List Bool) (o o′ : List Train)
+        → s ≡ s′ → p ≡ p′ → k ≡ k′ → l ≡ l′ → m ≡ m′ → n ≡ n′ → x ≡ x′ → o ≡ o′
         → _≡_ {A = Railway} (record { sections = s; points = p; trains = k; legs = l; links = m; signals = n; closed = x; roster = o })
         (record { sections = s′; points = p′; trains = k′; legs = l′; links = m′; signals = n′; closed = x′; roster = o′ })
     go s s′ p p′ k k′ l l′ m m′ n n′ x x′ o o′ a b c e f g i h = rw (a, b, c, e, f, g, i, h)
@@ -174,8 +198,10 @@ unfolding joined
 joined-index r e i q h = rw (q, lt-ltb i allEnds h)
 
 -- THE DRAFT, counts within their bounds and names all there
-module _ (d : Description) (f : WellFormed d) (b : Bounded (d .sections) (d .points) (d .trains)) (inside : outside (d .sections) (d .points) (d .trains) ≡ false)
-    (kj : Every (KnownJoin d) (d .joins)) (kg : Every (KnownSignal d) (d .signals)) (kx : Every (KnownClosed d) (d .closed)) (kt : Every (KnownTrain d) (d .roster)) where
+module _ (d : Description) (f : WellFormed d) (b : Bounded (d .sections) (d .points) (d .trains))
+    (inside : outside (d .sections) (d .points) (d .trains) ≡ false)
+    (kj : Every (KnownJoin d) (d .joins)) (kg : Every (KnownSignal d) (d .signals))
+    (kx : Every (KnownClosed d) (d .closed)) (kt : Every (KnownTrain d) (d .roster)) where
   abbrev pub start : Railway
   start = bareRailway (d .sections) (d .points) (d .trains)
 
@@ -203,7 +229,17 @@ module _ (d : Description) (f : WellFormed d) (b : Bounded (d .sections) (d .poi
   pub sized-points : SizedBy d withPoints
   sized-points =
       let z = sized-bare (d .sections) (d .points) (d .trains) in
-      record { sections = refl; points = refl; trains = refl; legs = store-length (map legsRow (d .legs)) (start .legs) 0 ∙ z .legs; links = z .links; signals = z .signals; closed = z .closed; roster = z .roster }
+      record {
+        sections = refl;
+        points = refl;
+        trains = refl;
+        legs = store-length (map legsRow (d .legs))
+            (start .legs) 0 ∙ z .legs;
+        links = z .links;
+        signals = z .signals;
+        closed = z .closed;
+        roster = z .roster;
+      }
 
   sized-2 : SizedBy d withJoins
   sized-2 = sized-joins (d .sections) (d .points) (d .trains) (d .joins) withPoints sized-points
@@ -228,7 +264,14 @@ module _ (d : Description) (f : WellFormed d) (b : Bounded (d .sections) (d .poi
       let w0 : Draft = record { railway = start; weight = false; unknown = false; wrong = false; double = false } in
       let w1 : Draft = record { railway = withPoints; weight = false; unknown = false; wrong = false; double = false } in
       let w2 : Draft = record { railway = withJoins; weight = false; unknown = false; wrong = faults withPoints (d .joins); double = false } in
-      let w3 : Draft = record { railway = withSignals; weight = false; unknown = false; wrong = faults withPoints (d .joins); double = doubles withJoins (d .signals) } in
+      let w3 : Draft = record {
+        railway = withSignals;
+        weight = false;
+        unknown = false;
+        wrong = faults withPoints
+            (d .joins);
+        double = doubles withJoins (d .signals);
+      } in
       let w4 : Draft =
       record {
         railway = withAllClosed;
@@ -237,7 +280,8 @@ module _ (d : Description) (f : WellFormed d) (b : Bounded (d .sections) (d .poi
         wrong = faults withPoints (d .joins);
         double = doubles withJoins (d .signals) || closedAgain withSignals (d .closed);
       } in
-      let e1 : putRising putPoint 1 w0 (d .legs) ≡ w1 = points-put d (b .few-points) (d .legs) 0 w0 (sized-bare (d .sections) (d .points) (d .trains)) (omega arith) in
+      let e1 : putRising putPoint 1 w0 (d .legs) ≡ w1 = points-put d (b .few-points) (d .legs) 0 w0
+      (sized-bare (d .sections) (d .points) (d .trains)) (omega arith) in
       let e2 : putEach putJoin w1 (d .joins) ≡ w2 = joins-put d (d .joins) w1 sized-points kj in
       let e3 : putEach putSignal w2 (d .signals) ≡ w3 = signals-put d (d .signals) w2 sized-2 kg in
       let e4 : putEach putClosed w3 (d .closed) ≡ w4 = closeds-put d (d .closed) w3 sized-3 kx in
@@ -267,7 +311,9 @@ module _ (d : Description) (f : WellFormed d) (b : Bounded (d .sections) (d .poi
         sized = sized-points;
         legs = λ n h.
             let m = b .few-points in
-            rw (lt-ltb n (d .points) h) (ap (λ (l : List Legs). getD l n noLegs .side) legs-built ∙ ap (λ (l : Legs). l .side) (list-get (λ n. record { side = getD (d .legs) n Up }) mostPoints n noLegs (omega arith)));
+            rw (lt-ltb n (d .points) h) (ap (λ (l : List Legs). getD l n noLegs .side) legs-built
+            ∙ ap (λ (l : Legs). l .side)
+            (list-get (λ n. record { side = getD (d .legs) n Up }) mostPoints n noLegs (omega arith)));
       }
 
   none-there : (i : ℕ) → linkAt withPoints i ≡ Nothing
@@ -308,7 +354,8 @@ module _ (d : Description) (f : WellFormed d) (b : Bounded (d .sections) (d .poi
         let k = joins-keep (d .joins) withPoints in
         ext-getD false (withSignals .signals) _ (l ∙ sym (list-length (λ i. any (sameSignal (signalOf i)) (d .signals)) sectionEnds)) (λ i h.
         flags-all (d .signals) withJoins (sized-2 .signals) placed i (omega arith)
-        ∙ ap (λ (x : Bool). any (sameSignal (signalOf i)) (d .signals) || x) (ap (λ (l : List Bool). getD l i false) (k .signals) ∙ same-everywhere sectionEnds false i)
+        ∙ ap (λ (x : Bool). any (sameSignal (signalOf i)) (d .signals) || x)
+        (ap (λ (l : List Bool). getD l i false) (k .signals) ∙ same-everywhere sectionEnds false i)
         ∙ or-nothing (any (sameSignal (signalOf i)) (d .signals))
         ∙ sym (list-get (λ i. any (sameSignal (signalOf i)) (d .signals)) sectionEnds i false (omega arith)))
 
@@ -325,9 +372,11 @@ module _ (d : Description) (f : WellFormed d) (b : Bounded (d .sections) (d .poi
     roster-built =
         let m = roster-many in
         let h = b .few-trains in
-        let e : withAllClosed .roster ≡ replicate mostTrains noTrain = closeds-keep (d .closed) withSignals .roster ∙ signals-keep (d .signals) withJoins .roster ∙ joins-keep (d .joins) withPoints .roster in
+        let e : withAllClosed .roster ≡ replicate mostTrains noTrain =
+        closeds-keep (d .closed) withSignals .roster ∙ signals-keep (d .signals) withJoins .roster ∙ joins-keep (d .joins) withPoints .roster in
         ap (λ (l : List Train). storeFrom l 0 (map trainOfLine (d .roster))) e
-        ∙ store-all (map trainOfLine (d .roster)) mostTrains noTrain (omega arith) ∙ list-same _ _ mostTrains (λ i l. List·getD-map trainOfLine (d .roster) i noTrainLine)
+        ∙ store-all (map trainOfLine (d .roster)) mostTrains noTrain (omega arith) ∙ list-same _ _ mostTrains
+        (λ i l. List·getD-map trainOfLine (d .roster) i noTrainLine)
 
     pub built-is : built ≡ railwayOf d
     unfolding railwayOf

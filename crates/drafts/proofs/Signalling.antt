@@ -79,7 +79,17 @@ kept : (r : Railway) → length (r .signals) ≡ sectionEnds → (e : End) → l
 unfolding withSignal
 kept r room e = cases (ltb (endIndex e) sectionEnds)
   where
-    cases : (c : Bool) → length (cond c (record { sections = r .sections; points = r .points; trains = r .trains; legs = r .legs; links = r .links; signals = set (r .signals) (endIndex e) true; closed = r .closed; roster = r .roster }) r .signals) ≡ sectionEnds
+    cases : (c : Bool)
+        → length (cond c (record {
+          sections = r .sections;
+          points = r .points;
+          trains = r .trains;
+          legs = r .legs;
+          links = r .links;
+          signals = set (r .signals) (endIndex e) true;
+          closed = r .closed;
+          roster = r .roster;
+        }) r .signals) ≡ sectionEnds
     cases true = simp length-set room
     cases false = room
 
@@ -99,7 +109,8 @@ flags-all [] r room h i b = refl
 flags-all (g ∷ gs) r room h i b =
     let pg = h g (List·Memᴰ·head refl) in
     let e = endOf (signalEnd g) in
-    let s : sameSignal (signalOf i) g ≡ eqb (index g) i = same-index (signalOf i) g (placed-of i b) pg ∙ ap (λ (n : ℕ). eqb n (index g)) (index-of i b) ∙ turned i (index g) in
+    let s : sameSignal (signalOf i) g ≡ eqb (index g) i = same-index (signalOf i) g (placed-of i b) pg
+    ∙ ap (λ (n : ℕ). eqb n (index g)) (index-of i b) ∙ turned i (index g) in
     flags-all gs (withSignal r e) (kept r room e) (λ x m. h x (List·Memᴰ·tail m)) i b
     ∙ rw (flag-set r room e (index-small g pg) i, ← s) (swap (any (sameSignal (signalOf i)) gs) (sameSignal (signalOf i) g) (flagAt r i))
   where
@@ -145,7 +156,8 @@ doubles-single (g ∷ gs) r room h p =
       free = all-free g gs r (sym (has-flag r room e (index-small g pg)) ∙ q .0) (λ x m. both x m .1);
     }
   where
-    all-free : (g : SignalLine) (gs : List SignalLine) (r : Railway) → flagAt r (index g) ≡ false → ((x : SignalLine) → List·Memᴰ x gs → flagAt r (index x) ≡ false)
+    all-free : (g : SignalLine) (gs : List SignalLine) (r : Railway) → flagAt r (index g) ≡ false
+        → ((x : SignalLine) → List·Memᴰ x gs → flagAt r (index x) ≡ false)
         → (x : SignalLine) → List·Memᴰ x (g ∷ gs) → flagAt r (index x) ≡ false
     all-free g gs r p f x (List·Memᴰ·head q) = rw q p
     all-free g gs r p f x (List·Memᴰ·tail m) = f x m

@@ -55,31 +55,76 @@ module _ (s p k : ℕ) where
     unfolding withLegs
     sized-legs n side =
         either-sized (ltb n mostPoints) _ r
-        (record { sections = z .sections; points = z .points; trains = z .trains; legs = simp length-set (z .legs); links = z .links; signals = z .signals; closed = z .closed; roster = z .roster }) z
+        (record {
+          sections = z .sections;
+          points = z .points;
+          trains = z .trains;
+          legs = simp length-set (z .legs);
+          links = z .links;
+          signals = z .signals;
+          closed = z .closed;
+          roster = z .roster;
+        }) z
 
     pub sized-join : (a b : End) → Sized s p k (withJoin r a b)
     unfolding withJoin
     sized-join a b =
         either-sized (ltb (endIndex a) allEnds && ltb (endIndex b) allEnds) _ r
-        (record { sections = z .sections; points = z .points; trains = z .trains; legs = z .legs; links = simp length-set (z .links); signals = z .signals; closed = z .closed; roster = z .roster }) z
+        (record {
+          sections = z .sections;
+          points = z .points;
+          trains = z .trains;
+          legs = z .legs;
+          links = simp length-set (z .links);
+          signals = z .signals;
+          closed = z .closed;
+          roster = z .roster;
+        }) z
 
     pub sized-signal : (e : End) → Sized s p k (withSignal r e)
     unfolding withSignal
     sized-signal e =
         either-sized (ltb (endIndex e) sectionEnds) _ r
-        (record { sections = z .sections; points = z .points; trains = z .trains; legs = z .legs; links = z .links; signals = simp length-set (z .signals); closed = z .closed; roster = z .roster }) z
+        (record {
+          sections = z .sections;
+          points = z .points;
+          trains = z .trains;
+          legs = z .legs;
+          links = z .links;
+          signals = simp length-set (z .signals);
+          closed = z .closed;
+          roster = z .roster;
+        }) z
 
     pub sized-closed : (x : ℕ) → Sized s p k (withClosed r x)
     unfolding withClosed
     sized-closed x =
         either-sized (ltb x mostSections) _ r
-        (record { sections = z .sections; points = z .points; trains = z .trains; legs = z .legs; links = z .links; signals = z .signals; closed = simp length-set (z .closed); roster = z .roster }) z
+        (record {
+          sections = z .sections;
+          points = z .points;
+          trains = z .trains;
+          legs = z .legs;
+          links = z .links;
+          signals = z .signals;
+          closed = simp length-set (z .closed);
+          roster = z .roster;
+        }) z
 
     pub sized-train : (t : ℕ) (train : Train) → Sized s p k (withTrain r t train)
     unfolding withTrain
     sized-train t train =
         either-sized (ltb t mostTrains) _ r
-        (record { sections = z .sections; points = z .points; trains = z .trains; legs = z .legs; links = z .links; signals = z .signals; closed = z .closed; roster = simp length-set (z .roster) }) z
+        (record {
+          sections = z .sections;
+          points = z .points;
+          trains = z .trains;
+          legs = z .legs;
+          links = z .links;
+          signals = z .signals;
+          closed = z .closed;
+          roster = simp length-set (z .roster);
+        }) z
 
   -- and so does every line
   abbrev pub SizedDraft : Draft → Type 0
@@ -112,7 +157,14 @@ module _ (s p k : ℕ) where
     sized-put-closed n = cases (within n (d .railway .sections))
       where
         cases : (b : Bool)
-            → SizedDraft (cond b (record { railway = withClosed (d .railway) (n - 1); weight = d .weight; unknown = d .unknown; wrong = d .wrong; double = d .double || isClosed (d .railway) (n - 1) }) (unknownIn d))
+            → SizedDraft (cond b (record {
+              railway = withClosed (d .railway) (n - 1);
+              weight = d .weight;
+              unknown = d .unknown;
+              wrong = d .wrong;
+              double = d .double || isClosed (d .railway) (n - 1);
+            })
+            (unknownIn d))
         cases true = sized-closed (d .railway) z (n - 1)
         cases false = z
 
@@ -120,7 +172,9 @@ module _ (s p k : ℕ) where
     unfolding putTrain
     sized-put-train n t = cases (within n (d .railway .trains) && (within (t .start) (d .railway .sections) && within (t .destination) (d .railway .sections)))
       where
-        cases : (b : Bool) → SizedDraft (cond b (withRailway (weighedIn d (saidWeight (t .weight))) (withTrain (d .railway) (n - 1) (trainInByte t))) (unknownIn (weighedIn d (saidWeight (t .weight)))))
+        cases : (b : Bool)
+            → SizedDraft (cond b (withRailway (weighedIn d (saidWeight (t .weight)))
+            (withTrain (d .railway) (n - 1) (trainInByte t))) (unknownIn (weighedIn d (saidWeight (t .weight)))))
         cases true = sized-train (d .railway) z (n - 1) (trainInByte t)
         cases false = z
 

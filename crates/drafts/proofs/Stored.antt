@@ -33,13 +33,16 @@ module _ {A : Type 0} where
   later-is : (x : A) (xs : List A) (i j : ℕ) (d : A) → suc i ≤ j → getD xs (j - suc i) d ≡ getD (x ∷ xs) (j - i) d
   later-is x xs i j d h = let z : j - i ≡ suc (j - suc i) = omega arith in rw z
 
-  store-at : (xs ls : List A) (i j : ℕ) (d : A) → ((k : ℕ) → i ≤ k → getD ls k d ≡ d) → i + length xs ≤ length ls → i ≤ j → getD (storeFrom ls i xs) j d ≡ getD xs (j - i) d
+  store-at : (xs ls : List A) (i j : ℕ) (d : A) → ((k : ℕ) → i ≤ k → getD ls k d ≡ d) → i + length xs ≤ length ls
+      → i ≤ j → getD (storeFrom ls i xs) j d ≡ getD xs (j - i) d
   unfolding storeFrom
   store-at [] ls i j d free fits h = free j h
   store-at (x ∷ xs) ls i j d free fits h = elim (eq? j i) [
     | inl e ↦ rw e (store-before xs (set ls i x) (suc i) i d (omega arith) ∙ getD-set-same ls i x d (omega arith) ∙ sym (here-is x xs i d))
     | inr n ↦
-        store-at xs (set ls i x) (suc i) j d (λ k l. getD-set-other ls i k x d (λ e. omega arith) ∙ free k (omega arith)) (simp length-set (omega arith)) (later i j n h)
+        store-at xs (set ls i x) (suc i) j d
+        (λ k l. getD-set-other ls i k x d (λ e. omega arith) ∙ free k (omega arith)) (simp length-set (omega arith))
+        (later i j n h)
         ∙ later-is x xs i j d (later i j n h)
   ]
     where

@@ -18,7 +18,8 @@ use Rattle.drafts.proofs.Folding.{putRising, putEach}
 use Rattle.drafts.proofs.Known.{or-nothing, or-assoc, points-keep}
 
 -- LINES THAT SAY NO WEIGHT
-each-keeps : {A : Type 0} (put : Draft → A → Draft) → ((w : Draft) (x : A) → put w x .weight ≡ w .weight) → (xs : List A) (w : Draft) → putEach put w xs .weight ≡ w .weight
+each-keeps : {A : Type 0} (put : Draft → A → Draft) → ((w : Draft) (x : A) → put w x .weight ≡ w .weight)
+    → (xs : List A) (w : Draft) → putEach put w xs .weight ≡ w .weight
 unfolding putEach
 each-keeps put h [] w = refl
 each-keeps put h (x ∷ xs) w = each-keeps put h xs (put w x) ∙ h w x
@@ -46,7 +47,13 @@ module _ (w : Draft) where
   closed-keeps n = cases (within n (w .railway .sections))
     where
       cases : (a : Bool)
-          → cond a (record { railway = withClosed (w .railway) (n - 1); weight = w .weight; unknown = w .unknown; wrong = w .wrong; double = w .double || isClosed (w .railway) (n - 1) }) (unknownIn w) .weight
+          → cond a (record {
+            railway = withClosed (w .railway) (n - 1);
+            weight = w .weight;
+            unknown = w .unknown;
+            wrong = w .wrong;
+            double = w .double || isClosed (w .railway) (n - 1);
+          }) (unknownIn w) .weight
           ≡ w .weight
       cases true = refl
       cases false = refl
@@ -71,7 +78,9 @@ trains-note (t ∷ ts) n w =
 
 -- ALL LINES
 pub weight-noted : (d : Description) (w : Draft) → w .weight ≡ false
-    → putRising putTrain 1 (putEach putClosed (putEach putSignal (putEach putJoin (putRising putPoint 1 w (d .legs)) (d .joins)) (d .signals)) (d .closed)) (d .roster) .weight ≡ weightRow d
+    → putRising putTrain 1 (putEach putClosed
+    (putEach putSignal (putEach putJoin (putRising putPoint 1 w (d .legs)) (d .joins)) (d .signals)) (d .closed))
+    (d .roster) .weight ≡ weightRow d
 unfolding weightRow
 weight-noted d w u =
     let w1 = putRising putPoint 1 w (d .legs) in

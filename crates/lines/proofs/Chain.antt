@@ -1,7 +1,7 @@
 -- A line as code reads it: a field behind a tab is one step, read or not; sides, legs and ends are read by looking for one byte after the other, and a weight where there is a tab.
 -- Assumes nothing.
-use Prim.Native.Nat.{ℕ, _+_}
-use mathlib.Core.Path.{_≡_, refl, _∙_}
+use Prim.Native.Nat.{ℕ, _+_, _<_}
+use mathlib.Core.Path.{_≡_, refl, sym, _∙_, ap}
 use mathlib.Core.Bool.{true, false, cond}
 use mathlib.Core.List.{List}
 use mathlib.Core.Option.{none, some}
@@ -10,7 +10,11 @@ use lib.ListN.{getD}
 use borrow.Author.Tests.{eq-eqb, ne-eqb}
 use Rattle.text.specs.Reading.{Got, bad, got, then, byteAt}
 use Rattle.text.proofs.Walking.{bad-got}
-use Rattle.text.proofs.Chain.{fails, goes}
+use Rattle.text.specs.declared.Cursor.{Cursor}
+use Rattle.text.specs.declared.Byte.{Byte}
+use Rattle.text.specs.declared.Byte.the-variants.{Other, Past}
+use Rattle.text.specs.Answers.{byteGot, byteInside}
+use Rattle.text.proofs.Chain.{fails, goes, byte-fails, byte-goes}
 use Rattle.railway.specs.declared.Side.{Side}
 use Rattle.railway.specs.declared.Side.the-variants.{Up, Down}
 use Rattle.railway.specs.declared.Leg.{Leg}
@@ -38,15 +42,46 @@ module _ {A B : Type 0} (s : List ℕ) (field : ℕ → Got A) (at : ℕ) where
   tab-bad bad k e = refl
   tab-bad (got x c) k e = fails k e
 
-  pub tab-fails : (k : A → ℕ → Got B) → behindTab s field at ≡ bad → bad ≡ then (byteAt s 9 at) (λ x c. then (field c) k)
+  pub tab-fails : (k : A → ℕ → Got B) → behindTab s field at ≡ bad
+      → bad ≡ then (byteAt s 9 at) (λ x c. then (field c) k)
   tab-fails k e = tab-bad (byteAt s 9 at) k e
 
-  tab-got : (g : Got ℕ) {x : A} {c : ℕ} {y : Got B} (k : A → ℕ → Got B) → then g (λ x c. field c) ≡ got x c → y ≡ k x c → y ≡ then g (λ x c. then (field c) k)
+  tab-got : (g : Got ℕ) {x : A} {c : ℕ} {y : Got B} (k : A → ℕ → Got B) → then g (λ x c. field c) ≡ got x c
+      → y ≡ k x c → y ≡ then g (λ x c. then (field c) k)
   tab-got bad k e h = bad-got refl e
   tab-got (got x c) k e h = goes k e h
 
-  pub tab-goes : {x : A} {c : ℕ} {y : Got B} (k : A → ℕ → Got B) → behindTab s field at ≡ got x c → y ≡ k x c → y ≡ then (byteAt s 9 at) (λ x c. then (field c) k)
+  pub tab-goes : {x : A} {c : ℕ} {y : Got B} (k : A → ℕ → Got B) → behindTab s field at ≡ got x c → y ≡ k x c
+      → y ≡ then (byteAt s 9 at) (λ x c. then (field c) k)
   tab-goes k e h = tab-got (byteAt s 9 at) k e h
+
+-- A FIELD'S ANSWER: it was read, and the line goes on behind it; or it was not, and that is the line's answer
+module _ {A R X : Type 0} (l : Left A) (says : R → Got X) where
+  module _ {g : Got X} (k : X → ℕ → Got A) (h : l .rest ≡ then g k) {r m : R} (read : says r ≡ g) (told : r ≡ m) where
+    abbrev pub field-on : {x : X} {c : ℕ} → says m ≡ got x c → Left A
+    field-on {x} {c} e = onward l (goes k (sym read ∙ ap says told ∙ e) refl ∙ sym h)
+
+    pub field-off : says m ≡ bad → bad ≡ l .line
+    field-off e = fails k (sym read ∙ ap says told ∙ e) ∙ sym h ∙ l .gives
+
+  -- behind a tab
+  module _ (s : List ℕ) (field : ℕ → Got X) (at : ℕ) (k : X → ℕ → Got A)
+      (h : l .rest ≡ then (byteAt s 9 at) (λ x c. then (field c) k)) {r m : R}
+      (read : says r ≡ behindTab s field at) (told : r ≡ m) where
+    abbrev pub tab-on : {x : X} {c : ℕ} → says m ≡ got x c → Left A
+    tab-on {x} {c} e = onward l (tab-goes s field at k (sym read ∙ ap says told ∙ e) refl ∙ sym h)
+
+    pub tab-off : says m ≡ bad → bad ≡ l .line
+    tab-off e = tab-fails s field at k (sym read ∙ ap says told ∙ e) ∙ sym h ∙ l .gives
+
+-- a byte's
+module _ {A : Type 0} (l : Left A) (s : List ℕ) (b at : ℕ) (pos : 0 < b) (k : ℕ → ℕ → Got A)
+    (h : l .rest ≡ then (byteAt s b at) k) {r : Byte} (looked : byteGot b r ≡ byteInside s b at) where
+  abbrev pub byte-on : {c : Cursor} → r ≡ Past c → Left A
+  byte-on {c} e = onward l (byte-goes s b at pos r looked c e k refl ∙ sym h)
+
+  pub byte-off : r ≡ Other → bad ≡ l .line
+  byte-off e = byte-fails s b at pos r looked e k ∙ sym h ∙ l .gives
 
 -- SIDES AND LEGS
 module _ (s : List ℕ) (at : ℕ) where
@@ -73,7 +108,8 @@ module _ (s : List ℕ) (at : ℕ) where
     leg-plus c h = rw (a, h .0, h .1)
 
     module _ (p : eqb (getD s at 0) (legByte Plus) ≡ false) where
-      pub leg-minus : (c : ℕ) → (eqb (getD s at 0) (legByte Minus) ≡ true) × (c ≡ at + 1) → got Minus c ≡ legFieldAt s at
+      pub leg-minus : (c : ℕ) → (eqb (getD s at 0) (legByte Minus) ≡ true) × (c ≡ at + 1)
+          → got Minus c ≡ legFieldAt s at
       unfolding legFieldAt
       leg-minus c h = rw (a, p, h .0, h .1)
 
@@ -82,10 +118,12 @@ module _ (s : List ℕ) (at : ℕ) where
       leg-none m = rw (a, p, m)
 
   -- the letter behind an end's number
-  pub mark-side : (n : ℕ) (x : Side) (c : ℕ) → sideFieldAt s at ≡ got x c → got (section n x) c ≡ markAt s n at (sideFieldAt s at)
+  pub mark-side : (n : ℕ) (x : Side) (c : ℕ) → sideFieldAt s at ≡ got x c
+      → got (section n x) c ≡ markAt s n at (sideFieldAt s at)
   mark-side n x c e = rw e
 
-  pub mark-leg : (n : ℕ) (l : Leg) (c : ℕ) → sideFieldAt s at ≡ bad → legFieldAt s at ≡ got l c → got (port n l) c ≡ markAt s n at (sideFieldAt s at)
+  pub mark-leg : (n : ℕ) (l : Leg) (c : ℕ) → sideFieldAt s at ≡ bad → legFieldAt s at ≡ got l c
+      → got (port n l) c ≡ markAt s n at (sideFieldAt s at)
   mark-leg n l c e f = rw (e, f)
 
   pub mark-none : (n : ℕ) → sideFieldAt s at ≡ bad → legFieldAt s at ≡ bad → bad ≡ markAt s n at (sideFieldAt s at)

@@ -66,7 +66,8 @@ unfolding line all
 first-section [] d rest s l n a e = omega arith
 first-section (x ∷ []) d rest s l n a e =
     let h = ltb-true x s (and-true (ltb x s) true a .0) in
-    first-digit x ((tab ∷ line (lastFields d)) ++ rest) (omega arith) (ap (λ (t : List ℕ). getD t 0 0) (sym (append-assoc (decimal (suc x)) (tab ∷ line (lastFields d)) rest)) ∙ e)
+    first-digit x ((tab ∷ line (lastFields d)) ++ rest) (omega arith)
+    (ap (λ (t : List ℕ). getD t 0 0) (sym (append-assoc (decimal (suc x)) (tab ∷ line (lastFields d)) rest)) ∙ e)
 first-section (x ∷ y ∷ xs) d rest s l n a e =
     let h = ltb-true x s (and-true (ltb x s) (all (λ x. ltb x s) (y ∷ xs)) a .0) in
     first-digit x ((tab ∷ line (map sectionField (y ∷ xs) ++ lastFields d)) ++ rest) (omega arith)
@@ -74,7 +75,9 @@ first-section (x ∷ y ∷ xs) d rest s l n a e =
 
 -- its sections, one after the other, are in front of its other fields
 sections-spelled : (k x y z w : ℕ) (rest : List ℕ) (d : PlacementLine) → k ≤ mostTrains
-    → line (map sectionField (listBelow (λ t. getD (x ∷ y ∷ z ∷ w ∷ []) t 0) k) ++ lastFields d) ++ rest ≡ piece k 0 x (piece k 1 y (piece k 2 z (piece k 3 w (line (lastFields d) ++ rest))))
+    → line (map sectionField (listBelow
+    (λ t. getD (x ∷ y ∷ z ∷ w ∷ []) t 0) k) ++ lastFields d) ++ rest ≡ piece k 0 x
+    (piece k 1 y (piece k 2 z (piece k 3 w (line (lastFields d) ++ rest))))
 unfolding line listBelow
 sections-spelled zero x y z w rest d l = refl
 sections-spelled (suc zero) x y z w rest d l = append-assoc (sectionField x) (tab ∷ line (lastFields d)) rest
@@ -93,7 +96,8 @@ sections-spelled (suc (suc (suc (suc zero)))) x y z w rest d l =
 sections-spelled (suc (suc (suc (suc (suc k))))) x y z w rest d l = absurd (omega arith)
 
 -- and the bits of its other fields make its entry
-entry-weighed : (r : Railway) (ps os : List Bool) → length ps ≡ r .points → length os ≡ r .trains → weigh 1 ps + weigh (2 ^ trainBits) os ≡ entryFrom r (λ n. getD ps n false) (λ t. getD os t false)
+entry-weighed : (r : Railway) (ps os : List Bool) → length ps ≡ r .points → length os ≡ r .trains
+    → weigh 1 ps + weigh (2 ^ trainBits) os ≡ entryFrom r (λ n. getD ps n false) (λ t. getD os t false)
 unfolding entryFrom
 entry-weighed r ps os a b = rw (weighed 1 ps, weighed (2 ^ trainBits) os, a, b) (omega arith)
 
@@ -125,13 +129,15 @@ module _ (r : Railway) (ok : recordRefusal r ≡ none) (text : List ℕ) (at : �
           | inr y ↦
               let p = reads-line r few-sections (firstOf (drop at text)) (y .0) .0 (y .1) in
               absurd (h (y .0) (drop (lineBytes (drop at text)) (drop at text)) (p .fit)
-              (sym (take-append-drop (lineBytes (drop at text)) (drop at text)) ∙ ap (λ (t : List ℕ). t ++ drop (lineBytes (drop at text)) (drop at text)) (sym (p .spelled))))
+              (sym (take-append-drop (lineBytes (drop at text)) (drop at text))
+              ∙ ap (λ (t : List ℕ). t ++ drop (lineBytes (drop at text)) (drop at text)) (sym (p .spelled))))
         ];
         end = λ n. absurd (n e);
       }
 
   -- A LINE that fits is spelled there
-  a-line : (l : PlanLine) → fits r l ≡ true → (x : LineAt) → Spelled l (drop (x .end) text) → x .end ≤ length text → x .line ≡ answerFor r (some l) → ReadAt r text at x
+  a-line : (l : PlanLine) → fits r l ≡ true → (x : LineAt) → Spelled l (drop (x .end) text) → x .end ≤ length text
+      → x .line ≡ answerFor r (some l) → ReadAt r text at x
   a-line l fit x is inside e =
       let f = spelled-first (drop at text) (drop (x .end) text) l is in
       let n : length (drop at text) ≡ length (spell l) + length (drop (x .end) text) = ap length is ∙ length-append (spell l) (drop (x .end) text) in
@@ -149,7 +155,8 @@ module _ (r : Railway) (ok : recordRefusal r ≡ none) (text : List ℕ) (at : �
     start-only h (placementLine d) rest fit is =
         let f = fits-parts r d fit in
         let lies : Lies text at (spell (placementLine d) ++ rest) = record { text = is } in
-        absurd (first-section (d .sections) d rest (r .sections) (bounds .few-sections) (omega (arith, f .each-train, bounds .some-train)) (f .there) (sym (here lies) ∙ first))
+        absurd (first-section (d .sections) d rest (r .sections) (bounds .few-sections)
+        (omega (arith, f .each-train, bounds .some-train)) (f .there) (sym (here lies) ∙ first))
 
     module _ (x : LineAt) where
       pub no-word : wordAt text firstWord at ≡ bad → x .line ≡ NoLine → ReadAt r text at x
@@ -178,7 +185,10 @@ module _ (r : Railway) (ok : recordRefusal r ≡ none) (text : List ℕ) (at : �
           unfolding fits
           start-read {y} e₃ =
               a-line (startLine n) (lt-ltb n noFigure (figure-below text c₁ n c₂ e₂)) x
-              (word-sound text firstWord at u c₁ e₁ ∙ ap (λ (l : List ℕ). firstWord ++ l) (figure-sound text c₁ n c₂ e₂ ∙ ap (λ (l : List ℕ). decimal n ++ l) (byte-sound text lineEnd c₂ y (x .end) (omega arith) e₃)) ∙ sym (start-spelled n (drop (x .end) text)))
+              (word-sound text firstWord at u c₁ e₁ ∙ ap (λ (l : List ℕ). firstWord ++ l)
+              (figure-sound text c₁ n c₂ e₂ ∙ ap (λ (l : List ℕ). decimal n ++ l)
+              (byte-sound text lineEnd c₂ y (x .end) (omega arith) e₃)) ∙ sym
+              (start-spelled n (drop (x .end) text)))
               (byte-end text lineEnd c₂ y (x .end) (omega arith) e₃)
 
   -- A LINE FOR A PLACEMENT, by the counts that code has
@@ -224,7 +234,15 @@ module _ (r : Railway) (ok : recordRefusal r ≡ none) (text : List ℕ) (at : �
           taken-fits : fits r (placementLine taken) ≡ true
           unfolding fits
           taken-fits =
-              rw (list-length (sectionIn q) k, each-there, lt-ltb n noFigure (figure-below text c₁ n c₂ e₂), got-entry .each-train, got-entry .each-point, eq-eqb k (r .trains) ek, eq-eqb m (r .points) em)
+              rw (
+                list-length (sectionIn q) k,
+                each-there,
+                lt-ltb n noFigure (figure-below text c₁ n c₂ e₂),
+                got-entry .each-train,
+                got-entry .each-point,
+                eq-eqb k (r .trains) ek,
+                eq-eqb m (r .points) em,
+              )
 
           taken-spelled : Spelled (placementLine taken) (drop (x .end) text)
           unfolding spell
@@ -232,7 +250,9 @@ module _ (r : Railway) (ok : recordRefusal r ≡ none) (text : List ℕ) (at : �
               sections-sound text s k at a b c d c₁ e₁
               ∙ ap (λ (t : List ℕ). piece k 0 a (piece k 1 b (piece k 2 c (piece k 3 d t))))
               (figure-sound text c₁ n c₂ e₂ ∙ ap (λ (t : List ℕ). decimal n ++ t) (got-entry .spelled) ∙ sym (last-fields taken (drop (x .end) text)))
-              ∙ sym (ap (λ (qs : List ℕ). line (map sectionField (listBelow (λ t. getD qs t 0) k) ++ lastFields taken) ++ drop (x .end) text) is ∙ sections-spelled k a b c d (drop (x .end) text) taken few)
+              ∙ sym (ap (λ (qs : List ℕ). line
+              (map sectionField (listBelow (λ t. getD qs t 0) k) ++ lastFields taken) ++ drop (x .end) text) is
+              ∙ sections-spelled k a b c d (drop (x .end) text) taken few)
 
           taken-entry : v ≡ lineEntry r taken
           taken-entry = got-entry .bits ∙ entry-weighed r (got-entry .points) (got-entry .opens) (got-entry .each-point ∙ em) (got-entry .each-train ∙ ek)
@@ -240,7 +260,8 @@ module _ (r : Railway) (ok : recordRefusal r ≡ none) (text : List ℕ) (at : �
           pub placement-read : (p : ℕ) → p ≡ codeOn r (sectionIn q) → x .line ≡ Placed p n v → ReadAt r text at x
           placement-read p ep e =
               let c : lineCode r taken ≡ codeOn r (sectionIn q) = ap (λ (j : ℕ). codeOf (r .sections) (listBelow (sectionIn q) j)) ek in
-              a-line (placementLine taken) taken-fits x taken-spelled (got-entry .inside) (e ∙ (rw (ep, c) (ap (Placed (codeOn r (sectionIn q)) n) taken-entry)))
+              a-line (placementLine taken) taken-fits x taken-spelled (got-entry .inside)
+              (e ∙ (rw (ep, c) (ap (Placed (codeOn r (sectionIn q)) n) taken-entry)))
 
 -- A TEXT HANDED IN AS A LINE is one if the line that begins it ends where it does
 not-none : (r : Railway) (l : PlanLine) → answerFor r (some l) ≡ NoLine → ⊥
@@ -250,7 +271,9 @@ not-none r (placementLine d) e = let z : _≡_ {A = ℕ} 0 1 = cc in omega arith
 module _ (r : Railway) (ok : recordRefusal r ≡ none) (text : List ℕ) (x : LineAt) (h : ReadAt r text 0 x) where
   -- a line is its own first line
   own-first : (l : PlanLine) → readLine r text ≡ some l → SpelledFirst text l × (spell l ≡ text)
-  own-first l e = let p = reads-line r (few-sections r ok text 0) text l .0 e in (spelled-first text [] l (sym (p .spelled) ∙ sym (append-nil (spell l))), p .spelled)
+  own-first l e =
+      let p = reads-line r (few-sections r ok text 0) text l .0 e in
+      (spelled-first text [] l (sym (p .spelled) ∙ sym (append-nil (spell l))), p .spelled)
 
   read-some : (l : PlanLine) → readLine r (firstOf text) ≡ some l → (x .line ≡ answerFor r (some l)) × (x .end ≡ lineBytes text)
   read-some l e =

@@ -42,7 +42,8 @@ module _ (text : List ℕ) where
   word-complete (b ∷ w) rest c t = go-on (λ x c. wordAt text w c) (inside-complete b c (w ++ rest) t) (λ c t. word-complete w rest c t)
 
   -- A NUMBER and the tab behind it
-  number-tab : (rest : List ℕ) (most n c : ℕ) → most < 10 → n < 10 ^ suc most → Lies text c (decimal n ++ (tab ∷ rest)) → Reads text (numberTab text most c) n rest
+  number-tab : (rest : List ℕ) (most n c : ℕ) → most < 10 → n < 10 ^ suc most
+      → Lies text c (decimal n ++ (tab ∷ rest)) → Reads text (numberTab text most c) n rest
   unfolding numberTab isDigit
   number-tab rest most n c l h t =
       go-on (λ n c. then (byteAt text tab c) (λ b c. got n c)) (number-complete text (tab ∷ rest) refl most n c l h t)
@@ -54,29 +55,42 @@ module _ (text : List ℕ) where
       let z : suc x - 1 ≡ x = omega arith in
       rw (ne-eqb (suc x) 0 (λ e. omega arith), z, lt-ltb x s l) (stop-here t)
 
-  section-complete : (rest : List ℕ) (s k t x c : ℕ) → s ≤ mostSections → t < k → x < s → Lies text c (decimal (suc x) ++ (tab ∷ rest)) → Reads text (sectionAt text s k t c) x rest
+  section-complete : (rest : List ℕ) (s k t x c : ℕ) → s ≤ mostSections → t < k → x < s
+      → Lies text c (decimal (suc x) ++ (tab ∷ rest)) → Reads text (sectionAt text s k t c) x rest
   unfolding sectionAt
   section-complete rest s k t x c b h l i =
       rw (lt-ltb t k h) (go-on (toSection s) (number-tab rest 2 (suc x) c (omega arith) (omega arith) i) (λ c i. section-of rest s x c l i))
 
   -- A FIGURE, with a byte behind it that is no digit
-  pub figure-complete : (rest : List ℕ) (n c : ℕ) → isDigit (getD rest 0 0) ≡ false → n < noFigure → Lies text c (decimal n ++ rest) → Reads text (figureAt text c) n rest
+  pub figure-complete : (rest : List ℕ) (n c : ℕ) → isDigit (getD rest 0 0) ≡ false → n < noFigure
+      → Lies text c (decimal n ++ rest) → Reads text (figureAt text c) n rest
   unfolding figureAt
   figure-complete rest n c stop l t =
       go-on toFigure (number-complete text rest stop 9 n c (omega arith) (omega arith) t) (λ c t. rw (lt-ltb n noFigure l) (stop-here t))
 
   -- OPEN TRAINS, from train t on
-  trains-complete : (os : List Bool) (rest : List ℕ) (t v c : ℕ) → Lies text c (openDigits t os ++ (tab ∷ rest)) → Reads text (trainsAt text (length os) t v c) (v + weigh (2 ^ (trainBits + t)) os) (tab ∷ rest)
+  trains-complete : (os : List Bool) (rest : List ℕ) (t v c : ℕ) → Lies text c (openDigits t os ++ (tab ∷ rest))
+      → Reads text (trainsAt text (length os) t v c) (v + weigh (2 ^ (trainBits + t)) os) (tab ∷ rest)
   unfolding trainsAt openDigits weigh
   trains-complete [] rest t v c i = let z : v + 0 ≡ v = omega arith in rw z (stop-here i)
   trains-complete (true ∷ os) rest t v c i =
-      let y : v + 2 ^ (trainBits + t) + weigh (2 ^ (trainBits + suc t)) os ≡ v + (2 ^ (trainBits + t) + weigh (2 * 2 ^ (trainBits + t)) os) = rw (next-bit t) (omega arith) in
-      rw (eq-eqb (getD text c 0) (trainDigit t) (here i), ← y) (trains-complete os rest (suc t) (v + 2 ^ (trainBits + t)) (c + 1) (past (trainDigit t ∷ []) (openDigits (suc t) os ++ (tab ∷ rest)) i))
+      let y : v + 2 ^ (trainBits + t) + weigh (2 ^ (trainBits + suc t)) os ≡ v +
+      (2 ^ (trainBits + t) + weigh (2 * 2 ^ (trainBits + t)) os) = rw (next-bit t) (omega arith) in
+      rw (eq-eqb (getD text c 0) (trainDigit t) (here i), ← y)
+      (trains-complete os rest (suc t) (v + 2 ^ (trainBits + t)) (c + 1)
+      (past (trainDigit t ∷ []) (openDigits (suc t) os ++ (tab ∷ rest)) i))
   trains-complete (false ∷ os) rest t v c i =
       let y : v + weigh (2 ^ (trainBits + suc t)) os ≡ v + (0 + weigh (2 * 2 ^ (trainBits + t)) os) = rw (next-bit t) (omega arith) in
-      rw (ne-eqb (getD text c 0) (trainDigit t) (λ e. first-other os rest t (suc t) (omega arith) (sym (here i) ∙ e)), ← y) (trains-complete os rest (suc t) v c i)
+      rw (
+        ne-eqb (getD text c 0) (trainDigit t)
+            (λ e. first-other os rest t (suc t) (omega arith) (sym (here i) ∙ e)),
+        ← y,
+      )
+      (trains-complete os rest (suc t) v c i)
 
-  opens-by : (os : List Bool) (rest ds : List ℕ) (c : ℕ) → openDigits 0 os ≡ ds → Lies text c (orByte (byte "0") ds ++ (tab ∷ rest)) → Reads text (opensAt text (length os) c) (weigh (2 ^ trainBits) os) (tab ∷ rest)
+  opens-by : (os : List Bool) (rest ds : List ℕ) (c : ℕ) → openDigits 0 os ≡ ds
+      → Lies text c (orByte (byte "0") ds ++ (tab ∷ rest))
+      → Reads text (opensAt text (length os) c) (weigh (2 ^ trainBits) os) (tab ∷ rest)
   unfolding opensAt
   opens-by os rest [] c e i =
       rw (here i, weigh-none os 0 (2 ^ trainBits) e) (record { cursor = c + 1; is = refl; left = past (byte "0" ∷ []) (tab ∷ rest) i })
@@ -85,13 +99,17 @@ module _ (text : List ℕ) where
       let w = weigh-some os 0 (2 ^ trainBits) d ds (omega arith) e in
       let z : 0 + weigh (2 ^ (trainBits + 0)) os ≡ weigh (2 ^ trainBits) os = omega arith in
       rw (ne-eqb (getD text c 0) (byte "0") (λ f. omega (arith, here i, b)))
-      (go-on toOpens (rw z at (trains-complete os rest 0 0 c (record { text = i .text ∙ ap (λ (l : List ℕ). l ++ (tab ∷ rest)) (sym e) }))) (λ c i. rw (ne-eqb (weigh (2 ^ trainBits) os) 0 (λ f. omega (arith, w))) (stop-here i)))
+      (go-on toOpens (rw z at (trains-complete os rest 0 0 c
+      (record { text = i .text ∙ ap (λ (l : List ℕ). l ++ (tab ∷ rest)) (sym e) })))
+      (λ c i. rw (ne-eqb (weigh (2 ^ trainBits) os) 0 (λ f. omega (arith, w))) (stop-here i)))
 
-  opens-complete : (os : List Bool) (rest : List ℕ) (c : ℕ) → Lies text c (openField os ++ (tab ∷ rest)) → Reads text (opensAt text (length os) c) (weigh (2 ^ trainBits) os) (tab ∷ rest)
+  opens-complete : (os : List Bool) (rest : List ℕ) (c : ℕ) → Lies text c (openField os ++ (tab ∷ rest))
+      → Reads text (opensAt text (length os) c) (weigh (2 ^ trainBits) os) (tab ∷ rest)
   opens-complete os rest c i = opens-by os rest (openDigits 0 os) c refl (rw (open-field os) at i)
 
   -- POINTS, from point i on
-  signs-complete : (ps : List Bool) (rest : List ℕ) (i v c : ℕ) → Lies text c (map sign ps ++ rest) → Reads text (signsAt text (length ps) i v c) (v + weigh (2 ^ i) ps) rest
+  signs-complete : (ps : List Bool) (rest : List ℕ) (i v c : ℕ) → Lies text c (map sign ps ++ rest)
+      → Reads text (signsAt text (length ps) i v c) (v + weigh (2 ^ i) ps) rest
   unfolding signsAt weigh
   signs-complete [] rest i v c t = let z : v + 0 ≡ v = omega arith in rw z (stop-here t)
   signs-complete (true ∷ ps) rest i v c t =
@@ -119,18 +137,21 @@ module _ (text : List ℕ) where
       (λ c i. go-on _ (points-complete ps (lineEnd ∷ rest) c i)
       (λ c i. go-on _ (byte-complete text lineEnd c rest i) (λ c i. stop-here i)))))
 
-  pub entry-complete : (os ps : List Bool) (rest : List ℕ) (c : ℕ) → length os ≤ mostTrains → length ps ≤ mostPoints → Lies text c (tab ∷ (openField os ++ (tab ∷ (pointField ps ++ (lineEnd ∷ rest)))))
+  pub entry-complete : (os ps : List Bool) (rest : List ℕ) (c : ℕ) → length os ≤ mostTrains → length ps ≤ mostPoints
+      → Lies text c (tab ∷ (openField os ++ (tab ∷ (pointField ps ++ (lineEnd ∷ rest)))))
       → Reads text (entryAt text (length os) (length ps) c) (weigh 1 ps + weigh (2 ^ trainBits) os) rest
   unfolding entryAt
   entry-complete os ps rest c k m i = rw (le-ltb mostTrains (length os) k, le-ltb mostPoints (length ps) m) (fields-complete os ps rest c i)
 
 -- SECTION AFTER SECTION
-line-more : (f : List ℕ) (xs : List ℕ) (d : PlacementLine) → line (f ∷ (map sectionField xs ++ lastFields d)) ≡ f ++ (tab ∷ line (map sectionField xs ++ lastFields d))
+line-more : (f : List ℕ) (xs : List ℕ) (d : PlacementLine)
+    → line (f ∷ (map sectionField xs ++ lastFields d)) ≡ f ++ (tab ∷ line (map sectionField xs ++ lastFields d))
 unfolding line
 line-more f [] d = refl
 line-more f (x ∷ xs) d = refl
 
-module _ (text : List ℕ) (s : ℕ) (few : s ≤ mostSections) (d : PlacementLine) (rest : List ℕ) (there : (t : ℕ) → t < length (d .sections) → getD (d .sections) t 0 < s) where
+module _ (text : List ℕ) (s : ℕ) (few : s ≤ mostSections) (d : PlacementLine) (rest : List ℕ)
+    (there : (t : ℕ) → t < length (d .sections) → getD (d .sections) t 0 < s) where
   -- the line from the section of train t on, and the text behind it
   abbrev from : ℕ → List ℕ
   from t = line (map sectionField (drop t (d .sections)) ++ lastFields d) ++ rest
@@ -146,7 +167,8 @@ module _ (text : List ℕ) (s : ℕ) (few : s ≤ mostSections) (d : PlacementLi
         section-complete text (from (suc t)) s (length (d .sections)) t (getD (d .sections) t 0) c few l (there t l) (record { text = i .text ∙ e })
     | inr l ↦
         let next : length (d .sections) ≤ suc t = omega arith in
-        let e : from t ≡ from (suc t) = ap (λ (ys : List ℕ). line (map sectionField ys ++ lastFields d) ++ rest) (drop-of-length-le (d .sections) l ∙ sym (drop-of-length-le (d .sections) next)) in
+        let e : from t ≡ from (suc t) = ap (λ (ys : List ℕ). line (map sectionField ys ++ lastFields d) ++ rest)
+        (drop-of-length-le (d .sections) l ∙ sym (drop-of-length-le (d .sections) next)) in
         rw (le-ltb t (length (d .sections)) l, List·getD-eq-default (d .sections) 0 l) (stop-here (record { text = i .text ∙ e }))
   ]
 
@@ -157,7 +179,8 @@ module _ (text : List ℕ) (s : ℕ) (few : s ≤ mostSections) (d : PlacementLi
   pub sections-complete : (c : ℕ) → Lies text c (from 0) → Reads text (sectionsAt text s (length (d .sections)) c) fourOf (from 4)
   unfolding sectionsAt
   sections-complete c i =
-      go-on _ (next-section 0 c i) (λ c i. go-on _ (next-section 1 c i) (λ c i. go-on _ (next-section 2 c i) (λ c i. go-on _ (next-section 3 c i) (λ c i. stop-here i))))
+      go-on _ (next-section 0 c i) (λ c i. go-on _ (next-section 1 c i)
+      (λ c i. go-on _ (next-section 2 c i) (λ c i. go-on _ (next-section 3 c i) (λ c i. stop-here i))))
 
 -- A WHOLE LINE for a placement is walked, whatever is behind it
 pub record Walked (text : List ℕ) (s k m at : ℕ) : Type 0 where
@@ -171,30 +194,49 @@ pub record Walked (text : List ℕ) (s k m at : ℕ) : Type 0 where
   pub three : ℕ
   pub entry : entryAt text k m two ≡ got bits three
 
-pub last-fields : (d : PlacementLine) (rest : List ℕ) → line (lastFields d) ++ rest ≡ decimal (d .figure) ++ (tab ∷ (openField (d .opens) ++ (tab ∷ (pointField (d .plus) ++ (lineEnd ∷ rest)))))
+pub last-fields : (d : PlacementLine) (rest : List ℕ)
+    → line (lastFields d) ++ rest ≡ decimal (d .figure) ++
+    (tab ∷ (openField (d .opens) ++ (tab ∷ (pointField (d .plus) ++ (lineEnd ∷ rest)))))
 unfolding line
 last-fields d rest =
     append-assoc (decimal (d .figure)) (tab ∷ (openField (d .opens) ++ (tab ∷ (pointField (d .plus) ++ (lineEnd ∷ []))))) rest
     ∙ ap (λ (l : List ℕ). decimal (d .figure) ++ (tab ∷ l)) (append-assoc (openField (d .opens)) (tab ∷ (pointField (d .plus) ++ (lineEnd ∷ []))) rest
     ∙ ap (λ (l : List ℕ). openField (d .opens) ++ (tab ∷ l)) (append-assoc (pointField (d .plus)) (lineEnd ∷ []) rest))
 
-walked-on : (text : List ℕ) (s k at : ℕ) (d : PlacementLine) (rest four : List ℕ) → length (d .opens) ≡ k → k ≤ mostTrains → length (d .plus) ≤ mostPoints → d .figure < noFigure
+walked-on : (text : List ℕ) (s k at : ℕ) (d : PlacementLine) (rest four : List ℕ) → length (d .opens) ≡ k
+    → k ≤ mostTrains → length (d .plus) ≤ mostPoints → d .figure < noFigure
     → Reads text (sectionsAt text s k at) four (line (lastFields d) ++ rest) → Walked text s k (length (d .plus)) at
 unfolding isDigit
 walked-on text s k at d rest four n few m f x =
-    let y = figure-complete text (tab ∷ (openField (d .opens) ++ (tab ∷ (pointField (d .plus) ++ (lineEnd ∷ rest))))) (d .figure) (x .cursor) refl f (record { text = x .left .text ∙ last-fields d rest }) in
+    let behind = tab ∷ (openField (d .opens) ++ (tab ∷ (pointField (d .plus) ++ (lineEnd ∷ rest)))) in
+    let y = figure-complete text behind (d .figure) (x .cursor) refl f (record { text = x .left .text ∙ last-fields d rest }) in
     let z = entry-complete text (d .opens) (d .plus) rest (y .cursor) (omega arith) m (y .left) in
-    record { four = four; one = x .cursor; sections = x .is; number = d .figure; two = y .cursor; figure = y .is; bits = _; three = z .cursor; entry = ap (λ (j : ℕ). entryAt text j (length (d .plus)) (y .cursor)) (sym n) ∙ z .is }
+    record {
+      four = four;
+      one = x .cursor;
+      sections = x .is;
+      number = d .figure;
+      two = y .cursor;
+      figure = y .is;
+      bits = _;
+      three = z .cursor;
+      entry = ap (λ (j : ℕ). entryAt text j (length (d .plus)) (y .cursor)) (sym n)
+          ∙ z .is;
+    }
 
-pub walked : (r : Railway) → Bounded (r .sections) (r .points) (r .trains) → (text : List ℕ) (at : ℕ) (d : PlacementLine) (rest : List ℕ) → fits r (placementLine d) ≡ true
+pub walked : (r : Railway) → Bounded (r .sections) (r .points) (r .trains)
+    → (text : List ℕ) (at : ℕ) (d : PlacementLine) (rest : List ℕ) → fits r (placementLine d) ≡ true
     → drop at text ≡ spell (placementLine d) ++ rest → Walked text (r .sections) (r .trains) (r .points) at
 unfolding spell
 walked r b text at d rest fit is =
     let f = fits-parts r d fit in
     let k = b .few-trains in
     let there : (t : ℕ) → t < length (d .sections) → getD (d .sections) t 0 < r .sections =
-    (λ t h. ltb-true (getD (d .sections) t 0) (r .sections) (all-in (λ x. ltb x (r .sections)) (d .sections) (getD (d .sections) t 0) (f .there) (getD-member (d .sections) t 0 h))) in
+    (λ t h. ltb-true (getD (d .sections) t 0) (r .sections)
+    (all-in (λ x. ltb x (r .sections)) (d .sections) (getD (d .sections) t 0) (f .there)
+    (getD-member (d .sections) t 0 h))) in
     let x = sections-complete text (r .sections) (b .few-sections) d rest there at (record { text = is }) in
     let four : length (d .sections) ≤ 4 = omega (arith, f .each-train) in
     let none-left : drop 4 (d .sections) ≡ [] = drop-of-length-le (d .sections) four in
-    rw (f .pointed) at (walked-on text (r .sections) (r .trains) at d rest _ (f .opened) k (omega (arith, f .pointed, b .few-points)) (f .figured) (rw (none-left, f .each-train) at x))
+    rw (f .pointed) at (walked-on text (r .sections) (r .trains) at d rest _ (f .opened) k
+    (omega (arith, f .pointed, b .few-points)) (f .figured) (rw (none-left, f .each-train) at x))

@@ -20,7 +20,8 @@ openDigits t [] = []
 openDigits t (o ∷ os) = cond o (trainDigit t ∷ openDigits (suc t) os) (openDigits (suc t) os)
 
 -- the first of those that pass a test, apart
-which-first : {A : Type 0} (h : ℕ → A) (f : ℕ → Bool) (k : ℕ) → map h (whichBelow f (suc k)) ≡ cond (f 0) (h 0 ∷ []) [] ++ map (λ i. h (suc i)) (whichBelow (λ i. f (suc i)) k)
+which-first : {A : Type 0} (h : ℕ → A) (f : ℕ → Bool) (k : ℕ)
+    → map h (whichBelow f (suc k)) ≡ cond (f 0) (h 0 ∷ []) [] ++ map (λ i. h (suc i)) (whichBelow (λ i. f (suc i)) k)
 unfolding whichBelow
 which-first h f zero = only (f 0)
   where
@@ -43,7 +44,8 @@ unfolding whichBelow openDigits
 digits-of [] t = refl
 digits-of (o ∷ os) t =
     let r : map (λ u. trainDigit (t + suc u)) (whichBelow (λ u. getD os u false) (length os)) ≡ openDigits (suc t) os =
-    which-map (λ u. getD os u false) (λ u. getD os u false) (λ u. trainDigit (t + suc u)) (λ u. trainDigit (suc t + u)) (length os) (λ p l. refl) (λ p l. omega arith) ∙ digits-of os (suc t) in
+    which-map (λ u. getD os u false) (λ u. getD os u false) (λ u. trainDigit (t + suc u))
+    (λ u. trainDigit (suc t + u)) (length os) (λ p l. refl) (λ p l. omega arith) ∙ digits-of os (suc t) in
     which-first (λ u. trainDigit (t + u)) (λ u. getD (o ∷ os) u false) (length os) ∙ (rw r (first o))
   where
     first : (b : Bool) → cond b (trainDigit (t + 0) ∷ []) [] ++ openDigits (suc t) os ≡ cond b (trainDigit t ∷ openDigits (suc t) os) (openDigits (suc t) os)
@@ -53,7 +55,8 @@ digits-of (o ∷ os) t =
 pub open-field : (os : List Bool) → openField os ≡ orByte (byte "0") (openDigits 0 os)
 open-field os =
     ap (orByte (byte "0"))
-    (which-map (λ u. getD os u false) (λ u. getD os u false) trainDigit (λ u. trainDigit (0 + u)) (length os) (λ p l. refl) (λ p l. omega arith) ∙ digits-of os 0)
+    (which-map (λ u. getD os u false) (λ u. getD os u false) trainDigit (λ u. trainDigit (0 + u)) (length os)
+    (λ p l. refl) (λ p l. omega arith) ∙ digits-of os 0)
 
 -- a digit that is not open does not stand in front
 pub first-other : (os : List Bool) (rest : List ℕ) (t u : ℕ) → t < u → getD (openDigits u os ++ (tab ∷ rest)) 0 0 ≡ trainDigit t → ⊥
@@ -73,8 +76,10 @@ weighed x [] = omega arith
 weighed x (b ∷ bs) =
     let h : weigh (2 * x) bs ≡ 2 * x * fromBits (λ i. getD bs i false) (length bs) = weighed (2 * x) bs in
     let c : 2 * x ≡ x * 2 = omega arith in
-    let a : weigh (2 * x) bs ≡ x * (2 * fromBits (λ i. getD bs i false) (length bs)) = h ∙ ap (λ (y : ℕ). y * fromBits (λ i. getD bs i false) (length bs)) c ∙ mul-assoc x 2 (fromBits (λ i. getD bs i false) (length bs)) in
-    rw (a, mul-add x (cond b 1 0) (2 * fromBits (λ i. getD bs i false) (length bs))) (ap (λ (y : ℕ). y + x * (2 * fromBits (λ i. getD bs i false) (length bs))) (one b))
+    let n = fromBits (λ i. getD bs i false) (length bs) in
+    let a : weigh (2 * x) bs ≡ x * (2 * n) = h ∙ ap (λ (y : ℕ). y * n) c ∙ mul-assoc x 2 n in
+    rw (a, mul-add x (cond b 1 0) (2 * fromBits (λ i. getD bs i false) (length bs)))
+    (ap (λ (y : ℕ). y + x * (2 * fromBits (λ i. getD bs i false) (length bs))) (one b))
   where
     one : (b : Bool) → cond b x 0 ≡ x * cond b 1 0
     one true = omega arith

@@ -1,3 +1,4 @@
+pub mod Chain
 pub mod Fields
 pub mod Taking
 pub mod Sound

@@ -44,15 +44,20 @@ module _ (text : List ℕ) where
   unfolding byteInside byteAt
   inside-sound b c x d e = go (ltb c (length text)) (eqb (getD text c 0) b) refl refl e
     where
-      go : (p q : Bool) → ltb c (length text) ≡ p → eqb (getD text c 0) b ≡ q → cond p (cond q (got b (c + 1)) bad) bad ≡ got x d → drop c text ≡ b ∷ drop d text
-      go true true h i e = let z : suc c ≡ d = sym (add-one c) ∙ (let y : c + 1 ≡ d = cc in y) in drop-cons text c 0 (ltb-true c (length text) h) ∙ (rw (eqb-true (getD text c 0) b i, z))
+      go : (p q : Bool) → ltb c (length text) ≡ p → eqb (getD text c 0) b ≡ q
+          → cond p (cond q (got b (c + 1)) bad) bad ≡ got x d → drop c text ≡ b ∷ drop d text
+      go true true h i e =
+          let z : suc c ≡ d = sym (add-one c) ∙ (let y : c + 1 ≡ d = cc in y) in
+          drop-cons text c 0 (ltb-true c (length text) h) ∙ (rw (eqb-true (getD text c 0) b i, z))
       go true false h i e = bad-got refl e
       go false q h i e = bad-got refl e
 
   pub word-sound : (w : List ℕ) (c x d : ℕ) → wordAt text w c ≡ got x d → drop c text ≡ w ++ drop d text
   unfolding wordAt
   word-sound [] c x d e = let z : c ≡ d = cc in rw z
-  word-sound (b ∷ w) c x d e = on (byteInside text b c) (λ y c. wordAt text w c) x d e (λ y k f e. inside-sound b c y k f ∙ ap (λ (l : List ℕ). b ∷ l) (word-sound w k x d e))
+  word-sound (b ∷ w) c x d e =
+      on (byteInside text b c) (λ y c. wordAt text w c) x d e
+      (λ y k f e. inside-sound b c y k f ∙ ap (λ (l : List ℕ). b ∷ l) (word-sound w k x d e))
 
   -- A SECTION
   number-tab : (n c d : ℕ) → numberTab text 2 c ≡ got n d → drop c text ≡ decimal n ++ (tab ∷ drop d text)
@@ -73,14 +78,16 @@ module _ (text : List ℕ) where
   unfolding sectionAt
   section-sound s k t c x d e = go (ltb t k) e
     where
-      go : (p : Bool) → cond p (then (numberTab text 2 c) (toSection s)) (got 0 c) ≡ got x d → drop c text ≡ cond p (sectionField x ++ (tab ∷ drop d text)) (drop d text)
+      go : (p : Bool) → cond p (then (numberTab text 2 c) (toSection s)) (got 0 c) ≡ got x d
+          → drop c text ≡ cond p (sectionField x ++ (tab ∷ drop d text)) (drop d text)
       go true e =
           on (numberTab text 2 c) (toSection s) x d e (λ n a f e.
           let i = to-section s n a x d (eqb n 0) (ltb (n - 1) s) refl e in
           number-tab n c a f ∙ (rw (i .0, i .1)))
       go false e = let z : c ≡ d = cc in rw z
 
-  pub sections-sound : (s k c x y z w d : ℕ) → sectionsAt text s k c ≡ got (x ∷ y ∷ z ∷ w ∷ []) d → drop c text ≡ piece k 0 x (piece k 1 y (piece k 2 z (piece k 3 w (drop d text))))
+  pub sections-sound : (s k c x y z w d : ℕ) → sectionsAt text s k c ≡ got (x ∷ y ∷ z ∷ w ∷ []) d
+      → drop c text ≡ piece k 0 x (piece k 1 y (piece k 2 z (piece k 3 w (drop d text))))
   unfolding sectionsAt
   sections-sound s k c x y z w d e =
       on (sectionAt text s k 0 c) _ (x ∷ y ∷ z ∷ w ∷ []) d e (λ x′ c₁ ex e.
@@ -93,7 +100,9 @@ module _ (text : List ℕ) where
       let g : w′ ≡ w = cc in
       let h : c₄ ≡ d = cc in
       rw (← a, ← b, ← f, ← g, ← h)
-      (section-sound s k 0 c x′ c₁ ex ∙ ap (piece k 0 x′) (section-sound s k 1 c₁ y′ c₂ ey ∙ ap (piece k 1 y′) (section-sound s k 2 c₂ z′ c₃ ez ∙ ap (piece k 2 z′) (section-sound s k 3 c₃ w′ c₄ ew))))))))
+      (section-sound s k 0 c x′ c₁ ex ∙ ap (piece k 0 x′)
+      (section-sound s k 1 c₁ y′ c₂ ey ∙ ap (piece k 1 y′)
+      (section-sound s k 2 c₂ z′ c₃ ez ∙ ap (piece k 2 z′) (section-sound s k 3 c₃ w′ c₄ ew))))))))
 
   -- A FIGURE
   pub figure-sound : (c n d : ℕ) → figureAt text c ≡ got n d → drop c text ≡ decimal n ++ drop d text
@@ -134,7 +143,8 @@ module _ (text : List ℕ) where
   unfolding trainsAt openDigits weigh
   trains-sound zero t v c w d e = let z : c ≡ d = cc in let y : v ≡ w = cc in record { opens = []; long = refl; spelled = rw z; bits = omega arith }
   trains-sound (suc left) t v c w d e =
-      trains-step left t v c w d (eqb (getD text c 0) (trainDigit t)) refl (trains-sound left (suc t) (v + 2 ^ (trainBits + t)) (c + 1) w d) (trains-sound left (suc t) v c w d) e
+      trains-step left t v c w d (eqb (getD text c 0) (trainDigit t)) refl
+      (trains-sound left (suc t) (v + 2 ^ (trainBits + t)) (c + 1) w d) (trains-sound left (suc t) v c w d) e
 
   -- the field of open trains
   pub record Opens (k c o d : ℕ) : Type 0 where
@@ -152,7 +162,10 @@ module _ (text : List ℕ) where
       record {
         opens = x .opens;
         long = x .long;
-        spelled = rw (← z) (x .spelled ∙ ap (λ (l : List ℕ). l ++ drop b text) (sym (open-field (x .opens) ∙ filled (openDigits 0 (x .opens)) refl (λ j. i (x .bits ∙ omega (arith, j))))));
+        spelled =
+            rw (← z) (x .spelled ∙ ap (λ (l : List ℕ). l ++ drop b text)
+            (sym (open-field (x .opens) ∙ filled (openDigits 0 (x .opens)) refl
+            (λ j. i (x .bits ∙ omega (arith, j))))));
         bits = sym y ∙ x .bits ∙ omega arith;
       }
     where
@@ -174,7 +187,9 @@ module _ (text : List ℕ) where
           record {
             opens = replicate k false;
             long = length-replicate k false;
-            spelled = rw (← z) (stands text c (byte "0") (omega arith) (eqb-true (getD text c 0) (byte "0") h) ∙ ap (λ (l : List ℕ). l ++ drop (c + 1) text) (sym (open-field (replicate k false) ∙ ap (orByte (byte "0")) (none-open k 0))));
+            spelled =
+                rw (← z) (stands text c (byte "0") (omega arith) (eqb-true (getD text c 0) (byte "0") h)
+                ∙ ap (λ (l : List ℕ). l ++ drop (c + 1) text) (sym (open-field (replicate k false) ∙ ap (orByte (byte "0")) (none-open k 0))));
             bits = sym y ∙ sym (weigh-false k (2 ^ trainBits));
           }
       go false h e = on (trainsAt text k 0 0 c) toOpens o d e (λ w b f e. some-digits k c w b o d (eqb w 0) refl (trains-sound k 0 0 c w b f) e)
@@ -186,7 +201,8 @@ module _ (text : List ℕ) where
     spelled : drop c text ≡ map sign points ++ drop d text
     bits : w ≡ v + weigh (2 ^ i) points
 
-  sign-before : (left i v u c w d : ℕ) (b : Bool) → getD text c 0 ≡ sign b → 0 < sign b → u ≡ v + cond b (2 ^ i) 0 → Signs left (suc i) u (c + 1) w d → Signs (suc left) i v c w d
+  sign-before : (left i v u c w d : ℕ) (b : Bool) → getD text c 0 ≡ sign b → 0 < sign b → u ≡ v + cond b (2 ^ i) 0
+      → Signs left (suc i) u (c + 1) w d → Signs (suc left) i v c w d
   unfolding weigh
   sign-before left i v u c w d b h pos j x =
       let z : 2 ^ suc i ≡ 2 * 2 ^ i = pow-succ' 2 i in
@@ -202,15 +218,20 @@ module _ (text : List ℕ) where
       → (signsAt text left (suc i) (v + 2 ^ i) (c + 1) ≡ got w d → Signs left (suc i) (v + 2 ^ i) (c + 1) w d)
       → (signsAt text left (suc i) v (c + 1) ≡ got w d → Signs left (suc i) v (c + 1) w d)
       → cond p (signsAt text left (suc i) (v + 2 ^ i) (c + 1)) (cond q (signsAt text left (suc i) v (c + 1)) bad) ≡ got w d → Signs (suc left) i v c w d
-  signs-step left i v c w d true q h g plus minus e = sign-before left i v (v + 2 ^ i) c w d true (eqb-true (getD text c 0) (byte "+") h) (omega arith) refl (plus e)
-  signs-step left i v c w d false true h g plus minus e = sign-before left i v v c w d false (eqb-true (getD text c 0) (byte "-") g) (omega arith) (omega arith) (minus e)
+  signs-step left i v c w d true q h g plus minus e =
+      sign-before left i v (v + 2 ^ i) c w d true (eqb-true (getD text c 0) (byte "+") h) (omega arith) refl
+      (plus e)
+  signs-step left i v c w d false true h g plus minus e =
+      sign-before left i v v c w d false (eqb-true (getD text c 0) (byte "-") g) (omega arith) (omega arith)
+      (minus e)
   signs-step left i v c w d false false h g plus minus e = bad-got refl e
 
   signs-sound : (left i v c w d : ℕ) → signsAt text left i v c ≡ got w d → Signs left i v c w d
   unfolding signsAt weigh
   signs-sound zero i v c w d e = let z : c ≡ d = cc in let y : v ≡ w = cc in record { points = []; long = refl; spelled = rw z; bits = omega arith }
   signs-sound (suc left) i v c w d e =
-      signs-step left i v c w d (eqb (getD text c 0) (byte "+")) (eqb (getD text c 0) (byte "-")) refl refl (signs-sound left (suc i) (v + 2 ^ i) (c + 1) w d) (signs-sound left (suc i) v (c + 1) w d) e
+      signs-step left i v c w d (eqb (getD text c 0) (byte "+")) (eqb (getD text c 0) (byte "-")) refl refl
+      (signs-sound left (suc i) (v + 2 ^ i) (c + 1) w d) (signs-sound left (suc i) v (c + 1) w d) e
 
   -- the field of points
   pub record Points (m c p d : ℕ) : Type 0 where
@@ -287,7 +308,10 @@ module _ (text : List ℕ) where
 
 -- BOUNDS: an entry fits into its bits
 bits-few : (bs : List Bool) (most : ℕ) → length bs ≤ most → fromBits (λ i. getD bs i false) (length bs) < 2 ^ most
-bits-few bs most l = let a = bits-below (λ i. getD bs i false) (length bs) in let b = pow-le-pow-right {n = 2} (omega arith) {i = length bs} {j = most} l in omega arith
+bits-few bs most l =
+    let a = bits-below (λ i. getD bs i false) (length bs) in
+    let b = pow-le-pow-right {n = 2} (omega arith) {i = length bs} {j = most} l in
+    omega arith
 
 module _ (text : List ℕ) where
   pub opens-small : (k c o d : ℕ) → opensAt text k c ≡ got o d → k ≤ mostTrains → o < 2 ^ (trainBits + mostTrains)

@@ -84,7 +84,9 @@ sections-below text s k at c qs e l t h =
     on (sectionAt text s k 3 c₃) _ qs c e (λ w c₄ ew e.
     let q : x ∷ y ∷ z ∷ w ∷ [] ≡ qs = cc in
     rw (← q)
-    (of-four (λ t u. t < k → u < s) 0 x y z w (section-below text s k 0 at x c₁ ex) (section-below text s k 1 c₁ y c₂ ey) (section-below text s k 2 c₂ z c₃ ez) (section-below text s k 3 c₃ w c₄ ew) t (omega arith) h)))))
+    (of-four (λ t u. t < k → u < s) 0 x y z w (section-below text s k 0 at x c₁ ex)
+    (section-below text s k 1 c₁ y c₂ ey) (section-below text s k 2 c₂ z c₃ ez)
+    (section-below text s k 3 c₃ w c₄ ew) t (omega arith) h)))))
 
 -- FIGURES
 module _ (text : List ℕ) (c : ℕ) where
@@ -168,7 +170,10 @@ module _ (text : List ℕ) (k from at v t : ℕ) (o : OpensTo text k from at v t
 
     -- what is added is small
     pub opens-room : v + (1 * 2 ^ (trainBits + t)) % 2 ^ 64 < 2 ^ 64
-    opens-room = let p = pow-le-pow-right {n = 2} (omega arith) {i = trainBits + t} {j = trainBits + mostTrains} (omega arith) in rw opens-bit (omega (arith, o .small))
+    opens-room =
+        let p = pow-le-pow-right {n = 2} (omega arith) {i = trainBits + t} {j = trainBits + mostTrains}
+        (omega arith) in
+        rw opens-bit (omega (arith, o .small))
 
     left-one : k - t ≡ suc (k - (t + 1))
     left-one = omega arith

@@ -47,12 +47,15 @@ due-none w h = rw (le-ltb (w .read) (w .count) h)
 pub line-due : (s : List ℕ) (at : ℕ) (w : Walk) (n : ℕ) → n ≡ numberDue w → {g : Got Draft} → g ≡ lineInto s (w .kind) n at (w .draft) → g ≡ dueInto s at w
 line-due s at w n h e = rw h at e
 
-pub line-with : (w : Walk) (l : Lines) (n : ℕ) → n ≡ numberDue w → record { kind = w .kind; count = w .count; read = n; good = l .good; draft = l .draft } ≡ withLine w l
+pub line-with : (w : Walk) (l : Lines) (n : ℕ) → n ≡ numberDue w
+    → record { kind = w .kind; count = w .count; read = n; good = l .good; draft = l .draft } ≡ withLine w l
 line-with w l n h = rw h
 
 -- AS MANY AS A COUNT SAYS
 module _ (s : List ℕ) (k : Kind) (read c : ℕ) (d : Draft) where
-  fold-more : (t : ℕ) → foldCounted (lineInto s k) (suc t) (read + 1) c d ≡ then (lineInto s k (read + 1) c d) (λ d c. foldCounted (lineInto s k) t (read + 1 + 1) c d)
+  fold-more : (t : ℕ)
+      → foldCounted (lineInto s k) (suc t) (read + 1) c d ≡ then (lineInto s k (read + 1) c d)
+      (λ d c. foldCounted (lineInto s k) t (read + 1 + 1) c d)
   unfolding foldCounted
   fold-more t = let y : read + 1 + 1 ≡ suc (read + 1) = omega arith in rw y
 
@@ -156,14 +159,23 @@ module _ (s : List ℕ) where
       pub is : foldWhile test ln t c d ≡ then g (λ d c. foldWhile test ln left c d)
       pub on : (e : Draft) (b : ℕ) → g ≡ got e b → length s ≤ b + left
 
-    while-turn : (test : ℕ → Bool) (ln : ℕ → Draft → Got Draft) → length s ≤ c + t → test c ≡ true → c < length s → g ≡ ln c d → ((e : Draft) (b : ℕ) → ln c d ≡ got e b → c < b) → While test ln
+    while-turn : (test : ℕ → Bool) (ln : ℕ → Draft → Got Draft) → length s ≤ c + t → test c ≡ true → c < length s
+        → g ≡ ln c d → ((e : Draft) (b : ℕ) → ln c d ≡ got e b → c < b) → While test ln
     while-turn test ln q b i e f = go t q refl
       where
         go : (m : ℕ) → length s ≤ c + m → t ≡ m → While test ln
         go zero h z = absurd (omega arith)
-        go (suc m) h z = record { left = m; less = omega arith; is = rw (z, while-more test ln c d m b, e); on = λ w k l. let y = f w k (sym e ∙ l) in omega arith }
+        go (suc m) h z =
+            record {
+              left = m;
+              less = omega arith;
+              is = rw (z, while-more test ln c d m b, e);
+              on = λ w k l.
+                  let y = f w k (sym e ∙ l) in omega arith;
+            }
 
-    turn-at : (k : Kind) → Enough t c read count k → another s c read count k ≡ true → n ≡ cond (ltb read count) (read + 1) read → g ≡ lineInto s k n c d → Turned k read count c d t n g
+    turn-at : (k : Kind) → Enough t c read count k → another s c read count k ≡ true
+        → n ≡ cond (ltb read count) (read + 1) read → g ≡ lineInto s k n c d → Turned k read count c d t n g
     turn-at k e b h q = elim (bool? (counted k)) [
       | inl y ↦
           let f = fold-turn k (e .due y) (rw y at b) h q in
@@ -190,7 +202,9 @@ module _ (s : List ℕ) where
   ample-at : (k : Kind) (read count c : ℕ) → Enough (turns k read count) c read count k
   ample-at k read count c = record { due = λ y. rw y; room = λ y. rw y (omega arith) }
 
-  start-at : (g : Got Draft) (w : Walk) → then g (λ d c. restInto s w c d) ≡ then g (λ d c. turned (turns (w .kind) (w .read) (w .count)) (w .read) (w .kind) c d)
+  start-at : (g : Got Draft) (w : Walk)
+      → then g (λ d c. restInto s w c d) ≡ then g
+      (λ d c. turned (turns (w .kind) (w .read) (w .count)) (w .read) (w .kind) c d)
   start-at g w = elim (bool? (counted (w .kind))) [ inl y ↦ rw y | inr y ↦ rw y ]
 
   pub turns-of : Walk → ℕ
@@ -226,7 +240,8 @@ module _ (s : List ℕ) where
     bad-same : w .good ≡ false → linesGot (soFar w at) ≡ then (linesGot (soFar w at)) (λ d c. turned t (w .read) (w .kind) c d)
     bad-same h = rw h
 
-    good-same : w .good ≡ true → another s at (w .read) (w .count) (w .kind) ≡ false → linesGot (soFar w at) ≡ then (linesGot (soFar w at)) (λ d c. turned t (w .read) (w .kind) c d)
+    good-same : w .good ≡ true → another s at (w .read) (w .count) (w .kind) ≡ false
+        → linesGot (soFar w at) ≡ then (linesGot (soFar w at)) (λ d c. turned t (w .read) (w .kind) c d)
     good-same h b = rw h (stop-at (w .kind) (w .read) (w .count) at (w .draft) t (l .ample h) b)
 
     none-more : (a b : Bool) → a ≡ true → (a && b) ≡ false → b ≡ false
@@ -236,19 +251,23 @@ module _ (s : List ℕ) where
     done-at b = elim (bool? (w .good)) [ inl h ↦ good-same h (none-more _ _ h b) ∙ sym (l .is) | inr h ↦ bad-same h ∙ sym (l .is) ]
 
     -- there is none more, and the reader is asked for its place
-    pub left-done : goesOn s at w ≡ false → (b : ℕ) → b ≡ at → (x : Lines) → x ≡ soFar w b → linesGot x ≡ then (linesGot (soFar start from)) (λ d c. restInto s start c d)
+    pub left-done : goesOn s at w ≡ false → (b : ℕ) → b ≡ at → (x : Lines) → x ≡ soFar w b
+        → linesGot x ≡ then (linesGot (soFar start from)) (λ d c. restInto s start c d)
     left-done h b e x f = rw (f, e) (done-at h)
 
 -- A WALK OF WHICH NOTHING IS READ has all lines of its kind left
 pub rest-all : (s : List ℕ) (kind : Kind) (count : ℕ) (before : Lines)
-    → then (linesGot before) (λ d c. restInto s (record { kind = kind; count = count; read = 0; good = before .good; draft = before .draft }) c d) ≡ then (linesGot before) (λ d c. linesInto s kind count c d)
+    → then (linesGot before) (λ d c. restInto s
+    (record { kind = kind; count = count; read = 0; good = before .good; draft = before .draft }) c d) ≡ then
+    (linesGot before) (λ d c. linesInto s kind count c d)
 rest-all s kind count before = let z : count - 0 ≡ count = omega arith in let y : 0 + 1 ≡ 1 = omega arith in rw (z, y)
 
 -- WHAT THE WALK GAVE, as an answer
 pub as-good : (before l : Lines) (x : Got Draft) → l .good ≡ true → linesGot l ≡ x → l ≡ asLines before x
 as-good before l x h e = ap (λ (g : Bool). record { good = g; draft = l .draft; next = l .next }) h ∙ rw (← e, h)
 
-pub as-bad : (before l : Lines) (x : Got Draft) → l .good ≡ false → linesGot l ≡ x → record { good = false; draft = before .draft; next = record { at = 0 } } ≡ asLines before x
+pub as-bad : (before l : Lines) (x : Got Draft) → l .good ≡ false → linesGot l ≡ x
+    → record { good = false; draft = before .draft; next = record { at = 0 } } ≡ asLines before x
 as-bad before l x h e = rw (← e, h)
 
 pub lines-as : (before : Lines) (x : Got Draft) → linesGot (asLines before x) ≡ x

@@ -31,11 +31,13 @@ use Rattle.writer.specs.Pieces.{headerText, joinPiece, signalPiece, clos
 
 -- AN END and the byte behind it
 module _ {o o₁ o₂ : List ℕ} {a a₁ a₂ : ℕ} (e : End) (b after : ℕ) where
-  pub section-end : (n : SectionNo) (s : Side) → e ≡ Section n s → b ≡ sideByte s → Appended o a (decimal (n .0 + 1) ++ (b ∷ [])) o₁ a₁ → Appended o₁ a₁ (after ∷ []) o₂ a₂
+  pub section-end : (n : SectionNo) (s : Side) → e ≡ Section n s → b ≡ sideByte s
+      → Appended o a (decimal (n .0 + 1) ++ (b ∷ [])) o₁ a₁ → Appended o₁ a₁ (after ∷ []) o₂ a₂
       → Appended o a (endField (fieldOf e) ++ (after ∷ [])) o₂ a₂
   section-end n s is by p q = rw (is, ← by, ← add-one (n .0)) (append-then p q)
 
-  pub port-end : (n : PointNo) (l : Leg) → e ≡ Port n l → b ≡ legByte l → Appended o a (decimal (n .0 + 1) ++ (b ∷ [])) o₁ a₁ → Appended o₁ a₁ (after ∷ []) o₂ a₂
+  pub port-end : (n : PointNo) (l : Leg) → e ≡ Port n l → b ≡ legByte l
+      → Appended o a (decimal (n .0 + 1) ++ (b ∷ [])) o₁ a₁ → Appended o₁ a₁ (after ∷ []) o₂ a₂
       → Appended o a (endField (fieldOf e) ++ (after ∷ [])) o₂ a₂
   port-end n l is by p q = rw (is, ← by, ← add-one (n .0)) (append-then p q)
 
@@ -71,10 +73,12 @@ module _ {o o₁ o₂ : List ℕ} {a a₁ a₂ : ℕ} where
 
 -- THE END OF A T LINE, with and without a weight
 module _ {o o₁ : List ℕ} {a a₁ : ℕ} (to weight : ℕ) where
-  pub weight-omitted : weight ≡ 1 → Appended o a (decimal (to + 1) ++ (lineEnd ∷ [])) o₁ a₁ → Appended o a (line (decimal (suc to) ∷ weightField (writtenWeight weight))) o₁ a₁
+  pub weight-omitted : weight ≡ 1 → Appended o a (decimal (to + 1) ++ (lineEnd ∷ [])) o₁ a₁
+      → Appended o a (line (decimal (suc to) ∷ weightField (writtenWeight weight))) o₁ a₁
   weight-omitted e p = rw (eq-eqb weight 1 e, ← add-one to) (line-last (decimal (to + 1)) p)
 
-  pub weight-put : {o₂ : List ℕ} {a₂ : ℕ} → (weight ≡ 1 → ⊥) → Appended o a (decimal (to + 1) ++ (tab ∷ [])) o₁ a₁ → Appended o₁ a₁ (decimal weight ++ (lineEnd ∷ [])) o₂ a₂
+  pub weight-put : {o₂ : List ℕ} {a₂ : ℕ} → (weight ≡ 1 → ⊥) → Appended o a (decimal (to + 1) ++ (tab ∷ [])) o₁ a₁
+      → Appended o₁ a₁ (decimal weight ++ (lineEnd ∷ [])) o₂ a₂
       → Appended o a (line (decimal (suc to) ∷ weightField (writtenWeight weight))) o₂ a₂
   weight-put n p q = rw (ne-eqb weight 1 n, ← add-one to) (line-more (decimal (to + 1)) (decimal weight) [] p (line-last (decimal weight) q))
 
@@ -87,7 +91,8 @@ module _ (i : ℕ) (j : Joined) (f : End) (k : ℕ) (to : j ≡ With f) (is : k 
   join-earlier h = rw (to, ← is, le-ltb i k h) (append-none o a)
 
   pub join-line : {o₁ o₂ o₃ : List ℕ} {a₁ a₂ a₃ : ℕ} (e : End) → e ≡ endAt i → i < k → Appended o a (byte "J" ∷ tab ∷ []) o₁ a₁
-      → Appended o₁ a₁ (endField (fieldOf e) ++ (tab ∷ [])) o₂ a₂ → Appended o₂ a₂ (endField (fieldOf f) ++ (lineEnd ∷ [])) o₃ a₃ → Appended o a (joinPiece i j) o₃ a₃
+      → Appended o₁ a₁ (endField (fieldOf e) ++ (tab ∷ [])) o₂ a₂ → Appended o₂ a₂
+      (endField (fieldOf f) ++ (lineEnd ∷ [])) o₃ a₃ → Appended o a (joinPiece i j) o₃ a₃
   join-line e at h x y z =
       let one = endField (fieldOf e) in
       let other = endField (fieldOf f) in
@@ -116,14 +121,17 @@ module _ (r : Railway) (part : Part) (i : ℕ) {o o₁ : List ℕ} {a a₁ : ℕ
   pub point-piece : part ≡ Points → (s : Side) → s ≡ legsOf r i → Appended o a (pointLine (suc i) s) o₁ a₁ → Appended o a (pieceOf r part i) o₁ a₁
   point-piece e s is p = rw (e, ← is) p
 
-  pub join-piece : part ≡ Joins → (e : End) (j : Joined) → e ≡ endAt i → j ≡ joined r e → Appended o a (joinPiece i j) o₁ a₁ → Appended o a (pieceOf r part i) o₁ a₁
+  pub join-piece : part ≡ Joins → (e : End) (j : Joined) → e ≡ endAt i → j ≡ joined r e
+      → Appended o a (joinPiece i j) o₁ a₁ → Appended o a (pieceOf r part i) o₁ a₁
   join-piece e x j at is p = let h : j ≡ joined r (endAt i) = rw at at is in rw (e, ← h) p
 
-  pub signal-piece : part ≡ Signals → (e : End) (b : Bool) → e ≡ endAt i → b ≡ hasSignal r e → Appended o a (signalPiece i b) o₁ a₁ → Appended o a (pieceOf r part i) o₁ a₁
+  pub signal-piece : part ≡ Signals → (e : End) (b : Bool) → e ≡ endAt i → b ≡ hasSignal r e
+      → Appended o a (signalPiece i b) o₁ a₁ → Appended o a (pieceOf r part i) o₁ a₁
   signal-piece e x b at is p = let h : b ≡ hasSignal r (endAt i) = rw at at is in rw (e, ← h) p
 
   pub closed-piece : part ≡ Closed → (b : Bool) → b ≡ isClosed r i → Appended o a (closedPiece i b) o₁ a₁ → Appended o a (pieceOf r part i) o₁ a₁
   closed-piece e b is p = rw (e, ← is) p
 
-  pub train-piece : part ≡ Trains → (t : Train) → t ≡ trainOf r i → Appended o a (trainLine (suc i) (lineOfTrain t)) o₁ a₁ → Appended o a (pieceOf r part i) o₁ a₁
+  pub train-piece : part ≡ Trains → (t : Train) → t ≡ trainOf r i
+      → Appended o a (trainLine (suc i) (lineOfTrain t)) o₁ a₁ → Appended o a (pieceOf r part i) o₁ a₁
   train-piece e t is p = rw (e, ← is) p

@@ -63,7 +63,8 @@ shut-written w after p =
     room-enough shut (replicate 4096 7) w after p (written-shut .1) (omega (arith, l)) ∙ ap (λ (s : List ℕ). some (length s)) (written-shut .0)
 
 closed-read : (w : Written) (after : List ℕ) (p : WriterPost shut (replicate 4096 7) w after)
-    → let b = bytes-read-back shut (replicate 4096 7) w after p 34 (shut-written w after p) in (closedAt (b .railway) 2 ≡ true) × (closedAt (b .railway) 1 ≡ false)
+    → let b = bytes-read-back shut (replicate 4096 7) w after p 34 (shut-written w after p) in
+    (closedAt (b .railway) 2 ≡ true) × (closedAt (b .railway) 1 ≡ false)
 unfolding withJoin withClosed withTrain
 closed-read w after p =
     let b = bytes-read-back shut (replicate 4096 7) w after p 34 (shut-written w after p) in

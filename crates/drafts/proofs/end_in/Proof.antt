@@ -19,16 +19,24 @@ cast-i-2 : tie.Need-cast-i-2
 cast-i-2 c = let k = c .before .within2 .ensures .small (c .if2 .taken) in omega arith
 
 returns : tie.Need-returns
-returns c = let w = c .before in let g = w .before .before .e .given in section-there (w .before .before .before .before .args .r) _ _ (g .0 .0) (g .0 .1 .0) (g .1) (w .within .ensures .is) (c .if1 .taken)
+returns c =
+    let w = c .before in let g = w .before .before .e .given in let a = w .before .before .before .before .args in
+    section-there (a .r) _ _ (g .0 .0) (g .0 .1 .0) (g .1) (w .within .ensures .is) (c .if1 .taken)
 
 returns-2 : tie.Need-returns-2
-returns-2 c = let w = c .before in let g = w .before .before .e .given in section-not (w .before .before .before .before .args .r) _ _ (g .0 .0) (g .0 .1 .0) (g .1) (w .within .ensures .is) (c .if1 .left)
+returns-2 c =
+    let w = c .before in let g = w .before .before .e .given in let a = w .before .before .before .before .args in
+    section-not (a .r) _ _ (g .0 .0) (g .0 .1 .0) (g .1) (w .within .ensures .is) (c .if1 .left)
 
 returns-3 : tie.Need-returns-3
-returns-3 c = let w = c .before in let g = w .before .before .e2 .given in port-there (w .before .before .before .before .args .r) _ _ (g .0 .0) (g .0 .1 .0) (g .1) (w .within2 .ensures .is) (c .if2 .taken)
+returns-3 c =
+    let w = c .before in let g = w .before .before .e2 .given in let a = w .before .before .before .before .args in
+    port-there (a .r) _ _ (g .0 .0) (g .0 .1 .0) (g .1) (w .within2 .ensures .is) (c .if2 .taken)
 
 returns-4 : tie.Need-returns-4
-returns-4 c = let w = c .before in let g = w .before .before .e2 .given in port-not (w .before .before .before .before .args .r) _ _ (g .0 .0) (g .0 .1 .0) (g .1) (w .within2 .ensures .is) (c .if2 .left)
+returns-4 c =
+    let w = c .before in let g = w .before .before .e2 .given in let a = w .before .before .before .before .args in
+    port-not (a .r) _ _ (g .0 .0) (g .0 .1 .0) (g .1) (w .within2 .ensures .is) (c .if2 .left)
 
 pub end-in-spec : {M : Type 1} → statement M
 end-in-spec =

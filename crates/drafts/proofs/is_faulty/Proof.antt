@@ -11,13 +11,28 @@ returns : tie.Need-returns
 returns c = faulty-pair _ _ (sym (c .before .wrong-pair .ensures) ∙ c .if1 .taken)
 
 returns-2 : tie.Need-returns-2
-returns-2 c = let y = c .before in let x = y .before .before in let w = x .before .before .before in faulty-free _ _ _ (sym (w .before .wrong-pair .ensures) ∙ w .if1 .left) (ap unjoined (sym (x .before .before .joined .ensures)) ∙ sym (x .before .is-unjoined .ensures) ∙ x .if2 .taken) (ap unjoined (sym (y .before .joined2 .ensures)) ∙ sym (y .is-unjoined2 .ensures) ∙ c .if3 .taken)
+returns-2 c =
+    let y = c .before in
+    let x = y .before .before in
+    let w = x .before .before .before in
+    faulty-free _ _ _ (sym (w .before .wrong-pair .ensures) ∙ w .if1 .left)
+    (ap unjoined (sym (x .before .before .joined .ensures)) ∙ sym (x .before .is-unjoined .ensures) ∙ x .if2 .taken)
+    (ap unjoined (sym (y .before .joined2 .ensures)) ∙ sym (y .is-unjoined2 .ensures) ∙ c .if3 .taken)
 
 returns-3 : tie.Need-returns-3
-returns-3 c = let y = c .before in let x = y .before .before in let w = x .before .before .before in faulty-second _ _ _ (sym (w .before .wrong-pair .ensures) ∙ w .if1 .left) (ap unjoined (sym (x .before .before .joined .ensures)) ∙ sym (x .before .is-unjoined .ensures) ∙ x .if2 .taken) (ap unjoined (sym (y .before .joined2 .ensures)) ∙ sym (y .is-unjoined2 .ensures) ∙ c .if3 .left)
+returns-3 c =
+    let y = c .before in
+    let x = y .before .before in
+    let w = x .before .before .before in
+    faulty-second _ _ _ (sym (w .before .wrong-pair .ensures) ∙ w .if1 .left)
+    (ap unjoined (sym (x .before .before .joined .ensures)) ∙ sym (x .before .is-unjoined .ensures) ∙ x .if2 .taken)
+    (ap unjoined (sym (y .before .joined2 .ensures)) ∙ sym (y .is-unjoined2 .ensures) ∙ c .if3 .left)
 
 returns-4 : tie.Need-returns-4
-returns-4 c = let w = c .before .before .before in faulty-first _ _ _ (sym (w .before .wrong-pair .ensures) ∙ w .if1 .left) (ap unjoined (sym (c .before .before .joined .ensures)) ∙ sym (c .before .is-unjoined .ensures) ∙ c .if2 .left)
+returns-4 c =
+    let w = c .before .before .before in
+    faulty-first _ _ _ (sym (w .before .wrong-pair .ensures) ∙ w .if1 .left)
+    (ap unjoined (sym (c .before .before .joined .ensures)) ∙ sym (c .before .is-unjoined .ensures) ∙ c .if2 .left)
 
 pub is-faulty-spec : {M : Type 1} → statement M
 is-faulty-spec =

@@ -14,10 +14,21 @@ cast-x : tie.Need-cast-x
 cast-x c = let k = c .before .within .ensures .small (c .if1 .taken) in omega arith
 
 returns : tie.Need-returns
-returns c = let v = c .before in let k = v .before in let t = k .before in let w = t .before in let a = w .before .before .args in closed-in (a .d) (a .n) _ (w .within .ensures .is) (t .if1 .taken) _ (v .with-closed .ensures) _ (k .closed-at .ensures)
+returns c =
+    let v = c .before in
+    let k = v .before in
+    let t = k .before in
+    let w = t .before in
+    let a = w .before .before .args in
+    closed-in (a .d) (a .n) _ (w .within .ensures .is) (t .if1 .taken) _ (v .with-closed .ensures) _
+    (k .closed-at .ensures)
 
 returns-2 : tie.Need-returns-2
-returns-2 c = let e = c .before in let w = e .before in let a = w .before .before .args in c .noted .ensures ∙ closed-not (a .d) (a .n) _ (w .within .ensures .is) (e .if1 .left)
+returns-2 c =
+    let e = c .before in
+    let w = e .before in
+    let a = w .before .before .args in
+    c .noted .ensures ∙ closed-not (a .d) (a .n) _ (w .within .ensures .is) (e .if1 .left)
 
 pub put-closed-spec : {M : Type 1} → statement M
 put-closed-spec =

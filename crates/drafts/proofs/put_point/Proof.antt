@@ -13,7 +13,10 @@ cast-i : tie.Need-cast-i
 cast-i c = let k = c .before .within .ensures .small (c .if1 .taken) in omega arith
 
 returns : tie.Need-returns
-returns c = let w = c .before .before in let a = w .before .before .args in point-in (a .d) (a .n) (a .side) _ (w .within .ensures .is) (c .before .if1 .taken) _ (c .with-legs .ensures)
+returns c =
+    let w = c .before .before in
+    let a = w .before .before .args in
+    point-in (a .d) (a .n) (a .side) _ (w .within .ensures .is) (c .before .if1 .taken) _ (c .with-legs .ensures)
 
 returns-2 : tie.Need-returns-2
 returns-2 c = let w = c .before in let a = w .before .before .args in point-out (a .d) (a .n) (a .side) _ (w .within .ensures .is) (c .if1 .left)

@@ -10,8 +10,13 @@ use Rattle.drafts.proofs.put_train.Statement.{statement}
 use Rattle.drafts.proofs.put_train.Tie as tie
 
 -- where all three are there
-there : (c : tie.Then1) → (c .before .before .before .within .result ≡ true) × (c .before .before .within2 .result ≡ true) × (c .before .within3 .result ≡ true)
-there c = all-three (c .before .before .before .within .result) (c .before .before .within2 .result) (c .before .within3 .result) (c .if1 .taken)
+there : (c : tie.Then1)
+    → (c .before .before .before .within .result ≡ true) × (c .before .before .within2 .result ≡ true) ×
+    (c .before .within3 .result ≡ true)
+there c =
+    let within2 = c .before .before in
+    let within = within2 .before in
+    all-three (within .within .result) (within2 .within2 .result) (c .before .within3 .result) (c .if1 .taken)
 
 sub-t : tie.Need-sub-t
 sub-t c = let k = c .before .before .before .within .ensures .small (there c .0) in omega arith
@@ -39,7 +44,9 @@ returns c =
     let v = w1 .before .before in
     let s = v .before in
     let a = s .before .args in
-    train-in (a .d) (a .n) (trainNamed (a .heading) (a .start) (a .destination) (a .weight)) _ (s .said .ensures) _ (v .weighed .ensures) _ _ _ (w1 .within .ensures .is) (w2 .within2 .ensures .is) (w3 .within3 .ensures .is) (c .before .if1 .taken) _ (c .with-train .ensures)
+    train-in (a .d) (a .n) (trainNamed (a .heading) (a .start) (a .destination) (a .weight)) _ (s .said .ensures) _
+    (v .weighed .ensures) _ _ _ (w1 .within .ensures .is) (w2 .within2 .ensures .is) (w3 .within3 .ensures .is)
+    (c .before .if1 .taken) _ (c .with-train .ensures)
 
 returns-2 : tie.Need-returns-2
 returns-2 c =
@@ -49,7 +56,9 @@ returns-2 c =
     let v = w1 .before .before in
     let s = v .before in
     let a = s .before .args in
-    c .noted .ensures ∙ train-not (a .d) (a .n) (trainNamed (a .heading) (a .start) (a .destination) (a .weight)) _ (s .said .ensures) _ (v .weighed .ensures) _ _ _ (w1 .within .ensures .is) (w2 .within2 .ensures .is) (w3 .within3 .ensures .is) (c .before .if1 .left)
+    c .noted .ensures ∙ train-not (a .d) (a .n) (trainNamed (a .heading) (a .start) (a .destination) (a .weight)) _
+    (s .said .ensures) _ (v .weighed .ensures) _ _ _ (w1 .within .ensures .is) (w2 .within2 .ensures .is)
+    (w3 .within3 .ensures .is) (c .before .if1 .left)
 
 pub put-train-spec : {M : Type 1} → statement M
 put-train-spec =

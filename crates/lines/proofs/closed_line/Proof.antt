@@ -3,49 +3,41 @@
 use borrow.Author.Needs.{needs}
 use native.Mathlib.Omega.{arith}
 use denote.Ref.{now}
-use mathlib.Core.Path.{refl, sym, _∙_, ap}
+use mathlib.Core.Path.{refl}
 use Prim.Native.Nat.{ℕ}
 use Rattle.text.specs.Answers.{numberGot}
 use Rattle.casefile.specs.Reading.{closedLineAt}
-use Rattle.text.proofs.Chain.{byte-fails, byte-goes}
-use Rattle.lines.proofs.Chain.{Left, whole, onward, tab-fails, tab-goes}
+use Rattle.lines.proofs.Chain.{Left, whole, tab-on, tab-off, byte-on, byte-off}
 use Rattle.lines.proofs.closed_line.Statement.{statement}
 use Rattle.lines.proofs.closed_line.Tie as tie
 
 -- the line behind each of its fields
+abbrev all : tie.After-byte-at → Left ℕ
+all k = let a = k .before .before .args in whole (closedLineAt (now (a .text)) (a .c .at))
+
 abbrev past-letter : tie.After-c1 → Left ℕ
 unfolding closedLineAt
 past-letter k =
-    let a = k .before .before .before .before .args in
-    onward (whole (closedLineAt (now (a .text)) (a .c .at))) (byte-goes _ 88 _ (omega arith) _ (k .before .before .byte-at .ensures) _ (k .c1 .given .1) _ refl)
+    let b = k .before .before in byte-on (all b) _ 88 _ (omega arith) _ refl (b .byte-at .ensures) (k .c1 .given .1)
 
 abbrev past-number : tie.After-n → Left ℕ
 unfolding closedLineAt
-past-number k = onward (past-letter (k .before .before .before .before)) (tab-goes _ _ _ _ (sym (k .before .before .tab-number .ensures) ∙ ap numberGot (k .n .given .1)) refl)
+past-number k = let b = k .before .before in
+    tab-on (past-letter (b .before .before)) numberGot _ _ _ _ refl (b .tab-number .ensures) (k .n .given .1) refl
 
 abbrev past-end : tie.After-c3 → Left ℕ
 unfolding closedLineAt
-past-end k = onward (past-number (k .before .before .before .before)) (byte-goes _ 10 _ (omega arith) _ (k .before .before .byte-at2 .ensures) _ (k .c3 .given .1) _ refl)
-
-returns : tie.Need-returns
-unfolding closedLineAt
-returns c = byte-fails (now (c .before .before .before .before .args .text)) 88 _ (omega arith) _ (c .before .before .byte-at .ensures) (c .enum-told .given .1) _
-
-returns-2 : tie.Need-returns-2
-unfolding closedLineAt
-returns-2 c = tab-fails _ _ _ _ (sym (c .before .before .tab-number .ensures) ∙ ap numberGot (c .enum-told2 .given .1)) ∙ past-letter (c .before .before .before .before) .gives
-
-returns-3 : tie.Need-returns-3
-unfolding closedLineAt
-returns-3 c = byte-fails _ 10 _ (omega arith) _ (c .before .before .byte-at2 .ensures) (c .enum-told3 .given .1) _ ∙ past-number (c .before .before .before .before) .gives
-
-returns-4 : tie.Need-returns-4
-unfolding closedLineAt
-returns-4 c = past-end (c .before) .gives
+past-end k = let b = k .before .before in
+    byte-on (past-number (b .before .before)) _ 10 _ (omega arith) _ refl (b .byte-at2 .ensures) (k .c3 .given .1)
 
 pub closed-line-spec : {M : Type 1} → statement M
+unfolding closedLineAt
 closed-line-spec =
     tie.close (tie.spec
-    (λ c κs. search needs) (λ c. search needs) (λ c. search needs) returns (λ c κs. search needs)
-    (λ c. search needs) (λ c. search needs) returns-2 (λ c κs. search needs) (λ c. search needs)
-    (λ c. search needs) returns-3 returns-4)
+    (λ c κs. search needs) (λ c. search needs) (λ c. search needs) (λ c. let b = c .before .before in
+    byte-off (all b) _ 88 _ (omega arith) _ refl (b .byte-at .ensures) (c .enum-told .given .1))
+    (λ c κs. search needs) (λ c. search needs) (λ c. search needs) (λ c. let b = c .before .before in
+    tab-off (past-letter (b .before .before)) numberGot _ _ _ _ refl (b .tab-number .ensures) (c .enum-told2 .given .1) refl)
+    (λ c κs. search needs) (λ c. search needs) (λ c. search needs) (λ c. let b = c .before .before in
+    byte-off (past-number (b .before .before)) _ 10 _ (omega arith) _ refl (b .byte-at2 .ensures) (c .enum-told3 .given .1))
+    (λ c. past-end (c .before) .gives))

@@ -17,15 +17,33 @@ returns c = fails _ (sym (c .before .before .number-at .ensures) ∙ ap numberGo
 
 returns-2 : tie.Need-returns-2
 unfolding endFieldAt
-returns-2 c = let a = c .before .before .before in let n = a .before .before .before in let s = now (n .before .before .before .before .before .args .text) in goes _ (sym (n .before .before .before .number-at .ensures) ∙ ap numberGot (n .before .n .given .1)) (mark-none s _ _ (sym (a .before .before .side-field .ensures) ∙ ap sideGot (a .enum-told2 .given .1)) (sym (c .before .before .leg-field .ensures) ∙ ap legGot (c .enum-told3 .given .1)))
+returns-2 c =
+    let a = c .before .before .before in
+    let n = a .before .before .before in
+    let s = now (n .before .before .before .before .before .args .text) in
+    goes _ (sym (n .before .before .before .number-at .ensures) ∙ ap numberGot (n .before .n .given .1))
+    (mark-none s _ _ (sym (a .before .before .side-field .ensures) ∙ ap sideGot (a .enum-told2 .given .1))
+    (sym (c .before .before .leg-field .ensures) ∙ ap legGot (c .enum-told3 .given .1)))
 
 returns-3 : tie.Need-returns-3
 unfolding endFieldAt
-returns-3 c = let k = c .before .before .before in let a = k .before in let n = a .before .before .before in let s = now (n .before .before .before .before .before .args .text) in goes _ (sym (n .before .before .before .number-at .ensures) ∙ ap numberGot (n .before .n .given .1)) (mark-leg s _ _ _ _ (sym (a .before .before .side-field .ensures) ∙ ap sideGot (a .enum-told2 .given .1)) (sym (k .leg-field .ensures) ∙ ap legGot (c .before .leg .given .1)))
+returns-3 c =
+    let k = c .before .before .before in
+    let a = k .before in
+    let n = a .before .before .before in
+    let s = now (n .before .before .before .before .before .args .text) in
+    goes _ (sym (n .before .before .before .number-at .ensures) ∙ ap numberGot (n .before .n .given .1))
+    (mark-leg s _ _ _ _ (sym (a .before .before .side-field .ensures) ∙ ap sideGot (a .enum-told2 .given .1))
+    (sym (k .leg-field .ensures) ∙ ap legGot (c .before .leg .given .1)))
 
 returns-4 : tie.Need-returns-4
 unfolding endFieldAt
-returns-4 c = let k = c .before .before .before in let n = k .before in let s = now (n .before .before .before .before .before .args .text) in goes _ (sym (n .before .before .before .number-at .ensures) ∙ ap numberGot (n .before .n .given .1)) (mark-side s _ _ _ _ (sym (k .side-field .ensures) ∙ ap sideGot (c .before .side .given .1)))
+returns-4 c =
+    let k = c .before .before .before in
+    let n = k .before in
+    let s = now (n .before .before .before .before .before .args .text) in
+    goes _ (sym (n .before .before .before .number-at .ensures) ∙ ap numberGot (n .before .n .given .1))
+    (mark-side s _ _ _ _ (sym (k .side-field .ensures) ∙ ap sideGot (c .before .side .given .1)))
 
 pub end-field-spec : {M : Type 1} → statement M
 end-field-spec =

@@ -3,65 +3,54 @@
 use borrow.Author.Needs.{needs}
 use native.Mathlib.Omega.{arith}
 use denote.Ref.{now}
-use mathlib.Core.Path.{refl, sym, _∙_, ap}
+use mathlib.Core.Path.{refl}
 use Rattle.text.specs.Answers.{numberGot}
 use Rattle.casefile.specs.Reading.{Counts, headerAt}
-use Rattle.text.proofs.Chain.{byte-fails, byte-goes}
-use Rattle.lines.proofs.Chain.{Left, whole, onward, tab-fails, tab-goes}
+use Rattle.lines.proofs.Chain.{Left, whole, tab-on, tab-off, byte-on, byte-off}
 use Rattle.lines.proofs.header_line.Statement.{statement}
 use Rattle.lines.proofs.header_line.Tie as tie
 
 -- the line behind each of its fields
+abbrev all : tie.After-byte-at → Left Counts
+all k = let a = k .before .before .args in whole (headerAt (now (a .text)) (a .c .at))
+
 abbrev past-letter : tie.After-c1 → Left Counts
 unfolding headerAt
 past-letter k =
-    let a = k .before .before .before .before .args in
-    onward (whole (headerAt (now (a .text)) (a .c .at))) (byte-goes _ 72 _ (omega arith) _ (k .before .before .byte-at .ensures) _ (k .c1 .given .1) _ refl)
+    let b = k .before .before in byte-on (all b) _ 72 _ (omega arith) _ refl (b .byte-at .ensures) (k .c1 .given .1)
 
 abbrev past-sections : tie.After-sections → Left Counts
 unfolding headerAt
-past-sections k = onward (past-letter (k .before .before .before .before)) (tab-goes _ _ _ _ (sym (k .before .before .tab-number .ensures) ∙ ap numberGot (k .sections .given .1)) refl)
+past-sections k = let b = k .before .before in
+    tab-on (past-letter (b .before .before)) numberGot _ _ _ _ refl (b .tab-number .ensures) (k .sections .given .1) refl
 
 abbrev past-points : tie.After-points → Left Counts
 unfolding headerAt
-past-points k = onward (past-sections (k .before .before .before .before)) (tab-goes _ _ _ _ (sym (k .before .before .tab-number2 .ensures) ∙ ap numberGot (k .points .given .1)) refl)
+past-points k = let b = k .before .before in
+    tab-on (past-sections (b .before .before)) numberGot _ _ _ _ refl (b .tab-number2 .ensures) (k .points .given .1) refl
 
 abbrev past-trains : tie.After-trains → Left Counts
 unfolding headerAt
-past-trains k = onward (past-points (k .before .before .before .before)) (tab-goes _ _ _ _ (sym (k .before .before .tab-number3 .ensures) ∙ ap numberGot (k .trains .given .1)) refl)
+past-trains k = let b = k .before .before in
+    tab-on (past-points (b .before .before)) numberGot _ _ _ _ refl (b .tab-number3 .ensures) (k .trains .given .1) refl
 
 abbrev past-end : tie.After-c5 → Left Counts
 unfolding headerAt
-past-end k = onward (past-trains (k .before .before .before .before)) (byte-goes _ 10 _ (omega arith) _ (k .before .before .byte-at2 .ensures) _ (k .c5 .given .1) _ refl)
-
-returns : tie.Need-returns
-unfolding headerAt
-returns c = byte-fails (now (c .before .before .before .before .args .text)) 72 _ (omega arith) _ (c .before .before .byte-at .ensures) (c .enum-told .given .1) _
-
-returns-2 : tie.Need-returns-2
-unfolding headerAt
-returns-2 c = tab-fails _ _ _ _ (sym (c .before .before .tab-number .ensures) ∙ ap numberGot (c .enum-told2 .given .1)) ∙ past-letter (c .before .before .before .before) .gives
-
-returns-3 : tie.Need-returns-3
-unfolding headerAt
-returns-3 c = tab-fails _ _ _ _ (sym (c .before .before .tab-number2 .ensures) ∙ ap numberGot (c .enum-told3 .given .1)) ∙ past-sections (c .before .before .before .before) .gives
-
-returns-4 : tie.Need-returns-4
-unfolding headerAt
-returns-4 c = tab-fails _ _ _ _ (sym (c .before .before .tab-number3 .ensures) ∙ ap numberGot (c .enum-told4 .given .1)) ∙ past-points (c .before .before .before .before) .gives
-
-returns-5 : tie.Need-returns-5
-unfolding headerAt
-returns-5 c = byte-fails _ 10 _ (omega arith) _ (c .before .before .byte-at2 .ensures) (c .enum-told5 .given .1) _ ∙ past-trains (c .before .before .before .before) .gives
-
-returns-6 : tie.Need-returns-6
-unfolding headerAt
-returns-6 c = past-end (c .before) .gives
+past-end k = let b = k .before .before in
+    byte-on (past-trains (b .before .before)) _ 10 _ (omega arith) _ refl (b .byte-at2 .ensures) (k .c5 .given .1)
 
 pub header-line-spec : {M : Type 1} → statement M
+unfolding headerAt
 header-line-spec =
     tie.close (tie.spec
-    (λ c κs. search needs) (λ c. search needs) (λ c. search needs) returns (λ c κs. search needs)
-    (λ c. search needs) (λ c. search needs) returns-2 (λ c κs. search needs) (λ c. search needs)
-    (λ c. search needs) returns-3 (λ c κs. search needs) (λ c. search needs) (λ c. search needs) returns-4
-    (λ c κs. search needs) (λ c. search needs) (λ c. search needs) returns-5 returns-6)
+    (λ c κs. search needs) (λ c. search needs) (λ c. search needs) (λ c. let b = c .before .before in
+    byte-off (all b) _ 72 _ (omega arith) _ refl (b .byte-at .ensures) (c .enum-told .given .1))
+    (λ c κs. search needs) (λ c. search needs) (λ c. search needs) (λ c. let b = c .before .before in
+    tab-off (past-letter (b .before .before)) numberGot _ _ _ _ refl (b .tab-number .ensures) (c .enum-told2 .given .1) refl)
+    (λ c κs. search needs) (λ c. search needs) (λ c. search needs) (λ c. let b = c .before .before in
+    tab-off (past-sections (b .before .before)) numberGot _ _ _ _ refl (b .tab-number2 .ensures) (c .enum-told3 .given .1) refl)
+    (λ c κs. search needs) (λ c. search needs) (λ c. search needs) (λ c. let b = c .before .before in
+    tab-off (past-points (b .before .before)) numberGot _ _ _ _ refl (b .tab-number3 .ensures) (c .enum-told4 .given .1) refl)
+    (λ c κs. search needs) (λ c. search needs) (λ c. search needs) (λ c. let b = c .before .before in
+    byte-off (past-trains (b .before .before)) _ 10 _ (omega arith) _ refl (b .byte-at2 .ensures) (c .enum-told5 .given .1))
+    (λ c. past-end (c .before) .gives))

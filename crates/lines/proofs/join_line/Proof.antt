@@ -3,58 +3,48 @@
 use borrow.Author.Needs.{needs}
 use native.Mathlib.Omega.{arith}
 use denote.Ref.{now}
-use mathlib.Core.Path.{refl, sym, _∙_, ap}
+use mathlib.Core.Path.{refl}
 use Rattle.casefile.specs.Form.{JoinLine}
 use Rattle.casefile.specs.Reading.{joinLineAt}
 use Rattle.lines.specs.Answers.{endGot}
-use Rattle.text.proofs.Chain.{byte-fails, byte-goes}
-use Rattle.lines.proofs.Chain.{Left, whole, onward, tab-fails, tab-goes}
+use Rattle.lines.proofs.Chain.{Left, whole, tab-on, tab-off, byte-on, byte-off}
 use Rattle.lines.proofs.join_line.Statement.{statement}
 use Rattle.lines.proofs.join_line.Tie as tie
 
 -- the line behind each of its fields
+abbrev all : tie.After-byte-at → Left JoinLine
+all k = let a = k .before .before .args in whole (joinLineAt (now (a .text)) (a .c .at))
+
 abbrev past-letter : tie.After-c1 → Left JoinLine
 unfolding joinLineAt
 past-letter k =
-    let a = k .before .before .before .before .args in
-    onward (whole (joinLineAt (now (a .text)) (a .c .at))) (byte-goes _ 74 _ (omega arith) _ (k .before .before .byte-at .ensures) _ (k .c1 .given .1) _ refl)
+    let b = k .before .before in byte-on (all b) _ 74 _ (omega arith) _ refl (b .byte-at .ensures) (k .c1 .given .1)
 
 abbrev past-one : tie.After-one → Left JoinLine
 unfolding joinLineAt
-past-one k = onward (past-letter (k .before .before .before .before)) (tab-goes _ _ _ _ (sym (k .before .before .tab-end .ensures) ∙ ap endGot (k .one .given .1)) refl)
+past-one k = let b = k .before .before in
+    tab-on (past-letter (b .before .before)) endGot _ _ _ _ refl (b .tab-end .ensures) (k .one .given .1) refl
 
 abbrev past-other : tie.After-other → Left JoinLine
 unfolding joinLineAt
-past-other k = onward (past-one (k .before .before .before .before)) (tab-goes _ _ _ _ (sym (k .before .before .tab-end2 .ensures) ∙ ap endGot (k .other .given .1)) refl)
+past-other k = let b = k .before .before in
+    tab-on (past-one (b .before .before)) endGot _ _ _ _ refl (b .tab-end2 .ensures) (k .other .given .1) refl
 
 abbrev past-end : tie.After-c4 → Left JoinLine
 unfolding joinLineAt
-past-end k = onward (past-other (k .before .before .before .before)) (byte-goes _ 10 _ (omega arith) _ (k .before .before .byte-at2 .ensures) _ (k .c4 .given .1) _ refl)
-
-returns : tie.Need-returns
-unfolding joinLineAt
-returns c = byte-fails (now (c .before .before .before .before .args .text)) 74 _ (omega arith) _ (c .before .before .byte-at .ensures) (c .enum-told .given .1) _
-
-returns-2 : tie.Need-returns-2
-unfolding joinLineAt
-returns-2 c = tab-fails _ _ _ _ (sym (c .before .before .tab-end .ensures) ∙ ap endGot (c .enum-told2 .given .1)) ∙ past-letter (c .before .before .before .before) .gives
-
-returns-3 : tie.Need-returns-3
-unfolding joinLineAt
-returns-3 c = tab-fails _ _ _ _ (sym (c .before .before .tab-end2 .ensures) ∙ ap endGot (c .enum-told3 .given .1)) ∙ past-one (c .before .before .before .before) .gives
-
-returns-4 : tie.Need-returns-4
-unfolding joinLineAt
-returns-4 c = byte-fails _ 10 _ (omega arith) _ (c .before .before .byte-at2 .ensures) (c .enum-told4 .given .1) _ ∙ past-other (c .before .before .before .before) .gives
-
-returns-5 : tie.Need-returns-5
-unfolding joinLineAt
-returns-5 c = past-end (c .before) .gives
+past-end k = let b = k .before .before in
+    byte-on (past-other (b .before .before)) _ 10 _ (omega arith) _ refl (b .byte-at2 .ensures) (k .c4 .given .1)
 
 pub join-line-spec : {M : Type 1} → statement M
+unfolding joinLineAt
 join-line-spec =
     tie.close (tie.spec
-    (λ c κs. search needs) (λ c. search needs) (λ c. search needs) returns (λ c κs. search needs)
-    (λ c. search needs) (λ c. search needs) returns-2 (λ c κs. search needs) (λ c. search needs)
-    (λ c. search needs) returns-3 (λ c κs. search needs) (λ c. search needs) (λ c. search needs) returns-4
-    returns-5)
+    (λ c κs. search needs) (λ c. search needs) (λ c. search needs) (λ c. let b = c .before .before in
+    byte-off (all b) _ 74 _ (omega arith) _ refl (b .byte-at .ensures) (c .enum-told .given .1))
+    (λ c κs. search needs) (λ c. search needs) (λ c. search needs) (λ c. let b = c .before .before in
+    tab-off (past-letter (b .before .before)) endGot _ _ _ _ refl (b .tab-end .ensures) (c .enum-told2 .given .1) refl)
+    (λ c κs. search needs) (λ c. search needs) (λ c. search needs) (λ c. let b = c .before .before in
+    tab-off (past-one (b .before .before)) endGot _ _ _ _ refl (b .tab-end2 .ensures) (c .enum-told3 .given .1) refl)
+    (λ c κs. search needs) (λ c. search needs) (λ c. search needs) (λ c. let b = c .before .before in
+    byte-off (past-other (b .before .before)) _ 10 _ (omega arith) _ refl (b .byte-at2 .ensures) (c .enum-told4 .given .1))
+    (λ c. past-end (c .before) .gives))

@@ -3,63 +3,50 @@
 use borrow.Author.Needs.{needs}
 use native.Mathlib.Omega.{arith}
 use denote.Ref.{now}
-use mathlib.Core.Path.{refl, sym, _∙_, ap}
+use mathlib.Core.Path.{refl, _∙_}
 use Rattle.text.specs.Answers.{numberGot}
 use Rattle.railway.specs.declared.Side.{Side}
 use Rattle.casefile.specs.Reading.{pointLineAt}
 use Rattle.lines.specs.Answers.{sideGot}
-use Rattle.text.proofs.Chain.{byte-fails, byte-goes}
-use Rattle.lines.proofs.Chain.{Left, whole, onward, tab-fails, tab-goes, number-due, number-other}
+use Rattle.lines.proofs.Chain.{Left, whole, tab-on, tab-off, byte-on, byte-off, number-due, number-other}
 use Rattle.lines.proofs.point_line.Statement.{statement}
 use Rattle.lines.proofs.point_line.Tie as tie
 
 -- the line behind each of its fields
+abbrev all : tie.After-byte-at → Left Side
+all k = let a = k .before .before .args in whole (pointLineAt (now (a .text)) (a .n) (a .c .at))
+
 abbrev past-letter : tie.After-c1 → Left Side
 unfolding pointLineAt
 past-letter k =
-    let a = k .before .before .before .before .args in
-    onward (whole (pointLineAt (now (a .text)) (a .n) (a .c .at))) (byte-goes _ 80 _ (omega arith) _ (k .before .before .byte-at .ensures) _ (k .c1 .given .1) _ refl)
+    let b = k .before .before in byte-on (all b) _ 80 _ (omega arith) _ refl (b .byte-at .ensures) (k .c1 .given .1)
 
 abbrev past-number : tie.After-m → Left Side
 unfolding pointLineAt
-past-number k = onward (past-letter (k .before .before .before .before)) (tab-goes _ _ _ _ (sym (k .before .before .tab-number .ensures) ∙ ap numberGot (k .m .given .1)) refl)
+past-number k = let b = k .before .before in
+    tab-on (past-letter (b .before .before)) numberGot _ _ _ _ refl (b .tab-number .ensures) (k .m .given .1) refl
 
 abbrev past-side : tie.After-side → Left Side
 unfolding pointLineAt
-past-side k = onward (past-number (k .before .before .before .before)) (tab-goes _ _ _ _ (sym (k .before .before .tab-side .ensures) ∙ ap sideGot (k .side .given .1)) refl)
+past-side k = let b = k .before .before in
+    tab-on (past-number (b .before .before)) sideGot _ _ _ _ refl (b .tab-side .ensures) (k .side .given .1) refl
 
 abbrev past-end : tie.After-c4 → Left Side
 unfolding pointLineAt
-past-end k = onward (past-side (k .before .before .before .before)) (byte-goes _ 10 _ (omega arith) _ (k .before .before .byte-at2 .ensures) _ (k .c4 .given .1) _ refl)
-
-returns : tie.Need-returns
-unfolding pointLineAt
-returns c = byte-fails (now (c .before .before .before .before .args .text)) 80 _ (omega arith) _ (c .before .before .byte-at .ensures) (c .enum-told .given .1) _
-
-returns-2 : tie.Need-returns-2
-unfolding pointLineAt
-returns-2 c = tab-fails _ _ _ _ (sym (c .before .before .tab-number .ensures) ∙ ap numberGot (c .enum-told2 .given .1)) ∙ past-letter (c .before .before .before .before) .gives
-
-returns-3 : tie.Need-returns-3
-unfolding pointLineAt
-returns-3 c = tab-fails _ _ _ _ (sym (c .before .before .tab-side .ensures) ∙ ap sideGot (c .enum-told3 .given .1)) ∙ past-number (c .before .before .before .before) .gives
-
-returns-4 : tie.Need-returns-4
-unfolding pointLineAt
-returns-4 c = byte-fails _ 10 _ (omega arith) _ (c .before .before .byte-at2 .ensures) (c .enum-told4 .given .1) _ ∙ past-side (c .before .before .before .before) .gives
-
-returns-5 : tie.Need-returns-5
-unfolding pointLineAt
-returns-5 c = number-due _ _ (c .if1 .taken) ∙ past-end (c .before .before) .gives
-
-returns-6 : tie.Need-returns-6
-unfolding pointLineAt
-returns-6 c = number-other _ _ _ (c .if1 .left) ∙ past-end (c .before .before) .gives
+past-end k = let b = k .before .before in
+    byte-on (past-side (b .before .before)) _ 10 _ (omega arith) _ refl (b .byte-at2 .ensures) (k .c4 .given .1)
 
 pub point-line-spec : {M : Type 1} → statement M
+unfolding pointLineAt
 point-line-spec =
     tie.close (tie.spec
-    (λ c κs. search needs) (λ c. search needs) (λ c. search needs) returns (λ c κs. search needs)
-    (λ c. search needs) (λ c. search needs) returns-2 (λ c κs. search needs) (λ c. search needs)
-    (λ c. search needs) returns-3 (λ c κs. search needs) (λ c. search needs) (λ c. search needs) returns-4
-    returns-5 returns-6)
+    (λ c κs. search needs) (λ c. search needs) (λ c. search needs) (λ c. let b = c .before .before in
+    byte-off (all b) _ 80 _ (omega arith) _ refl (b .byte-at .ensures) (c .enum-told .given .1))
+    (λ c κs. search needs) (λ c. search needs) (λ c. search needs) (λ c. let b = c .before .before in
+    tab-off (past-letter (b .before .before)) numberGot _ _ _ _ refl (b .tab-number .ensures) (c .enum-told2 .given .1) refl)
+    (λ c κs. search needs) (λ c. search needs) (λ c. search needs) (λ c. let b = c .before .before in
+    tab-off (past-number (b .before .before)) sideGot _ _ _ _ refl (b .tab-side .ensures) (c .enum-told3 .given .1) refl)
+    (λ c κs. search needs) (λ c. search needs) (λ c. search needs) (λ c. let b = c .before .before in
+    byte-off (past-side (b .before .before)) _ 10 _ (omega arith) _ refl (b .byte-at2 .ensures) (c .enum-told4 .given .1))
+    (λ c. number-due _ _ (c .if1 .taken) ∙ past-end (c .before .before) .gives)
+    (λ c. number-other _ _ _ (c .if1 .left) ∙ past-end (c .before .before) .gives))

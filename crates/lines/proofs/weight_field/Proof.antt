@@ -21,14 +21,16 @@ returns-2 c =
     let k = c .before .before in
     let b = k .before .before .before .before in
     let s = now (b .before .before .args .text) in
-    weight-none s _ _ (byte-hit s 9 _ (omega arith) _ (b .byte-at .ensures) _ (k .before .before .field .given .1)) (sym (k .number-at .ensures) ∙ ap numberGot (c .enum-told2 .given .1))
+    weight-none s _ _ (byte-hit s 9 _ (omega arith) _ (b .byte-at .ensures) _ (k .before .before .field .given .1))
+    (sym (k .number-at .ensures) ∙ ap numberGot (c .enum-told2 .given .1))
 
 returns-3 : tie.Need-returns-3
 returns-3 c =
     let k = c .before .before .before in
     let b = k .before .before .before .before in
     let s = now (b .before .before .args .text) in
-    weight-said s _ _ (byte-hit s 9 _ (omega arith) _ (b .byte-at .ensures) _ (k .before .before .field .given .1)) _ _ (sym (k .number-at .ensures) ∙ ap numberGot (c .before .w .given .1))
+    weight-said s _ _ (byte-hit s 9 _ (omega arith) _ (b .byte-at .ensures) _
+    (k .before .before .field .given .1)) _ _ (sym (k .number-at .ensures) ∙ ap numberGot (c .before .w .given .1))
 
 pub weight-field-spec : {M : Type 1} → statement M
 weight-field-spec =

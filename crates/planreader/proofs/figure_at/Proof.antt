@@ -12,7 +12,10 @@ returns : tie.Need-returns
 returns c = figure-none _ _ (sym (c .before .before .number-at .ensures) ∙ ap numberGot (c .enum-told .given .1))
 
 returns-2 : tie.Need-returns-2
-returns-2 c = let n = c .before .before in figure-there _ _ (sym (n .before .before .number-at .ensures) ∙ ap numberGot (n .n .given .1)) (omega (arith, c .if1 .taken))
+returns-2 c =
+    let n = c .before .before in
+    figure-there _ _ (sym (n .before .before .number-at .ensures) ∙ ap numberGot (n .n .given .1))
+    (omega (arith, c .if1 .taken))
 
 returns-3 : tie.Need-returns-3
 returns-3 c = let n = c .before .before in figure-high _ _ (sym (n .before .before .number-at .ensures) ∙ ap numberGot (n .n .given .1)) (c .if1 .left)

@@ -3,24 +3,39 @@
 use borrow.Author.Needs.{needs}
 use native.Mathlib.Omega.{arith}
 use denote.Ref.{now}
-use mathlib.Core.Path.{refl, sym, _∙_, ap}
-use Rattle.text.specs.Answers.{numberGot}
-use Rattle.text.proofs.Chain.{fails, goes, byte-fails, byte-goes}
+use mathlib.Core.Path.{refl}
+use Prim.Native.Nat.{ℕ}
+use Rattle.text.specs.Answers.{moreDigits}
+use Rattle.planreader.proofs.Chain.{Left, whole, number-on, number-off, byte-on, byte-off}
 use Rattle.planreader.specs.Walk.{numberTab}
 use Rattle.planreader.proofs.number_tab.Statement.{statement}
 use Rattle.planreader.proofs.number_tab.Tie as tie
 
+-- number and tab, and the tab behind the number
+abbrev all : tie.After-number-at → Left ℕ
+all k =
+    let a = k .before .before .args in
+    whole (numberTab (now (a .text)) (moreDigits (a .w)) (a .c .at))
+
+abbrev past-number : tie.After-n → Left ℕ
+unfolding numberTab
+past-number k = let b = k .before .before in number-on (all b) _ (b .number-at .ensures) (k .n .given .1) refl
+
 returns : tie.Need-returns
 unfolding numberTab
-returns c = fails _ (sym (c .before .before .number-at .ensures) ∙ ap numberGot (c .enum-told .given .1))
+returns c = let b = c .before .before in number-off (all b) _ (b .number-at .ensures) (c .enum-told .given .1) refl
 
 returns-2 : tie.Need-returns-2
 unfolding numberTab
-returns-2 c = let k = c .before .before .before in let n = k .before .before .before in goes _ (sym (n .number-at .ensures) ∙ ap numberGot (k .before .n .given .1)) (byte-fails (now (n .before .before .args .text)) 9 _ (omega arith) _ (c .before .before .byte-at .ensures) (c .enum-told2 .given .1) _)
+returns-2 c =
+    let b = c .before .before in
+    byte-off (past-number (b .before .before)) _ 9 _ (omega arith) _ (b .byte-at .ensures) (c .enum-told2 .given .1) refl
 
 returns-3 : tie.Need-returns-3
 unfolding numberTab
-returns-3 c = let k = c .before .before .before .before in let n = k .before .before .before in goes _ (sym (n .number-at .ensures) ∙ ap numberGot (k .before .n .given .1)) (byte-goes (now (n .before .before .args .text)) 9 _ (omega arith) _ (c .before .before .before .byte-at .ensures) _ (c .before .next .given .1) _ refl)
+returns-3 c =
+    let b = c .before .before .before in
+    byte-on (past-number (b .before .before)) _ 9 _ (omega arith) _ (b .byte-at .ensures) (c .before .next .given .1) refl .gives
 
 pub number-tab-spec : {M : Type 1} → statement M
 number-tab-spec =

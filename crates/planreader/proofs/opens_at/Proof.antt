@@ -18,7 +18,13 @@ abbrev μ-loop : tie.MeasureT-loop
 μ-loop text k at₀ v₀ t₀ at v t = k - t
 
 add-t9 : tie.Need-add-t9 Inv-loop μ-loop
-add-t9 c = omega (arith, byte-inside (now (c .before .before .before .args .text)) _ _ (c .before .peek .ensures) (omega (arith, c .if1 .taken)))
+add-t9 c =
+    let start = c .before .before .before in
+    omega (
+      arith,
+      byte-inside (now (start .args .text)) _ _ (c .before .peek .ensures)
+          (omega (arith, c .if1 .taken)),
+    )
 
 returns : tie.Need-returns Inv-loop μ-loop
 returns c = opens-zero _ _ _ (sym (c .before .peek .ensures) ∙ c .if1 .taken)
@@ -27,10 +33,16 @@ loop-holds : tie.Need-loop-holds Inv-loop μ-loop
 loop-holds c = opens-start _ _ _
 
 add-if2 : tie.Need-add-if2 Inv-loop μ-loop
-add-if2 c = let i = c .before in let l = i .before in omega (arith, l .before .before .before .before .pre, i .loop-test .taken)
+add-if2 c =
+    let i = c .before in
+    let l = i .before in
+    omega (arith, l .before .before .before .before .pre, i .loop-test .taken)
 
 shl-v : tie.Need-shl-v Inv-loop μ-loop
-shl-v c = let i = c .before .before in let l = i .before in omega (arith, l .before .before .before .before .pre, i .loop-test .taken)
+shl-v c =
+    let i = c .before .before in
+    let l = i .before in
+    omega (arith, l .before .before .before .before .pre, i .loop-test .taken)
 
 add-v-2 : tie.Need-add-v-2 Inv-loop μ-loop
 add-v-2 c =
@@ -40,7 +52,13 @@ add-v-2 c =
     omega (arith, opens-room _ _ _ _ _ _ (l .loop .inv) (s .pre) (i .loop-test .taken))
 
 add-at : tie.Need-add-at Inv-loop μ-loop
-add-at c = omega (arith, byte-inside (now (c .before .before .before .before .before .before .before .args .text)) _ _ (c .before .peek2 .ensures) (omega (arith, c .if2 .taken)))
+add-at c =
+    let start = c .before .before .before .before .before .before .before in
+    omega (
+      arith,
+      byte-inside (now (start .args .text)) _ _ (c .before .peek2 .ensures)
+          (omega (arith, c .if2 .taken)),
+    )
 
 loop-again : tie.Need-loop-again Inv-loop μ-loop
 loop-again c =
@@ -57,13 +75,15 @@ returns-2 : tie.Need-returns-2 Inv-loop μ-loop
 returns-2 c =
     let l = c .before .before in
     let p = l .before .before in
-    opens-none _ _ _ _ _ _ (l .loop .inv) (p .before .before .pre) (c .before .loop-test .left) (λ e. l .before .if1 .left (p .peek .ensures ∙ e)) (omega (arith, c .if3 .taken))
+    opens-none _ _ _ _ _ _ (l .loop .inv) (p .before .before .pre) (c .before .loop-test .left)
+    (λ e. l .before .if1 .left (p .peek .ensures ∙ e)) (omega (arith, c .if3 .taken))
 
 returns-3 : tie.Need-returns-3 Inv-loop μ-loop
 returns-3 c =
     let l = c .before .before in
     let p = l .before .before in
-    opens-some _ _ _ _ _ _ (l .loop .inv) (p .before .before .pre) (c .before .loop-test .left) (λ e. l .before .if1 .left (p .peek .ensures ∙ e)) (c .if3 .left)
+    opens-some _ _ _ _ _ _ (l .loop .inv) (p .before .before .pre) (c .before .loop-test .left)
+    (λ e. l .before .if1 .left (p .peek .ensures ∙ e)) (c .if3 .left)
 
 pub opens-at-spec : {M : Type 1} → statement M
 opens-at-spec =

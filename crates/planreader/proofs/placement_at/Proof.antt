@@ -16,7 +16,8 @@ returns c =
     λ r h first.
     let t = c .before in
     let b1 = t .before .before in
-    no-sections r (h .accepted) _ _ first (b1 .before .before .before .sections-in .ensures r h) (b1 .before .before .points-in .ensures r h) (b1 .before .trains-in .ensures r h) _
+    no-sections r (h .accepted) _ _ first (b1 .before .before .before .sections-in .ensures r h)
+    (b1 .before .before .points-in .ensures r h) (b1 .before .trains-in .ensures r h) _
     (sym (b1 .sections-at .ensures) ∙ ap sectionsGot (t .enum-told .given .1)) (c .none-at .ensures)
 
 returns-2 : tie.Need-returns-2
@@ -26,7 +27,8 @@ returns-2 c =
     let b2 = t .before .before in
     let k1 = b2 .before in
     let b1 = k1 .before .before .before in
-    no-figure r (h .accepted) _ _ first (b1 .before .before .before .sections-in .ensures r h) (b1 .before .before .points-in .ensures r h) (b1 .before .trains-in .ensures r h) _
+    no-figure r (h .accepted) _ _ first (b1 .before .before .before .sections-in .ensures r h)
+    (b1 .before .before .points-in .ensures r h) (b1 .before .trains-in .ensures r h) _
     (sym (b1 .sections-at .ensures) ∙ ap sectionsGot (k1 .before .x .given .1))
     (sym (b2 .figure-at .ensures) ∙ ap numberGot (t .enum-told2 .given .1)) (c .none-at2 .ensures)
 
@@ -39,7 +41,8 @@ returns-3 c =
     let b2 = k2 .before .before .before in
     let k1 = b2 .before in
     let b1 = k1 .before .before .before in
-    no-entry r (h .accepted) _ _ first (b1 .before .before .before .sections-in .ensures r h) (b1 .before .before .points-in .ensures r h) (b1 .before .trains-in .ensures r h) _
+    no-entry r (h .accepted) _ _ first (b1 .before .before .before .sections-in .ensures r h)
+    (b1 .before .before .points-in .ensures r h) (b1 .before .trains-in .ensures r h) _
     (sym (b1 .sections-at .ensures) ∙ ap sectionsGot (k1 .before .x .given .1))
     (sym (b2 .figure-at .ensures) ∙ ap numberGot (k2 .before .n .given .1))
     (sym (b3 .entry-at .ensures) ∙ ap numberGot (t .enum-told3 .given .1)) (c .none-at3 .ensures)
@@ -67,7 +70,8 @@ returns-4 c =
     let b2 = k2 .before .before .before in
     let k1 = b2 .before in
     let b1 = k1 .before .before .before in
-    placement-read r (h .accepted) _ _ first (b1 .before .before .before .sections-in .ensures r h) (b1 .before .before .points-in .ensures r h) (b1 .before .trains-in .ensures r h) _
+    placement-read r (h .accepted) _ _ first (b1 .before .before .before .sections-in .ensures r h)
+    (b1 .before .before .points-in .ensures r h) (b1 .before .trains-in .ensures r h) _
     (sym (b1 .sections-at .ensures) ∙ ap sectionsGot (k1 .before .x .given .1))
     (sym (b2 .figure-at .ensures) ∙ ap numberGot (k2 .before .n .given .1))
     (sym (b3 .entry-at .ensures) ∙ ap numberGot (k3 .before .v .given .1)) _ refl _ (c .code-of .ensures r h) refl

@@ -14,13 +14,17 @@ returns : tie.Need-returns
 returns c =
     let b = c .before .before in
     let i = b .before in
-    points-none _ _ _ (i .if1 .taken) (byte-fails (now (i .before .before .args .text)) (byte ".") _ (omega arith) _ (b .byte-at .ensures) (c .enum-told .given .1) _)
+    points-none _ _ _ (i .if1 .taken)
+    (byte-fails (now (i .before .before .args .text)) (byte ".") _ (omega arith) _ (b .byte-at .ensures)
+    (c .enum-told .given .1) _)
 
 returns-2 : tie.Need-returns-2
 returns-2 c =
     let b = c .before .before .before in
     let i = b .before in
-    points-none _ _ _ (i .if1 .taken) (byte-goes (now (i .before .before .args .text)) (byte ".") _ (omega arith) _ (b .byte-at .ensures) _ (c .before .next .given .1) _ refl)
+    points-none _ _ _ (i .if1 .taken)
+    (byte-goes (now (i .before .before .args .text)) (byte ".") _ (omega arith) _ (b .byte-at .ensures) _
+    (c .before .next .given .1) _ refl)
 
 returns-3 : tie.Need-returns-3
 returns-3 c = points-some _ _ _ (c .before .if1 .left) (c .signs-at .ensures)

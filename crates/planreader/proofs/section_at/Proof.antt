@@ -15,13 +15,25 @@ returns-2 : tie.Need-returns-2
 returns-2 c = let m = c .before .before in section-none _ _ _ _ _ (m .before .if1 .left) (sym (m .number-tab .ensures) ∙ ap numberGot (c .enum-told .given .1))
 
 returns-3 : tie.Need-returns-3
-returns-3 c = let n = c .before .before in let m = n .before .before in section-zero _ _ _ _ _ (m .before .if1 .left) (sym (m .number-tab .ensures) ∙ ap numberGot (n .n .given .1)) (c .if2 .taken)
+returns-3 c =
+    let n = c .before .before in
+    let m = n .before .before in
+    section-zero _ _ _ _ _ (m .before .if1 .left) (sym (m .number-tab .ensures) ∙ ap numberGot (n .n .given .1))
+    (c .if2 .taken)
 
 returns-4 : tie.Need-returns-4
-returns-4 c = let n = c .before .before .before in let m = n .before .before in section-there _ _ _ _ _ (m .before .if1 .left) (sym (m .number-tab .ensures) ∙ ap numberGot (n .n .given .1)) (c .before .if2 .left) (omega (arith, c .if3 .taken))
+returns-4 c =
+    let n = c .before .before .before in
+    let m = n .before .before in
+    section-there _ _ _ _ _ (m .before .if1 .left) (sym (m .number-tab .ensures) ∙ ap numberGot (n .n .given .1))
+    (c .before .if2 .left) (omega (arith, c .if3 .taken))
 
 returns-5 : tie.Need-returns-5
-returns-5 c = let n = c .before .before .before in let m = n .before .before in section-past _ _ _ _ _ (m .before .if1 .left) (sym (m .number-tab .ensures) ∙ ap numberGot (n .n .given .1)) (c .before .if2 .left) (c .if3 .left)
+returns-5 c =
+    let n = c .before .before .before in
+    let m = n .before .before in
+    section-past _ _ _ _ _ (m .before .if1 .left) (sym (m .number-tab .ensures) ∙ ap numberGot (n .n .given .1))
+    (c .before .if2 .left) (c .if3 .left)
 
 pub section-at-spec : {M : Type 1} → statement M
 section-at-spec =

@@ -35,7 +35,8 @@ returns c =
     let p = e .before in
     let i = p .before in
     let l = i .before in
-    signs-none _ _ _ _ _ _ (l .loop .inv) (i .loop-test .taken) (l .before .before .pre) (λ h. e .if1 .left (p .peek .ensures ∙ h)) (λ h. c .if2 .taken (p .peek .ensures ∙ h))
+    signs-none _ _ _ _ _ _ (l .loop .inv) (i .loop-test .taken) (l .before .before .pre)
+    (λ h. e .if1 .left (p .peek .ensures ∙ h)) (λ h. c .if2 .taken (p .peek .ensures ∙ h))
 
 add-at : tie.Need-add-at Inv-loop μ-loop
 add-at c =

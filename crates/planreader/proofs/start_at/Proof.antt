@@ -37,7 +37,11 @@ returns-3 c =
     let b2 = k2 .before .before .before in
     let k1 = b2 .before in
     let b1 = k1 .before .before .before in
-    no-start-end r ok _ _ first _ (sym (b1 .word-at .ensures) ∙ ap wordGot (k1 .before .c1 .given .1)) (sym (b2 .figure-at .ensures) ∙ ap numberGot (k2 .before .n .given .1)) (sym (b3 .byte-at .ensures ∙ byte-is (now (b1 .before .before .before .args .text)) _ 10 (omega arith)) ∙ ap (byteGot 10) (t .enum-told3 .given .1)) (c .none-at3 .ensures)
+    let start = b1 .before .before .before in
+    no-start-end r ok _ _ first _ (sym (b1 .word-at .ensures) ∙ ap wordGot (k1 .before .c1 .given .1))
+    (sym (b2 .figure-at .ensures) ∙ ap numberGot (k2 .before .n .given .1))
+    (sym (b3 .byte-at .ensures ∙ byte-is (now (start .args .text)) _ 10 (omega arith))
+    ∙ ap (byteGot 10) (t .enum-told3 .given .1)) (c .none-at3 .ensures)
 
 cast-t14 : tie.Need-cast-t14
 cast-t14 c =
@@ -54,7 +58,11 @@ returns-4 c =
     let b2 = k2 .before .before .before in
     let k1 = b2 .before in
     let b1 = k1 .before .before .before in
-    start-read r ok _ _ first _ (sym (b1 .word-at .ensures) ∙ ap wordGot (k1 .before .c1 .given .1)) (sym (b2 .figure-at .ensures) ∙ ap numberGot (k2 .before .n .given .1)) (sym (b3 .byte-at .ensures ∙ byte-is (now (b1 .before .before .before .args .text)) _ 10 (omega arith)) ∙ ap (byteGot 10) (c .before .c3 .given .1)) refl
+    let start = b1 .before .before .before in
+    start-read r ok _ _ first _ (sym (b1 .word-at .ensures) ∙ ap wordGot (k1 .before .c1 .given .1))
+    (sym (b2 .figure-at .ensures) ∙ ap numberGot (k2 .before .n .given .1))
+    (sym (b3 .byte-at .ensures ∙ byte-is (now (start .args .text)) _ 10 (omega arith))
+    ∙ ap (byteGot 10) (c .before .c3 .given .1)) refl
 
 pub start-at-spec : {M : Type 1} → statement M
 start-at-spec =

@@ -17,7 +17,7 @@ use prog.Wp.{Heap, WpFn, Tables}
 use ghost.Atoms.{Atoms, sem}
 use contract.Monad.{Fun, fact}
 use contract.Running.{givenOf, tables, tablesOf}
-use types.Kit.{Given, Item, ‵, raw, _⊛_, ⋆, some, later, _$_, _∵_, !, qed, by, move, use1, use2, split, pick, fsplit, fjoin, suffices, frame, await, done}
+use types.Kit.{Given, Item, ‵, raw, _⊛_, ⋆, _$_, _∵_, !, qed, by, move, use1, use2, split, fsplit, fjoin, suffices, frame, done}
 use types.Run.{look, init, forget, stop, from, load, lit, and-then, no-more, land, returns, enter, alloc1, alloc0, params1, pass1, pass0, free1, free0}
 use sound.WpLaws.{fmOf, WpFn-mono}
 use denote.RattleType.{owns}
@@ -27,7 +27,7 @@ use denote.Builtin.{u8, usize}
 use denote.Ref.{RefT, now}
 use denote.Signature.{plain}
 use denote.Slice.{sliceVal, ShrSlice, slice-vals, shr-slice-tells, shr-slice-lawful, shr-slice-copy}
-use denote.Steps.{owned, peeks, heard, nothing}
+use denote.Steps.{owned, peeks, nothing}
 use denote.Enum.Laws as EL
 use denote.Triple.Statement.{Contract, Triple}
 use denote.Triple.Call.{calls-at}
@@ -43,7 +43,7 @@ use Rattle.lines.specs.Answers.{countsGot}
 use Rattle.lines.proofs.HeaderRead as S
 use Rattle.lines.proofs.HeaderRead.Laws as S′
 use Rattle.walk.specs.declared.Reader.{Reader}
-use Rattle.walk.proofs.Held.{Readers, Has, reader-local, slice-local, Typed, local-typed, asking}
+use Rattle.walk.proofs.Held.{Readers, reader-local, slice-local, Typed, local-typed, asking, answered}
 use Rattle.walk.proofs.Reader.new as new
 use Rattle.walk.proofs.Reader.new.Symbol as new-def
 use Rattle.walk.proofs.Reader.new.Symbol.{name as #new}
@@ -62,7 +62,15 @@ stayed = (stay-none-slice (0 ∷ []) tt (plain (λ _. u8)) yes, tt)
 
 -- the code, with any type in the place of the answer's
 abbrev function : Ty → Fn
-function τ = record { lifetimes = 1; outlives = []; params = 1; locals = local τ valueLocal ∷ slice-local (named 0) ∷ reader-local erased ∷ []; body = code.function .body }
+function τ =
+    record {
+      lifetimes = 1;
+      outlives = [];
+      params = 1;
+      locals = local τ valueLocal ∷ slice-local (named 0)
+          ∷ reader-local erased ∷ [];
+      body = code.function .body;
+    }
 
 module _ {M : Type 1} (𝓤 : URA M) (H : Heap 𝓤) (A : Atoms 𝓤) (mem : Memory → SProp 𝓤) (run : Routine → Fun 𝓤) where
   abbrev New : Contract 𝓤
@@ -71,7 +79,8 @@ module _ {M : Type 1} (𝓤 : URA M) (H : Heap 𝓤) (A : Atoms 𝓤) (mem : Mem
   abbrev Header : Contract 𝓤
   Header = tripleOf 𝓤 H A header.signature (header.spec 𝓤 H A mem run)
 
-module _ {M : Type 1} (𝓤 : URA M) (H : Heap 𝓤) (A : Atoms 𝓤) (W : Given 𝓤 H A) (mem : Memory → SProp 𝓤) (run : Routine → Fun 𝓤) (κ : Lft) (q : Share) (s : RefT (List ℕ)) where
+module _ {M : Type 1} (𝓤 : URA M) (H : Heap 𝓤) (A : Atoms 𝓤) (W : Given 𝓤 H A) (mem : Memory → SProp 𝓤)
+    (run : Routine → Fun 𝓤) (κ : Lft) (q : Share) (s : RefT (List ℕ)) where
   abbrev text : Val
   text = sliceVal (s .ptr) (length (s .now))
 
@@ -110,39 +119,54 @@ module _ {M : Type 1} (𝓤 : URA M) (H : Heap 𝓤) (A : Atoms 𝓤) (W : Given
   exits : (r : HeaderRead) (u : Val) → countsGot r ≡ headerAt (now s) 0 → ent 𝓤 (⋆ 𝓤 H A (‵ (S.the-row .own r (u ∷ [])) ∷ token ∷ ‵ Text ∷ [])) (Post u)
   exits r u e =
       qed W (‵ (S.the-row .own r (u ∷ [])) ∷ token ∷ ‵ Text ∷ []) ∵
-      suffices ! _ (ends-at 𝓤 H A first.ended stayed (first.clauses 𝓤 H A mem run) W (((κ, tt), (q, tt), tt, (s, tt), (text ∷ [], tt)), tt) u r (tt, tt) (tt, tt)) $ says ! e $
+      suffices ! _ (ends-at 𝓤 H A first.ended stayed (first.clauses 𝓤 H A mem run) W
+      (((κ, tt), (q, tt), tt, (s, tt), (text ∷ [], tt)), tt) u r (tt, tt) (tt, tt)) $ says ! e $
       move ! (1 ∷ []) $ frame ! $ nothing ! $ move ! (2 ∷ 0 ∷ []) $ fjoin ! $ frame ! $ done !
 
-  walk : (𝓣 : Tables 𝓤 H) → Triple 𝓤 (𝓣 .C #new) (New 𝓤 H A mem run) → Triple 𝓤 (𝓣 .C #header) (Header 𝓤 H A mem run) → (τ : Ty) → ((r : HeaderRead) (u : Val) → Is S.the-row r (u ∷ []) → Typed τ u) → Is (ShrSlice (named 0) κ u8) s (text ∷ [])
+  walk : (𝓣 : Tables 𝓤 H) → Triple 𝓤 (𝓣 .C #new) (New 𝓤 H A mem run)
+      → Triple 𝓤 (𝓣 .C #header) (Header 𝓤 H A mem run) → (τ : Ty)
+      → ((r : HeaderRead) (u : Val) → Is S.the-row r (u ∷ []) → Typed τ u)
+      → Is (ShrSlice (named 0) κ u8) s (text ∷ [])
       → ent 𝓤 (onEntry 𝓤 H A first.signature (κ, tt) (q, tt) (s, tt) (text ∷ [], tt)) (WpFn 𝓤 H (𝓣 .C) (𝓣 .Λ) (function τ) (text ∷ []) Post)
   walk 𝓣 known-new known-header τ tr is =
       qed W (token ∷ ‵ (owns (ShrSlice (named 0) κ u8 ∷ []) (s, tt) (text ∷ [], tt)) ∷ []) ∵ enter ! (𝓣 .C) (𝓣 .Λ) (function τ) (text ∷ []) _ $
       -- [_2; ..; _1; ..; _0; ..; the token; what the text owns]
-      alloc1 ! (λ l₀. alloc1 ! (λ l₁. alloc1 ! (λ l₂. alloc0 ! $ params1 ! $ pass1 ! (init ! 2 refl (shr-slice-lawful 𝓤 H A W (named 0) κ u8 .typed s (text ∷ []) is .0)) $ pass0 ! $
+      alloc1 ! (λ l₀. alloc1 ! (λ l₁. alloc1 ! (λ l₂. alloc0 ! $ params1 ! $
+      pass1 ! (init ! 2 refl (shr-slice-lawful 𝓤 H A W (named 0) κ u8 .typed s (text ∷ []) is .0)) $ pass0 ! $
       move ! (7 ∷ []) $ fsplit ! $ use1 W (‵ Text ⊛ ‵ Text) (shr-slice-copy 𝓤 H A W (named 0) κ u8 .twice s (text ∷ [])) $ split ! $
       move ! (2 ∷ []) $ owned ! usize (Is usize) (uint-makes 𝓤 H A W w64) 0 _ (refl, lit< tt) $ fjoin ! $ move ! (1 ∷ 0 ∷ []) $ fjoin ! $
-      move ! (8 ∷ 0 ∷ []) $ use2 W (raw (New 𝓤 H A mem run .pre to-new)) (asking 𝓤 H A W κ q (owns (ShrSlice (named 0) κ u8 ∷ usize ∷ []) (s, (0, tt)) (text ∷ [], (vint w64 0 ∷ [], tt)))) $
-      calls-at ! (fmOf 𝓤 H (W .laws) 𝓣) (New 𝓤 H A mem run) known-new to-new (and-then ! (load ! (from ! (stop !)) (look ! 4 refl)) (and-then ! (lit ! tt) (no-more !))) (λ u.
-      use1 W (later (some (λ (d : Reader). (token ⊛ ‵ (Has κ d u)) ⊛ raw (ensured 𝓤 H A new.ended (new.clauses 𝓤 H A mem run) (κ, tt) (s, (0, tt)) tt d)))) (id⊢ 𝓤 _) $ await ! tt $ pick ! (λ d.
-      split ! $ move ! (1 ∷ []) $ use1 W (raw (fact 𝓤 (Made d))) (new-said d) $ heard ! (Made d) (λ m. split ! $ move ! (1 ∷ []) $
+      move ! (8 ∷ 0 ∷ []) $ use2 W (raw (New 𝓤 H A mem run .pre to-new))
+      (asking 𝓤 H A W κ q (owns (ShrSlice (named 0) κ u8 ∷ usize ∷ []) (s, (0, tt))
+      (text ∷ [], (vint w64 0 ∷ [], tt)))) $
+      calls-at ! (fmOf 𝓤 H (W .laws) 𝓣) (New 𝓤 H A mem run) known-new to-new
+      (and-then ! (load ! (from ! (stop !)) (look ! 4 refl)) (and-then ! (lit ! tt) (no-more !))) (λ u.
+      answered ! tt token (Readers (κ, tt)) u _ _ new-said (id⊢ 𝓤 _) (λ d m.
       -- [the reader's; the token; the text's; _2; ..]
       peeks ! (Readers (κ, tt)) (Is (Readers (κ, tt))) (shows 𝓤 H A (Readers (κ, tt))) d (u ∷ []) (λ id.
       land ! (from ! (stop !)) (init ! 3 refl (local-typed 𝓤 H A W κ d u id)) $
-      nothing ! $ move ! (1 ∷ 0 ∷ []) $ fjoin ! $ move ! (1 ∷ 0 ∷ []) $ use2 W (raw (Header 𝓤 H A mem run .pre (to-header d u))) (asking 𝓤 H A W κ q (owns (Readers (κ, tt) ∷ []) (d, tt) (u ∷ [], tt))) $
-      calls-at ! (fmOf 𝓤 H (W .laws) 𝓣) (Header 𝓤 H A mem run) known-header (to-header d u) (and-then ! (load ! (from ! (stop !)) (look ! 2 refl)) (no-more !)) (λ y.
-      use1 W (later (some (λ (r : HeaderRead). (token ⊛ ‵ (S.the-row .own r (y ∷ []))) ⊛ raw (ensured 𝓤 H A header.ended (header.clauses 𝓤 H A mem run) (κ, tt) (d, tt) tt r)))) (id⊢ 𝓤 _) $ await ! tt $ pick ! (λ r.
-      split ! $ move ! (1 ∷ []) $ use1 W (raw (fact 𝓤 (Read d r))) (header-said d r) $ heard ! (Read d r) (λ h. split ! $ move ! (1 ∷ []) $
+      nothing ! $ move ! (1 ∷ 0 ∷ []) $ fjoin ! $ move ! (1 ∷ 0 ∷ []) $ use2 W
+      (raw (Header 𝓤 H A mem run .pre (to-header d u)))
+      (asking 𝓤 H A W κ q (owns (Readers (κ, tt) ∷ []) (d, tt) (u ∷ [], tt))) $
+      calls-at ! (fmOf 𝓤 H (W .laws) 𝓣) (Header 𝓤 H A mem run) known-header (to-header d u)
+      (and-then ! (load ! (from ! (stop !)) (look ! 2 refl)) (no-more !)) (λ y.
+      answered ! tt token S.the-row y _ _ (header-said d) (id⊢ 𝓤 _) (λ r h.
       peeks ! S.the-row (Is S.the-row) (shows 𝓤 H A S.the-row) r (y ∷ []) (λ ok.
       -- [the answer; the token; the text's; _2; ..; _1; ..; _0; ..]
       land ! (from ! (stop !)) (init ! 7 refl (tr r y ok)) $ returns ! (look ! 7 refl) $ forget ! 3 refl $ forget ! 5 refl $ forget ! 7 refl $
-      move ! (7 ∷ 8 ∷ []) $ free1 ! $ move ! (5 ∷ 6 ∷ []) $ free1 ! $ move ! (3 ∷ 4 ∷ []) $ free1 ! $ free0 ! $ by ! (exits r y (at-first d r m h)))))))))))))
+      move ! (7 ∷ 8 ∷ []) $ free1 ! $ move ! (5 ∷ 6 ∷ []) $ free1 ! $ move ! (3 ∷ 4 ∷ []) $ free1 ! $ free0 ! $ by ! (exits r y (at-first d r m h)))))))))))
 
-first-meets : {M : Type 1} (𝓤 : URA M) (H : Heap 𝓤) (A : Atoms 𝓤) (W : Given 𝓤 H A) (mem : Memory → SProp 𝓤) (run : Routine → Fun 𝓤) (𝓣 : Tables 𝓤 H) → Triple 𝓤 (𝓣 .C #new) (New 𝓤 H A mem run) → Triple 𝓤 (𝓣 .C #header) (Header 𝓤 H A mem run)
+first-meets : {M : Type 1} (𝓤 : URA M) (H : Heap 𝓤) (A : Atoms 𝓤) (W : Given 𝓤 H A) (mem : Memory → SProp 𝓤)
+    (run : Routine → Fun 𝓤) (𝓣 : Tables 𝓤 H)
+    → Triple 𝓤 (𝓣 .C #new) (New 𝓤 H A mem run) → Triple 𝓤 (𝓣 .C #header) (Header 𝓤 H A mem run)
     → Meets 𝓤 H A first.signature (WpFn 𝓤 H (𝓣 .C) (𝓣 .Λ) code.function) (first.spec 𝓤 H A mem run)
 first-meets 𝓤 H A W mem run 𝓣 known-new known-header =
-    walk-meets 𝓤 H A first.ended stayed W (goes-none-slice 𝓤 H A W 1 (0 ∷ []) tt (plain (λ _. u8)) yes, tt) (first.clauses 𝓤 H A mem run) (WpFn 𝓤 H (𝓣 .C) (𝓣 .Λ) code.function) (WpFn-mono 𝓤 H (W .laws) 𝓣 code.function)
-    (walked 𝓤 H A first.ended stayed (first.clauses 𝓤 H A mem run) (WpFn 𝓤 H (𝓣 .C) (𝓣 .Λ) code.function) (λ κs. (slice-vals, tt)) (λ κs. (shr-slice-tells (named 0) (κs .0) u8, tt))
-    (λ κs qs bounds a g are. via 𝓤 _ (fst∗ 𝓤 _ (emp 𝓤)) (walk 𝓤 H A W mem run (κs .0) (qs .0) (a .0) 𝓣 known-new known-header S′.mir (λ r u ok. EL.lawful S.the-type S′.the-laws 𝓤 H A W tt .typed r (u ∷ []) ok .0) (are .0))))
+    walk-meets 𝓤 H A first.ended stayed W (goes-none-slice 𝓤 H A W 1 (0 ∷ []) tt (plain (λ _. u8)) yes, tt)
+    (first.clauses 𝓤 H A mem run) (WpFn 𝓤 H (𝓣 .C) (𝓣 .Λ) code.function) (WpFn-mono 𝓤 H (W .laws) 𝓣 code.function)
+    (walked 𝓤 H A first.ended stayed (first.clauses 𝓤 H A mem run) (WpFn 𝓤 H (𝓣 .C) (𝓣 .Λ) code.function)
+    (λ κs. (slice-vals, tt)) (λ κs. (shr-slice-tells (named 0) (κs .0) u8, tt))
+    (λ κs qs bounds a g are. via 𝓤 _ (fst∗ 𝓤 _ (emp 𝓤))
+    (walk 𝓤 H A W mem run (κs .0) (qs .0) (a .0) 𝓣 known-new known-header S′.mir
+    (λ r u ok. EL.lawful S.the-type S′.the-laws 𝓤 H A W tt .typed r (u ∷ []) ok .0) (are .0))))
 
 pub first-line-spec : {M : Type 1} → stated.statement M
 unfolding code.routine tablesOf

@@ -23,7 +23,8 @@ returns-2 c =
     let i = e .before in
     let h = i .before in
     let a = h .before .before .args in
-    on-letter (now (a .text)) _ (a .w) (h .if1 .taken) _ (ap (λ (m : Mark). m .counted) (i .mark .ensures)) (e .if2 .left) _ _ (p .peek .ensures) (ap (λ (m : Mark). m .letter) (i .mark .ensures))
+    on-letter (now (a .text)) _ (a .w) (h .if1 .taken) _ (ap (λ (m : Mark). m .counted) (i .mark .ensures))
+    (e .if2 .left) _ _ (p .peek .ensures) (ap (λ (m : Mark). m .letter) (i .mark .ensures))
 
 returns-3 : tie.Need-returns-3
 returns-3 c = let a = c .before .before .args in on-not (now (a .text)) _ (a .w) (c .if1 .left)

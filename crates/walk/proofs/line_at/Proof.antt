@@ -7,7 +7,10 @@ use Rattle.walk.proofs.line_at.Statement.{statement}
 use Rattle.walk.proofs.line_at.Tie as tie
 
 returns : tie.Need-returns
-returns c = let n = c .before in let a = n .before .before .before .args in line-due (now (a .text)) _ (a .w) _ (n .number-due .ensures) (c .one-line .ensures)
+returns c =
+    let n = c .before in
+    let a = n .before .before .before .args in
+    line-due (now (a .text)) _ (a .w) _ (n .number-due .ensures) (c .one-line .ensures)
 
 pub line-at-spec : {M : Type 1} → statement M
 line-at-spec = tie.close (tie.spec (λ c κs. search needs) (λ c κs. search needs) returns)

@@ -8,7 +8,11 @@ use Rattle.walk.proofs.lines_of.Statement.{statement}
 use Rattle.walk.proofs.lines_of.Tie as tie
 
 returns : tie.Need-returns
-returns c = let w = c .before in let a = w .before .before .before .before .args in as-good (a .earlier) _ _ (c .if1 .taken) (w .walk-lines .ensures ∙ rest-all (now (a .text)) (a .kind) (a .count) (a .earlier))
+returns c =
+    let w = c .before in
+    let a = w .before .before .before .before .args in
+    as-good (a .earlier) _ _ (c .if1 .taken)
+    (w .walk-lines .ensures ∙ rest-all (now (a .text)) (a .kind) (a .count) (a .earlier))
 
 returns-2 : tie.Need-returns-2
 returns-2 c =

@@ -6,7 +6,14 @@ use Rattle.writer.proofs.put_header.Statement.{statement}
 use Rattle.writer.proofs.put_header.Tie as tie
 
 returns : tie.Need-returns
-returns c = let a = c .before .before .before .before .before .before .before .before .before .before .before .before .before .before .before .before .before .args in header-line (a .s) (a .p) (a .k) (c .before .before .before .before .before .before .before .before .before .before .before .before .before .before .two .ensures) (c .before .before .before .before .before .before .before .before .before .before .number .ensures) (c .before .before .before .before .before .before .number2 .ensures) (c .before .before .number3 .ensures)
+returns c =
+    let number3 = c .before .before in
+    let number2 = number3 .before .before .before .before in
+    let number = number2 .before .before .before .before in
+    let two = number .before .before .before .before in
+    let a = two .before .before .before .args in
+    header-line (a .s) (a .p) (a .k) (two .two .ensures) (number .number .ensures) (number2 .number2 .ensures)
+    (number3 .number3 .ensures)
 
 pub put-header-spec : {M : Type 1} → statement M
 put-header-spec =

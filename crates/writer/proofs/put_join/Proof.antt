@@ -18,10 +18,15 @@ returns-2 c =
     let x = t .before in
     let g = x .before .before in
     let a = g .before .before .before .args in
-    join-line (a .i) (a .j) (g .j .given .0 .0) _ (g .j .given .1) (x .index-of .ensures) _ (e .end-at .ensures) (t .if1 .taken) (letter .two .ensures) (one .put-end .ensures) (other .put-end2 .ensures)
+    join-line (a .i) (a .j) (g .j .given .0 .0) _ (g .j .given .1) (x .index-of .ensures) _ (e .end-at .ensures)
+    (t .if1 .taken) (letter .two .ensures) (one .put-end .ensures) (other .put-end2 .ensures)
 
 returns-3 : tie.Need-returns-3
-returns-3 c = let a = c .before .before .before .before .before .before .args in let g = c .before .before .before .j .given in join-earlier (a .i) (a .j) (g .0 .0) _ (g .1) (c .before .index-of .ensures) (c .if1 .left)
+returns-3 c =
+    let j = c .before .before .before in
+    let a = j .before .before .before .args in
+    let g = j .j .given in
+    join-earlier (a .i) (a .j) (g .0 .0) _ (g .1) (c .before .index-of .ensures) (c .if1 .left)
 
 pub put-join-spec : {M : Type 1} → statement M
 put-join-spec =

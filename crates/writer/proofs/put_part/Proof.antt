@@ -22,13 +22,22 @@ loop-holds : tie.Need-loop-holds Inv-loop μ-loop
 loop-holds c = let a = c .before .args in (pieces-none (pieceOf (a .r) (a .part)), omega arith, refl)
 
 loop-again : tie.Need-loop-again Inv-loop μ-loop
-loop-again c = let a = c .before .before .before .before .before .before .before .args in let l = c .before .before .before .before .before .loop in (pieces-next (pieceOf (a .r) (a .part)) (l .i) (l .inv .0) (c .before .before .put-piece .ensures), omega arith, c .before .before .put-piece .kept .0 ∙ l .inv .2)
+loop-again c =
+    let put-piece = c .before .before in let loop = put-piece .before .before .before in
+    let a = loop .before .before .args in
+    let l = loop .loop in (
+      pieces-next (pieceOf (a .r) (a .part)) (l .i) (l .inv .0) (put-piece .put-piece .ensures),
+      omega arith,
+      put-piece .put-piece .kept .0 ∙ l .inv .2,
+    )
 
 same-length : tie.Need-same-length Inv-loop μ-loop
 same-length c = c .before .loop .inv .2
 
 returns : tie.Need-returns Inv-loop μ-loop
-returns c = let a = c .before .before .before .args in let l = c .before .loop in pieces-all (pieceOf (a .r) (a .part)) (l .i) (a .n) (l .inv .1) (c .loop-test .left) (l .inv .0)
+returns c =
+    let a = c .before .before .before .args in let l = c .before .loop in
+    pieces-all (pieceOf (a .r) (a .part)) (l .i) (a .n) (l .inv .1) (c .loop-test .left) (l .inv .0)
 
 pub put-part-spec : {M : Type 1} → statement M
 put-part-spec =

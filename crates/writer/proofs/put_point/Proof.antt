@@ -6,7 +6,14 @@ use Rattle.writer.proofs.put_point.Statement.{statement}
 use Rattle.writer.proofs.put_point.Tie as tie
 
 returns : tie.Need-returns
-returns c = let a = c .before .before .before .before .before .before .before .before .before .before .before .before .before .before .args in point-line (a .i) (a .legs) _ (c .before .before .before .side-byte .ensures) (c .before .before .before .before .before .before .before .before .before .before .before .two .ensures) (c .before .before .before .before .before .before .before .number .ensures) (c .before .before .two2 .ensures)
+returns c =
+    let two2 = c .before .before in
+    let side-byte = two2 .before in
+    let number = side-byte .before .before .before .before in
+    let two = number .before .before .before .before in
+    let a = two .before .before .before .args in
+    point-line (a .i) (a .legs) _ (side-byte .side-byte .ensures) (two .two .ensures) (number .number .ensures)
+    (two2 .two2 .ensures)
 
 pub put-point-spec : {M : Type 1} → statement M
 put-point-spec =

@@ -6,7 +6,14 @@ use Rattle.writer.proofs.put_signal.Statement.{statement}
 use Rattle.writer.proofs.put_signal.Tie as tie
 
 returns : tie.Need-returns
-returns c = let a = c .before .before .before .before .before .before .before .before .before .before .before .args in signal-line (a .i) (a .stands) _ (c .before .before .before .end-at .ensures) (c .before .before .before .before .before .before .before .before .before .if1 .taken) (c .before .before .before .before .before .before .before .two .ensures) (c .before .before .put-end .ensures)
+returns c =
+    let put-end = c .before .before in
+    let end-at = put-end .before in
+    let two = end-at .before .before .before .before in
+    let test = two .before .before in
+    let a = test .before .before .args in
+    signal-line (a .i) (a .stands) _ (end-at .end-at .ensures) (test .if1 .taken) (two .two .ensures)
+    (put-end .put-end .ensures)
 
 returns-2 : tie.Need-returns-2
 returns-2 c = let a = c .before .before .args in signal-none (a .i) (a .stands) (c .if1 .left)

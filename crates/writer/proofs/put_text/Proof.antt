@@ -14,7 +14,12 @@ returns c =
     let joins = signals .before .before .before .before in
     let points = joins .before .before .before .before in
     let header = points .before .before .before .before in
-    rw (text-pieces (header .before .before .before .args .r)) (append-then (header .put-header .ensures) (append-then (points .put-part .ensures) (append-then (joins .put-part2 .ensures) (append-then (signals .put-part3 .ensures) (append-then (closed .put-part4 .ensures) (trains .put-part5 .ensures))))))
+    rw (text-pieces (header .before .before .before .args .r))
+    (append-then (header .put-header .ensures)
+    (append-then (points .put-part .ensures)
+    (append-then (joins .put-part2 .ensures)
+    (append-then (signals .put-part3 .ensures)
+    (append-then (closed .put-part4 .ensures) (trains .put-part5 .ensures))))))
 
 pub put-text-spec : {M : Type 1} → statement M
 put-text-spec =

@@ -14,7 +14,8 @@ returns c =
     let number = side .before .before .before .before in
     let letter = number .before .before .before .before in
     let a = letter .before .before .before .args in
-    train-line (a .i) (a .t) _ (side .side-byte .ensures) (letter .two .ensures) (number .number .ensures) (heading .two2 .ensures) (start .number2 .ensures) (end .put-to .ensures)
+    train-line (a .i) (a .t) _ (side .side-byte .ensures) (letter .two .ensures) (number .number .ensures)
+    (heading .two2 .ensures) (start .number2 .ensures) (end .put-to .ensures)
 
 pub put-train-spec : {M : Type 1} → statement M
 put-train-spec =

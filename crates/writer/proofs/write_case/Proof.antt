@@ -10,19 +10,41 @@ use Rattle.writer.proofs.write_case.Statement.{statement}
 use Rattle.writer.proofs.write_case.Tie as tie
 
 returns : tie.Need-returns
-returns c = space-refused (c .before .before .before .before .before .before .before .before .args .r) (c .before .before .before .before .before .before .test-record .ensures) (c .before .before .before .before .enum-told .given .1) refl (c .before .before .put-text .ensures) (now (c .before .before .before .before .before .before .before .before .args .buffer)) (c .if1 .taken)
+returns c =
+    let put-text = c .before .before in
+    let told = put-text .before .before in
+    let test-record = told .before .before in
+    let start = test-record .before .before in
+    space-refused (start .args .r) (test-record .test-record .ensures) (told .enum-told .given .1) refl
+    (put-text .put-text .ensures) (now (start .args .buffer)) (c .if1 .taken)
 
 array-share-prefix-text : tie.Need-array-share-prefix-text
-array-share-prefix-text c = front-fits (c .before .before .before .put-text .ensures) (c .before .before .before .put-text .kept .0)
+array-share-prefix-text c =
+    let put-text = c .before .before .before in
+    front-fits (put-text .put-text .ensures) (put-text .put-text .kept .0)
 
 slice-aggregate-bytes : tie.Need-slice-aggregate-bytes
-slice-aggregate-bytes c = front-cut (c .before .before .before .before .put-text .ensures) (c .before .before .before .before .put-text .kept .0)
+slice-aggregate-bytes c =
+    let put-text = c .before .before .before .before in
+    front-cut (put-text .put-text .ensures) (put-text .put-text .kept .0)
 
 returns-2 : tie.Need-returns-2
-returns-2 c = record-refused (c .before .before .before .before .before .args .r) (now (c .before .before .before .before .before .args .buffer)) (c .before .f .given .0 .0) (c .before .before .before .test-record .ensures) (c .before .f .given .1)
+returns-2 c =
+    let test-record = c .before .before .before in
+    let start = test-record .before .before in
+    record-refused (start .args .r) (now (start .args .buffer)) (c .before .f .given .0 .0)
+    (test-record .test-record .ensures) (c .before .f .given .1)
 
 returns-3 : tie.Need-returns-3
-returns-3 c = case-written (c .before .before .before .before .before .before .before .before .before .before .before .before .before .args .r) (c .before .before .before .before .before .before .before .before .before .before .before .test-record .ensures) (c .before .before .before .before .before .before .before .before .before .enum-told .given .1) refl (c .before .before .before .before .before .before .before .put-text .ensures) (now (c .before .before .before .before .before .before .before .before .before .before .before .before .before .args .buffer)) _ _ (c .before .before .before .before .before .if1 .left) (c .before .before .bytes .ensures)
+returns-3 c =
+    let bytes = c .before .before in
+    let test = bytes .before .before .before in
+    let put-text = test .before .before in
+    let told = put-text .before .before in
+    let test-record = told .before .before in
+    let start = test-record .before .before in
+    case-written (start .args .r) (test-record .test-record .ensures) (told .enum-told .given .1) refl
+    (put-text .put-text .ensures) (now (start .args .buffer)) _ _ (test .if1 .left) (bytes .bytes .ensures)
 
 pub write-case-spec : {M : Type 1} → statement M
 write-case-spec =

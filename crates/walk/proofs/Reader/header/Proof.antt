@@ -14,14 +14,14 @@ use prog.Wp.{Heap, WpFn, Tables}
 use ghost.Atoms.{Atoms, sem}
 use contract.Monad.{Fun, fact}
 use contract.Running.{givenOf, tables, tablesOf}
-use types.Kit.{Given, ‵, raw, _⊛_, ⋆, some, later, _$_, _∵_, !, qed, by, move, drop, use1, use2, split, pick, fsplit, fjoin, suffices, frame, await, done}
+use types.Kit.{Given, ‵, raw, _⊛_, ⋆, _$_, _∵_, !, qed, by, move, drop, use2, split, fsplit, fjoin, suffices, frame, done}
 use types.Part.{whole, sub, look-in}
 use types.Run.{look, init, forget, stop, fld, from, load, of-opd, and-then, no-more, assigns, land, returns, enter, alloc1, alloc0, params1, pass1, pass0, free1, free0}
 use sound.WpLaws.{fmOf, WpFn-mono}
 use denote.RattleType.{owns}
 use denote.Laws.{Is, shows}
 use denote.Ref.{now}
-use denote.Steps.{peeks, heard, nothing}
+use denote.Steps.{peeks, nothing}
 use denote.Enum.Laws as EL
 use denote.Triple.Statement.{Contract, Triple}
 use denote.Triple.Call.{calls-at}
@@ -38,7 +38,7 @@ use Rattle.lines.specs.Answers.{countsGot}
 use Rattle.walk.proofs.Reader.Laws as R′
 use Rattle.lines.proofs.HeaderRead as S
 use Rattle.lines.proofs.HeaderRead.Laws as S′
-use Rattle.walk.proofs.Held.{Readers, Own, reader-local, slice-local, number-local, Typed, reader-typed, one-val, one-tells, Pair, apart-pair}
+use Rattle.walk.proofs.Held.{Readers, Own, reader-local, slice-local, number-local, Typed, reader-typed, one-val, one-tells, Pair, apart-pair, answered}
 use Rattle.walk.proofs.header_at as callee
 use Rattle.walk.proofs.header_at.Symbol as callee-def
 use Rattle.walk.proofs.header_at.Symbol.{name as #callee}
@@ -53,13 +53,22 @@ stayed = (stay-none Readers yes, tt)
 
 -- the code, with any type in the place of the answer's
 abbrev function : Ty → Fn
-function τ = record { lifetimes = 1; outlives = []; params = 1; locals = local τ valueLocal ∷ reader-local (named 0) ∷ slice-local erased ∷ number-local ∷ []; body = code.function .body }
+function τ =
+    record {
+      lifetimes = 1;
+      outlives = [];
+      params = 1;
+      locals = local τ valueLocal ∷ reader-local (named 0)
+          ∷ slice-local erased ∷ number-local ∷ [];
+      body = code.function .body;
+    }
 
 module _ {M : Type 1} (𝓤 : URA M) (H : Heap 𝓤) (A : Atoms 𝓤) (mem : Memory → SProp 𝓤) (run : Routine → Fun 𝓤) where
   abbrev Called : Contract 𝓤
   Called = tripleOf 𝓤 H A callee.signature (callee.spec 𝓤 H A mem run)
 
-module _ {M : Type 1} (𝓤 : URA M) (H : Heap 𝓤) (A : Atoms 𝓤) (W : Given 𝓤 H A) (mem : Memory → SProp 𝓤) (run : Routine → Fun 𝓤) (κ : Lft) (q : Share) (d : Reader) where
+module _ {M : Type 1} (𝓤 : URA M) (H : Heap 𝓤) (A : Atoms 𝓤) (W : Given 𝓤 H A) (mem : Memory → SProp 𝓤)
+    (run : Routine → Fun 𝓤) (κ : Lft) (q : Share) (d : Reader) where
   abbrev at : Vals header.signature (κ, tt)
   at = (R′.lowered d ∷ [], tt)
 
@@ -79,10 +88,12 @@ module _ {M : Type 1} (𝓤 : URA M) (H : Heap 𝓤) (A : Atoms 𝓤) (W : Given
   exits : (r : HeaderRead) (u : Val) → Says r → ent 𝓤 (⋆ 𝓤 H A (‵ (S.the-row .own r (u ∷ [])) ∷ (‵ (flft κ q) ⊛ ‵ ftrue) ∷ ‵ (Own κ d) ∷ [])) (Post u)
   exits r u e =
       qed W (‵ (S.the-row .own r (u ∷ [])) ∷ (‵ (flft κ q) ⊛ ‵ ftrue) ∷ ‵ (Own κ d) ∷ []) ∵
-      suffices ! _ (ends-at 𝓤 H A header.ended stayed (header.clauses 𝓤 H A mem run) W (((κ, tt), (q, tt), tt, (d, tt), at), tt) u r (tt, tt) (tt, tt)) $ says ! e $
+      suffices ! _ (ends-at 𝓤 H A header.ended stayed (header.clauses 𝓤 H A mem run) W
+      (((κ, tt), (q, tt), tt, (d, tt), at), tt) u r (tt, tt) (tt, tt)) $ says ! e $
       move ! (1 ∷ []) $ frame ! $ nothing ! $ move ! (2 ∷ 0 ∷ []) $ fjoin ! $ frame ! $ done !
 
-  walk : (𝓣 : Tables 𝓤 H) → Triple 𝓤 (𝓣 .C #callee) (Called 𝓤 H A mem run) → Typed (R′.mir (named 0)) (R′.lowered d) → (τ : Ty) → ((r : HeaderRead) (u : Val) → Is S.the-row r (u ∷ []) → Typed τ u)
+  walk : (𝓣 : Tables 𝓤 H) → Triple 𝓤 (𝓣 .C #callee) (Called 𝓤 H A mem run) → Typed (R′.mir (named 0)) (R′.lowered d)
+      → (τ : Ty) → ((r : HeaderRead) (u : Val) → Is S.the-row r (u ∷ []) → Typed τ u)
       → ent 𝓤 (onEntry 𝓤 H A header.signature (κ, tt) (q, tt) (d, tt) at) (WpFn 𝓤 H (𝓣 .C) (𝓣 .Λ) (function τ) (R′.lowered d ∷ []) Post)
   walk 𝓣 known td τ tr =
       qed W ((‵ (flft κ q) ⊛ ‵ ftrue) ∷ ‵ (owns (Readers (κ, tt) ∷ []) (d, tt) at) ∷ []) ∵ enter ! (𝓣 .C) (𝓣 .Λ) (function τ) (R′.lowered d ∷ []) _ $
@@ -92,21 +103,28 @@ module _ {M : Type 1} (𝓤 : URA M) (H : Heap 𝓤) (A : Atoms 𝓤) (W : Given
       assigns ! (of-opd ! (load ! (from ! (fld ! refl (stop !))) (look-in ! 4 (sub ! 1 refl (whole !))))) (from ! (stop !)) (init ! 0 refl (tt, td .1 .1 .0)) $
       move ! (9 ∷ []) $ fsplit ! $ move ! (1 ∷ []) $ drop ! $ move ! (9 ∷ 0 ∷ []) $
       use2 W (raw (Called 𝓤 H A mem run .pre to) ⊛ ‵ (Own κ d)) (apart-pair 𝓤 H A W κ q d (td .1 .1 .0 .fits)) $ split ! $
-      calls-at ! (fmOf 𝓤 H (W .laws) 𝓣) (Called 𝓤 H A mem run) known to (and-then ! (load ! (from ! (stop !)) (look ! 4 refl)) (and-then ! (load ! (from ! (stop !)) (look ! 2 refl)) (no-more !))) (λ u.
-      use1 W (later (some (λ (r : HeaderRead). ((‵ (flft κ q) ⊛ ‵ ftrue) ⊛ ‵ (S.the-row .own r (u ∷ []))) ⊛ raw (ensured 𝓤 H A callee.ended (callee.clauses 𝓤 H A mem run) (κ, tt) (d .text, (d .at, tt)) tt r)))) (id⊢ 𝓤 _) $ await ! tt $ pick ! (λ r.
-      split ! $ move ! (1 ∷ []) $ use1 W (raw (fact 𝓤 (Says r))) (said r) $ heard ! (Says r) (λ e. split ! $ move ! (1 ∷ []) $
+      calls-at ! (fmOf 𝓤 H (W .laws) 𝓣) (Called 𝓤 H A mem run) known to
+      (and-then ! (load ! (from ! (stop !)) (look ! 4 refl))
+      (and-then ! (load ! (from ! (stop !)) (look ! 2 refl)) (no-more !))) (λ u.
+      answered ! tt (‵ (flft κ q) ⊛ ‵ ftrue) S.the-row u _ _ said (id⊢ 𝓤 _) (λ r e.
       -- [the answer; the token; what the reader owns; _3; ..; _2; ..; _1; ..; _0; ..]
       peeks ! S.the-row (Is S.the-row) (shows 𝓤 H A S.the-row) r (u ∷ []) (λ ok.
       land ! (from ! (stop !)) (init ! 9 refl (tr r u ok)) $
       returns ! (look ! 9 refl) $ forget ! 3 refl $ forget ! 5 refl $ forget ! 7 refl $ forget ! 9 refl $
-      move ! (9 ∷ 10 ∷ []) $ free1 ! $ move ! (7 ∷ 8 ∷ []) $ free1 ! $ move ! (5 ∷ 6 ∷ []) $ free1 ! $ move ! (3 ∷ 4 ∷ []) $ free1 ! $ free0 ! $ by ! (exits r u e)))))))))
+      move ! (9 ∷ 10 ∷ []) $ free1 ! $ move ! (7 ∷ 8 ∷ []) $ free1 ! $ move ! (5 ∷ 6 ∷ []) $ free1 ! $
+      move ! (3 ∷ 4 ∷ []) $ free1 ! $ free0 ! $ by ! (exits r u e))))))))
 
-header-meets : {M : Type 1} (𝓤 : URA M) (H : Heap 𝓤) (A : Atoms 𝓤) → Given 𝓤 H A → (mem : Memory → SProp 𝓤) (run : Routine → Fun 𝓤) (𝓣 : Tables 𝓤 H) → Triple 𝓤 (𝓣 .C #callee) (Called 𝓤 H A mem run)
+header-meets : {M : Type 1} (𝓤 : URA M) (H : Heap 𝓤) (A : Atoms 𝓤) → Given 𝓤 H A
+    → (mem : Memory → SProp 𝓤) (run : Routine → Fun 𝓤) (𝓣 : Tables 𝓤 H)
+    → Triple 𝓤 (𝓣 .C #callee) (Called 𝓤 H A mem run)
     → Meets 𝓤 H A header.signature (WpFn 𝓤 H (𝓣 .C) (𝓣 .Λ) code.function) (header.spec 𝓤 H A mem run)
 header-meets 𝓤 H A W mem run 𝓣 known =
-    walk-meets 𝓤 H A header.ended stayed W (goes-none 𝓤 H A W 1 Readers yes (λ κs x f. refl), tt) (header.clauses 𝓤 H A mem run) (WpFn 𝓤 H (𝓣 .C) (𝓣 .Λ) code.function) (WpFn-mono 𝓤 H (W .laws) 𝓣 code.function)
+    walk-meets 𝓤 H A header.ended stayed W (goes-none 𝓤 H A W 1 Readers yes (λ κs x f. refl), tt)
+    (header.clauses 𝓤 H A mem run) (WpFn 𝓤 H (𝓣 .C) (𝓣 .Λ) code.function) (WpFn-mono 𝓤 H (W .laws) 𝓣 code.function)
     (walked 𝓤 H A header.ended stayed (header.clauses 𝓤 H A mem run) (WpFn 𝓤 H (𝓣 .C) (𝓣 .Λ) code.function) one-val one-tells
-    (λ κs qs bounds a g are. via 𝓤 _ (fst∗ 𝓤 _ (emp 𝓤)) (walk 𝓤 H A W mem run (κs .0) (qs .0) (a .0) 𝓣 known (reader-typed 𝓤 H A W (κs .0) (a .0) (are .0)) S′.mir (λ r u ok. EL.lawful S.the-type S′.the-laws 𝓤 H A W tt .typed r (u ∷ []) ok .0))))
+    (λ κs qs bounds a g are. via 𝓤 _ (fst∗ 𝓤 _ (emp 𝓤))
+    (walk 𝓤 H A W mem run (κs .0) (qs .0) (a .0) 𝓣 known (reader-typed 𝓤 H A W (κs .0) (a .0) (are .0)) S′.mir
+    (λ r u ok. EL.lawful S.the-type S′.the-laws 𝓤 H A W tt .typed r (u ∷ []) ok .0))))
 
 pub header-spec : {M : Type 1} → stated.statement M
 unfolding code.routine tablesOf

@@ -17,7 +17,7 @@ use prog.Wp.{Heap, WpFn, Tables}
 use ghost.Atoms.{Atoms, sem}
 use contract.Monad.{Fun, fact}
 use contract.Running.{givenOf, tables, tablesOf}
-use types.Kit.{Given, ‵, raw, _⊛_, some, later, _$_, _∵_, !, qed, by, move, drop, use1, split, pick, rewrite, fsplit, fjoin, suffices, frame, await}
+use types.Kit.{Given, ‵, raw, _⊛_, _$_, _∵_, !, qed, by, move, drop, use1, split, rewrite, fsplit, fjoin, suffices, frame}
 use types.Part.{whole, sub, look-in, agg}
 use types.Run.{look, init, forget, stop, fld, from, load, of-opd, and-then, no-more, assigns, land, returns, enter, alloc1, alloc0, params1, pass1, pass0, free1, free0}
 use sound.WpLaws.{fmOf, WpFn-mono}
@@ -25,7 +25,7 @@ use denote.RattleType.{owns}
 use denote.Laws.{Is, shows}
 use denote.Plain.{uint-makes}
 use denote.Builtin.{usize}
-use denote.Steps.{only, owned, facts, heard, nothing}
+use denote.Steps.{only, owned, facts, nothing}
 use denote.Struct.Laws as LL
 use denote.Struct.Rest.{own-put}
 use denote.Triple.Statement.{Contract, Triple}
@@ -41,7 +41,7 @@ use Rattle.drafts.specs.declared.Lines.{Lines}
 use Rattle.walk.proofs.Reader.Laws as R′
 use Rattle.drafts.proofs.Lines as L
 use Rattle.drafts.proofs.Lines.Laws as L′
-use Rattle.walk.proofs.Held.{Readers, struct, laws, Own, twice, asking-plain, reader-local, slice-local, number-local, Typed, number-typed, reader-typed, lines-typed, both-vals, both-tell}
+use Rattle.walk.proofs.Held.{Readers, struct, laws, Own, twice, asking-plain, reader-local, slice-local, number-local, Typed, number-typed, reader-typed, lines-typed, both-vals, both-tell, answered}
 use Rattle.walk.proofs.ends_at as ends
 use Rattle.walk.proofs.ends_at.Symbol as ends-def
 use Rattle.walk.proofs.ends_at.Symbol.{name as #ends-at}
@@ -56,7 +56,15 @@ stayed = (stay-none Readers yes, (stay-none (λ _. L.the-row) yes, tt))
 
 -- the code, with any type in the place of the lines'
 abbrev function : Ty → Fn
-function τ = record { lifetimes = 1; outlives = []; params = 2; locals = reader-local (named 0) ∷ reader-local (named 0) ∷ local τ valueLocal ∷ slice-local erased ∷ number-local ∷ []; body = code.function .body }
+function τ =
+    record {
+      lifetimes = 1;
+      outlives = [];
+      params = 2;
+      locals = reader-local (named 0) ∷ reader-local (named 0)
+          ∷ local τ valueLocal ∷ slice-local erased ∷ number-local ∷ [];
+      body = code.function .body;
+    }
 
 module _ {M : Type 1} (𝓤 : URA M) (H : Heap 𝓤) (A : Atoms 𝓤) (mem : Memory → SProp 𝓤) (run : Routine → Fun 𝓤) where
   abbrev EndsAt : Contract 𝓤
@@ -85,7 +93,9 @@ module _ {M : Type 1} (𝓤 : URA M) (H : Heap 𝓤) (A : Atoms 𝓤) (W : Given
   exits : (n : ℕ) → n ≡ l .next .at → n < 2 ^ 64 → ent 𝓤 (onEntry 𝓤 H A moved.signature (κ, tt) (q, tt) (d, (l, tt)) at) (Post (R′.lowered (on n)))
   exits n e fits =
       qed W ((‵ (flft κ q) ⊛ ‵ ftrue) ∷ ‵ (owns (Readers (κ, tt) ∷ L.the-row ∷ []) (d, (l, tt)) at) ∷ []) ∵
-      suffices ! _ (ends-at 𝓤 H A moved.ended stayed (moved.clauses 𝓤 H A mem run) W (((κ, tt), (q, tt), tt, (d, (l, tt)), at), tt) (R′.lowered (on n)) (on n) (tt, (tt, tt)) (tt, (tt, tt))) $ says ! (refl, e) $ frame ! $
+      suffices ! _ (ends-at 𝓤 H A moved.ended stayed (moved.clauses 𝓤 H A mem run) W
+      (((κ, tt), (q, tt), tt, (d, (l, tt)), at), tt) (R′.lowered (on n)) (on n) (tt, (tt, tt)) (tt, (tt, tt))) $
+      says ! (refl, e) $ frame ! $
       fsplit ! $ use1 W (‵ (Own κ d) ⊛ ‵ (Own κ d)) (twice 𝓤 H A W κ d (R′.lowered d)) $ split ! $ move ! (0 ∷ 2 ∷ []) $ fjoin ! $ frame ! $
       -- [what the reader owns]
       owned ! usize (Is usize) (uint-makes 𝓤 H A W w64) n _ (refl, fits) $ move ! (1 ∷ 0 ∷ []) $ by ! (own-put 𝓤 H A W (struct κ) (laws κ) 1 (d .text, (d .at, tt)) n (R′.lowered d))
@@ -99,22 +109,30 @@ module _ {M : Type 1} (𝓤 : URA M) (H : Heap 𝓤) (A : Atoms 𝓤) (W : Given
       assigns ! (of-opd ! (load ! (from ! (fld ! refl (stop !))) (look-in ! 6 (sub ! 0 refl (whole !))))) (from ! (stop !)) (init ! 2 refl (tt, td .1 .0)) $
       owned ! L.the-row (Is L.the-row) (LL.makes L.the-type L′.the-plain 𝓤 H A) l (v ∷ []) is $ use1 W (raw (EndsAt 𝓤 H A mem run .pre to)) asked $
       calls-at ! (fmOf 𝓤 H (W .laws) 𝓣) (EndsAt 𝓤 H A mem run) known to (and-then ! (load ! (from ! (stop !)) (look ! 5 refl)) (no-more !)) (λ u.
-      use1 W (later (some (λ (n : ℕ). (‵ ftrue ⊛ ‵ (usize .own n (u ∷ []))) ⊛ raw (ensured 𝓤 H A ends.ended (ends.clauses 𝓤 H A mem run) tt (l, tt) tt n)))) (id⊢ 𝓤 _) $ await ! tt $ pick ! (λ n.
-      split ! $ move ! (1 ∷ []) $ use1 W (raw (fact 𝓤 (n ≡ l .next .at))) (said n) $ heard ! (n ≡ l .next .at) (λ e. split ! $ drop ! $
+      answered ! tt (‵ ftrue) usize u _ _ said (id⊢ 𝓤 _) (λ n e. move ! (1 ∷ []) $ drop ! $
       -- [the answer; _4; ..; as before]: the answer is a number of the machine
       facts ! usize (Is usize) (shows 𝓤 H A usize) n (u ∷ []) (λ ok.
       land ! (from ! (stop !)) (init ! 0 refl (number-typed 𝓤 H A W n u ok)) $
       rewrite ! 0 (λ (z : Val). ‵ (fat fullShare (tyInt w64) l₄ 0 z)) (ap only (ok .0)) refl $
-      assigns ! (agg ! (and-then ! (load ! (from ! (stop !)) (look ! 2 refl)) (and-then ! (load ! (from ! (stop !)) (look ! 0 refl)) (no-more !)))) (from ! (stop !)) (init ! 8 refl (tt, (td .1 .0, (record { fits = ok .1 }, tt)))) $
+      assigns ! (agg ! (and-then ! (load ! (from ! (stop !)) (look ! 2 refl))
+      (and-then ! (load ! (from ! (stop !)) (look ! 0 refl)) (no-more !)))) (from ! (stop !))
+      (init ! 8 refl (tt, (td .1 .0, (record { fits = ok .1 }, tt)))) $
       returns ! (look ! 8 refl) $ forget ! 0 refl $ forget ! 2 refl $ forget ! 4 refl $ forget ! 6 refl $ forget ! 8 refl $
-      move ! (8 ∷ 9 ∷ []) $ free1 ! $ move ! (6 ∷ 7 ∷ []) $ free1 ! $ move ! (4 ∷ 5 ∷ []) $ free1 ! $ move ! (2 ∷ 3 ∷ []) $ free1 ! $ free1 ! $ free0 ! $ by ! (exits n e (ok .1)))))))))))
+      move ! (8 ∷ 9 ∷ []) $ free1 ! $ move ! (6 ∷ 7 ∷ []) $ free1 ! $ move ! (4 ∷ 5 ∷ []) $ free1 ! $ move ! (2 ∷ 3 ∷ []) $ free1 ! $ free1 ! $ free0 ! $ by ! (exits n e (ok .1))))))))))
 
 moved-meets : {M : Type 1} (𝓤 : URA M) (H : Heap 𝓤) (A : Atoms 𝓤) → Given 𝓤 H A → (mem : Memory → SProp 𝓤) (run : Routine → Fun 𝓤) (𝓣 : Tables 𝓤 H) → Triple 𝓤 (𝓣 .C #ends-at) (EndsAt 𝓤 H A mem run)
     → Meets 𝓤 H A moved.signature (WpFn 𝓤 H (𝓣 .C) (𝓣 .Λ) code.function) (moved.spec 𝓤 H A mem run)
 moved-meets 𝓤 H A W mem run 𝓣 known =
-    walk-meets 𝓤 H A moved.ended stayed W (goes-none 𝓤 H A W 1 Readers yes (λ κs x f. refl), (goes-none 𝓤 H A W 1 (λ _. L.the-row) yes (λ κs x f. refl), tt)) (moved.clauses 𝓤 H A mem run) (WpFn 𝓤 H (𝓣 .C) (𝓣 .Λ) code.function) (WpFn-mono 𝓤 H (W .laws) 𝓣 code.function)
-    (walked 𝓤 H A moved.ended stayed (moved.clauses 𝓤 H A mem run) (WpFn 𝓤 H (𝓣 .C) (𝓣 .Λ) code.function) (both-vals L.the-row (λ l. L′.lowered l ∷ [])) (both-tell L.the-row (λ l. L′.lowered l ∷ []) (L′.lowers .val-is))
-    (λ κs qs bounds a g are. via 𝓤 _ (fst∗ 𝓤 _ (emp 𝓤)) (walk 𝓤 H A W mem run (κs .0) (qs .0) (a .0) (a .1 .0) (L′.lowered (a .1 .0)) 𝓣 known (reader-typed 𝓤 H A W (κs .0) (a .0) (are .0)) L′.mir (lines-typed 𝓤 H A W (a .1 .0) (L′.lowered (a .1 .0)) (are .1 .0)) (are .1 .0))))
+    walk-meets 𝓤 H A moved.ended stayed W
+    (goes-none 𝓤 H A W 1 Readers yes (λ κs x f. refl), (goes-none 𝓤 H A W 1 (λ _. L.the-row) yes (λ κs x f. refl), tt))
+    (moved.clauses 𝓤 H A mem run) (WpFn 𝓤 H (𝓣 .C) (𝓣 .Λ) code.function) (WpFn-mono 𝓤 H (W .laws) 𝓣 code.function)
+    (walked 𝓤 H A moved.ended stayed (moved.clauses 𝓤 H A mem run) (WpFn 𝓤 H (𝓣 .C) (𝓣 .Λ) code.function)
+    (both-vals L.the-row (λ l. L′.lowered l ∷ []))
+    (both-tell L.the-row (λ l. L′.lowered l ∷ []) (L′.lowers .val-is))
+    (λ κs qs bounds a g are. via 𝓤 _ (fst∗ 𝓤 _ (emp 𝓤))
+    (walk 𝓤 H A W mem run (κs .0) (qs .0) (a .0) (a .1 .0) (L′.lowered (a .1 .0)) 𝓣 known
+    (reader-typed 𝓤 H A W (κs .0) (a .0) (are .0)) L′.mir
+    (lines-typed 𝓤 H A W (a .1 .0) (L′.lowered (a .1 .0)) (are .1 .0)) (are .1 .0))))
 
 pub moved-spec : {M : Type 1} → stated.statement M
 unfolding code.routine tablesOf

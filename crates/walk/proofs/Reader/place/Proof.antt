@@ -39,7 +39,8 @@ use Rattle.walk.proofs.Reader.place.Code as code
 abbrev stayed : Stays (place.ended .signature .params) (place.ended .kept)
 stayed = (stay-none Readers yes, tt)
 
-module _ {M : Type 1} (𝓤 : URA M) (H : Heap 𝓤) (A : Atoms 𝓤) (W : Given 𝓤 H A) (mem : Memory → SProp 𝓤) (run : Routine → Fun 𝓤) (κ : Lft) (q : Share) (d : Reader) where
+module _ {M : Type 1} (𝓤 : URA M) (H : Heap 𝓤) (A : Atoms 𝓤) (W : Given 𝓤 H A) (mem : Memory → SProp 𝓤)
+    (run : Routine → Fun 𝓤) (κ : Lft) (q : Share) (d : Reader) where
   abbrev at : Vals place.signature (κ, tt)
   at = (R′.lowered d ∷ [], tt)
 
@@ -49,7 +50,8 @@ module _ {M : Type 1} (𝓤 : URA M) (H : Heap 𝓤) (A : Atoms 𝓤) (W : Given
   exits : d .at < 2 ^ 64 → ent 𝓤 (onEntry 𝓤 H A place.signature (κ, tt) (q, tt) (d, tt) at) (Post (vint w64 (d .at)))
   exits fits =
       qed W ((‵ (flft κ q) ⊛ ‵ ftrue) ∷ ‵ (owns (Readers (κ, tt) ∷ []) (d, tt) at) ∷ []) ∵
-      suffices ! _ (ends-at 𝓤 H A place.ended stayed (place.clauses 𝓤 H A mem run) W (((κ, tt), (q, tt), tt, (d, tt), at), tt) (vint w64 (d .at)) (d .at) (tt, tt) (tt, tt)) $ says ! refl $
+      suffices ! _ (ends-at 𝓤 H A place.ended stayed (place.clauses 𝓤 H A mem run) W
+      (((κ, tt), (q, tt), tt, (d, tt), at), tt) (vint w64 (d .at)) (d .at) (tt, tt) (tt, tt)) $ says ! refl $
       frame ! $ frame ! $ owned ! usize (Is usize) (uint-makes 𝓤 H A W w64) (d .at) _ (refl, fits) $ done !
 
   walk : (𝓣 : Tables 𝓤 H) → Typed (R′.mir (named 0)) (R′.lowered d)
@@ -64,7 +66,8 @@ module _ {M : Type 1} (𝓤 : URA M) (H : Heap 𝓤) (A : Atoms 𝓤) (W : Given
 place-meets : {M : Type 1} (𝓤 : URA M) (H : Heap 𝓤) (A : Atoms 𝓤) → Given 𝓤 H A → (mem : Memory → SProp 𝓤) (run : Routine → Fun 𝓤) (𝓣 : Tables 𝓤 H)
     → Meets 𝓤 H A place.signature (WpFn 𝓤 H (𝓣 .C) (𝓣 .Λ) code.function) (place.spec 𝓤 H A mem run)
 place-meets 𝓤 H A W mem run 𝓣 =
-    walk-meets 𝓤 H A place.ended stayed W (goes-none 𝓤 H A W 1 Readers yes (λ κs x f. refl), tt) (place.clauses 𝓤 H A mem run) (WpFn 𝓤 H (𝓣 .C) (𝓣 .Λ) code.function) (WpFn-mono 𝓤 H (W .laws) 𝓣 code.function)
+    walk-meets 𝓤 H A place.ended stayed W (goes-none 𝓤 H A W 1 Readers yes (λ κs x f. refl), tt)
+    (place.clauses 𝓤 H A mem run) (WpFn 𝓤 H (𝓣 .C) (𝓣 .Λ) code.function) (WpFn-mono 𝓤 H (W .laws) 𝓣 code.function)
     (walked 𝓤 H A place.ended stayed (place.clauses 𝓤 H A mem run) (WpFn 𝓤 H (𝓣 .C) (𝓣 .Λ) code.function) one-val one-tells
     (λ κs qs bounds a g are. via 𝓤 _ (fst∗ 𝓤 _ (emp 𝓤)) (walk 𝓤 H A W mem run (κs .0) (qs .0) (a .0) 𝓣 (reader-typed 𝓤 H A W (κs .0) (a .0) (are .0)))))
 
