@@ -32,7 +32,9 @@ use Rattle.desk.specs.declared.OpenAnswer.the-variants.{Opened, NoFigure, Refus
 use Rattle.desk.specs.declared.SettingAnswer.{SettingAnswer}
 use Rattle.desk.specs.declared.SettingAnswer.the-variants.{Given, Refused as SettingRefused}
 use Rattle.desk.specs.declared.ReportAnswer.the-variants.{Counted, Refused}
-use Rattle.desk.specs.Desk.{Desk as DeskAt, deskCode, deskRow, deskOn, noDesk, Opening, openBy, openDesk, settingRows, settingBy, giveSetting, reportRow, reportRows, Reply, reportBy, report, numberOpening, numberSetting, numberReported, OpenPost, SettingPost, ReportPost}
+use Rattle.desk.specs.Desk.{Desk as DeskAt, deskCode, deskRow, deskOn, noDesk, Opening, openBy, openDesk, settingRows}
+use Rattle.desk.specs.Desk.{settingBy, giveSetting, reportRow, reportRows, Reply, reportBy, report, numberOpening}
+use Rattle.desk.specs.Desk.{numberSetting, numberReported, OpenPost, SettingPost, ReportPost}
 use Rattle.desk.proofs.Carrying.{sound-exactly}
 use Rattle.desk_calls.specs.declared.Desk.{Desk}
 use Rattle.desk_calls.specs.declared.ReportReply.{ReportReply}

@@ -12,7 +12,8 @@ returns c =
     let k = m .before .before .before in
     let g = k .before .before .before .args in
     λ r h new.
-    over-mismatch r (g .s) (g .self) (g .figures .now) (g .settings .now) (h .accepted) _ (m .mismatched .ensures r (g .s) h (k .compile .ensures .accepted new)) (i .if1 .taken) _
+    over-mismatch r (g .s) (g .self) (g .figures .now) (g .settings .now) (h .accepted) _
+    (m .mismatched .ensures r (g .s) h (k .compile .ensures .accepted new)) (i .if1 .taken) _
     (c .unchanged .ensures)
 
 returns-2 : tie.Need-returns-2
@@ -26,8 +27,10 @@ returns-2 c =
     let k = m .before .before .before in
     let g = k .before .before .before .args in
     λ r h new.
-    over-stopped r (g .s) (g .self) (g .figures .now) (g .settings .now) (h .accepted) _ (m .mismatched .ensures r (g .s) h (k .compile .ensures .accepted new)) (i .if1 .left) new _
-    (o .open-case .ensures) (t .enum-told .given .1) _ (s .stopped .ensures r h) (j .if2 .taken) _ (c .unchanged3 .ensures)
+    over-stopped r (g .s) (g .self) (g .figures .now) (g .settings .now) (h .accepted) _
+    (m .mismatched .ensures r (g .s) h (k .compile .ensures .accepted new)) (i .if1 .left) new _
+    (o .open-case .ensures) (t .enum-told .given .1) _ (s .stopped .ensures r h) (j .if2 .taken) _
+    (c .unchanged3 .ensures)
 
 returns-3 : tie.Need-returns-3
 returns-3 c =
@@ -43,8 +46,10 @@ returns-3 c =
     let k = m .before .before .before in
     let g = k .before .before .before .args in
     λ r h new.
-    over-stranded r (g .s) (g .self) (g .figures .now) (g .settings .now) (h .accepted) _ (m .mismatched .ensures r (g .s) h (k .compile .ensures .accepted new)) (i .if1 .left) new _
-    (o .open-case .ensures) (t .enum-told .given .1) _ (s .stopped .ensures r h) (j .if2 .left) _ _ (p .code-of .ensures (g .s) (k .compile .ensures .accepted new)) (v .entry-at .ensures)
+    over-stranded r (g .s) (g .self) (g .figures .now) (g .settings .now) (h .accepted) _
+    (m .mismatched .ensures r (g .s) h (k .compile .ensures .accepted new)) (i .if1 .left) new _
+    (o .open-case .ensures) (t .enum-told .given .1) _ (s .stopped .ensures r h) (j .if2 .left) _ _
+    (p .code-of .ensures (g .s) (k .compile .ensures .accepted new)) (v .entry-at .ensures)
     (l .if3 .taken) _ (c .unchanged4 .ensures)
 
 returns-4 : tie.Need-returns-4
@@ -56,7 +61,8 @@ returns-4 c =
     let k = m .before .before .before in
     let g = k .before .before .before .args in
     λ r h new.
-    over-short r (g .s) (g .self) (g .figures .now) (g .settings .now) (h .accepted) _ (m .mismatched .ensures r (g .s) h (k .compile .ensures .accepted new)) (i .if1 .left) new _
+    over-short r (g .s) (g .self) (g .figures .now) (g .settings .now) (h .accepted) _
+    (m .mismatched .ensures r (g .s) h (k .compile .ensures .accepted new)) (i .if1 .left) new _
     (o .open-case .ensures) _ (t .tested .given .1) _ (c .unchanged2 .ensures)
 
 returns-5 : tie.Need-returns-5
@@ -73,8 +79,10 @@ returns-5 c =
     let k = m .before .before .before in
     let g = k .before .before .before .args in
     λ r h new.
-    over-made r (g .s) (g .self) (g .figures .now) (g .settings .now) (h .accepted) _ (m .mismatched .ensures r (g .s) h (k .compile .ensures .accepted new)) (i .if1 .left) new _
-    (o .open-case .ensures) (t .enum-told .given .1) _ (s .stopped .ensures r h) (j .if2 .left) _ _ (p .code-of .ensures (g .s) (k .compile .ensures .accepted new)) (v .entry-at .ensures)
+    over-made r (g .s) (g .self) (g .figures .now) (g .settings .now) (h .accepted) _
+    (m .mismatched .ensures r (g .s) h (k .compile .ensures .accepted new)) (i .if1 .left) new _
+    (o .open-case .ensures) (t .enum-told .given .1) _ (s .stopped .ensures r h) (j .if2 .left) _ _
+    (p .code-of .ensures (g .s) (k .compile .ensures .accepted new)) (v .entry-at .ensures)
     (l .if3 .left) _ (c .desk-on .ensures (g .s) (k .compile .ensures .accepted new))
 
 pub go-over-spec : {M : Type 1} → statement M

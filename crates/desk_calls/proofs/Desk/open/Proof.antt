@@ -15,7 +15,8 @@ returns c =
     let o = t .before .before in
     let a = o .before .before .before in
     let g = a .args in
-    open-none (g .r) (g .figures .now) (g .settings .now) _ (o .open-case .ensures) (t .enum-told .given .1) _ _ (s .start-code .ensures)
+    open-none (g .r) (g .figures .now) (g .settings .now) _ (o .open-case .ensures) (t .enum-told .given .1) _ _
+    (s .start-code .ensures)
     (v .entry-at .ensures) (i .if1 .taken) _ (c .nowhere2 .ensures)
 
 returns-2 : tie.Need-returns-2
@@ -24,7 +25,8 @@ returns-2 c =
     let o = t .before .before in
     let a = o .before .before .before in
     let g = a .args in
-    open-refused (g .r) (g .figures .now) (g .settings .now) _ (o .open-case .ensures) _ (t .tested .given .1) _ (c .nowhere .ensures)
+    open-refused (g .r) (g .figures .now) (g .settings .now) _ (o .open-case .ensures) _ (t .tested .given .1) _
+    (c .nowhere .ensures)
 
 returns-3 : tie.Need-returns-3
 returns-3 c =
@@ -36,8 +38,10 @@ returns-3 c =
     let o = t .before .before in
     let a = o .before .before .before in
     let g = a .args in
-    open-stands (g .r) (g .figures .now) (g .settings .now) _ (o .open-case .ensures) (t .enum-told .given .1) _ _ (s .start-code .ensures) (v .entry-at .ensures) (i .if1 .left) _
-    (q .placement-of .ensures) (placement-length (q .placement-of .result) _ (q .placement-of .ok)) _ (c .desk-on .ensures)
+    open-stands (g .r) (g .figures .now) (g .settings .now) _ (o .open-case .ensures) (t .enum-told .given .1) _ _
+    (s .start-code .ensures) (v .entry-at .ensures) (i .if1 .left) _
+    (q .placement-of .ensures) (placement-length (q .placement-of .result) _ (q .placement-of .ok)) _
+    (c .desk-on .ensures)
 
 pub open-spec : {M : Type 1} → statement M
 open-spec =

@@ -15,7 +15,8 @@ returns c =
     let o = t .before .before in
     let a = o .before .before .before in
     let g = a .args in
-    report-stopped (g .r) (g .figures .now) (g .settings .now) _ (o .open-case .ensures) (t .enum-told .given .1) (g .self) _ (m .stopped .ensures) (i .if1 .taken) (g .t) (g .x) _
+    report-stopped (g .r) (g .figures .now) (g .settings .now) _ (o .open-case .ensures) (t .enum-told .given .1)
+    (g .self) _ (m .stopped .ensures) (i .if1 .taken) (g .t) (g .x) _
     (c .refused2 .ensures)
 
 returns-2 : tie.Need-returns-2
@@ -32,9 +33,12 @@ returns-2 c =
     let o = t .before .before in
     let a = o .before .before .before in
     let g = a .args in
-    report-counts (g .r) (g .figures .now) (g .settings .now) _ (o .open-case .ensures) (t .enum-told .given .1) (g .self) _ (m .stopped .ensures) (i .if1 .left) _
-    (v .entry-at .ensures) (g .t) (g .x) _ (w .case-ways .ensures) _ (q .placement-of .ensures) _ (n .counts .ensures) (j .if2 .taken) _ (u .put-on .ensures)
-    (placement-length (u .put-on .result) _ (u .put-on .ok)) (desk-length (g .self) _ (a .good .0)) _ (c .desk-on .ensures)
+    report-counts (g .r) (g .figures .now) (g .settings .now) _ (o .open-case .ensures) (t .enum-told .given .1)
+    (g .self) _ (m .stopped .ensures) (i .if1 .left) _
+    (v .entry-at .ensures) (g .t) (g .x) _ (w .case-ways .ensures) _ (q .placement-of .ensures) _ (n .counts .ensures)
+    (j .if2 .taken) _ (u .put-on .ensures)
+    (placement-length (u .put-on .result) _ (u .put-on .ok)) (desk-length (g .self) _ (a .good .0)) _
+    (c .desk-on .ensures)
 
 returns-3 : tie.Need-returns-3
 returns-3 c =
@@ -42,7 +46,8 @@ returns-3 c =
     let o = t .before .before in
     let a = o .before .before .before in
     let g = a .args in
-    report-refused (g .r) (g .figures .now) (g .settings .now) _ (o .open-case .ensures) _ (t .tested .given .1) (g .self) (g .t) (g .x) _ (c .refused .ensures)
+    report-refused (g .r) (g .figures .now) (g .settings .now) _ (o .open-case .ensures) _ (t .tested .given .1)
+    (g .self) (g .t) (g .x) _ (c .refused .ensures)
 
 returns-4 : tie.Need-returns-4
 returns-4 c =
@@ -57,8 +62,10 @@ returns-4 c =
     let o = t .before .before in
     let a = o .before .before .before in
     let g = a .args in
-    report-not (g .r) (g .figures .now) (g .settings .now) _ (o .open-case .ensures) (t .enum-told .given .1) (g .self) _ (m .stopped .ensures) (i .if1 .left) _
-    (v .entry-at .ensures) (g .t) (g .x) _ (w .case-ways .ensures) _ (q .placement-of .ensures) _ (n .counts .ensures) (j .if2 .left) _ (c .refused3 .ensures)
+    report-not (g .r) (g .figures .now) (g .settings .now) _ (o .open-case .ensures) (t .enum-told .given .1) (g .self)
+    _ (m .stopped .ensures) (i .if1 .left) _
+    (v .entry-at .ensures) (g .t) (g .x) _ (w .case-ways .ensures) _ (q .placement-of .ensures) _ (n .counts .ensures)
+    (j .if2 .left) _ (c .refused3 .ensures)
 
 pub report-spec : {M : Type 1} → statement M
 report-spec =

@@ -12,7 +12,8 @@ returns c =
     let o = t .before .before in
     let a = o .before .before .before in
     let g = a .args in
-    setting-stopped (g .r) (g .figures .now) (g .settings .now) _ (o .open-case .ensures) (t .enum-told .given .1) (g .self) _ (m .stopped .ensures) (c .if1 .taken)
+    setting-stopped (g .r) (g .figures .now) (g .settings .now) _ (o .open-case .ensures) (t .enum-told .given .1)
+    (g .self) _ (m .stopped .ensures) (c .if1 .taken)
 
 returns-2 : tie.Need-returns-2
 returns-2 c =
@@ -20,7 +21,8 @@ returns-2 c =
     let o = t .before .before in
     let a = o .before .before .before in
     let g = a .args in
-    setting-refused (g .r) (g .figures .now) (g .settings .now) _ (o .open-case .ensures) _ (t .tested .given .1) (g .self)
+    setting-refused (g .r) (g .figures .now) (g .settings .now) _ (o .open-case .ensures) _
+    (t .tested .given .1) (g .self)
 
 returns-3 : tie.Need-returns-3
 returns-3 c =
@@ -30,7 +32,8 @@ returns-3 c =
     let o = t .before .before in
     let a = o .before .before .before in
     let g = a .args in
-    setting-given (g .r) (g .figures .now) (g .settings .now) _ (o .open-case .ensures) (t .enum-told .given .1) (g .self) _ (m .stopped .ensures) (i .if1 .left) _
+    setting-given (g .r) (g .figures .now) (g .settings .now) _ (o .open-case .ensures) (t .enum-told .given .1)
+    (g .self) _ (m .stopped .ensures) (i .if1 .left) _
     (c .entry-at .ensures)
 
 pub setting-spec : {M : Type 1} → statement M
