@@ -1,5 +1,6 @@
--- The promise can be kept for every record and any two tables: a start has a figure or none; the ends are gone through in order up to the first that helps; and tables of the last case tried there are, for
--- it is accepted and has as many placements. So the whole statement holds. Assumes nothing.
+-- The promise can be kept for every record and any two tables: a start has a figure or none; the ends are gone through
+-- in order up to the first that helps; and tables of the last case tried there are, for it is accepted and has as many
+-- placements. So the whole statement holds. Assumes nothing.
 use mathlib.Core.Path.{_≡_, refl, sym, _∙_, ap}
 use mathlib.Core.Logic.{_⊎_, inl, inr}
 use mathlib.Core.Bool.{true}

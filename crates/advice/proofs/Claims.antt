@@ -1,5 +1,6 @@
--- From the promise the claims follow. A start has a figure or none, and not both; so what is said can be told from what is so, answer by answer, and of two first ends that help neither comes before the
--- other. All cases that are tried have the same placements. Assumes nothing.
+-- From the promise the claims follow. A start has a figure or none, and not both; so what is said can be told from what
+-- is so, answer by answer, and of two first ends that help neither comes before the other. All cases that are tried
+-- have the same placements. Assumes nothing.
 use mathlib.Core.Path.{_≡_, refl, sym, _∙_, ap}
 use mathlib.Core.Logic.{inl, inr}
 use mathlib.Core.List.{List}
@@ -26,7 +27,9 @@ use Rattle.tables.specs.Solver.{Kept, SolverTables}
 use Rattle.tables.proofs.Refusals.{case-none}
 use Rattle.advice.specs.declared.Advice.{Advice}
 use Rattle.advice.specs.declared.Advice.the-variants.{NotNeeded, Signal, NoneHelps, Refused}
-use Rattle.advice.specs.Advice.{HasFigure, HasNone, endsOf, tries, withOne, NoneBefore, FirstHelp, lastTried, caseOf, numberSaid, Said, lastCase, AdvicePost, Bare, signalled, AdviceClaims, StillAccepted}
+use Rattle.advice.specs.Advice.{HasFigure, HasNone, endsOf, tries, withOne, NoneBefore, FirstHelp, lastTried}
+use Rattle.advice.specs.Advice.{caseOf, numberSaid, Said, lastCase, AdvicePost, Bare, signalled, AdviceClaims}
+use Rattle.advice.specs.Advice.{StillAccepted}
 use Rattle.advice.proofs.Accepting.{still-accepted}
 use Rattle.advice.proofs.Naming.{named-of, below-there, helping, helps-first, none-named, last-is, none-tried, one-is, tried-bare}
 
@@ -161,7 +164,9 @@ refused-by (Signal n s) f e = some-none e refl
 refused-by NoneHelps f e = some-none e refl
 refused-by (Refused g) f e = ap (λ (h : Refusal). Refused h) (number-one g f (some-one e))
 
-pub refused : (r : Railway) (a : Advice) (figs sets figs′ sets′ : List ℕ) (f : Refusal) → caseRefusal r figs sets ≡ some f → AdvicePost r a figs sets figs′ sets′ → (a ≡ Refused f) × (figs′ ≡ figs) × (sets′ ≡ sets)
+pub refused : (r : Railway) (a : Advice) (figs sets figs′ sets′ : List ℕ) (f : Refusal)
+    → caseRefusal r figs sets ≡ some f → AdvicePost r a figs sets figs′ sets′
+    → (a ≡ Refused f) × (figs′ ≡ figs) × (sets′ ≡ sets)
 refused r a figs sets figs′ sets′ f e post =
     let kept : (figs′ ≡ figs) × (sets′ ≡ sets) = rw e at (post .leaves) in
     (refused-by a f (post .numbered ∙ ap numberOf e), kept .0, kept .1)

@@ -20,9 +20,12 @@ following = lineT 2 Up 2 3 (lineT 1 Up 1 2 (lineJ (sec 2 Up) (sec 3 Down) (lineJ
 
 -- Three sections in a ring, the second closed, signals at both ends of the third; train 1 heads up from 3 to 1, and train 2 up from 1 to 3, for which it would have to pass section 2.
 abbrev pub closedRing : Railway
-closedRing = lineT 2 Up 1 3 (lineT 1 Up 3 1 (lineX 2 (lineG (sec 3 Up) (lineG (sec 3 Down) (lineJ (sec 3 Up) (sec 1 Down) (lineJ (sec 2 Up) (sec 3 Down) (lineJ (sec 1 Up) (sec 2 Down) (yardH 3 0 2))))))))
+closedRing =
+    lineT 2 Up 1 3 (lineT 1 Up 3 1 (lineX 2 (lineG (sec 3 Up) (lineG (sec 3 Down)
+    (lineJ (sec 3 Up) (sec 1 Down) (lineJ (sec 2 Up) (sec 3 Down) (lineJ (sec 1 Up) (sec 2 Down) (yardH 3 0 2))))))))
 
--- A single line with a loop in the middle (examples/no-plan.txt): sections 2 and 3 lie side by side between two points, and the trains at both ends have to pass each other there. One signal stands at 1u.
+-- A single line with a loop in the middle (examples/no-plan.txt): sections 2 and 3 lie side by side between two points,
+-- and the trains at both ends have to pass each other there. One signal stands at 1u.
 abbrev pub passingLoop : Railway
 passingLoop =
     lineT 2 Down 4 1

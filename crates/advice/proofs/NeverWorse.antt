@@ -1,5 +1,6 @@
--- ONE SIGNAL MORE NEVER TAKES A FIGURE AWAY. Whoever has a signal more can leave it open for good: then the same trains may move as without it, to the same ends and at the same cost. So the settings of the case,
--- with that signal open in each, keep the figures of the case, and who follows them is home within the figure of the start. Assumes nothing.
+-- ONE SIGNAL MORE NEVER TAKES A FIGURE AWAY. Whoever has a signal more can leave it open for good: then the same trains
+-- may move as without it, to the same ends and at the same cost. So the settings of the case, with that signal open in
+-- each, keep the figures of the case, and who follows them is home within the figure of the start. Assumes nothing.
 use mathlib.Core.Path.{_≡_, refl, sym, _∙_, ap}
 use mathlib.Core.Logic.{inl, inr}
 use mathlib.Core.Bool.{Bool, true, false, cond, not, _&&_, _||_}

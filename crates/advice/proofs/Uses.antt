@@ -35,7 +35,9 @@ use Rattle.advice.specs.Advice.{HasFigure, HasNone, numberSaid, AdvicePo
 use Rattle.advice.proofs.Examples.{following, passingLoop, closedRing, allHeld}
 use Rattle.advice.proofs.Claims.{apart}
 use Rattle.advice.proofs.Answered.{advice-holds}
-use Rattle.advice.proofs.Yards.{Solution, one, two, three, following-alone, following-1d, following-1u, ring-alone, ring-1d, ring-1u, ring-2d, ring-2u, all-held, loop-alone, loop-1d, loop-2d, loop-3d}
+use Rattle.advice.proofs.Yards.{Solution, one, two, three, following-alone, following-1d, following-1u}
+use Rattle.advice.proofs.Yards.{ring-alone, ring-1d, ring-1u, ring-2d, ring-2u, all-held, loop-alone, loop-1d}
+use Rattle.advice.proofs.Yards.{loop-2d, loop-3d}
 
 -- WHAT IS KNOWN of the cases: the figure of a start, or that it has none
 start-is : {r : Railway} {p : ℕ} {figs sets : List ℕ} → Solution r p figs sets → p < placements r → (f : Option ℕ) → figureIn figs p ≡ f → IsFigure (gameOf r) (startCode r) f
@@ -46,7 +48,8 @@ same-figure : {r : Railway} {p : ℕ} {figs sets : List ℕ} → Solution r p fi
 same-figure {r} {p} {figs} {sets} s figs′ sets′ f q l = figure-same r (s .accepted) figs′ sets′ figs sets f (s .filled) q l
 
 -- nothing is refused with tables that are long enough
-fine-with : {r : Railway} {p : ℕ} {figs₁ sets₁ : List ℕ} → Solution r p figs₁ sets₁ → (m : ℕ) → placements r ≡ m → (figs sets : List ℕ) → m ≤ length figs → m ≤ length sets → caseRefusal r figs sets ≡ none
+fine-with : {r : Railway} {p : ℕ} {figs₁ sets₁ : List ℕ} → Solution r p figs₁ sets₁ → (m : ℕ) → placements r ≡ m
+    → (figs sets : List ℕ) → m ≤ length figs → m ≤ length sets → caseRefusal r figs sets ≡ none
 fine-with {r} s m e figs sets lf ls = case-none r figs sets .1 (s .accepted, record { figures = rw e lf; settings = rw e ls })
 
 -- nine placements, and four
@@ -54,7 +57,9 @@ nine : (placements following ≡ 9) × (placements (signalled following one Down
 unfolding withJoin withSignal withTrain
 nine = (refl, refl, refl)
 
-nine-ring : (placements closedRing ≡ 9) × (placements (signalled closedRing one Down) ≡ 9) × (placements (signalled closedRing one Up) ≡ 9) × (placements (signalled closedRing two Down) ≡ 9) × (placements (signalled closedRing two Up) ≡ 9)
+nine-ring : (placements closedRing ≡ 9) × (placements (signalled closedRing one Down) ≡ 9)
+    × (placements (signalled closedRing one Up) ≡ 9) × (placements (signalled closedRing two Down) ≡ 9)
+    × (placements (signalled closedRing two Up) ≡ 9)
 unfolding withJoin withSignal withClosed withTrain
 nine-ring = (refl, refl, refl, refl, refl)
 
@@ -159,11 +164,14 @@ ring-useless n s b = of-three (λ n. Bare closedRing n s → HasNone (signalled 
     at-three Up b = clash (signals-ring .1) (b .no-signal)
 
 pub too-short : caseRefusal following (replicate 8 5) (replicate 9 6) ≡ some Space
-unfolding caseRefusal tablesShort first weightRow weightOf unknownRow joinRow looseRow chainRow longer placeRow endAt joinedBy joined hasSignal legsOf trainOf withJoin withSignal withLegs withTrain anyBelow isClosed
+unfolding caseRefusal tablesShort first weightRow weightOf unknownRow joinRow looseRow chainRow longer placeRow endAt
+    joinedBy joined hasSignal legsOf trainOf withJoin withSignal withLegs withTrain anyBelow isClosed
 too-short = refl
 
 -- THE PROMISE. Eight entries are too few for nine placements: 9, and nothing has changed.
-pub short : (r : Railway) (a : Advice) (figs′ sets′ : List ℕ) → r ≡ following → AdvicePost r a (replicate 8 5) (replicate 9 6) figs′ sets′ → (numberSaid a ≡ some 9) × (figs′ ≡ replicate 8 5) × (sets′ ≡ replicate 9 6)
+pub short : (r : Railway) (a : Advice) (figs′ sets′ : List ℕ) → r ≡ following
+    → AdvicePost r a (replicate 8 5) (replicate 9 6) figs′ sets′
+    → (numberSaid a ≡ some 9) × (figs′ ≡ replicate 8 5) × (sets′ ≡ replicate 9 6)
 short r a figs′ sets′ e p = by-fields a figs′ sets′ (rw e at p)
   where
     by-fields : (a : Advice) (figs′ sets′ : List ℕ) → AdvicePost following a (replicate 8 5) (replicate 9 6) figs′ sets′ → (numberSaid a ≡ some 9) × (figs′ ≡ replicate 8 5) × (sets′ ≡ replicate 9 6)
@@ -301,7 +309,8 @@ module _ (holds : AdviceHolds) where
   pub there-is : (a : Advice) × (figs′ : List ℕ) × (sets′ : List ℕ) × AdvicePost following a (replicate 9 5) (replicate 9 6) figs′ sets′
   there-is = holds .answered following (replicate 9 5) (replicate 9 6)
 
-  pub no-other : (a b : Advice) (figs sets figs₁ sets₁ figs₂ sets₂ : List ℕ) → a ≡ NoneHelps → AdvicePost closedRing a figs sets figs₁ sets₁ → AdvicePost closedRing b figs sets figs₂ sets₂ → b ≡ NoneHelps
+  pub no-other : (a b : Advice) (figs sets figs₁ sets₁ figs₂ sets₂ : List ℕ) → a ≡ NoneHelps
+      → AdvicePost closedRing a figs sets figs₁ sets₁ → AdvicePost closedRing b figs sets figs₂ sets₂ → b ≡ NoneHelps
   no-other a b figs sets figs₁ sets₁ figs₂ sets₂ e x y = sym (holds .only closedRing a b figs sets figs₁ sets₁ figs₂ sets₂ x y) ∙ e
 
   pub tried-accepted : (n : SectionNo) (s : Side) → n .0 < 3 → (recordRefusal (signalled following n s) ≡ none) × (placements (signalled following n s) ≡ 9) × (startCode (signalled following n s) ≡ 3)

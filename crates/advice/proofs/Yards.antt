@@ -106,7 +106,10 @@ sure : Sure following 3 freely zeros
     × Sure (signalled passingLoop one Down) 12 meeting meetingSets
     × Sure (signalled passingLoop two Down) 12 metOnTwo twoSets
     × Sure (signalled passingLoop three Down) 12 metOnThree threeSets
-unfolding recordRefusal first weightRow weightOf unknownRow joinRow looseRow chainRow longer placeRow endAt joinedBy joined hasSignal legsOf trainOf withJoin withSignal withClosed withLegs withTrain allBelow anyBelow sumBelow listBelow lowest fromBits certified keepsTest sectionsIn standsOn codeOf startCode atHome shared headsFor mayMove free held signalOpen passes follow occupied moveOf entered isClosed settingAt entryFrom tryOpen firstFound find
+unfolding recordRefusal first weightRow weightOf unknownRow joinRow looseRow chainRow longer placeRow endAt joinedBy
+    joined hasSignal legsOf trainOf withJoin withSignal withClosed withLegs withTrain allBelow anyBelow sumBelow
+    listBelow lowest fromBits certified keepsTest sectionsIn standsOn codeOf startCode atHome shared headsFor mayMove
+    free held signalOpen passes follow occupied moveOf entered isClosed settingAt entryFrom tryOpen firstFound find
 sure = (
   record { accepted = refl; starts = refl; passes = refl },
   record { accepted = refl; starts = refl; passes = refl },

@@ -26,7 +26,8 @@ use Rattle.advice.specs.Advice.{AdvicePost}
 use Rattle.advice_lines.specs.Lines.{endLine, adviceLine, blank, RailwayAdvice, CaseAdvice, adviceBytes}
 
 -- A SECTION END, from the bytes put one behind the other
-pub end-made : {o o₁ o₂ : List ℕ} {a a₁ a₂ : ℕ} (n : SectionNo) (s : Side) (m b : ℕ) → m ≡ suc (n .0) → b ≡ sideByte s → Appended o a (decimal m ++ (b ∷ [])) o₁ a₁ → Appended o₁ a₁ (lineEnd ∷ []) o₂ a₂
+pub end-made : {o o₁ o₂ : List ℕ} {a a₁ a₂ : ℕ} (n : SectionNo) (s : Side) (m b : ℕ) → m ≡ suc (n .0) → b ≡ sideByte s
+    → Appended o a (decimal m ++ (b ∷ [])) o₁ a₁ → Appended o₁ a₁ (lineEnd ∷ []) o₂ a₂
     → Appended o a (endLine n s) o₂ a₂
 end-made n s m b em eb p q =
     let p′ : Appended _ _ (sectionField (suc (n .0)) s) _ _ = rw (em, eb) at p in
@@ -48,7 +49,9 @@ advice-short NoneHelps = omega arith
 advice-short (Refused f) = omega (arith, refusal-short f)
 
 -- A RAILWAY
-pub advised : (r : Railway) (a : Advice) (figs sets old new : List ℕ) (w : Written) → AdvicePost r a blank blank figs sets → PutPost (adviceLine a) old w new → Puts (RailwayAdvice r) adviceBytes old w new
+pub advised : (r : Railway) (a : Advice) (figs sets old new : List ℕ) (w : Written)
+    → AdvicePost r a blank blank figs sets → PutPost (adviceLine a) old w new
+    → Puts (RailwayAdvice r) adviceBytes old w new
 advised r a figs sets old new w post p = record { text = adviceLine a; output = record { answer = a; figs = figs; sets = sets; advised = post; written = refl }; short = advice-short a; put = p }
 
 -- AN ANSWER that is known

@@ -1,5 +1,6 @@
--- What is written for yards and texts that are written out: no signal for Yard A, 1u for a train that follows another, none for the ring; the refusals of a text out of form and of one that is too long; and what stands in a
--- buffer that a line is put into, with room for it and without. Assumes nothing.
+-- What is written for yards and texts that are written out: no signal for Yard A, 1u for a train that follows another,
+-- none for the ring; the refusals of a text out of form and of one that is too long; and what stands in a buffer that a
+-- line is put into, with room for it and without. Assumes nothing.
 use mathlib.Core.Path.{_≡_, refl, _∙_, ap}
 use mathlib.Core.List.{List, [], _∷_, _++_}
 use Prim.Native.Nat.{ℕ, suc, _<_, _≤_}

@@ -51,8 +51,8 @@ adviceBytes = 24
 abbrev pub CutWrites : Type 0
 CutWrites = (case text : List ℕ) (n : ℕ) → mostBytes < n → CaseAdvice (take n case) text → CaseAdvice case text
 
--- What the program that reads standard input promises of how many bytes it writes: there is a case text, no longer than is read, and so many bytes has its line. No definition can say which bytes come in,
--- nor that any went out.
+-- What the program that reads standard input promises of how many bytes it writes: there is a case text, no longer than
+-- is read, and so many bytes has its line. No definition can say which bytes come in, nor that any went out.
 pub record Advised (n : ℕ) : Type 0 where
   pub case : List ℕ
   pub short : length case ≤ suc mostBytes

@@ -1,5 +1,7 @@
--- A first try, the case itself, and end after end. If the first end does not help, the case itself has no figure, by the law that one signal more takes none away. Before index i none has helped, and the tables are those of the last case tried. A solving of the next case keeps what stands behind the last code, so that the tables are still
--- what was lent there; it has as many placements, and is not refused. Assumes nothing.
+-- A first try, the case itself, and end after end. If the first end does not help, the case itself has no figure, by
+-- the law that one signal more takes none away. Before index i none has helped, and the tables are those of the last
+-- case tried. A solving of the next case keeps what stands behind the last code, so that the tables are still what was
+-- lent there; it has as many placements, and is not refused. Assumes nothing.
 use mathlib.Core.Path.{_≡_, refl, sym, _∙_, ap}
 use mathlib.Core.Bool.{Bool, true, false, not}
 use mathlib.Core.List.{List}
@@ -281,7 +283,9 @@ module _ (r : Railway) (i₀ : ℕ) (figs₁ sets₁ figs sets figs′ sets′ :
   trying-found b e p d ed figs₀ sets₀ u = found figs₀ sets₀ u d ed (rw e at p)
 
 -- ALL TRIED
-pub trying-over : (r : Railway) (i₀ : ℕ) (figs₁ sets₁ figs sets : List ℕ) (i : ℕ) → Trying r i₀ figs₁ sets₁ i figs sets → endsOf r ≤ i → (figs₀ sets₀ : List ℕ) → TriedTo r i₀ figs₀ sets₀ figs₁ sets₁ → AdvicePost r NoneHelps figs₀ sets₀ figs sets
+pub trying-over : (r : Railway) (i₀ : ℕ) (figs₁ sets₁ figs sets : List ℕ) (i : ℕ) → Trying r i₀ figs₁ sets₁ i figs sets
+    → endsOf r ≤ i → (figs₀ sets₀ : List ℕ) → TriedTo r i₀ figs₀ sets₀ figs₁ sets₁
+    → AdvicePost r NoneHelps figs₀ sets₀ figs sets
 trying-over r i₀ figs₁ sets₁ figs sets i x l figs₀ sets₀ u =
     let e : i ≡ endsOf r = omega (arith, x .within) in
     let t : TriedTo r (endsOf r) figs₀ sets₀ figs sets = rw e at (x .tried figs₀ sets₀ u) in

@@ -1,7 +1,9 @@
-// Which signal would help: a record and two lent tables. A refused case leaves them as they were. Else the case with one signal more, at the first section end that has none, is solved first: where its start
-// has no figure, neither has that of the case itself, since one signal more never takes a figure away, and the ends behind it are tried, section by section, down before up, to the first that gives the start one.
-// Where it has, the case itself is solved, and if that has none the end is tried again, for its tables. So there are at most as many solvings as ends without a signal, 96, or three. The tables are left as the
-// last of them filled them.
+// Which signal would help: a record and two lent tables. A refused case leaves them as they were. Else the case with
+// one signal more, at the first section end that has none, is solved first: where its start has no figure, neither
+// has that of the case itself, since one signal more never takes a figure away, and the ends behind it are tried,
+// section by section, down before up, to the first that gives the start one. Where it has, the case itself is solved,
+// and if that has none the end is tried again, for its tables. So there are at most as many solvings as ends without
+// a signal, 96, or three. The tables are left as the last of them filled them.
 ghost use mathlib.Core.Path.{_≡_};
 ghost use mathlib.Core.List.{List};
 ghost use mathlib.Core.Option.{none};
@@ -31,7 +33,8 @@ pub fn advise(r: Railway, figures: &mut [u32], settings: &mut [u32]) -> Advice
 // An accepted case, with tables that are long enough.
 fn advise_case(r: Railway, figures: &mut [u32], settings: &mut [u32]) -> Advice
     requires { ⌜ r .sections ≤ mostSections ⌝ }
-    ensures { λ a. ⌜ (caseRefusal r (now (figures .entry)) (now (settings .entry)) ≡ none → AdvicePost r a (now (figures .entry)) (now (settings .entry)) (now (figures .exit)) (now (settings .exit))) ⌝ }
+    ensures { λ a. ⌜ (caseRefusal r (now (figures .entry)) (now (settings .entry)) ≡ none → AdvicePost r a
+        (now (figures .entry)) (now (settings .entry)) (now (figures .exit)) (now (settings .exit))) ⌝ }
 {
     let i = first_bare(r);
     if i >= 2 * r.sections {

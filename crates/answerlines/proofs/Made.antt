@@ -15,7 +15,9 @@ use Rattle.plan.specs.declared.TestAnswer.{TestAnswer}
 use Rattle.plan.specs.declared.TestAnswer.the-variants.{Pass, Refused}
 use Rattle.answerlines.specs.Lines.{refusedWord, refusalLine, passLine, testLine, PutPost}
 
-pub refusal-made : {o o₁ o₂ : List ℕ} {a a₁ a₂ : ℕ} (f : Refusal) (n : ℕ) → n ≡ number f → Appended o a (refusedWord ++ (tab ∷ [])) o₁ a₁ → Appended o₁ a₁ (decimal n ++ (lineEnd ∷ [])) o₂ a₂ → Appended o a (refusalLine f) o₂ a₂
+pub refusal-made : {o o₁ o₂ : List ℕ} {a a₁ a₂ : ℕ} (f : Refusal) (n : ℕ) → n ≡ number f
+    → Appended o a (refusedWord ++ (tab ∷ [])) o₁ a₁ → Appended o₁ a₁ (decimal n ++ (lineEnd ∷ [])) o₂ a₂
+    → Appended o a (refusalLine f) o₂ a₂
 refusal-made f n is p d = rw (← is) (line-more refusedWord (decimal n) [] p (line-last (decimal n) d))
 
 -- IN A BUFFER OF ITS OWN, with room: what stands there is the line, so what is put from there is the line

@@ -166,7 +166,9 @@ module _ (d : Description) (w : Faultless d) where
         let i = g u (omega arith) in
         let j = g t b in
         let k = repeats-apart eqb (map p (d .roster)) (p noTrainLine) u t e l (rw (length-map (d .roster) p, f .one-a-train) b) in
-        eqb-false (p (getD (d .roster) u noTrainLine)) (p (getD (d .roster) t noTrainLine)) (rw (List·getD-map p (d .roster) u noTrainLine, List·getD-map p (d .roster) t noTrainLine) at k) (omega arith)
+        eqb-false (p (getD (d .roster) u noTrainLine)) (p (getD (d .roster) t noTrainLine))
+        (rw (List·getD-map p (d .roster) u noTrainLine, List·getD-map p (d .roster) t noTrainLine) at k)
+        (omega arith)
 
     pub accepted-record : Accepted (railwayOf d)
     unfolding railwayOf

@@ -221,8 +221,11 @@ module _ (d : Description) (w : Faultless d) where
           points = refl;
           trains = refl;
           legs = λ n h. legs-at d n h (w .laid .bounds .few-points);
-          joins = λ e x.
-              (λ h. joins-described d (w .laid) e x (partner-ties (d .joins) (fieldOf e) x (sym (joined-at d (joinable d (w .laid)) e (joined-numbered (railwayOf d) e x h)) ∙ h)), described-joins d (w .laid) e x);
+          joins = λ e x. (
+            λ h. joins-described d (w .laid) e x (partner-ties (d .joins) (fieldOf e) x
+                (sym (joined-at d (joinable d (w .laid)) e (joined-numbered (railwayOf d) e x h)) ∙ h)),
+            described-joins d (w .laid) e x,
+          );
           signals = λ e. (λ h. signals-described e (signal-flag (railwayOf d) e h), described-signals e);
           closed = λ x. (closed-described x, described-closed x);
           roster = roster-described;

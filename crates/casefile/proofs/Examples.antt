@@ -32,7 +32,9 @@ use Rattle.casefile.specs.Rows.{joinEnds, weightRow, unknownRow, joinRow
 use Rattle.casefile.specs.Recording.{partner, railwayOf}
 use Rattle.casefile.specs.Writing.{descriptionOf, writtenText, writerRefusal, written, bufferAfter}
 use Rattle.casefile.specs.YardTexts.{textA}
-use Rattle.casefile.specs.Reading.{counted, while, sideFieldAt, legFieldAt, endFieldAt, headerAt, pointLineAt, joinLineAt, signalLineAt, closedLineAt, weightFieldAt, trainLineAt, walk, read, caseAnswer}
+use Rattle.casefile.specs.Reading.{counted, while, sideFieldAt, legFieldAt, endFieldAt, headerAt, pointLineAt}
+use Rattle.casefile.specs.Reading.{joinLineAt, signalLineAt, closedLineAt, weightFieldAt, trainLineAt, walk, read}
+use Rattle.casefile.specs.Reading.{caseAnswer}
 
 -- The number that a text is refused with; 0: it is accepted.
 given : CaseAnswer → ℕ
@@ -57,7 +59,11 @@ yard-a : (given (caseAnswer (bytes textA) .answer) ≡ 0) × (recordRefusal reco
     × (map (hasSignal recordA) (down 0 ∷ up 0 ∷ down 1 ∷ up 1 ∷ down 2 ∷ up 2 ∷ []) ≡ true ∷ false ∷ false ∷ true ∷ false ∷ false ∷ [])
     × (trainOf recordA 0 ≡ record { heading = Up; start = record { 0 = 1 }; destination = record { 0 = 2 }; weight = 1 })
     × (trainOf recordA 1 ≡ record { heading = Down; start = record { 0 = 2 }; destination = record { 0 = 0 }; weight = 1 })
-unfolding bytes recordA given first digits line isDigit byteAt digitsAt numberAt counted while sideFieldAt legFieldAt endFieldAt headerAt pointLineAt joinLineAt signalLineAt closedLineAt weightFieldAt trainLineAt walk read caseAnswer anyBelow listBelow any repeats joinEnds weightRow weightOf unknownRow joinRow looseRow doubleRow placeRow partner railwayOf endAt joinedBy joined hasSignal legsOf trainOf R.weightRow R.unknownRow R.joinRow R.looseRow R.placeRow recordRefusal isClosed R.chainRow R.longer
+unfolding bytes recordA given first digits line isDigit byteAt digitsAt numberAt counted while sideFieldAt legFieldAt
+    endFieldAt headerAt pointLineAt joinLineAt signalLineAt closedLineAt weightFieldAt trainLineAt walk read caseAnswer
+    anyBelow listBelow any repeats joinEnds weightRow weightOf unknownRow joinRow looseRow doubleRow placeRow partner
+    railwayOf endAt joinedBy joined hasSignal legsOf trainOf R.weightRow R.unknownRow R.joinRow R.looseRow R.placeRow
+    recordRefusal isClosed R.chainRow R.longer
 yard-a = (refl, refl, (refl, refl, refl, refl), refl, refl, refl, refl)
 
 -- THE TABLE of texts, each with the number that it is refused with; 0: it is accepted.
@@ -315,7 +321,10 @@ cases =
     []
 
 numbers : map (λ c. given (caseAnswer (bytes (c .text)) .answer)) cases ≡ map (λ c. c .number) cases
-unfolding bytes given cases first digits line isDigit byteAt digitsAt numberAt counted while sideFieldAt legFieldAt endFieldAt headerAt pointLineAt joinLineAt signalLineAt closedLineAt weightFieldAt trainLineAt walk read caseAnswer anyBelow listBelow any repeats joinEnds weightRow unknownRow joinRow looseRow doubleRow placeRow isClosed partner railwayOf endAt joinedBy joined R.chainRow R.longer
+unfolding bytes given cases first digits line isDigit byteAt digitsAt numberAt counted while sideFieldAt legFieldAt
+    endFieldAt headerAt pointLineAt joinLineAt signalLineAt closedLineAt weightFieldAt trainLineAt walk read caseAnswer
+    anyBelow listBelow any repeats joinEnds weightRow unknownRow joinRow looseRow doubleRow placeRow isClosed partner
+    railwayOf endAt joinedBy joined R.chainRow R.longer
 numbers = refl
 
 -- byte 13 is what stands in the table above as such
@@ -329,27 +338,52 @@ writes : (written recordA (replicate 68 7) ≡ W.Bytes 68) × (bufferAfter recor
     × (written recordA (replicate 70 7) ≡ W.Bytes 68) × (bufferAfter recordA (replicate 70 7) ≡ bytes textA ++ (7 ∷ 7 ∷ []))
     × (written recordA (replicate 67 7) ≡ W.Refused Space) × (bufferAfter recordA (replicate 67 7) ≡ replicate 67 7)
     × (written emptyRailway [] ≡ W.Refused Count) × (bufferAfter emptyRailway (1 ∷ 2 ∷ []) ≡ 1 ∷ 2 ∷ [])
-unfolding bytes recordA first digits line isDigit byteAt digitsAt numberAt counted while sideFieldAt legFieldAt endFieldAt headerAt pointLineAt joinLineAt signalLineAt closedLineAt weightFieldAt trainLineAt walk read caseAnswer anyBelow listBelow gatherBelow any repeats joinEnds weightRow weightOf unknownRow joinRow looseRow doubleRow placeRow partner railwayOf endAt joinedBy joined hasSignal legsOf trainOf R.weightRow R.unknownRow R.joinRow R.looseRow R.placeRow recordRefusal flatMap rising spell descriptionOf writtenText writerRefusal written bufferAfter isClosed R.chainRow R.longer
+unfolding bytes recordA first digits line isDigit byteAt digitsAt numberAt counted while sideFieldAt legFieldAt
+    endFieldAt headerAt pointLineAt joinLineAt signalLineAt closedLineAt weightFieldAt trainLineAt walk read caseAnswer
+    anyBelow listBelow gatherBelow any repeats joinEnds weightRow weightOf unknownRow joinRow looseRow doubleRow
+    placeRow partner railwayOf endAt joinedBy joined hasSignal legsOf trainOf R.weightRow R.unknownRow R.joinRow
+    R.looseRow R.placeRow recordRefusal flatMap rising spell descriptionOf writtenText writerRefusal written bufferAfter
+    isClosed R.chainRow R.longer
 writes = (refl, refl, refl, refl, refl, refl, refl, refl)
 
 -- WEIGHTS. Without one the train has 1, as with 1 written; 7 and 255 are read as they stand.
-weighed : map (λ t. weightOf (caseAnswer (bytes t) .railway) 0) ("H\t1\t0\t1\nT\t1\tu\t1\t1\n" ∷ "H\t1\t0\t1\nT\t1\tu\t1\t1\t1\n" ∷ "H\t1\t0\t1\nT\t1\tu\t1\t1\t7\n" ∷ "H\t1\t0\t1\nT\t1\tu\t1\t1\t255\n" ∷ []) ≡ 1 ∷ 1 ∷ 7 ∷ 255 ∷ []
-unfolding bytes first digits line isDigit byteAt digitsAt numberAt counted while sideFieldAt legFieldAt endFieldAt headerAt pointLineAt joinLineAt signalLineAt closedLineAt weightFieldAt trainLineAt walk read caseAnswer anyBelow listBelow any repeats joinEnds weightRow unknownRow joinRow looseRow doubleRow placeRow isClosed partner railwayOf endAt joinedBy joined R.chainRow R.longer trainOf weightOf
+weighed : map (λ t. weightOf (caseAnswer (bytes t) .railway) 0) ("H\t1\t0\t1\nT\t1\tu\t1\t1\n"
+    ∷ "H\t1\t0\t1\nT\t1\tu\t1\t1\t1\n" ∷ "H\t1\t0\t1\nT\t1\tu\t1\t1\t7\n" ∷ "H\t1\t0\t1\nT\t1\tu\t1\t1\t255\n" ∷ [])
+    ≡ 1 ∷ 1 ∷ 7 ∷ 255 ∷ []
+unfolding bytes first digits line isDigit byteAt digitsAt numberAt counted while sideFieldAt legFieldAt endFieldAt
+    headerAt pointLineAt joinLineAt signalLineAt closedLineAt weightFieldAt trainLineAt walk read caseAnswer anyBelow
+    listBelow any repeats joinEnds weightRow unknownRow joinRow looseRow doubleRow placeRow isClosed partner railwayOf
+    endAt joinedBy joined R.chainRow R.longer trainOf weightOf
 weighed = refl
 
 -- A weight of 1 is not written, any other is.
-weights-written : map (λ t. writtenText (caseAnswer (bytes t) .railway)) ("H\t1\t0\t1\nT\t1\tu\t1\t1\t1\n" ∷ "H\t1\t0\t1\nT\t1\tu\t1\t1\t7\n" ∷ "H\t1\t0\t1\nT\t1\tu\t1\t1\t255\n" ∷ []) ≡ map bytes ("H\t1\t0\t1\nT\t1\tu\t1\t1\n" ∷ "H\t1\t0\t1\nT\t1\tu\t1\t1\t7\n" ∷ "H\t1\t0\t1\nT\t1\tu\t1\t1\t255\n" ∷ [])
-unfolding bytes first digits line isDigit byteAt digitsAt numberAt counted while sideFieldAt legFieldAt endFieldAt headerAt pointLineAt joinLineAt signalLineAt closedLineAt weightFieldAt trainLineAt walk read caseAnswer anyBelow listBelow any repeats joinEnds weightRow unknownRow joinRow looseRow doubleRow placeRow isClosed partner railwayOf endAt joinedBy joined R.chainRow R.longer gatherBelow hasSignal legsOf trainOf flatMap rising spell descriptionOf writtenText
+weights-written : map (λ t. writtenText (caseAnswer (bytes t) .railway))
+    ("H\t1\t0\t1\nT\t1\tu\t1\t1\t1\n" ∷ "H\t1\t0\t1\nT\t1\tu\t1\t1\t7\n" ∷ "H\t1\t0\t1\nT\t1\tu\t1\t1\t255\n" ∷ [])
+    ≡ map bytes
+    ("H\t1\t0\t1\nT\t1\tu\t1\t1\n" ∷ "H\t1\t0\t1\nT\t1\tu\t1\t1\t7\n" ∷ "H\t1\t0\t1\nT\t1\tu\t1\t1\t255\n" ∷ [])
+unfolding bytes first digits line isDigit byteAt digitsAt numberAt counted while sideFieldAt legFieldAt endFieldAt
+    headerAt pointLineAt joinLineAt signalLineAt closedLineAt weightFieldAt trainLineAt walk read caseAnswer anyBelow
+    listBelow any repeats joinEnds weightRow unknownRow joinRow looseRow doubleRow placeRow isClosed partner railwayOf
+    endAt joinedBy joined R.chainRow R.longer gatherBelow hasSignal legsOf trainOf flatMap rising spell
+    descriptionOf writtenText
 weights-written = refl
 
 -- Lines that come in disorder and turned round are written in the one order that the writer knows.
 sorts : writtenText (caseAnswer (bytes "H\t5\t1\t1\nP\t1\tu\nJ\t1s\t3u\nJ\t1-\t1d\nJ\t2d\t1u\nJ\t3d\t1+\nG\t2u\nG\t1u\nG\t1d\nX\t5\nX\t1\nX\t4\nT\t1\td\t3\t2\n") .railway)
     ≡ bytes "H\t5\t1\t1\nP\t1\tu\nJ\t1d\t1-\nJ\t1u\t2d\nJ\t3d\t1+\nJ\t3u\t1s\nG\t1d\nG\t1u\nG\t2u\nX\t1\nX\t4\nX\t5\nT\t1\td\t3\t2\n"
-unfolding bytes first digits line isDigit byteAt digitsAt numberAt counted while sideFieldAt legFieldAt endFieldAt headerAt pointLineAt joinLineAt signalLineAt closedLineAt weightFieldAt trainLineAt walk read caseAnswer anyBelow listBelow gatherBelow any repeats joinEnds weightRow weightOf unknownRow joinRow looseRow doubleRow placeRow partner railwayOf endAt joinedBy joined hasSignal legsOf trainOf flatMap rising spell descriptionOf writtenText isClosed R.chainRow R.longer
+unfolding bytes first digits line isDigit byteAt digitsAt numberAt counted while sideFieldAt legFieldAt endFieldAt
+    headerAt pointLineAt joinLineAt signalLineAt closedLineAt weightFieldAt trainLineAt walk read caseAnswer anyBelow
+    listBelow gatherBelow any repeats joinEnds weightRow weightOf unknownRow joinRow looseRow doubleRow placeRow partner
+    railwayOf endAt joinedBy joined hasSignal legsOf trainOf flatMap rising spell descriptionOf writtenText
+    isClosed R.chainRow R.longer
 sorts = refl
 
 -- Joins between points come last, each with its lower point in front; they rise by that point, and of one point by stem, plus and minus.
 sorts-points : writtenText (caseAnswer (bytes "H\t7\t5\t1\nP\t1\tu\nP\t2\tu\nP\t3\tu\nP\t4\tu\nP\t5\tu\nJ\t5s\t2+\nJ\t2s\t1-\nJ\t3s\t1+\nJ\t4+\t1s\nJ\t5-\t7d\nJ\t6d\t5+\nJ\t5d\t2-\nJ\t4d\t3-\nJ\t3d\t3+\nJ\t2d\t4-\nJ\t1u\t4s\nT\t1\tu\t1\t2\n") .railway)
     ≡ bytes "H\t7\t5\t1\nP\t1\tu\nP\t2\tu\nP\t3\tu\nP\t4\tu\nP\t5\tu\nJ\t1u\t4s\nJ\t2d\t4-\nJ\t3d\t3+\nJ\t4d\t3-\nJ\t5d\t2-\nJ\t6d\t5+\nJ\t7d\t5-\nJ\t1s\t4+\nJ\t1+\t3s\nJ\t1-\t2s\nJ\t2+\t5s\nT\t1\tu\t1\t2\n"
-unfolding bytes first digits line isDigit byteAt digitsAt numberAt counted while sideFieldAt legFieldAt endFieldAt headerAt pointLineAt joinLineAt signalLineAt closedLineAt weightFieldAt trainLineAt walk read caseAnswer anyBelow listBelow gatherBelow any repeats joinEnds weightRow weightOf unknownRow joinRow looseRow doubleRow placeRow partner railwayOf endAt joinedBy joined hasSignal legsOf trainOf flatMap rising spell descriptionOf writtenText isClosed R.chainRow R.longer
+unfolding bytes first digits line isDigit byteAt digitsAt numberAt counted while sideFieldAt legFieldAt endFieldAt
+    headerAt pointLineAt joinLineAt signalLineAt closedLineAt weightFieldAt trainLineAt walk read caseAnswer anyBelow
+    listBelow gatherBelow any repeats joinEnds weightRow weightOf unknownRow joinRow looseRow doubleRow placeRow partner
+    railwayOf endAt joinedBy joined hasSignal legsOf trainOf flatMap rising spell descriptionOf writtenText
+    isClosed R.chainRow R.longer
 sorts-points = refl

@@ -19,7 +19,10 @@ use Rattle.railway.specs.Refusals.{row, NotApplying}
 use Rattle.railway.specs.Rows.{oneOwner}
 use Rattle.railway.proofs.Accepted.{Bounded, bounded, within-bounds, no-leg}
 use Rattle.casefile.specs.Form.{port, JoinLine, Description, sameEnd, sameSignal}
-use Rattle.casefile.specs.Rows.{countRow, wrongWeightIn, weightRow, within, known, unknownJoin, unknownSignal, unknownClosed, unknownTrain, unknownRow, ownerOf, sideOf, wrongJoin, joinEnds, joinRow, looseEnd, looseAt, looseRow, chainRow, doubleRow, closedIn, shutOut, placeRow, descriptionRows}
+use Rattle.casefile.specs.Rows.{countRow, wrongWeightIn, weightRow, within, known, unknownJoin, unknownSignal}
+use Rattle.casefile.specs.Rows.{unknownClosed, unknownTrain, unknownRow, ownerOf, sideOf, wrongJoin, joinEnds}
+use Rattle.casefile.specs.Rows.{joinRow, looseEnd, looseAt, looseRow, chainRow, doubleRow, closedIn, shutOut}
+use Rattle.casefile.specs.Rows.{placeRow, descriptionRows}
 use Rattle.casefile.specs.Claims.{JoinableLines}
 -- (Examples is named so that it is checked before: a wrong definition then shows at a computed value.)
 use Rattle.casefile.proofs.Examples as Examples

@@ -21,7 +21,9 @@ use Rattle.railway.specs.Bounds.{mostSections, sectionEnds, allEnds}
 use Rattle.railway.specs.Ends.{endIndex, endAt}
 use Rattle.railway.specs.Record.{linkAt, flagAt, closedAt}
 use Rattle.railway.proofs.Accepted.{Accepted, accepted-facts}
-use Rattle.casefile.specs.Form.{EndField, section, port, JoinLine, SignalLine, TrainLine, endField, pointLine, joinLine, signalLine, closedLine, trainLine, rising, spell, Writable, WritableEnd, WritableJoin, WritableSignal, WritableWeight, WritableTrain}
+use Rattle.casefile.specs.Form.{EndField, section, port, JoinLine, SignalLine, TrainLine, endField, pointLine}
+use Rattle.casefile.specs.Form.{joinLine, signalLine, closedLine, trainLine, rising, spell, Writable, WritableEnd}
+use Rattle.casefile.specs.Form.{WritableJoin, WritableSignal, WritableWeight, WritableTrain}
 use Rattle.casefile.specs.Rows.{mostBytes}
 use Rattle.casefile.specs.Recording.{fieldOf, signalOf}
 use Rattle.casefile.specs.Writing.{joinFrom, joinAt, signalAt, closedLineOf, descriptionOf, writtenText}

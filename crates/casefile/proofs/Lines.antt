@@ -13,7 +13,9 @@ use Rattle.text.specs.Text.{byte, decimal, line}
 use Rattle.text.specs.Reading.{Got, bad, got, then, isDigit, byteAt}
 use Rattle.text.proofs.Walking.{bad-got, carry, Lies, Reads, steps, on, go-on, stop-here, here, past, stands, byte-sound, byte-complete, Written, number-sound, number-complete}
 use Rattle.railway.specs.declared.Side.{Side}
-use Rattle.casefile.specs.Form.{EndField, JoinLine, SignalLine, TrainLine, sideByte, weightField, pointLine, joinLine, signalLine, closedLine, trainLine, Writable, WritableJoin, WritableSignal, WritableWeight, WritableTrain}
+use Rattle.casefile.specs.Form.{EndField, JoinLine, SignalLine, TrainLine, sideByte, weightField, pointLine}
+use Rattle.casefile.specs.Form.{joinLine, signalLine, closedLine, trainLine, Writable, WritableJoin}
+use Rattle.casefile.specs.Form.{WritableSignal, WritableWeight, WritableTrain}
 use Rattle.casefile.specs.Reading.{Counts, caseNumberAt, sideFieldAt, endFieldAt, headerAt, pointLineAt, joinLineAt, signalLineAt, closedLineAt, weightFieldAt, trainLineAt}
 use Rattle.casefile.proofs.Fields.{side-sound, side-complete, digit-not-side, WrittenEnd, end-sound, end-complete}
 

@@ -68,5 +68,6 @@ long-described a b =
 pub lengths : (length (spell (long 813 2)) ≡ 4096) × (caseAnswer (spell (long 813 2)) ≡ refused Double)
     × (length (spell (long 812 3)) ≡ 4097) × (caseAnswer (spell (long 812 3)) ≡ refused Length)
     × (caseAnswer (replicate 4096 0) ≡ refused Form) × (caseAnswer (replicate 4097 0) ≡ refused Length)
-unfolding long copies spell flatMap rising first digits line isDigit byteAt digitsAt numberAt headerAt walk read caseAnswer anyBelow any repeats joinEnds weightRow unknownRow joinRow looseRow doubleRow placeRow railwayOf chainRow
+unfolding long copies spell flatMap rising first digits line isDigit byteAt digitsAt numberAt headerAt walk read
+    caseAnswer anyBelow any repeats joinEnds weightRow unknownRow joinRow looseRow doubleRow placeRow railwayOf chainRow
 lengths = (refl, answer-of (spell (long 813 2)) (long 813 2) (long-described 813 2), refl, answer-of (spell (long 812 3)) (long 812 3) (long-described 812 3), refl, refl)

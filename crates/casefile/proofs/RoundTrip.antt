@@ -36,7 +36,9 @@ use Rattle.casefile.proofs.Exactly.{accepted-exactly, accepted-one}
 use Rattle.casefile.proofs.Faultless.{facts-faultless}
 use Rattle.casefile.proofs.Ends.{field-one}
 use Rattle.casefile.proofs.Described.{closed-flag, names-field, names-is, signal-names, as-described}
-use Rattle.casefile.proofs.Writer.{either-first, from-link, from-flag, from-closed, join-written, signal-written, closed-written, weight-said, joined-link, link-joined, link-back, faultless, well-formed}
+use Rattle.casefile.proofs.Writer.{either-first, from-link, from-flag, from-closed, join-written, signal-written}
+use Rattle.casefile.proofs.Writer.{closed-written, weight-said, joined-link, link-joined, link-back, faultless}
+use Rattle.casefile.proofs.Writer.{well-formed}
 use Rattle.casefile.proofs.Lengths.{short}
 
 -- THE SAME LINES, THE SAME RAILWAY
@@ -140,7 +142,8 @@ module _ (r : Railway) (w : Accepted r) where
   described-signals e t =
       from-flag r w (λ g. Names (section (g .number) (g .side)) e → hasSignal r e ≡ true)
       (λ i b l n.
-      let z : e ≡ endAt i = field-one e (endAt i) (sym (names-is (section (signalOf i .number) (signalOf i .side)) e n) ∙ names-is (section (signalOf i .number) (signalOf i .side)) (endAt i) (signal-names i b)) in
+      let z : e ≡ endAt i = field-one e (endAt i) (sym (names-is (section (signalOf i .number) (signalOf i .side)) e n)
+      ∙ names-is (section (signalOf i .number) (signalOf i .side)) (endAt i) (signal-names i b)) in
       sym (signal-there r e i (sym (ap endIndex z ∙ index-end i (omega arith))) b) ∙ l)
       (t .signal) (t .member) (t .names)
 
@@ -155,7 +158,9 @@ module _ (r : Railway) (w : Accepted r) where
 
   roster-described : (t : ℕ) → t < r .trains → TrainSaid (getD (descriptionOf r .roster) t noTrainLine) (trainOf r t)
   unfolding descriptionOf
-  roster-described t h = rw (list-get (λ t. lineOfTrain (trainOf r t)) (r .trains) t noTrainLine h) (record { heading = refl; start = refl; destination = refl; weight = sym (weight-said (trainOf r t .weight)) })
+  roster-described t h =
+      rw (list-get (λ t. lineOfTrain (trainOf r t)) (r .trains) t noTrainLine h)
+      (record { heading = refl; start = refl; destination = refl; weight = sym (weight-said (trainOf r t .weight)) })
 
   pub self-described : AsDescribed (descriptionOf r) r
   unfolding descriptionOf

@@ -38,7 +38,9 @@ use Rattle.casefile.specs.Recording.{noTrainLine, partner, railwayOf}
 use Rattle.casefile.specs.Given.{accepted, refused, RefusedWith, AcceptedWith}
 use Rattle.casefile.specs.Writing.{descriptionOf, writtenText}
 use Rattle.casefile.specs.YardTexts.{textA}
-use Rattle.casefile.specs.Reading.{counted, while, sideFieldAt, legFieldAt, endFieldAt, headerAt, pointLineAt, joinLineAt, signalLineAt, closedLineAt, weightFieldAt, trainLineAt, walk, read, caseAnswer}
+use Rattle.casefile.specs.Reading.{counted, while, sideFieldAt, legFieldAt, endFieldAt, headerAt, pointLineAt}
+use Rattle.casefile.specs.Reading.{joinLineAt, signalLineAt, closedLineAt, weightFieldAt, trainLineAt, walk, read}
+use Rattle.casefile.specs.Reading.{caseAnswer}
 use Rattle.casefile.specs.Claims.{JoinableLines, Joins, Signals, AsDescribed, Sorted}
 use Rattle.casefile.proofs.Whole.{read-is-spelling, describes-one, form-decided}
 use Rattle.casefile.proofs.Exactly.{refused-exactly, accepted-exactly}
@@ -83,7 +85,8 @@ descriptionA = sayingA (joinPlus ∷ joinMinus ∷ joinStem ∷ []) (signal1d �
 
 -- What is read is what is spelled: so Yard A's text says this,
 pub says-a : Describes (bytes textA) descriptionA
-unfolding bytes digits line isDigit byteAt digitsAt numberAt counted while sideFieldAt legFieldAt endFieldAt headerAt pointLineAt joinLineAt signalLineAt closedLineAt weightFieldAt trainLineAt walk read
+unfolding bytes digits line isDigit byteAt digitsAt numberAt counted while sideFieldAt legFieldAt endFieldAt headerAt
+    pointLineAt joinLineAt signalLineAt closedLineAt weightFieldAt trainLineAt walk read
 says-a = read-is-spelling (bytes textA) descriptionA .0 refl
 
 -- and nothing else;
@@ -121,7 +124,9 @@ refused-anyway rest =
 
 -- WRITTEN. Yard A's record is written as its text,
 pub written-a : (writtenText yardA ≡ bytes textA) × (recordRefusal yardA ≡ none)
-unfolding bytes first digits line anyBelow listBelow gatherBelow endAt joinedBy joined legsOf trainOf withJoin withSignal withLegs withTrain weightRow weightOf unknownRow joinRow looseRow longer chainRow placeRow recordRefusal flatMap rising spell descriptionOf writtenText isClosed
+unfolding bytes first digits line anyBelow listBelow gatherBelow endAt joinedBy joined legsOf trainOf withJoin
+    withSignal withLegs withTrain weightRow weightOf unknownRow joinRow looseRow longer chainRow placeRow recordRefusal
+    flatMap rising spell descriptionOf writtenText isClosed
 written-a = (refl, refl)
 
 -- in which a G line names 1d, where it has a signal.
@@ -137,21 +142,24 @@ unsorted text d w h r accepted e = h (writer-sorts r accepted d (rw e w))
 
 signals-turned : (r : Railway) → recordRefusal r ≡ none
     → writtenText r ≡ bytes "H\t3\t1\t2\nP\t1\td\nJ\t1u\t1+\nJ\t2u\t1-\nJ\t3d\t1s\nG\t2u\nG\t1d\nT\t1\tu\t2\t3\nT\t2\td\t3\t1\n" → ⊥
-unfolding bytes digits line isDigit byteAt digitsAt numberAt counted while sideFieldAt legFieldAt endFieldAt headerAt pointLineAt joinLineAt signalLineAt closedLineAt weightFieldAt trainLineAt walk read rises
+unfolding bytes digits line isDigit byteAt digitsAt numberAt counted while sideFieldAt legFieldAt endFieldAt headerAt
+    pointLineAt joinLineAt signalLineAt closedLineAt weightFieldAt trainLineAt walk read rises
 signals-turned =
     let d = sayingA (joinPlus ∷ joinMinus ∷ joinStem ∷ []) (signal2u ∷ signal1d ∷ []) [] in
     unsorted _ d (read-is-spelling _ d .0 refl) (λ s. clash (s .signals) refl)
 
 joins-turned : (r : Railway) → recordRefusal r ≡ none
     → writtenText r ≡ bytes "H\t3\t1\t2\nP\t1\td\nJ\t2u\t1-\nJ\t1u\t1+\nJ\t3d\t1s\nG\t1d\nG\t2u\nT\t1\tu\t2\t3\nT\t2\td\t3\t1\n" → ⊥
-unfolding bytes digits line isDigit byteAt digitsAt numberAt counted while sideFieldAt legFieldAt endFieldAt headerAt pointLineAt joinLineAt signalLineAt closedLineAt weightFieldAt trainLineAt walk read rises
+unfolding bytes digits line isDigit byteAt digitsAt numberAt counted while sideFieldAt legFieldAt endFieldAt headerAt
+    pointLineAt joinLineAt signalLineAt closedLineAt weightFieldAt trainLineAt walk read rises
 joins-turned =
     let d = sayingA (joinMinus ∷ joinPlus ∷ joinStem ∷ []) (signal1d ∷ signal2u ∷ []) [] in
     unsorted _ d (read-is-spelling _ d .0 refl) (λ s. clash (s .joins) refl)
 
 port-in-front : (r : Railway) → recordRefusal r ≡ none
     → writtenText r ≡ bytes "H\t3\t1\t2\nP\t1\td\nJ\t1+\t1u\nJ\t2u\t1-\nJ\t3d\t1s\nG\t1d\nG\t2u\nT\t1\tu\t2\t3\nT\t2\td\t3\t1\n" → ⊥
-unfolding bytes digits line isDigit byteAt digitsAt numberAt counted while sideFieldAt legFieldAt endFieldAt headerAt pointLineAt joinLineAt signalLineAt closedLineAt weightFieldAt trainLineAt walk read
+unfolding bytes digits line isDigit byteAt digitsAt numberAt counted while sideFieldAt legFieldAt endFieldAt headerAt
+    pointLineAt joinLineAt signalLineAt closedLineAt weightFieldAt trainLineAt walk read
 port-in-front =
     let d = sayingA (record { one = port 1 Plus; other = section 1 Up } ∷ joinMinus ∷ joinStem ∷ []) (signal1d ∷ signal2u ∷ []) [] in
     unsorted _ d (read-is-spelling _ d .0 refl) (λ s. let e : 2004 < 3 = s .first _ (List·Memᴰ·head refl) in omega (arith, e))
@@ -178,11 +186,14 @@ sayingShut closed =
     }
 
 pub says-shut-only : (d : Description) → Describes (bytes textShut) d → d ≡ sayingShut (3 ∷ 4 ∷ [])
-unfolding bytes digits line isDigit byteAt digitsAt numberAt counted while sideFieldAt legFieldAt endFieldAt headerAt pointLineAt joinLineAt signalLineAt closedLineAt weightFieldAt trainLineAt walk read
+unfolding bytes digits line isDigit byteAt digitsAt numberAt counted while sideFieldAt legFieldAt endFieldAt headerAt
+    pointLineAt joinLineAt signalLineAt closedLineAt weightFieldAt trainLineAt walk read
 says-shut-only d w = let e = sayingShut (3 ∷ 4 ∷ []) in describes-one (bytes textShut) d e w (read-is-spelling (bytes textShut) e .0 refl)
 
 pub written-shut : (writtenText shut ≡ bytes textShut) × (recordRefusal shut ≡ none)
-unfolding bytes first digits line anyBelow listBelow gatherBelow endAt joinedBy joined legsOf trainOf withJoin withClosed withTrain weightRow weightOf unknownRow joinRow looseRow longer chainRow placeRow recordRefusal flatMap rising spell descriptionOf writtenText isClosed
+unfolding bytes first digits line anyBelow listBelow gatherBelow endAt joinedBy joined legsOf trainOf withJoin
+    withClosed withTrain weightRow weightOf unknownRow joinRow looseRow longer chainRow placeRow recordRefusal flatMap
+    rising spell descriptionOf writtenText isClosed
 written-shut = (refl, refl)
 
 -- an X line of what is written names 3, and none names 1;
@@ -194,7 +205,8 @@ closed-written d w =
 
 -- and no record is written with 4 before 3.
 closed-turned : (r : Railway) → recordRefusal r ≡ none → writtenText r ≡ bytes "H\t4\t0\t1\nJ\t1u\t2d\nX\t4\nX\t3\nT\t1\tu\t1\t2\n" → ⊥
-unfolding bytes digits line isDigit byteAt digitsAt numberAt counted while sideFieldAt legFieldAt endFieldAt headerAt pointLineAt joinLineAt signalLineAt closedLineAt weightFieldAt trainLineAt walk read rises
+unfolding bytes digits line isDigit byteAt digitsAt numberAt counted while sideFieldAt legFieldAt endFieldAt headerAt
+    pointLineAt joinLineAt signalLineAt closedLineAt weightFieldAt trainLineAt walk read rises
 closed-turned =
     let d = sayingShut (4 ∷ 3 ∷ []) in
     unsorted _ d (read-is-spelling _ d .0 refl) (λ s. clash (s .closed) refl)
@@ -211,7 +223,9 @@ abbrev pub textShutOut : String
 textShutOut = "H\t2\t0\t1\nX\t1\nT\t1\tu\t1\t2\n"
 
 pub shut-out : RefusedWith (bytes textShutOut) Place
-unfolding bytes first digits line isDigit byteAt digitsAt numberAt counted while sideFieldAt legFieldAt endFieldAt headerAt pointLineAt joinLineAt signalLineAt closedLineAt weightFieldAt trainLineAt walk read caseAnswer anyBelow any repeats joinEnds D.weightRow D.unknownRow D.joinRow D.looseRow chainRow railwayOf D.doubleRow D.placeRow
+unfolding bytes first digits line isDigit byteAt digitsAt numberAt counted while sideFieldAt legFieldAt endFieldAt
+    headerAt pointLineAt joinLineAt signalLineAt closedLineAt weightFieldAt trainLineAt walk read caseAnswer anyBelow
+    any repeats joinEnds D.weightRow D.unknownRow D.joinRow D.looseRow chainRow railwayOf D.doubleRow D.placeRow
 shut-out = refused-exactly (bytes textShutOut) Place .0 refl
 
 -- POINTS JOINED TO POINTS. Two tracks and a crossover: 1 leads over point 1 to 2, and 3 over point 2 to 4; the minus ports of the points are joined. The
@@ -257,11 +271,14 @@ abbrev pub descriptionCrossing : Description
 descriptionCrossing = sayingCrossing (joinOuter ∷ joinInner ∷ [])
 
 pub says-crossing-only : (d : Description) → Describes (bytes textCrossing) d → d ≡ descriptionCrossing
-unfolding bytes digits line isDigit byteAt digitsAt numberAt counted while sideFieldAt legFieldAt endFieldAt headerAt pointLineAt joinLineAt signalLineAt closedLineAt weightFieldAt trainLineAt walk read
+unfolding bytes digits line isDigit byteAt digitsAt numberAt counted while sideFieldAt legFieldAt endFieldAt headerAt
+    pointLineAt joinLineAt signalLineAt closedLineAt weightFieldAt trainLineAt walk read
 says-crossing-only d w = describes-one (bytes textCrossing) d descriptionCrossing w (read-is-spelling (bytes textCrossing) descriptionCrossing .0 refl)
 
 pub written-crossing : (writtenText crossing ≡ bytes textCrossing) × (recordRefusal crossing ≡ none)
-unfolding bytes first digits line anyBelow listBelow gatherBelow endAt joinedBy joined legsOf trainOf withJoin withLegs withTrain weightRow weightOf unknownRow joinRow looseRow longer chainRow placeRow recordRefusal flatMap rising spell descriptionOf writtenText isClosed
+unfolding bytes first digits line anyBelow listBelow gatherBelow endAt joinedBy joined legsOf trainOf withJoin withLegs
+    withTrain weightRow weightOf unknownRow joinRow looseRow longer chainRow placeRow recordRefusal flatMap rising spell
+    descriptionOf writtenText isClosed
 written-crossing = (refl, refl)
 
 -- in which a J line ties 1- to 2-.
@@ -274,7 +291,8 @@ inner-written d w =
 -- No record is written with the higher point first, or with such a join before one with a section end,
 points-turned : (r : Railway) → recordRefusal r ≡ none
     → writtenText r ≡ bytes "H\t4\t2\t1\nP\t1\tu\nP\t2\td\nJ\t1u\t1s\nJ\t2d\t1+\nJ\t3u\t2+\nJ\t4d\t2s\nJ\t2-\t1-\nT\t1\tu\t1\t4\n" → ⊥
-unfolding bytes digits line isDigit byteAt digitsAt numberAt counted while sideFieldAt legFieldAt endFieldAt headerAt pointLineAt joinLineAt signalLineAt closedLineAt weightFieldAt trainLineAt walk read
+unfolding bytes digits line isDigit byteAt digitsAt numberAt counted while sideFieldAt legFieldAt endFieldAt headerAt
+    pointLineAt joinLineAt signalLineAt closedLineAt weightFieldAt trainLineAt walk read
 points-turned =
     let d = sayingCrossing (joinOuter ∷ record { one = port 2 Minus; other = port 1 Minus } ∷ []) in
     unsorted _ d (read-is-spelling _ d .0 refl)
@@ -282,7 +300,8 @@ points-turned =
 
 points-in-front : (r : Railway) → recordRefusal r ≡ none
     → writtenText r ≡ bytes "H\t4\t2\t1\nP\t1\tu\nP\t2\td\nJ\t1u\t1s\nJ\t2d\t1+\nJ\t3u\t2+\nJ\t1-\t2-\nJ\t4d\t2s\nT\t1\tu\t1\t4\n" → ⊥
-unfolding bytes digits line isDigit byteAt digitsAt numberAt counted while sideFieldAt legFieldAt endFieldAt headerAt pointLineAt joinLineAt signalLineAt closedLineAt weightFieldAt trainLineAt walk read rises
+unfolding bytes digits line isDigit byteAt digitsAt numberAt counted while sideFieldAt legFieldAt endFieldAt headerAt
+    pointLineAt joinLineAt signalLineAt closedLineAt weightFieldAt trainLineAt walk read rises
 points-in-front =
     let d = sayingCrossing (joinInner ∷ joinOuter ∷ []) in
     unsorted _ d (read-is-spelling _ d .0 refl) (λ s. clash (s .joins) refl)
@@ -290,7 +309,8 @@ points-in-front =
 -- nor, of two such joins, with that of 1- before that of 1+.
 legs-turned : (r : Railway) → recordRefusal r ≡ none
     → writtenText r ≡ bytes "H\t1\t3\t1\nP\t1\tu\nP\t2\tu\nP\t3\tu\nJ\t1-\t2s\nJ\t1+\t3s\nT\t1\tu\t1\t1\n" → ⊥
-unfolding bytes digits line isDigit byteAt digitsAt numberAt counted while sideFieldAt legFieldAt endFieldAt headerAt pointLineAt joinLineAt signalLineAt closedLineAt weightFieldAt trainLineAt walk read rises
+unfolding bytes digits line isDigit byteAt digitsAt numberAt counted while sideFieldAt legFieldAt endFieldAt headerAt
+    pointLineAt joinLineAt signalLineAt closedLineAt weightFieldAt trainLineAt walk read rises
 legs-turned =
     let d : Description =
     record {
@@ -315,7 +335,10 @@ abbrev pub textRound : String
 textRound = "H\t2\t2\t1\nP\t1\tu\nP\t2\tu\nJ\t1d\t1-\nJ\t2d\t2-\nJ\t1s\t2+\nJ\t1+\t2s\nG\t1u\nG\t1u\nT\t1\tu\t1\t1\n"
 
 pub round-chain : RefusedWith (bytes textRound) Chain
-unfolding bytes first digits line isDigit byteAt digitsAt numberAt counted while sideFieldAt legFieldAt endFieldAt headerAt pointLineAt joinLineAt signalLineAt closedLineAt weightFieldAt trainLineAt walk read caseAnswer anyBelow listBelow any repeats joinEnds D.weightRow D.unknownRow D.joinRow D.looseRow longer chainRow partner railwayOf endAt joinedBy joined
+unfolding bytes first digits line isDigit byteAt digitsAt numberAt counted while sideFieldAt legFieldAt endFieldAt
+    headerAt pointLineAt joinLineAt signalLineAt closedLineAt weightFieldAt trainLineAt walk read caseAnswer anyBelow
+    listBelow any repeats joinEnds D.weightRow D.unknownRow D.joinRow D.looseRow longer chainRow partner railwayOf
+    endAt joinedBy joined
 round-chain = refused-exactly (bytes textRound) Chain .0 refl
 
 -- for there is a round in the railway of what it says: who leaves point 1 by its plus port comes over point 2 to leave it so again;
@@ -346,7 +369,8 @@ unfolding anyBelow any repeats joinEnds D.weightRow D.unknownRow D.joinRow D.loo
 ports-joined = record { count = refl; weight = refl; unknown = refl; join = refl; loose = refl }
 
 round-given : caseAnswer (bytes textRound) ≡ refused Chain
-unfolding bytes digits line isDigit byteAt digitsAt numberAt counted while sideFieldAt legFieldAt endFieldAt headerAt pointLineAt joinLineAt signalLineAt closedLineAt weightFieldAt trainLineAt walk read
+unfolding bytes digits line isDigit byteAt digitsAt numberAt counted while sideFieldAt legFieldAt endFieldAt headerAt
+    pointLineAt joinLineAt signalLineAt closedLineAt weightFieldAt trainLineAt walk read
 round-given = chain-given (bytes textRound) sayingRound (omega arith) (read-is-spelling (bytes textRound) sayingRound .0 refl) ports-joined .1 (inr goes-round)
 
 -- and where rows 3 to 6 and 16 do not apply to what a text says and it is refused so, there is a way with more than four points, or a round.
@@ -378,11 +402,13 @@ abbrev pub textWithout : String
 textWithout = "H\t1\t0\t1\nT\t1\tu\t1\t1\n"
 
 pub says-seven-only : (d : Description) → Describes (bytes textSeven) d → d ≡ sayingWeight (some 7)
-unfolding bytes digits line isDigit byteAt digitsAt numberAt counted while sideFieldAt legFieldAt endFieldAt headerAt pointLineAt joinLineAt signalLineAt closedLineAt weightFieldAt trainLineAt walk read
+unfolding bytes digits line isDigit byteAt digitsAt numberAt counted while sideFieldAt legFieldAt endFieldAt headerAt
+    pointLineAt joinLineAt signalLineAt closedLineAt weightFieldAt trainLineAt walk read
 says-seven-only d w = let e = sayingWeight (some 7) in describes-one (bytes textSeven) d e w (read-is-spelling (bytes textSeven) e .0 refl)
 
 pub says-without-only : (d : Description) → Describes (bytes textWithout) d → d ≡ sayingWeight none
-unfolding bytes digits line isDigit byteAt digitsAt numberAt counted while sideFieldAt legFieldAt endFieldAt headerAt pointLineAt joinLineAt signalLineAt closedLineAt weightFieldAt trainLineAt walk read
+unfolding bytes digits line isDigit byteAt digitsAt numberAt counted while sideFieldAt legFieldAt endFieldAt headerAt
+    pointLineAt joinLineAt signalLineAt closedLineAt weightFieldAt trainLineAt walk read
 says-without-only d w = let e = sayingWeight none in describes-one (bytes textWithout) d e w (read-is-spelling (bytes textWithout) e .0 refl)
 
 -- With 7 in its T line a text is read with that weight, and without a weight there with 1;
@@ -402,7 +428,10 @@ weight-unsaid r e =
 
 -- with 1 written out the text is another, and its railway the same.
 same-answer : caseAnswer (bytes textWithOne) ≡ caseAnswer (bytes textWithout)
-unfolding bytes first digits line isDigit byteAt digitsAt numberAt counted while sideFieldAt legFieldAt endFieldAt headerAt pointLineAt joinLineAt signalLineAt closedLineAt weightFieldAt trainLineAt walk read caseAnswer anyBelow listBelow any repeats joinEnds D.weightRow D.unknownRow D.joinRow D.looseRow longer chainRow D.doubleRow D.placeRow partner railwayOf endAt joinedBy joined
+unfolding bytes first digits line isDigit byteAt digitsAt numberAt counted while sideFieldAt legFieldAt endFieldAt
+    headerAt pointLineAt joinLineAt signalLineAt closedLineAt weightFieldAt trainLineAt walk read caseAnswer anyBelow
+    listBelow any repeats joinEnds D.weightRow D.unknownRow D.joinRow D.looseRow longer chainRow D.doubleRow D.placeRow
+    partner railwayOf endAt joinedBy joined
 same-answer = refl
 
 one-written : (r : Railway) → AcceptedWith (bytes textWithOne) r ↔ AcceptedWith (bytes textWithout) r
@@ -416,19 +445,29 @@ abbrev pub weighing : ℕ → Railway
 weighing w = lineTW 1 Up 1 1 w (yardH 1 0 1)
 
 pub read-seven : AcceptedWith (bytes textSeven) (weighing 7)
-unfolding bytes first digits line isDigit byteAt digitsAt numberAt counted while sideFieldAt legFieldAt endFieldAt headerAt pointLineAt joinLineAt signalLineAt closedLineAt weightFieldAt trainLineAt walk read caseAnswer anyBelow listBelow any repeats joinEnds D.weightRow D.unknownRow D.joinRow D.looseRow longer chainRow D.doubleRow D.placeRow partner railwayOf endAt joinedBy joined withTrain
+unfolding bytes first digits line isDigit byteAt digitsAt numberAt counted while sideFieldAt legFieldAt endFieldAt
+    headerAt pointLineAt joinLineAt signalLineAt closedLineAt weightFieldAt trainLineAt walk read caseAnswer anyBelow
+    listBelow any repeats joinEnds D.weightRow D.unknownRow D.joinRow D.looseRow longer chainRow D.doubleRow D.placeRow
+    partner railwayOf endAt joinedBy joined withTrain
 read-seven = accepted-exactly (bytes textSeven) (weighing 7) .0 refl
 
 pub read-with-one : AcceptedWith (bytes textWithOne) (weighing 1)
-unfolding bytes first digits line isDigit byteAt digitsAt numberAt counted while sideFieldAt legFieldAt endFieldAt headerAt pointLineAt joinLineAt signalLineAt closedLineAt weightFieldAt trainLineAt walk read caseAnswer anyBelow listBelow any repeats joinEnds D.weightRow D.unknownRow D.joinRow D.looseRow longer chainRow D.doubleRow D.placeRow partner railwayOf endAt joinedBy joined withTrain
+unfolding bytes first digits line isDigit byteAt digitsAt numberAt counted while sideFieldAt legFieldAt endFieldAt
+    headerAt pointLineAt joinLineAt signalLineAt closedLineAt weightFieldAt trainLineAt walk read caseAnswer anyBelow
+    listBelow any repeats joinEnds D.weightRow D.unknownRow D.joinRow D.looseRow longer chainRow D.doubleRow D.placeRow
+    partner railwayOf endAt joinedBy joined withTrain
 read-with-one = accepted-exactly (bytes textWithOne) (weighing 1) .0 refl
 
 pub written-seven : (writtenText (weighing 7) ≡ bytes textSeven) × (recordRefusal (weighing 7) ≡ none)
-unfolding bytes first digits line anyBelow listBelow gatherBelow endAt joinedBy joined legsOf trainOf withTrain weightRow weightOf unknownRow joinRow looseRow longer chainRow placeRow recordRefusal flatMap rising spell descriptionOf writtenText isClosed
+unfolding bytes first digits line anyBelow listBelow gatherBelow endAt joinedBy joined legsOf trainOf withTrain
+    weightRow weightOf unknownRow joinRow looseRow longer chainRow placeRow recordRefusal flatMap rising spell
+    descriptionOf writtenText isClosed
 written-seven = (refl, refl)
 
 pub written-one : (writtenText (weighing 1) ≡ bytes textWithout) × (recordRefusal (weighing 1) ≡ none)
-unfolding bytes first digits line anyBelow listBelow gatherBelow endAt joinedBy joined legsOf trainOf withTrain weightRow weightOf unknownRow joinRow looseRow longer chainRow placeRow recordRefusal flatMap rising spell descriptionOf writtenText isClosed
+unfolding bytes first digits line anyBelow listBelow gatherBelow endAt joinedBy joined legsOf trainOf withTrain
+    weightRow weightOf unknownRow joinRow looseRow longer chainRow placeRow recordRefusal flatMap rising spell
+    descriptionOf writtenText isClosed
 written-one = (refl, refl)
 
 -- and the first T line of what is written says 7.
@@ -460,11 +499,17 @@ abbrev pub text256 : String
 text256 = "H\t1\t0\t1\nT\t1\tu\t2\t1\t256\n"
 
 pub weight-zero : RefusedWith (bytes textZero) Weight
-unfolding bytes first digits line isDigit byteAt digitsAt numberAt counted while sideFieldAt legFieldAt endFieldAt headerAt pointLineAt joinLineAt signalLineAt closedLineAt weightFieldAt trainLineAt walk read caseAnswer anyBelow listBelow any repeats joinEnds D.weightRow D.unknownRow D.joinRow D.looseRow longer chainRow D.doubleRow D.placeRow partner railwayOf endAt joinedBy joined
+unfolding bytes first digits line isDigit byteAt digitsAt numberAt counted while sideFieldAt legFieldAt endFieldAt
+    headerAt pointLineAt joinLineAt signalLineAt closedLineAt weightFieldAt trainLineAt walk read caseAnswer anyBelow
+    listBelow any repeats joinEnds D.weightRow D.unknownRow D.joinRow D.looseRow longer chainRow D.doubleRow D.placeRow
+    partner railwayOf endAt joinedBy joined
 weight-zero = refused-exactly (bytes textZero) Weight .0 refl
 
 pub weight-256 : RefusedWith (bytes text256) Weight
-unfolding bytes first digits line isDigit byteAt digitsAt numberAt counted while sideFieldAt legFieldAt endFieldAt headerAt pointLineAt joinLineAt signalLineAt closedLineAt weightFieldAt trainLineAt walk read caseAnswer anyBelow listBelow any repeats joinEnds D.weightRow D.unknownRow D.joinRow D.looseRow longer chainRow D.doubleRow D.placeRow partner railwayOf endAt joinedBy joined
+unfolding bytes first digits line isDigit byteAt digitsAt numberAt counted while sideFieldAt legFieldAt endFieldAt
+    headerAt pointLineAt joinLineAt signalLineAt closedLineAt weightFieldAt trainLineAt walk read caseAnswer anyBelow
+    listBelow any repeats joinEnds D.weightRow D.unknownRow D.joinRow D.looseRow longer chainRow D.doubleRow D.placeRow
+    partner railwayOf endAt joinedBy joined
 weight-256 = refused-exactly (bytes text256) Weight .0 refl
 
 -- and where a text is refused so, one of its T lines says such a weight.

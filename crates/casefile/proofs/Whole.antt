@@ -20,7 +20,9 @@ use Rattle.casefile.specs.Form.{TrainLine, Description, pointLine, joinL
 use Rattle.casefile.specs.Rows.{FormRow}
 use Rattle.casefile.specs.Reading.{counted, while, headerAt, pointLineAt, joinLineAt, signalLineAt, closedLineAt, trainLineAt, walk, read}
 use Rattle.casefile.specs.Claims.{ReadIsSpelling, DescribesOne, FormDecided}
-use Rattle.casefile.proofs.Lines.{WrittenLine, join-sound, join-complete, signal-sound, signal-complete, closed-sound, closed-complete, header-sound, header-complete, point-sound, point-complete, train-sound, train-complete}
+use Rattle.casefile.proofs.Lines.{WrittenLine, join-sound, join-complete, signal-sound, signal-complete}
+use Rattle.casefile.proofs.Lines.{closed-sound, closed-complete, header-sound, header-complete, point-sound}
+use Rattle.casefile.proofs.Lines.{point-complete, train-sound, train-complete}
 
 -- LINES BY COUNT
 module _ {A : Type 0} (good : A → Type 0) (spelling : ℕ → A → List ℕ) (s : List ℕ) (line : ℕ → ℕ → Got A) where

@@ -33,7 +33,9 @@ use Rattle.railway.specs.Rows as RR
 use Rattle.railway.proofs.Ends.{index-one, index-below, index-end, end-index, end-section}
 use Rattle.railway.proofs.Lookups.{joined-there, closed-there}
 use Rattle.railway.proofs.Accepted.{Right, Accepted, weight-right, known-numbered, joined-known, joined-right, joined-back}
-use Rattle.casefile.specs.Form.{EndField, section, port, JoinLine, SignalLine, TrainLine, unsaidWeight, saidWeight, Writable, WritableEnd, WritableSignal, WritableWeight, WritableTrain, WellFormed, sameEnd, sameSignal}
+use Rattle.casefile.specs.Form.{EndField, section, port, JoinLine, SignalLine, TrainLine, unsaidWeight}
+use Rattle.casefile.specs.Form.{saidWeight, Writable, WritableEnd, WritableSignal, WritableWeight, WritableTrain}
+use Rattle.casefile.specs.Form.{WellFormed, sameEnd, sameSignal}
 use Rattle.casefile.specs.Rows.{wrongWeightIn, within, known, ownerOf, sideOf, joinEnds, closedIn}
 use Rattle.casefile.specs.Recording.{fieldOf, signalOf}
 use Rattle.casefile.specs.Writing.{joinFrom, joinAt, signalAt, closedLineOf, writtenWeight, lineOfTrain, descriptionOf}

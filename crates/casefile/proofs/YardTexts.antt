@@ -12,7 +12,9 @@ use Rattle.railway.specs.Rows.{longer, chainRow}
 use Rattle.casefile.specs.Rows.{joinEnds, weightRow, unknownRow, joinRow, looseRow, doubleRow, placeRow}
 use Rattle.casefile.specs.Recording.{partner, railwayOf}
 use Rattle.casefile.specs.Given.{accepted}
-use Rattle.casefile.specs.Reading.{counted, while, sideFieldAt, legFieldAt, endFieldAt, headerAt, pointLineAt, joinLineAt, signalLineAt, closedLineAt, weightFieldAt, trainLineAt, walk, read, caseAnswer}
+use Rattle.casefile.specs.Reading.{counted, while, sideFieldAt, legFieldAt, endFieldAt, headerAt, pointLineAt}
+use Rattle.casefile.specs.Reading.{joinLineAt, signalLineAt, closedLineAt, weightFieldAt, trainLineAt, walk, read}
+use Rattle.casefile.specs.Reading.{caseAnswer}
 use Rattle.casefile.specs.YardTexts.{YardText, yardTexts, AllAccepted, YardsAccepted}
 use Rattle.casefile.proofs.Exactly.{accepted-exactly}
 
@@ -22,7 +24,10 @@ AllAnswered [] = Unit {0}
 AllAnswered (x ∷ xs) = (caseAnswer (bytes (x .text)) ≡ accepted (x .yard)) × AllAnswered xs
 
 all-answered : AllAnswered yardTexts
-unfolding yardTexts bytes first digits line isDigit byteAt digitsAt numberAt counted while sideFieldAt legFieldAt endFieldAt headerAt pointLineAt joinLineAt signalLineAt closedLineAt weightFieldAt trainLineAt walk read caseAnswer anyBelow listBelow any repeats joinEnds weightRow unknownRow joinRow looseRow doubleRow placeRow partner railwayOf endAt withJoin withSignal withLegs withTrain isClosed joinedBy joined longer chainRow
+unfolding yardTexts bytes first digits line isDigit byteAt digitsAt numberAt counted while sideFieldAt legFieldAt
+    endFieldAt headerAt pointLineAt joinLineAt signalLineAt closedLineAt weightFieldAt trainLineAt walk read caseAnswer
+    anyBelow listBelow any repeats joinEnds weightRow unknownRow joinRow looseRow doubleRow placeRow partner railwayOf
+    endAt withJoin withSignal withLegs withTrain isClosed joinedBy joined longer chainRow
 all-answered = (refl, (refl, (refl, (refl, (refl, (refl, (refl, (refl, tt))))))))
 
 each-accepted : (xs : List YardText) → AllAnswered xs → AllAccepted xs

@@ -18,11 +18,13 @@ use Rattle.compiled.specs.Table.{Compiled}
 use Rattle.cases.specs.Cases.{CasePost}
 
 judged : (caseRefusal yardA (replicate 8 5) (replicate 9 6) ≡ some Space) × (caseRefusal yardA (replicate 9 5) (replicate 9 6) ≡ none)
-unfolding caseRefusal tablesShort first weightRow weightOf unknownRow joinRow looseRow chainRow longer placeRow endAt joinedBy joined hasSignal legsOf trainOf withJoin withSignal withLegs withTrain anyBelow isClosed
+unfolding caseRefusal tablesShort first weightRow weightOf unknownRow joinRow looseRow chainRow longer placeRow endAt
+    joinedBy joined hasSignal legsOf trainOf withJoin withSignal withLegs withTrain anyBelow isClosed
 judged = (refl, refl)
 
 short-nine : (c : Compilation) → CasePost yardA (replicate 8 5) (replicate 9 6) c → numberGiven (c .tested) ≡ some 9
-unfolding caseRefusal tablesShort first weightRow weightOf unknownRow joinRow looseRow chainRow longer placeRow endAt joinedBy joined hasSignal legsOf trainOf withJoin withSignal withLegs withTrain anyBelow isClosed
+unfolding caseRefusal tablesShort first weightRow weightOf unknownRow joinRow looseRow chainRow longer placeRow endAt
+    joinedBy joined hasSignal legsOf trainOf withJoin withSignal withLegs withTrain anyBelow isClosed
 short-nine c p = p .numbered
 
 short-zero : (c : Compilation) → CasePost yardA (replicate 8 5) (replicate 9 6) c → getD (c .table) 0 7 ≡ 0

@@ -122,7 +122,8 @@ module _ (r : Railway) (text : List ℕ) where
                 ∙ ap (frontBehind at) (sym (lines-here ∙ one-taken r (firstOf (drop at text)) (linesOf (drop behind text)) c (w .checking) t)) ∙ f .same;
           }
 
-      pub fronting-next : (end : ℕ) → end ≡ behind → w .answer ≡ Taken → length (w .checking .figs) ≡ length (c .figs) → length (w .checking .sets) ≡ length (c .sets) → Fronting r text whole end (w .checking)
+      pub fronting-next : (end : ℕ) → end ≡ behind → w .answer ≡ Taken → length (w .checking .figs) ≡ length (c .figs)
+          → length (w .checking .sets) ≡ length (c .sets) → Fronting r text whole end (w .checking)
       fronting-next end here e long₁ long₂ = subst (λ (m : ℕ). Fronting r text whole m (w .checking)) (sym here) (fronting-behind e long₁ long₂)
 
 -- THE CALL FOR SEVERAL

@@ -83,7 +83,8 @@ impl Checker {
         figures: &mut [u32],
         settings: &mut [u32],
     ) -> LineReply
-        ensures { λ x. ⌜ LinePost r (checking self (now (figures .entry)) (now (settings .entry))) (now (text .entry)) (x .answer) (checking (x .checker) (now (figures .exit)) (now (settings .exit))) ⌝ }
+        ensures { λ x. ⌜ LinePost r (checking self (now (figures .entry)) (now (settings .entry))) (now (text .entry))
+            (x .answer) (checking (x .checker) (now (figures .exit)) (now (settings .exit))) ⌝ }
     {
         let c = cases::open_case(r, figures, settings);
         let tested = c.tested;
@@ -120,7 +121,8 @@ impl Checker {
         figures: &mut [u32],
         settings: &mut [u32],
     ) -> FrontReply
-        ensures { λ x. ⌜ FrontPost r (checking self (now (figures .entry)) (now (settings .entry))) (now (text .entry)) (x .answer) (checking (x .checker) (now (figures .exit)) (now (settings .exit))) ⌝ }
+        ensures { λ x. ⌜ FrontPost r (checking self (now (figures .entry)) (now (settings .entry))) (now (text .entry))
+            (x .answer) (checking (x .checker) (now (figures .exit)) (now (settings .exit))) ⌝ }
     {
         let c = cases::open_case(r, figures, settings);
         let tested = c.tested;
@@ -260,7 +262,9 @@ fn verdict(
     figures: &[u32],
     settings: &[u32],
 ) -> TestAnswer
-    ensures { λ a. ⌜ ((r : Railway) (c : Checker) → Compiled r (now (table .entry)) → Laid r (isClosed r) (now (ways .entry)) → a ≡ tests r (checking c (now (figures .entry)) (now (settings .entry))) none state) ⌝ }
+    ensures { λ a. ⌜ ((r : Railway) (c : Checker) → Compiled r (now (table .entry))
+        → Laid r (isClosed r) (now (ways .entry))
+        → a ≡ tests r (checking c (now (figures .entry)) (now (settings .entry))) none state) ⌝ }
 {
     match state {
         CheckerState::Fresh => TestAnswer::Refused(Refusal::PlanForm),

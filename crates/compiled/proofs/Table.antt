@@ -26,7 +26,9 @@ use Rattle.railway.proofs.Lookups.{signal-there}
 use Rattle.railway.proofs.Accepted.{accepted-facts}
 use Rattle.acceptance.specs.Answers.{Judged}
 use Rattle.acceptance.proofs.Answers.{judged-refused, judged-accepted}
-use Rattle.compiled.specs.Table.{standBytes, countBytes, tableBytes, standByte, endOn, parkedOn, within, standOn, heldOn, freeOn, countByte, rosterByte, compiledByte, Compiled, CompilePost, Counted, Rostered, FilledBefore}
+use Rattle.compiled.specs.Table.{standBytes, countBytes, tableBytes, standByte, endOn, parkedOn, within, standOn}
+use Rattle.compiled.specs.Table.{heldOn, freeOn, countByte, rosterByte, compiledByte, Compiled, CompilePost}
+use Rattle.compiled.specs.Table.{Counted, Rostered, FilledBefore}
 
 -- WRITING. The counts
 module _ (r : Railway) (s p k i : ℕ) (h : Counted r s p k) where

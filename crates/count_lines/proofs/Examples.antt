@@ -12,7 +12,8 @@ bar-for : (marks 1 8000 ≡ 1) × (marks 200 8000 ≡ 1) × (marks 201 8000 ≡ 
 bar-for = (refl, refl, refl, refl, refl, refl)
 
 -- a count of nothing has no row; figures without a count of their own have one row
-row-for : (rowText 8 (label 0 3) 0 ≡ []) × (rowText 8 (label 0 3) 1 ≡ bytes "3\t1\t#####\n") × (rowText 80 (label 14 240) 2 ≡ bytes "240-254\t2\t#\n") × (moreRow 80 20 ≡ bytes "more\t20\t##########\n")
+row-for : (rowText 8 (label 0 3) 0 ≡ []) × (rowText 8 (label 0 3) 1 ≡ bytes "3\t1\t#####\n")
+    × (rowText 80 (label 14 240) 2 ≡ bytes "240-254\t2\t#\n") × (moreRow 80 20 ≡ bytes "more\t20\t##########\n")
 unfolding gatherBelow bytes line digits
 row-for = (refl, refl, refl, refl)
 

@@ -131,7 +131,8 @@ unfolding gatherBelow
 gather-short f c h zero = omega arith
 gather-short f c h (suc k) = rw (length-append (gatherBelow f k) (f k), mul-suc) (omega (arith, h k, gather-short f c h k))
 
-words : (length (bytes "placements") ≡ 10) × (length (bytes "lead home") ≡ 9) × (length (bytes "none") ≡ 4) × (length (bytes "largest figure") ≡ 14) × (length (bytes "more") ≡ 4) × (length (bytes "-") ≡ 1)
+words : (length (bytes "placements") ≡ 10) × (length (bytes "lead home") ≡ 9) × (length (bytes "none") ≡ 4)
+    × (length (bytes "largest figure") ≡ 14) × (length (bytes "more") ≡ 4) × (length (bytes "-") ≡ 1)
 unfolding bytes
 words = (refl, refl, refl, refl, refl, refl)
 
@@ -167,7 +168,9 @@ counts-short m a counts =
       named-short (bytes "none") (getD counts 256 0),
       named-short (bytes "largest figure") (a .largest),
       gather-short (figureRow (a .count) (span (a .largest)) counts) 74
-          (λ b. row-short (a .count) (label (span (a .largest)) (firstOf (span (a .largest)) b)) (together counts (span (a .largest)) (firstOf (span (a .largest)) b)) (label-short (span (a .largest)) (firstOf (span (a .largest)) b)))
+          (λ b. row-short (a .count) (label (span (a .largest)) (firstOf (span (a .largest)) b))
+          (together counts (span (a .largest)) (firstOf (span (a .largest)) b))
+          (label-short (span (a .largest)) (firstOf (span (a .largest)) b)))
           rows,
       row-short (a .count) (bytes "more") (getD counts 255 0) (omega (arith, words)),
     ))

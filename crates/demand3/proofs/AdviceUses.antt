@@ -1,5 +1,6 @@
--- The statement on the advice that runs at work: whoever has it, of any call with a record of advice/Yards, or with Yard A's, and any tables something is drawn of the answer, and of the tables as they are left, from what the
--- contract tells. Assumes nothing.
+-- The statement on the advice that runs at work: whoever has it, of any call with a record of advice/Yards, or with
+-- Yard A's, and any tables something is drawn of the answer, and of the tables as they are left, from what the contract
+-- tells. Assumes nothing.
 use mathlib.Core.Path.{_≡_}
 use mathlib.Core.Option.{some}
 use Prim.Native.Nat.{_≤_}
@@ -63,5 +64,6 @@ module _ (runs : AdviceRuns) where
       not-needed yard = runs .claims κs a answer left (rw yard (yardA-fine (now (a .1 .0)) (now (a .1 .1 .0)) lf ls)) learnt .not-needed .1 (rw yard yardA-figure)
 
     -- tables of eight entries are refused, and stay
-    too-few : a .0 ≡ following → now (a .1 .0) ≡ replicate 8 5 → now (a .1 .1 .0) ≡ replicate 9 6 → (answer ≡ Refused Space) × (now (left .1 .0) ≡ now (a .1 .0)) × (now (left .1 .1 .0) ≡ now (a .1 .1 .0))
+    too-few : a .0 ≡ following → now (a .1 .0) ≡ replicate 8 5 → now (a .1 .1 .0) ≡ replicate 9 6
+        → (answer ≡ Refused Space) × (now (left .1 .0) ≡ now (a .1 .0)) × (now (left .1 .1 .0) ≡ now (a .1 .1 .0))
     too-few yard figs sets = runs .refuses κs a answer left Space (rw (yard, figs, sets) too-short) learnt

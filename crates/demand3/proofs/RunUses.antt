@@ -1,5 +1,6 @@
--- The statement on runs at work, as whoever has it uses it, of any calls for the two tables and any call of the solver: in Yard A, where the start's figure cannot be below 2, and in the line whose middle section is closed, where
--- the verdict is none. Assumes nothing.
+-- The statement on runs at work, as whoever has it uses it, of any calls for the two tables and any call of the solver:
+-- in Yard A, where the start's figure cannot be below 2, and in the line whose middle section is closed, where the
+-- verdict is none. Assumes nothing.
 use mathlib.Core.Path.{_≡_, refl, sym, _∙_, ap}
 use mathlib.Core.List.{List, [], _∷_}
 use mathlib.Core.Option.{none, some}
@@ -51,13 +52,19 @@ unfolding withTrain
 one-place = refl
 
 one-post : SolverPost yardOne (Figure 0) (5 ∷ []) zeros (0 ∷ []) zeros
-unfolding caseRefusal tablesShort first weightRow weightOf unknownRow joinRow looseRow chainRow longer placeRow endAt joinedBy joined hasSignal legsOf trainOf withJoin withSignal withLegs withTrain anyBelow startCode codeOf sumBelow listBelow isClosed
+unfolding caseRefusal tablesShort first weightRow weightOf unknownRow joinRow looseRow chainRow longer placeRow endAt
+    joinedBy joined hasSignal legsOf trainOf withJoin withSignal withLegs withTrain anyBelow startCode codeOf
+    sumBelow listBelow isClosed
 one-post = record {
   numbered = refl;
   leaves = (
     record {
       filled = one-filled .1;
-      kept-figs = record { as-long = refl; past = λ p l. List·getD-eq-default (0 ∷ []) 0 {n = p} (omega (arith, one-place)) ∙ sym (List·getD-eq-default (5 ∷ []) 0 {n = p} (omega (arith, one-place))) };
+      kept-figs = record {
+        as-long = refl;
+        past = λ p l. List·getD-eq-default (0 ∷ []) 0 {n = p} (omega (arith, one-place))
+            ∙ sym (List·getD-eq-default (5 ∷ []) 0 {n = p} (omega (arith, one-place)));
+      };
       kept-sets = record { as-long = refl; past = λ p l. refl };
     },
     refl,
@@ -74,9 +81,15 @@ module _ (run : RunsRun) where
   is-met = run .table .meets
 
   -- two calls for a table, up and down, and one of the solver, on one record
-  module _ (r : Railway) (κs : Lfts 0) (a : Dens κs table.ps) (up : resT table.r κs .Denot) (left : AtExit (endedOf 0 table.ps table.r) κs) (yard : a .0 ≡ r) (heads-up : a .1 .0 ≡ Up) (learnt : TableLearnt κs a up left)
-      (κs′ : Lfts 0) (b : Dens κs′ table.ps) (down : resT table.r κs′ .Denot) (left′ : AtExit (endedOf 0 table.ps table.r) κs′) (yard′ : b .0 ≡ r) (heads-down : b .1 .0 ≡ Down) (learnt′ : TableLearnt κs′ b down left′)
-      (κs″ : Lfts 2) (d : Dens κs″ solve.ps) (answer : resT solve.r κs″ .Denot) (left″ : AtExit (endedOf 2 solve.ps solve.r) κs″) (yard″ : d .0 ≡ r) (lf : 9 ≤ length (now (d .1 .0))) (ls : 9 ≤ length (now (d .1 .1 .0)))
+  module _ (r : Railway) (κs : Lfts 0) (a : Dens κs table.ps) (up : resT table.r κs .Denot)
+      (left : AtExit (endedOf 0 table.ps table.r) κs)
+      (yard : a .0 ≡ r) (heads-up : a .1 .0 ≡ Up) (learnt : TableLearnt κs a up left)
+      (κs′ : Lfts 0) (b : Dens κs′ table.ps) (down : resT table.r κs′ .Denot)
+      (left′ : AtExit (endedOf 0 table.ps table.r) κs′)
+      (yard′ : b .0 ≡ r) (heads-down : b .1 .0 ≡ Down) (learnt′ : TableLearnt κs′ b down left′)
+      (κs″ : Lfts 2) (d : Dens κs″ solve.ps) (answer : resT solve.r κs″ .Denot)
+      (left″ : AtExit (endedOf 2 solve.ps solve.r) κs″) (yard″ : d .0 ≡ r) (lf : 9 ≤ length (now (d .1 .0)))
+      (ls : 9 ≤ length (now (d .1 .1 .0)))
       (learnt″ : SolveLearnt κs″ d answer left″) where
     told-up : RunPost r Up (a .1 .1 .0) up
     told-up = rw (yard, heads-up) at (same (run .table .tells κs a up left) learnt)

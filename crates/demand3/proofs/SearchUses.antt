@@ -60,7 +60,9 @@ named : (namesNone weighed (sectionIn p21) ≡ false) × (codeOn weighed (sectio
 unfolding namesNone anyBelow codeOf sumBelow listBelow withJoin withSignal withLegs withTrain
 named = (refl, refl)
 
-module _ (κs : Lfts 3) (a : Dens κs opening.ps) (answer : resT opening.r κs .Denot) (left : AtExit (endedOf 3 opening.ps opening.r) κs) (yard : a .0 ≡ weighed) (lf : 9 ≤ length (now (a .1 .0))) (ls : 9 ≤ length (now (a .1 .1 .0)))
+module _ (κs : Lfts 3) (a : Dens κs opening.ps) (answer : resT opening.r κs .Denot)
+    (left : AtExit (endedOf 3 opening.ps opening.r) κs) (yard : a .0 ≡ weighed) (lf : 9 ≤ length (now (a .1 .0)))
+    (ls : 9 ≤ length (now (a .1 .1 .0)))
     (learnt : OpenLearnt κs a answer left) where
   abbrev at-first : State
   at-first = searching (answer .search) (now (left .1 .0)) (now (left .1 .1 .0)) (now (left .1 .1 .1 .0))
@@ -72,11 +74,13 @@ module _ (κs : Lfts 3) (a : Dens κs opening.ps) (answer : resT opening.r κs .
   none-finished : answer .search .rounds ≡ 0
   none-finished =
       let x : SearchAt weighed (now (a .1 .0)) (now (a .1 .1 .0)) 0 at-first =
-      searches-run .whole weighed weighed-accepted (now (a .1 .0)) (now (a .1 .1 .0)) (omega (arith, nine)) (omega (arith, nine)) (now (a .1 .1 .1 .0)) (answer .answer) at-first opened 0 at-first begun in
+      searches-run .whole weighed weighed-accepted (now (a .1 .0)) (now (a .1 .1 .0)) (omega (arith, nine))
+      (omega (arith, nine)) (now (a .1 .1 .1 .0)) (answer .answer) at-first opened 0 at-first begun in
       omega (arith, x .rounds)
 
   module _ (κs′ : Lfts 3) (b : Dens κs′ round.ps) (next : resT round.r κs′ .Denot) (left′ : AtExit (endedOf 3 round.ps round.r) κs′) (handed : b .0 ≡ answer .search) (yard′ : b .1 .0 ≡ weighed)
-      (figs : now (b .1 .1 .0) ≡ now (left .1 .0)) (sets : now (b .1 .1 .1 .0) ≡ now (left .1 .1 .0)) (marks : now (b .1 .1 .1 .1 .0) ≡ now (left .1 .1 .1 .0)) (learnt′ : RoundLearnt κs′ b next left′) where
+      (figs : now (b .1 .1 .0) ≡ now (left .1 .0)) (sets : now (b .1 .1 .1 .0) ≡ now (left .1 .1 .0))
+      (marks : now (b .1 .1 .1 .1 .0) ≡ now (left .1 .1 .1 .0)) (learnt′ : RoundLearnt κs′ b next left′) where
     abbrev at-next : State
     at-next = searching (next .search) (now (left′ .1 .1 .0)) (now (left′ .1 .1 .1 .0)) (now (left′ .1 .1 .1 .1 .0))
 
@@ -85,7 +89,9 @@ module _ (κs : Lfts 3) (a : Dens κs opening.ps) (answer : resT opening.r κs .
 
     after-one : SearchAt weighed (now (a .1 .0)) (now (a .1 .1 .0)) 1 at-next
     after-one =
-        searches-run .whole weighed weighed-accepted (now (a .1 .0)) (now (a .1 .1 .0)) (omega (arith, nine)) (omega (arith, nine)) (now (a .1 .1 .1 .0)) (answer .answer) at-first opened 1 at-next (call (next .answer) begun rounded)
+        searches-run .whole weighed weighed-accepted (now (a .1 .0)) (now (a .1 .1 .0))
+        (omega (arith, nine)) (omega (arith, nine)) (now (a .1 .1 .1 .0)) (answer .answer) at-first opened 1 at-next
+        (call (next .answer) begun rounded)
 
     -- behind one round more (2, 1) has not come yet, as a look-up answers
     not-yet : (κs″ : Lfts 2) (c : Dens κs″ looking.ps) (shown : resT looking.r κs″ .Denot) (left″ : AtExit (endedOf 2 looking.ps looking.r) κs″) → c .0 ≡ next .search → c .1 .0 ≡ weighed

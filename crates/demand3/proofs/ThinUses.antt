@@ -66,7 +66,8 @@ either-may p t plus a b e = thins-run .law .law sidings p plus a b .joined t ∙
 
 -- `plans`: A PLAN BY ANOTHER MAKER, from tables of any length that is enough, is thinned, and the test behind that passes it
 module _ (lent₁ lent₂ : List ℕ) (answered : CaseAnswer) (c : Checking) (enough₁ : 9 ≤ length lent₁) (enough₂ : 9 ≤ length lent₂) (made : FreshPost yardA lent₁ lent₂ answered c) (u : LineCalls)
-    (calls : Taking yardA c (otherTexts "plan\t9\n") u) (all-taken : takenTexts (u .answers) (otherTexts "plan\t9\n") ≡ otherTexts "plan\t9\n") (a : ThinAnswer) (c′ : Checking) (thins : ThinPost yardA (u .end) a c′)
+    (calls : Taking yardA c (otherTexts "plan\t9\n") u) (all-taken : takenTexts (u .answers) (otherTexts "plan\t9\n")
+    ≡ otherTexts "plan\t9\n") (a : ThinAnswer) (c′ : Checking) (thins : ThinPost yardA (u .end) a c′)
     (test : TestAnswer) (c″ : Checking) (tests : TestPost yardA c′ test c″) where
   thinned-foreign : (a ≡ Thinned) × (test ≡ Pass)
   thinned-foreign =

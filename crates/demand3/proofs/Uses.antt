@@ -168,31 +168,42 @@ start-two a figs sets d = d .answer ∙ figure-one (gameOf yardA) 7 (figureIn fi
 solve-two : (κs : Lfts 2) (a : Dens κs solve.ps) (answer : resT solve.r κs .Denot) (left : AtExit (endedOf 2 solve.ps solve.r) κs)
     → a .0 ≡ yardA → length (now (a .1 .0)) ≡ 9 → length (now (a .1 .1 .0)) ≡ 9 → SolveLearnt κs a answer left → figureGiven answer ≡ some 2
 solve-two κs a answer left yard nine₁ nine₂ learnt =
-    start-two answer (now (left .1 .0)) (now (left .1 .1 .0)) (rw yard at (demand3-runs .whole κs a answer left (rw yard yardA-accepted) (rw yard (omega (arith, nine))) (rw yard (omega (arith, nine))) learnt))
+    start-two answer (now (left .1 .0)) (now (left .1 .1 .0)) (rw yard at (demand3-runs .whole κs a answer left
+    (rw yard yardA-accepted) (rw yard (omega (arith, nine))) (rw yard (omega (arith, nine))) learnt))
 
 -- what the promises compute to: 9 for tables of eight entries; the first line emitted, and taken; 10 for a test that comes first
 solver-nine : (a : SolverAnswer) (figs sets : List ℕ) → SolverPost yardA a (replicate 8 5) (replicate 9 6) figs sets → (numberGiven a ≡ some 9) × (figs ≡ replicate 8 5) × (sets ≡ replicate 9 6)
-unfolding caseRefusal tablesShort first weightRow weightOf unknownRow joinRow looseRow chainRow longer placeRow endAt joinedBy joined hasSignal legsOf trainOf withJoin withSignal withLegs withTrain anyBelow isClosed
+unfolding caseRefusal tablesShort first weightRow weightOf unknownRow joinRow looseRow chainRow longer placeRow endAt
+    joinedBy joined hasSignal legsOf trainOf withJoin withSignal withLegs withTrain anyBelow isClosed
 solver-nine a figs sets p = (p .numbered, p .leaves .0, p .leaves .1)
 
 lines-nine : (place : PlanPlace) (b b′ : List ℕ) (a : Emitted) → EmitLinesPost yardA (replicate 8 5) (replicate 9 6) place b a b′ → emitNumber a ≡ some 9
-unfolding caseRefusal tablesShort first weightRow weightOf unknownRow joinRow looseRow chainRow longer placeRow endAt joinedBy joined hasSignal legsOf trainOf withJoin withSignal withLegs withTrain anyBelow isClosed
+unfolding caseRefusal tablesShort first weightRow weightOf unknownRow joinRow looseRow chainRow longer placeRow endAt
+    joinedBy joined hasSignal legsOf trainOf withJoin withSignal withLegs withTrain anyBelow isClosed
 lines-nine place b b′ a p = p .numbered
 
-front-nine : (c : CheckerState) (text : List ℕ) (a : FrontAnswer) (c′ : Checking) → FrontPost yardA (record { state = c; figs = replicate 8 5; sets = replicate 9 6 }) text a c′ → frontNumber a ≡ some 9
-unfolding caseRefusal tablesShort first weightRow weightOf unknownRow joinRow looseRow chainRow longer placeRow endAt joinedBy joined hasSignal legsOf trainOf withJoin withSignal withLegs withTrain anyBelow isClosed
+front-nine : (c : CheckerState) (text : List ℕ) (a : FrontAnswer) (c′ : Checking)
+    → FrontPost yardA (record { state = c; figs = replicate 8 5; sets = replicate 9 6 }) text a c′
+    → frontNumber a ≡ some 9
+unfolding caseRefusal tablesShort first weightRow weightOf unknownRow joinRow looseRow chainRow longer placeRow endAt
+    joinedBy joined hasSignal legsOf trainOf withJoin withSignal withLegs withTrain anyBelow isClosed
 front-nine c text a c′ p = p .numbered
 
 first-written : (a : Emitted) (b : List ℕ) → EmitterPost yardA figsA setsA Top (replicate 9 7) a b → (a ≡ Line 7 (From 0)) × (b ≡ bytes "plan\t2\n" ++ (7 ∷ 7 ∷ []))
-unfolding bytes emitLine spell line digits codeOf sumBelow listBelow startCode caseRefusal tablesShort first weightRow weightOf unknownRow joinRow looseRow chainRow longer placeRow endAt joinedBy joined hasSignal legsOf trainOf withJoin withSignal withLegs withTrain anyBelow isClosed
+unfolding bytes emitLine spell line digits codeOf sumBelow listBelow startCode caseRefusal tablesShort first weightRow
+    weightOf unknownRow joinRow looseRow chainRow longer placeRow endAt joinedBy joined hasSignal legsOf trainOf
+    withJoin withSignal withLegs withTrain anyBelow isClosed
 first-written a b p = (p .answer, p .buffer)
 
 first-taken : (a : LineAnswer) (c : Checking) → LinePost yardA (freshChecking 9 9) (bytes "plan\t2\n") a c → (a ≡ Taken) × (c .state ≡ Begun 2 0)
-unfolding bytes takeLine listBelow whichBelow any all readLine guess fields valueOf sameText spell line digits fits caseRefusal tablesShort first weightRow weightOf unknownRow joinRow looseRow chainRow longer placeRow endAt joinedBy joined hasSignal legsOf trainOf withJoin withSignal withLegs withTrain anyBelow isClosed
+unfolding bytes takeLine listBelow whichBelow any all readLine guess fields valueOf sameText spell line digits fits
+    caseRefusal tablesShort first weightRow weightOf unknownRow joinRow looseRow chainRow longer placeRow endAt joinedBy
+    joined hasSignal legsOf trainOf withJoin withSignal withLegs withTrain anyBelow isClosed
 first-taken a c p = (p .answer, ap (λ (x : Checking). x .state) (p .checking))
 
 early-ten : (a : TestAnswer) (c : Checking) → TestPost yardA (freshChecking 9 9) a c → a ≡ Refused PlanForm
-unfolding testPlan caseRefusal tablesShort first weightRow weightOf unknownRow joinRow looseRow chainRow longer placeRow endAt joinedBy joined hasSignal legsOf trainOf withJoin withSignal withLegs withTrain anyBelow isClosed
+unfolding testPlan caseRefusal tablesShort first weightRow weightOf unknownRow joinRow looseRow chainRow longer placeRow
+    endAt joinedBy joined hasSignal legsOf trainOf withJoin withSignal withLegs withTrain anyBelow isClosed
 early-ten a c p = p .answer
 
 solve-nine : (κs : Lfts 2) (a : Dens κs solve.ps) (answer : resT solve.r κs .Denot) (left : AtExit (endedOf 2 solve.ps solve.r) κs)
@@ -246,7 +257,9 @@ test-first κs a answer left state yard figs sets learnt =
     early-ten (answer .answer) (checking (answer .checker) (replicate 9 noFigure) (replicate 9 0)) (rw (state, yard, figs, sets) at (same (demand3-runs .test .tells κs a answer left) learnt))
 
 -- A PLAN BY ANOTHER MAKER, from tables of any length that is enough: the test passes it, and not with another figure in its first line.
-module _ (lent₁ lent₂ : List ℕ) (answered : CaseAnswer) (c : Checking) (enough₁ : 9 ≤ length lent₁) (enough₂ : 9 ≤ length lent₂) (made : FreshPost yardA lent₁ lent₂ answered c) (a : TestAnswer) (c′ : Checking) (u : LineCalls)
+module _ (lent₁ lent₂ : List ℕ) (answered : CaseAnswer) (c : Checking) (enough₁ : 9 ≤ length lent₁)
+    (enough₂ : 9 ≤ length lent₂) (made : FreshPost yardA lent₁ lent₂ answered c) (a : TestAnswer)
+    (c′ : Checking) (u : LineCalls)
     (tests : TestPost yardA (u .end) a c′) where
   said : (texts : List (List ℕ)) → Taking yardA c texts u → Checked yardA texts (u .answers) (takenTexts (u .answers) texts) (u .end) × TestSays yardA (takenTexts (u .answers) texts) a
   said texts calls = checker-runs .whole yardA yardA-accepted lent₁ lent₂ answered c (omega (arith, nine)) (omega (arith, nine)) made texts u calls a c′ tests
@@ -273,7 +286,9 @@ module _ (lent₁ lent₂ : List ℕ) (answered : CaseAnswer) (c : Checking) (en
 
 -- a text without its line end is refused with 10, and so is the test behind it
 cut-off : (u : LineCalls) → u ≡ callLines yardA (bytes "plan\t2" ∷ []) madeFresh → (u .answers ≡ LineRefused PlanForm ∷ []) × (takenTexts (u .answers) (bytes "plan\t2" ∷ []) ≡ [])
-unfolding bytes callLines takenTexts takeLine listBelow whichBelow any all readLine guess fields valueOf sameText spell line digits fits caseRefusal tablesShort first weightRow weightOf unknownRow joinRow looseRow chainRow longer placeRow endAt joinedBy joined hasSignal legsOf trainOf withJoin withSignal withLegs withTrain anyBelow isClosed
+unfolding bytes callLines takenTexts takeLine listBelow whichBelow any all readLine guess fields valueOf sameText spell
+    line digits fits caseRefusal tablesShort first weightRow weightOf unknownRow joinRow looseRow chainRow longer
+    placeRow endAt joinedBy joined hasSignal legsOf trainOf withJoin withSignal withLegs withTrain anyBelow isClosed
 cut-off u e = (ap (λ (x : LineCalls). x .answers) e, ap (λ (x : LineCalls). takenTexts (x .answers) (bytes "plan\t2" ∷ [])) e)
 
 out-of-form : (said : CaseAnswer) (c : Checking) → FreshPost yardA lent wider said c → (u : LineCalls) → Taking yardA c (bytes "plan\t2" ∷ []) u
@@ -288,7 +303,9 @@ abbrev wide : Setting
 wide = record { plus = λ n. true; isOpen = λ i. true }
 
 moved-on : (entryOf yardA 7 wide ≡ 65537) × (shared yardA 7 ≡ false) × (cond (may (gameOf yardA) 7 wide 1) (some (moveOf yardA 7 wide 1)) none ≡ some (at 1))
-unfolding entryFrom fromBits signalOpen mayMove free held headsFor standsOn sectionsIn shared trainOf hasSignal withJoin withSignal withLegs withTrain moveOf passes follow occupied codeOf sumBelow endAt joinedBy joined anyBelow entered isClosed
+unfolding entryFrom fromBits signalOpen mayMove free held headsFor standsOn sectionsIn shared trainOf hasSignal withJoin
+    withSignal withLegs withTrain moveOf passes follow occupied codeOf sumBelow endAt joinedBy joined
+    anyBelow entered isClosed
 moved-on = (refl, refl, refl)
 
 move-on : (κs : Lfts 0) (a : Dens κs compile.ps) (c : resT compile.r κs .Denot) (left : AtExit (endedOf 0 compile.ps compile.r) κs) → a .0 ≡ yardA → CompileLearnt κs a c left
@@ -296,7 +313,8 @@ move-on : (κs : Lfts 0) (a : Dens κs compile.ps) (c : resT compile.r κs .Deno
     → (κs′ : Lfts 2) (b : Dens κs′ move.ps) (m : resT move.r κs′ .Denot) (left′ : AtExit (endedOf 2 move.ps move.r) κs′)
     → now (b .0) ≡ c .table → now (b .1 .0) ≡ w → b .1 .1 .0 ≡ 7 → b .1 .1 .1 .0 ≡ 65537 → b .1 .1 .1 .1 .0 ≡ 1 → MoveLearnt κs′ b m left′ → ended m ≡ some (at 1)
 move-on κs a c left yard compiled κsʷ d w leftʷ one laid κs′ b m left′ table way place entry train moved =
-    let e = moves-run .whole κs a c left (rw yard yardA-accepted) compiled κsʷ d w leftʷ one laid κs′ b m left′ table way moved (rw (yard, place) (moved-on .1)) wide (rw (yard, place, entry) (sym (moved-on .0))) in
+    let e = moves-run .whole κs a c left (rw yard yardA-accepted) compiled κsʷ d w leftʷ one laid κs′ b m left′ table
+    way moved (rw (yard, place) (moved-on .1)) wide (rw (yard, place, entry) (sym (moved-on .0))) in
     (rw (yard, place, train) at e) ∙ moved-on .2
 
 compile-yard : (κs : Lfts 0) (a : Dens κs compile.ps) (c : resT compile.r κs .Denot) (left : AtExit (endedOf 0 compile.ps compile.r) κs) → a .0 ≡ yardA → CompileLearnt κs a c left

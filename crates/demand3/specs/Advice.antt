@@ -1,5 +1,6 @@
--- Which signal would help (document 02, Q-10), of the call that runs: what advice/Advice claims of an answer and of the tables is said of the contract of `advise`, which asks nothing and is met. Arguments
--- are written as in Running. Assumes nothing.
+-- Which signal would help (document 02, Q-10), of the call that runs: what advice/Advice claims of an answer and of the
+-- tables is said of the contract of `advise`, which asks nothing and is met. Arguments are written as in Running.
+-- Assumes nothing.
 use mathlib.Core.Path.{_≡_}
 use mathlib.Core.Option.{none, some}
 use denote.Ref.{now}
@@ -27,4 +28,5 @@ pub record AdviceRuns : Type 2 where
       → AdviceClaims (a .0) answer (now (a .1 .0)) (now (a .1 .1 .0)) (now (left .1 .0)) (now (left .1 .1 .0))
   -- a refused call leaves both tables as they were
   pub refuses : (κs : Lfts 2) (a : Dens κs advise.ps) (answer : resT advise.r κs .Denot) (left : AtExit (endedOf 2 advise.ps advise.r) κs) (f : Refusal)
-      → caseRefusal (a .0) (now (a .1 .0)) (now (a .1 .1 .0)) ≡ some f → AdviseLearnt κs a answer left → (answer ≡ Refused f) × (now (left .1 .0) ≡ now (a .1 .0)) × (now (left .1 .1 .0) ≡ now (a .1 .1 .0))
+      → caseRefusal (a .0) (now (a .1 .0)) (now (a .1 .1 .0)) ≡ some f → AdviseLearnt κs a answer left
+      → (answer ≡ Refused f) × (now (left .1 .0) ≡ now (a .1 .0)) × (now (left .1 .1 .0) ≡ now (a .1 .1 .0))

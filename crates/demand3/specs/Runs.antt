@@ -49,8 +49,9 @@ pub record SolveCall (r : Railway) (answer : SolverAnswer) : Type 2 where
   pub enough-settings : placements r ≤ length (now (args .1 .1 .0))
   pub learnt : SolveLearnt κs args answer left
 
--- Q-3, of the calls that run: the statement; the two contracts; and so, of any calls for both headings of an accepted record, what their tables say, and of any call of the solver for it, that no figure
--- which it answers is below the sum of the runs, and that where some train has no run it answers none.
+-- Q-3, of the calls that run: the statement; the two contracts; and so, of any calls for both headings of an accepted
+-- record, what their tables say, and of any call of the solver for it, that no figure which it answers is below the
+-- sum of the runs, and that where some train has no run it answers none.
 pub record RunsRun : Type 2 where
   pub whole : RunsHold
   pub solver : SolverRuns

@@ -40,7 +40,9 @@ use Rattle.desk.specs.declared.OpenAnswer.the-variants.{Opened}
 use Rattle.desk.specs.declared.SettingAnswer.the-variants.{Given, Refused as SettingRefused}
 use Rattle.desk.specs.declared.ReportAnswer.{ReportAnswer}
 use Rattle.desk.specs.declared.ReportAnswer.the-variants.{Counted, Refused}
-use Rattle.desk.specs.Desk.{Desk, deskCode, misplaced, deskRow, startDesk, noDesk, Opening, openBy, openDesk, settingBy, giveSetting, present, comesTo, allows, reportRow, reportRows, movedDesk, Reply, reportBy, report, deskGiven, OpenPost, ReportPost}
+use Rattle.desk.specs.Desk.{Desk, deskCode, misplaced, deskRow, startDesk, noDesk, Opening, openBy, openDesk}
+use Rattle.desk.specs.Desk.{settingBy, giveSetting, present, comesTo, allows, reportRow, reportRows, movedDesk}
+use Rattle.desk.specs.Desk.{Reply, reportBy, report, deskGiven, OpenPost, ReportPost}
 use Rattle.desk.specs.Following.{Reporting, begun, call, refused, Carries, Countable, AnyDesk}
 use Rattle.desk.proofs.Carrying.{made-right, sound-exactly, lamp-home}
 use Rattle.desk.proofs.Placing.{placed-exactly, Placed, placed-so, moved-placed, moved-code}

@@ -1,5 +1,7 @@
--- Going over to another case. What a change asks of the new case, and what it makes, is said without the trains' starts. The desk of a change that is made stands in the new case as it stood in the old one, since codes and sections agree, so 12 does not stop it and its reports are followed from its figure on. Calls that are
--- refused leave it, so this goes on over whole lists. With the solver's tables the figure is that of the game. Assumes nothing.
+-- Going over to another case. What a change asks of the new case, and what it makes, is said without the trains'
+-- starts. The desk of a change that is made stands in the new case as it stood in the old one, since codes and sections
+-- agree, so 12 does not stop it and its reports are followed from its figure on. Calls that are refused leave it, so
+-- this goes on over whole lists. With the solver's tables the figure is that of the game. Assumes nothing.
 use mathlib.Core.Path.{_≡_, refl, sym, _∙_, ap}
 use mathlib.Core.Bool.{Bool, true, false}
 use mathlib.Core.List.{List, [], _++_, map}
@@ -35,7 +37,10 @@ use Rattle.desk.specs.declared.ReportAnswer.the-variants.{Counted, Refus
 use Rattle.desk.specs.declared.ChangeAnswer.the-variants.{Changed, Refused}
 use Rattle.desk.specs.Desk.{Desk, deskCode, arrivals, deskRow, deskOn, startDesk, noDesk, Opening, openBy, openDesk, deskGiven, OpenPost, Reply, ReportPost}
 use Rattle.desk.specs.Following.{Reporting, begun, call, refused, AfterReports, Followable, Apart}
-use Rattle.desk.specs.Change.{mismatch, stranded, changeRows, sooner, Changing, changeBy, changeTo, ChangePost, rowRank, SameShape, SameButStarts, SameBound, Working, workingOn, beginningWith, Works, started, reports, changes, report-refused, change-refused, Beginning, AtWork, ChangeSolved, ChangeHolds}
+use Rattle.desk.specs.Change.{mismatch, stranded, changeRows, sooner, Changing, changeBy, changeTo, ChangePost}
+use Rattle.desk.specs.Change.{rowRank, SameShape, SameButStarts, SameBound, Working, workingOn, beginningWith}
+use Rattle.desk.specs.Change.{Works, started, reports, changes, report-refused, change-refused, Beginning, AtWork}
+use Rattle.desk.specs.Change.{ChangeSolved, ChangeHolds}
 use Rattle.desk.proofs.Carrying.{made-right}
 use Rattle.desk.proofs.Placing.{Placed, placed-so, so-placed, code-there, start-placed, start-is}
 use Rattle.desk.proofs.Sooner.{table-rises, sooner-first}
@@ -289,8 +294,15 @@ module _ (s : Railway) (acc : recordRefusal s ≡ none) (figs sets : List ℕ) (
 
       so-stranded : SameShape r s × figureThere none → y .answer ≡ Refused Stranded
       so-stranded h =
-          fifteen r text d figs sets y post .1
-          (record { fits = record { both = record { railway = s; old = old; read = read }; shape = h .0 }; figures = enough .figures; settings = enough .settings }, well, entry-is (h .0) well none (h .1))
+          fifteen r text d figs sets y post .1 (
+            record {
+              fits = record { both = record { railway = s; old = old; read = read }; shape = h .0 };
+              figures = enough .figures;
+              settings = enough .settings;
+            },
+            well,
+            entry-is (h .0) well none (h .1),
+          )
 
     home : y .answer ≡ Changed → (n : ℕ) → figureThere (some n) → (ts : List ℕ) (e : Desk) → Works (beginningWith s figs sets (y .desk)) (workingOn s figs sets (y .desk) ts e)
         → AfterReports s figs sets (y .desk) n ts e

@@ -83,7 +83,8 @@ miscounted = record { at = on 2 3 .at; code = 7; arrived = 1 }
 
 -- the new ones are cases
 cases : (recordRefusal shut ≡ none) × (recordRefusal stay ≡ none) × (recordRefusal four ≡ none) × (recordRefusal alone ≡ none) × (recordRefusal about ≡ none)
-unfolding recordRefusal first weightRow weightOf unknownRow joinRow looseRow chainRow longer placeRow endAt joinedBy joined hasSignal legsOf trainOf withJoin withSignal withClosed withLegs withTrain anyBelow isClosed
+unfolding recordRefusal first weightRow weightOf unknownRow joinRow looseRow chainRow longer placeRow endAt joinedBy
+    joined hasSignal legsOf trainOf withJoin withSignal withClosed withLegs withTrain anyBelow isClosed
 cases = (refl, refl, refl, refl, refl)
 
 refusals :
@@ -101,7 +102,9 @@ refusals :
     × (changed stay (onIn stay 2 3) figsStay setsStay ≡ gives (Refused Report) (onIn stay 2 3))
     -- 15
     × (changed shut (on 1 3) figsA setsA ≡ gives (Refused Stranded) (on 1 3)) × (changed stay (on 3 1) figsStay setsStay ≡ gives (Refused Stranded) (on 3 1))
-unfolding changeTo mismatch stranded misplaced miscarries arrivals countBelow namesNone shared standsOn sectionsIn codeOf listBelow sumBelow tablesShort first weightRow weightOf unknownRow joinRow looseRow chainRow longer placeRow endAt joinedBy joined hasSignal legsOf trainOf withJoin withSignal withClosed withLegs withTrain anyBelow isClosed
+unfolding changeTo mismatch stranded misplaced miscarries arrivals countBelow namesNone shared standsOn sectionsIn
+    codeOf listBelow sumBelow tablesShort first weightRow weightOf unknownRow joinRow looseRow chainRow longer placeRow
+    endAt joinedBy joined hasSignal legsOf trainOf withJoin withSignal withClosed withLegs withTrain anyBelow isClosed
 refusals = (refl, refl, refl, refl, refl, refl, refl, refl, refl, refl, refl, refl, refl, refl, refl)
 
 -- MADE. The code stays and the count is the new case's: at (2, 3) none had come to its destination, and now train 1 has. At home too a change is made.
@@ -112,7 +115,10 @@ made :
     -- train 1 stands on 2, which is closed now, and leaves it
     × (changed shut (on 2 1) figsA setsA ≡ gives Changed (onIn shut 2 1)) × (isClosed shut 1 ≡ true)
     × (report shut (onIn shut 2 1) figsA setsA 0 2 ≡ record { answer = Counted; desk = onIn shut 3 1 }) × (onIn shut 3 1 .arrived ≡ 2)
-unfolding changeTo mismatch stranded report reportRow allows misplaced miscarries arrivals countBelow namesNone shared atHome occupied passes follow settingAt mayMove free held signalOpen headsFor standsOn sectionsIn codeOf listBelow sumBelow tablesShort first weightRow weightOf unknownRow joinRow looseRow chainRow longer placeRow endAt joinedBy joined hasSignal legsOf trainOf withJoin withSignal withClosed withLegs withTrain anyBelow allBelow isClosed
+unfolding changeTo mismatch stranded report reportRow allows misplaced miscarries arrivals countBelow namesNone shared
+    atHome occupied passes follow settingAt mayMove free held signalOpen headsFor standsOn sectionsIn codeOf listBelow
+    sumBelow tablesShort first weightRow weightOf unknownRow joinRow looseRow chainRow longer placeRow endAt joinedBy
+    joined hasSignal legsOf trainOf withJoin withSignal withClosed withLegs withTrain anyBelow allBelow isClosed
 made = (refl, refl, refl, refl, refl, refl, refl, refl, refl, refl)
 
 -- WHERE THE TEXT IS NOT READ: the old record's number or the text's, by their order, in which 16 is behind 3 and 13 behind 6.

@@ -152,8 +152,12 @@ module _ (r : Railway) (text : List ℕ) (d : Desk) (figs sets : List ℕ) (y : 
     where
       there : y .answer ≡ Refused Mismatch → (b : BothAccepted r text) × (SameShape r (b .railway) → ⊥)
       there e =
-          let x = beyond (judged text) Mismatch (omega arith) e in
-          (x .both, λ h. clash (is-fourteen (mismatch r (x .both .railway)) (tablesShort (x .both .railway) figs sets) (deskRow r d) (stranded (x .both .railway) figs d) (ap (with 14) (x .given))) (of-shape r (x .both .railway) h))
+          let x = beyond (judged text) Mismatch (omega arith) e in (
+            x .both,
+            λ h. clash (is-fourteen (mismatch r (x .both .railway)) (tablesShort (x .both .railway) figs sets)
+                (deskRow r d) (stranded (x .both .railway) figs d) (ap (with 14) (x .given)))
+                (of-shape r (x .both .railway) h),
+          )
 
       back : (b : BothAccepted r text) × (SameShape r (b .railway) → ⊥) → y .answer ≡ Refused Mismatch
       back b = gives (b .0) Mismatch (let m : mismatch r (b .0 .railway) ≡ true = not-false _ (λ z. b .1 (shape-of r (b .0 .railway) z)) in rw m refl)

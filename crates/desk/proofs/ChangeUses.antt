@@ -30,7 +30,9 @@ use Rattle.casefile.specs.Rows.{joinEnds}
 use Rattle.casefile.specs.Rows as D
 use Rattle.casefile.specs.Recording.{partner, railwayOf}
 use Rattle.casefile.specs.Given.{accepted, Applies, caseTable, RefusedWith, AcceptedWith}
-use Rattle.casefile.specs.Reading.{counted, while, sideFieldAt, legFieldAt, endFieldAt, headerAt, pointLineAt, joinLineAt, signalLineAt, closedLineAt, weightFieldAt, trainLineAt, walk, read, caseAnswer}
+use Rattle.casefile.specs.Reading.{counted, while, sideFieldAt, legFieldAt, endFieldAt, headerAt, pointLineAt}
+use Rattle.casefile.specs.Reading.{joinLineAt, signalLineAt, closedLineAt, weightFieldAt, trainLineAt, walk, read}
+use Rattle.casefile.specs.Reading.{caseAnswer}
 use Rattle.casefile.proofs.Exactly.{accepted-one, accepted-exactly}
 use Rattle.game.specs.Local.{keepsTest}
 use Rattle.game.specs.Placement.{codeOf, sectionsIn, standsOn, namesNone, placements, atHome, shared}
@@ -49,7 +51,10 @@ use Rattle.desk.specs.declared.ReportAnswer.the-variants.{Counted, Refus
 use Rattle.desk.specs.declared.ChangeAnswer.the-variants.{Changed, Refused}
 use Rattle.desk.specs.Desk.{Desk, deskCode, misplaced, arrivals, miscarries, deskRow, allows, reportRow, Reply, report, Opening, OpenPost, ReportPost}
 use Rattle.desk.specs.Following.{movedBy, total, Followable}
-use Rattle.desk.specs.Change.{mismatch, stranded, changeRows, Changing, changeTo, numberChanged, ChangePost, rowRank, AppliesToEither, SameShape, CanChange, SameButStarts, Working, workingOn, Works, started, reports, changes, report-refused, change-refused, Beginning, AtWork, ChangeHolds}
+use Rattle.desk.specs.Change.{mismatch, stranded, changeRows, Changing, changeTo, numberChanged, ChangePost}
+use Rattle.desk.specs.Change.{rowRank, AppliesToEither, SameShape, CanChange, SameButStarts, Working, workingOn}
+use Rattle.desk.specs.Change.{Works, started, reports, changes, report-refused, change-refused, Beginning, AtWork}
+use Rattle.desk.specs.Change.{ChangeHolds}
 use Rattle.desk.proofs.Examples.{onIn, on}
 use Rattle.desk.proofs.ChangeExamples.{shut, stay, wrong}
 use Rattle.desk.proofs.Sooner.{rises-least, none-lower, table-rises, rows-rise}
@@ -69,7 +74,11 @@ pub record Yards : Type 0 where
   pub sound-elsewhere : deskRow weighed (on 1 3) ≡ false
 
 pub yards : Yards
-unfolding recordRefusal first weightRow weightOf unknownRow joinRow looseRow chainRow longer placeRow endAt joinedBy joined hasSignal legsOf trainOf withJoin withSignal withClosed withLegs withTrain allBelow anyBelow sumBelow lowest fromBits certified keepsTest sectionsIn standsOn codeOf atHome shared headsFor mayMove free held signalOpen passes follow occupied moveOf entered isClosed settingAt entryFrom tryOpen firstFound find misplaced miscarries arrivals countBelow namesNone listBelow
+unfolding recordRefusal first weightRow weightOf unknownRow joinRow looseRow chainRow longer placeRow endAt joinedBy
+    joined hasSignal legsOf trainOf withJoin withSignal withClosed withLegs withTrain allBelow anyBelow sumBelow lowest
+    fromBits certified keepsTest sectionsIn standsOn codeOf atHome shared headsFor mayMove free held signalOpen passes
+    follow occupied moveOf entered isClosed settingAt entryFrom tryOpen firstFound find misplaced miscarries arrivals
+    countBelow namesNone listBelow
 yards = record { five = refl; joins = refl; shut-accepted = refl; shut-passes = refl; sound = refl; sound-elsewhere = refl }
 
 pub shut-follows : Followable shut figsA setsA
@@ -89,11 +98,17 @@ module _ (text figs sets : List ℕ) (d : Desk) (y : Changing) where
 -- to the case with section 2 closed: from (2, 3) the change is made; from (1, 3), which has no figure there, 15, and the desk as it was
 module _ (text : List ℕ) (y : Changing) where
   goes-over : AcceptedWith text shut → ChangePost weighed text (on 2 3) figsA setsA y → y ≡ record { answer = Changed; desk = onIn shut 2 3 }
-  unfolding changeTo mismatch stranded misplaced miscarries arrivals countBelow namesNone shared standsOn sectionsIn codeOf listBelow sumBelow tablesShort first weightRow weightOf unknownRow joinRow looseRow chainRow longer placeRow endAt joinedBy joined hasSignal legsOf trainOf withJoin withSignal withClosed withLegs withTrain anyBelow isClosed
+  unfolding changeTo mismatch stranded misplaced miscarries arrivals countBelow namesNone shared standsOn sectionsIn
+      codeOf listBelow sumBelow tablesShort first weightRow weightOf unknownRow joinRow looseRow chainRow longer
+      placeRow endAt joinedBy joined hasSignal legsOf trainOf withJoin withSignal withClosed withLegs
+      withTrain anyBelow isClosed
   goes-over a post = post .read shut a
 
   fifteen : AcceptedWith text shut → ChangePost weighed text (on 1 3) figsA setsA y → y ≡ record { answer = Refused Stranded; desk = on 1 3 }
-  unfolding changeTo mismatch stranded misplaced miscarries arrivals countBelow namesNone shared standsOn sectionsIn codeOf listBelow sumBelow tablesShort first weightRow weightOf unknownRow joinRow looseRow chainRow longer placeRow endAt joinedBy joined hasSignal legsOf trainOf withJoin withSignal withClosed withLegs withTrain anyBelow isClosed
+  unfolding changeTo mismatch stranded misplaced miscarries arrivals countBelow namesNone shared standsOn sectionsIn
+      codeOf listBelow sumBelow tablesShort first weightRow weightOf unknownRow joinRow looseRow chainRow longer
+      placeRow endAt joinedBy joined hasSignal legsOf trainOf withJoin withSignal withClosed withLegs
+      withTrain anyBelow isClosed
   fifteen a post = post .read shut a
 
 -- A SHAPE that agrees with Yard A's: three sections, two trains, of which train 2 heads down
@@ -231,7 +246,8 @@ module _ (says : ChangeHolds) where
   leaves-two : (r : Railway) (text : List ℕ) (d : Desk) (y : Changing) → AcceptedWith text shut → length (d .at .sections) ≡ mostTrains → ChangePost r text d figsA setsA y → y .answer ≡ Changed
       → (b : Desk) (ts : List ℕ) → Works (workingOn shut figsA setsA (y .desk) [] (y .desk)) (workingOn shut figsA setsA b ts (onIn shut 2 1))
       → (x : ℕ) × (x < 3) × ((z : Reply) → ReportPost shut (onIn shut 2 1) figsA setsA 0 x z → z .answer ≡ Counted)
-  unfolding isClosed settingAt mayMove free held signalOpen headsFor standsOn sectionsIn codeOf listBelow sumBelow anyBelow endAt joinedBy joined hasSignal legsOf trainOf withJoin withSignal withClosed withLegs withTrain
+  unfolding isClosed settingAt mayMove free held signalOpen headsFor standsOn sectionsIn codeOf listBelow sumBelow
+      anyBelow endAt joinedBy joined hasSignal legsOf trainOf withJoin withSignal withClosed withLegs withTrain
   leaves-two r text d y a sized post e b ts calls =
       let m = says .closed-left r shut text d figsA setsA y a shut-follows sized post e (workingOn shut figsA setsA b ts (onIn shut 2 1)) calls 0 refl refl in
       (m .section, m .there, m .counts)
@@ -324,7 +340,10 @@ module _ (text : List ℕ) (a : AcceptedWith text shut) (section : ℕ) (c : Cal
 
     -- the new case began at (2, 1), whose figure in it is 1
     one-left : then-at .figure ≡ 1
-    unfolding report reportRow allows misplaced miscarries arrivals countBelow namesNone shared atHome occupied passes follow settingAt mayMove free held signalOpen headsFor standsOn sectionsIn codeOf listBelow sumBelow tablesShort first weightRow weightOf unknownRow joinRow looseRow chainRow longer placeRow endAt joinedBy joined hasSignal legsOf trainOf withJoin withSignal withClosed withLegs withTrain anyBelow allBelow isClosed
+    unfolding report reportRow allows misplaced miscarries arrivals countBelow namesNone shared atHome occupied passes
+        follow settingAt mayMove free held signalOpen headsFor standsOn sectionsIn codeOf listBelow sumBelow tablesShort
+        first weightRow weightOf unknownRow joinRow looseRow chainRow longer placeRow endAt joinedBy joined hasSignal
+        legsOf trainOf withJoin withSignal withClosed withLegs withTrain anyBelow allBelow isClosed
     one-left =
         let p : c .over .desk .at ≡ on 2 1 .at =
         says .carries weighed shut text (c .come .desk) figsA setsA (c .over) a (c .over-post) (c .made) .0 ∙ ap (λ (y : Reply). y .desk .at) (c .come-post .answers) in
@@ -342,14 +361,20 @@ abbrev textShut : List ℕ
 textShut = bytes "H\t3\t1\t2\nP\t1\td\nJ\t1u\t1+\nJ\t2u\t1-\nJ\t3d\t1s\nG\t1d\nG\t2u\nX\t2\nT\t1\tu\t1\t3\nT\t2\td\t3\t1\n"
 
 shut-answered : caseAnswer textShut ≡ accepted shut
-unfolding bytes first digits line isDigit byteAt digitsAt numberAt counted while sideFieldAt legFieldAt endFieldAt headerAt pointLineAt joinLineAt signalLineAt closedLineAt weightFieldAt trainLineAt walk read caseAnswer anyBelow listBelow any repeats joinEnds D.weightRow D.unknownRow D.joinRow D.looseRow D.doubleRow D.placeRow partner railwayOf endAt withJoin withSignal withClosed withLegs withTrain isClosed joinedBy joined longer chainRow
+unfolding bytes first digits line isDigit byteAt digitsAt numberAt counted while sideFieldAt legFieldAt endFieldAt
+    headerAt pointLineAt joinLineAt signalLineAt closedLineAt weightFieldAt trainLineAt walk read caseAnswer anyBelow
+    listBelow any repeats joinEnds D.weightRow D.unknownRow D.joinRow D.looseRow D.doubleRow D.placeRow partner
+    railwayOf endAt withJoin withSignal withClosed withLegs withTrain isClosed joinedBy joined longer chainRow
 shut-answered = refl
 
 shut-read : AcceptedWith textShut shut
 shut-read = accepted-exactly textShut shut .0 shut-answered
 
 the-calls : Calls textShut 2
-unfolding changeTo mismatch stranded report reportRow allows misplaced miscarries arrivals countBelow namesNone shared atHome occupied passes follow settingAt mayMove free held signalOpen headsFor standsOn sectionsIn codeOf listBelow sumBelow tablesShort first weightRow weightOf unknownRow joinRow looseRow chainRow longer placeRow endAt joinedBy joined hasSignal legsOf trainOf withJoin withSignal withClosed withLegs withTrain anyBelow allBelow isClosed
+unfolding changeTo mismatch stranded report reportRow allows misplaced miscarries arrivals countBelow namesNone shared
+    atHome occupied passes follow settingAt mayMove free held signalOpen headsFor standsOn sectionsIn codeOf listBelow
+    sumBelow tablesShort first weightRow weightOf unknownRow joinRow looseRow chainRow longer placeRow endAt joinedBy
+    joined hasSignal legsOf trainOf withJoin withSignal withClosed withLegs withTrain anyBelow allBelow isClosed
 the-calls =
     record {
       come = report weighed (on 2 3) figsW setsW 1 0;

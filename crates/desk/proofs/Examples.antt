@@ -98,7 +98,9 @@ opening : (openDesk weighed figsW setsW ≡ opens Opened (with 2 3 7 0))
     × (openDesk weighed figsN setsW ≡ opens NoFigure noDesk)
     × (openDesk weighed short setsW ≡ opens (OpenRefused Space) noDesk)
     × (openDesk wrongJoin [] [] ≡ opens (OpenRefused Join) noDesk)
-unfolding openDesk arrivals countBelow standsOn sectionsIn startCode codeOf listBelow sumBelow tablesShort first weightRow weightOf unknownRow joinRow looseRow chainRow longer placeRow endAt joinedBy joined hasSignal legsOf trainOf withJoin withSignal withLegs withTrain anyBelow isClosed
+unfolding openDesk arrivals countBelow standsOn sectionsIn startCode codeOf listBelow sumBelow tablesShort first
+    weightRow weightOf unknownRow joinRow looseRow chainRow longer placeRow endAt joinedBy joined hasSignal legsOf
+    trainOf withJoin withSignal withLegs withTrain anyBelow isClosed
 opening = (refl, refl, refl, refl)
 
 setting : (giveSetting weighed (on 2 3) figsW setsW ≡ Given 1) × (giveSetting weighed (on 2 1) figsW setsW ≡ Given 65536)
@@ -112,7 +114,9 @@ setting : (giveSetting weighed (on 2 3) figsW setsW ≡ Given 1) × (giveSetting
     -- 9 before 12, and 5
     × (giveSetting weighed (on 2 2) figsW short ≡ SettingRefused Space) × (giveSetting weighed (with 2 3 8 0) figsW short ≡ SettingRefused Space)
     × (giveSetting wrongJoin (on 9 9) [] [] ≡ SettingRefused Join)
-unfolding giveSetting misplaced miscarries arrivals countBelow namesNone shared standsOn sectionsIn codeOf listBelow sumBelow tablesShort first weightRow weightOf unknownRow joinRow looseRow chainRow longer placeRow endAt joinedBy joined hasSignal legsOf trainOf withJoin withSignal withLegs withTrain anyBelow isClosed
+unfolding giveSetting misplaced miscarries arrivals countBelow namesNone shared standsOn sectionsIn codeOf listBelow
+    sumBelow tablesShort first weightRow weightOf unknownRow joinRow looseRow chainRow longer placeRow endAt joinedBy
+    joined hasSignal legsOf trainOf withJoin withSignal withLegs withTrain anyBelow isClosed
 setting = (refl, refl, refl, refl, refl, refl, refl, refl, refl, refl, refl, refl)
 
 reports : (told (with 2 3 7 0) 2 1 ≡ says Counted (with 2 1 1 1)) × (told (with 2 1 1 1) 1 3 ≡ says Counted (with 3 1 2 2)) × (told (others 2 3) 2 1 ≡ says Counted (others 2 1))
@@ -132,13 +136,19 @@ reports : (told (with 2 3 7 0) 2 1 ≡ says Counted (with 2 1 1 1)) × (told (wi
     -- 9 before 12, and 5
     × (report weighed (on 2 2) figsW short 1 0 ≡ says (Refused Space) (on 2 2)) × (report weighed (on 2 3) short setsW 1 0 ≡ says (Refused Space) (on 2 3))
     × (report weighed (with 2 3 7 1) figsW short 1 0 ≡ says (Refused Space) (with 2 3 7 1)) × (report wrongJoin (on 9 9) [] [] 7 7 ≡ says (Refused Join) (on 9 9))
-unfolding report reportRow allows misplaced miscarries arrivals countBelow namesNone shared atHome occupied passes follow settingAt mayMove free held signalOpen headsFor standsOn sectionsIn codeOf listBelow sumBelow tablesShort first weightRow weightOf unknownRow joinRow looseRow chainRow longer placeRow endAt joinedBy joined hasSignal legsOf trainOf withJoin withSignal withLegs withTrain anyBelow allBelow isClosed
+unfolding report reportRow allows misplaced miscarries arrivals countBelow namesNone shared atHome occupied passes
+    follow settingAt mayMove free held signalOpen headsFor standsOn sectionsIn codeOf listBelow sumBelow tablesShort
+    first weightRow weightOf unknownRow joinRow looseRow chainRow longer placeRow endAt joinedBy joined hasSignal legsOf
+    trainOf withJoin withSignal withLegs withTrain anyBelow allBelow isClosed
 reports = (refl, refl, refl, refl, refl, refl, refl, refl, refl, refl, refl, refl, refl, refl, refl, refl, refl, refl, refl, refl, refl, refl, refl)
 
 -- INTO A CLOSED SECTION: on the line of three sections with the middle one closed train 1 is free and would come there, and the report of that gives 12; one of coming out counts.
 closed : (allows shutLine (onIn shutLine 1 3) minus 0 1 ≡ true) × (report shutLine (onIn shutLine 1 3) minus minus 0 1 ≡ says twelve (onIn shutLine 1 3))
     × (report shutLine (onIn shutLine 2 1) minus minus 0 2 ≡ says Counted (onIn shutLine 3 1))
-unfolding report reportRow allows misplaced miscarries arrivals countBelow namesNone shared atHome occupied passes follow settingAt mayMove free held signalOpen headsFor standsOn sectionsIn codeOf listBelow sumBelow tablesShort first weightRow weightOf unknownRow joinRow looseRow chainRow longer placeRow endAt joinedBy joined hasSignal legsOf trainOf withJoin withSignal withClosed withLegs withTrain anyBelow allBelow isClosed
+unfolding report reportRow allows misplaced miscarries arrivals countBelow namesNone shared atHome occupied passes
+    follow settingAt mayMove free held signalOpen headsFor standsOn sectionsIn codeOf listBelow sumBelow tablesShort
+    first weightRow weightOf unknownRow joinRow looseRow chainRow longer placeRow endAt joinedBy joined hasSignal legsOf
+    trainOf withJoin withSignal withClosed withLegs withTrain anyBelow allBelow isClosed
 closed = (refl, refl, refl)
 
 -- ROUND INTO ITS OWN SECTION. A loop: up from 1 a train gets back to 1 over the plus leg, and to 2 over the minus leg. With a table that has the point at plus, which no solver fills
@@ -163,5 +173,8 @@ opened = replicate 16 65536
 own-ways : (report loop (onIn loop 1 2) (replicate 4 0) (replicate 4 1) 0 0 ≡ says Counted (onIn loop 1 2))
     × (report (line 3) (onIn (line 3) 2 1) opened opened 0 2 ≡ says Counted (onIn (line 3) 3 1))
     × (report (line 2) (onIn (line 2) 2 1) opened opened 0 2 ≡ says twelve (onIn (line 2) 2 1))
-unfolding report reportRow allows misplaced miscarries arrivals countBelow namesNone shared atHome occupied passes follow settingAt mayMove free held signalOpen headsFor standsOn sectionsIn codeOf listBelow sumBelow tablesShort first weightRow weightOf unknownRow joinRow looseRow chainRow longer placeRow endAt joinedBy joined hasSignal legsOf trainOf withJoin withSignal withLegs withTrain anyBelow allBelow isClosed
+unfolding report reportRow allows misplaced miscarries arrivals countBelow namesNone shared atHome occupied passes
+    follow settingAt mayMove free held signalOpen headsFor standsOn sectionsIn codeOf listBelow sumBelow tablesShort
+    first weightRow weightOf unknownRow joinRow looseRow chainRow longer placeRow endAt joinedBy joined hasSignal legsOf
+    trainOf withJoin withSignal withLegs withTrain anyBelow allBelow isClosed
 own-ways = (refl, refl, refl)

@@ -38,7 +38,9 @@ use Rattle.desk.specs.Desk.{Desk, deskCode, deskRow, startDesk, Opening,
 use Rattle.desk.specs.Following.{movedBy, Reporting, begun, call, refused, total, Movers, Played, MoveCounts, AfterReports, RunsFrom, Followable, DescentHolds, DeskRuns, DeskHolds}
 use Rattle.desk.proofs.Carrying.{lamp-home}
 use Rattle.desk.proofs.Placing.{Placed, placed-so, so-placed, none-together, code-there, start-on, start-placed, start-is}
-use Rattle.desk.proofs.AnyDesk.{refused-leaves, none-may, setting-is, open-is, reply-counts, reply-refused, not-stopped, Named, named, row-off, home-refused, section-there, move-is, next-placed, any-desk}
+use Rattle.desk.proofs.AnyDesk.{refused-leaves, none-may, setting-is, open-is, reply-counts, reply-refused}
+use Rattle.desk.proofs.AnyDesk.{not-stopped, Named, named, row-off, home-refused, section-there, move-is}
+use Rattle.desk.proofs.AnyDesk.{next-placed, any-desk}
 
 -- a figure within n is there
 within-has : (n w : ℕ) (o : Option ℕ) → Within n w o → (j : ℕ) × (o ≡ some j) × (j + w ≤ n)

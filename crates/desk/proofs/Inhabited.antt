@@ -23,7 +23,9 @@ use Rattle.game.proofs.Turns.{may-train}
 use Rattle.tables.specs.Tables.{figureIn, caseRows}
 use Rattle.tables.proofs.Exists.{Made, tables-exist}
 use Rattle.desk.specs.declared.ReportAnswer.{ReportAnswer}
-use Rattle.desk.specs.Desk.{Desk, deskCode, present, Opening, openBy, openDesk, settingRows, settingBy, giveSetting, reportRows, Reply, reportBy, report, numberOpening, numberSetting, numberReported, OpenPost, SettingPost, ReportPost}
+use Rattle.desk.specs.Desk.{Desk, deskCode, present, Opening, openBy, openDesk, settingRows, settingBy}
+use Rattle.desk.specs.Desk.{giveSetting, reportRows, Reply, reportBy, report, numberOpening, numberSetting}
+use Rattle.desk.specs.Desk.{numberReported, OpenPost, SettingPost, ReportPost}
 use Rattle.desk.specs.Following.{movedBy, Reporting, begun, call, total, MoveCounts, AfterReports, RunsFrom, DeskRuns}
 use Rattle.desk.proofs.Following.{total-snoc, desk-runs}
 

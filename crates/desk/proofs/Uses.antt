@@ -48,8 +48,13 @@ use Rattle.desk.specs.declared.SettingAnswer.{SettingAnswer}
 use Rattle.desk.specs.declared.SettingAnswer.the-variants.{Given, Refused as SettingRefused}
 use Rattle.desk.specs.declared.ReportAnswer.{ReportAnswer}
 use Rattle.desk.specs.declared.ReportAnswer.the-variants.{Counted, Refused}
-use Rattle.desk.specs.Desk.{Desk, deskCode, misplaced, arrivals, miscarries, deskRow, noDesk, Opening, openDesk, giveSetting, present, allows, reportRow, movedDesk, Reply, report, deskGiven, settingGiven, numberOpening, numberSetting, numberReported, OpenPost, SettingPost, ReportPost}
-use Rattle.desk.specs.Following.{movedBy, Reporting, begun, call, refused, total, Movers, Played, MoveCounts, Carries, AfterReports, RunsFrom, Followable, DeskRuns, Countable, Apart, AnyDesk, DeskHolds}
+use Rattle.desk.specs.Desk.{Desk, deskCode, misplaced, arrivals, miscarries, deskRow, noDesk, Opening, openDesk}
+use Rattle.desk.specs.Desk.{giveSetting, present, allows, reportRow, movedDesk, Reply, report, deskGiven}
+use Rattle.desk.specs.Desk.{settingGiven, numberOpening, numberSetting, numberReported, OpenPost, SettingPost}
+use Rattle.desk.specs.Desk.{ReportPost}
+use Rattle.desk.specs.Following.{movedBy, Reporting, begun, call, refused, total, Movers, Played, MoveCounts}
+use Rattle.desk.specs.Following.{Carries, AfterReports, RunsFrom, Followable, DeskRuns, Countable, Apart, AnyDesk}
+use Rattle.desk.specs.Following.{DeskHolds}
 use Rattle.desk.proofs.Examples.{on}
 use Rattle.desk.proofs.Carrying.{sound-exactly}
 use Rattle.desk.proofs.Placing.{placed-exactly}
@@ -58,28 +63,39 @@ use Rattle.desk.proofs.Inhabited.{Brought, brought, Homes, home-reached
 
 -- THE PROMISES. An opening with the solver's tables answers that the desk stands at the start, and has it there; with a figure table of 8 entries 9, and no desk.
 opens : (x : Opening) → OpenPost weighed figsW setsW x → (numberOpening (x .answer) ≡ none) × (x .answer ≡ Opened) × (x .desk ≡ on 2 3)
-unfolding openDesk startCode codeOf listBelow sumBelow tablesShort first weightRow weightOf unknownRow joinRow looseRow chainRow longer placeRow endAt joinedBy joined hasSignal legsOf trainOf withJoin withSignal withLegs withTrain anyBelow isClosed
+unfolding openDesk startCode codeOf listBelow sumBelow tablesShort first weightRow weightOf unknownRow joinRow looseRow
+    chainRow longer placeRow endAt joinedBy joined hasSignal legsOf trainOf withJoin withSignal withLegs
+    withTrain anyBelow isClosed
 opens x post = (post .numbered, ap (λ (w : Opening). w .answer) (post .answers), ap (λ (w : Opening). w .desk) (post .answers))
 
 opens-short : (x : Opening) → OpenPost weighed (replicate 8 0) setsW x → (numberOpening (x .answer) ≡ some 9) × (x ≡ record { answer = OpenRefused Space; desk = noDesk })
-unfolding openDesk startCode codeOf listBelow sumBelow tablesShort first weightRow weightOf unknownRow joinRow looseRow chainRow longer placeRow endAt joinedBy joined hasSignal legsOf trainOf withJoin withSignal withLegs withTrain anyBelow isClosed
+unfolding openDesk startCode codeOf listBelow sumBelow tablesShort first weightRow weightOf unknownRow joinRow looseRow
+    chainRow longer placeRow endAt joinedBy joined hasSignal legsOf trainOf withJoin withSignal withLegs
+    withTrain anyBelow isClosed
 opens-short x post = (post .numbered, post .answers)
 
 -- at (2, 1) the setting given is that train 1's signal is open; at (2, 2), where no two trains can be, 12, and 9 where a table is too short besides
 gives : (a : SettingAnswer) → SettingPost weighed (on 2 1) figsW setsW a → (numberSetting a ≡ none) × (a ≡ Given 65536)
-unfolding giveSetting misplaced miscarries arrivals countBelow namesNone shared standsOn sectionsIn codeOf listBelow sumBelow tablesShort first weightRow weightOf unknownRow joinRow looseRow chainRow longer placeRow endAt joinedBy joined hasSignal legsOf trainOf withJoin withSignal withLegs withTrain anyBelow isClosed
+unfolding giveSetting misplaced miscarries arrivals countBelow namesNone shared standsOn sectionsIn codeOf listBelow
+    sumBelow tablesShort first weightRow weightOf unknownRow joinRow looseRow chainRow longer placeRow endAt joinedBy
+    joined hasSignal legsOf trainOf withJoin withSignal withLegs withTrain anyBelow isClosed
 gives a post = (post .numbered, post .answers)
 
 gives-none : (a b : SettingAnswer) → SettingPost weighed (on 2 2) figsW setsW a → SettingPost weighed (on 2 2) (replicate 8 0) setsW b
     → (numberSetting a ≡ some 12) × (a ≡ SettingRefused Report) × (numberSetting b ≡ some 9) × (b ≡ SettingRefused Space)
-unfolding giveSetting misplaced miscarries arrivals countBelow namesNone shared standsOn sectionsIn codeOf listBelow sumBelow tablesShort first weightRow weightOf unknownRow joinRow looseRow chainRow longer placeRow endAt joinedBy joined hasSignal legsOf trainOf withJoin withSignal withLegs withTrain anyBelow isClosed
+unfolding giveSetting misplaced miscarries arrivals countBelow namesNone shared standsOn sectionsIn codeOf listBelow
+    sumBelow tablesShort first weightRow weightOf unknownRow joinRow looseRow chainRow longer placeRow endAt joinedBy
+    joined hasSignal legsOf trainOf withJoin withSignal withLegs withTrain anyBelow isClosed
 gives-none a b p q = (p .numbered, p .answers, q .numbered, q .answers)
 
 -- at (2, 3) the report that train 2 has come to 1 counts, and the desk then has (2, 1); that train 1 has come to 3 gives 12, and leaves the desk
 reports : (y z : Reply) → ReportPost weighed (on 2 3) figsW setsW 1 0 y → ReportPost weighed (on 2 3) figsW setsW 0 2 z
     → (numberReported (y .answer) ≡ none) × (y ≡ record { answer = Counted; desk = on 2 1 })
     × (numberReported (z .answer) ≡ some 12) × (z ≡ record { answer = Refused Report; desk = on 2 3 })
-unfolding report reportRow allows misplaced miscarries arrivals countBelow namesNone shared atHome occupied passes follow settingAt mayMove free held signalOpen headsFor standsOn sectionsIn codeOf listBelow sumBelow tablesShort first weightRow weightOf unknownRow joinRow looseRow chainRow longer placeRow endAt joinedBy joined hasSignal legsOf trainOf withJoin withSignal withLegs withTrain anyBelow allBelow isClosed
+unfolding report reportRow allows misplaced miscarries arrivals countBelow namesNone shared atHome occupied passes
+    follow settingAt mayMove free held signalOpen headsFor standsOn sectionsIn codeOf listBelow sumBelow tablesShort
+    first weightRow weightOf unknownRow joinRow looseRow chainRow longer placeRow endAt joinedBy joined hasSignal legsOf
+    trainOf withJoin withSignal withLegs withTrain anyBelow allBelow isClosed
 reports y z p q = (p .numbered, p .answers, q .numbered, q .answers)
 
 -- What is computed of Yard A with weights: its counts, and what its plan does at (2, 3), where train 1 is held and train 2 comes to 1.
@@ -98,7 +114,9 @@ pub record Yard : Type 0 where
   second-moves : moveOf weighed 7 (settingIn weighed setsW 7) 1 ≡ at 1
 
 pub yard : Yard
-unfolding startCode weightOf shared atHome moveOf passes follow entered isClosed occupied settingAt mayMove free held signalOpen headsFor standsOn sectionsIn codeOf listBelow sumBelow endAt joinedBy joined hasSignal trainOf withJoin withSignal withLegs withTrain anyBelow allBelow
+unfolding startCode weightOf shared atHome moveOf passes follow entered isClosed occupied settingAt mayMove free held
+    signalOpen headsFor standsOn sectionsIn codeOf listBelow sumBelow endAt joinedBy joined hasSignal trainOf withJoin
+    withSignal withLegs withTrain anyBelow allBelow
 yard =
     record {
       two = refl;
@@ -445,7 +463,9 @@ fits none p = true
 fits (some n) p = atHome weighed p || keepsTest (gameOf weighed) (figureIn figsF) p (settingIn weighed setsW p) n
 
 all-fit : allBelow (λ p. fits (figureIn figsF p) p) 9 ≡ true
-unfolding keepsTest weightOf shared atHome moveOf passes follow entered isClosed occupied settingAt mayMove free held signalOpen headsFor standsOn sectionsIn codeOf listBelow sumBelow endAt joinedBy joined hasSignal trainOf withJoin withSignal withLegs withTrain anyBelow allBelow
+unfolding keepsTest weightOf shared atHome moveOf passes follow entered isClosed occupied settingAt mayMove free held
+    signalOpen headsFor standsOn sectionsIn codeOf listBelow sumBelow endAt joinedBy joined hasSignal trainOf withJoin
+    withSignal withLegs withTrain anyBelow allBelow
 all-fit = refl
 
 one-of : (a b : Bool) → (a || b) ≡ true → a ≡ false → b ≡ true

@@ -159,7 +159,8 @@ pub record AnyDesk : Type 0 where
   -- at home the setting allows no move, since every train is parked there
   pub home-parks : (r : Railway) (d : Desk) (sets : List ℕ) (t x : ℕ) → atHome r (deskCode r d) ≡ true → allows r d sets t x ≡ false
   -- where no desk is opened, 12 stops the one that is handed out, in every accepted case
-  pub unopened : (r : Railway) (figs sets : List ℕ) (x : Opening) → OpenPost r figs sets x → deskGiven (x .answer) (x .desk) ≡ none → (o : Railway) → recordRefusal o ≡ none → deskRow o (x .desk) ≡ true
+  pub unopened : (r : Railway) (figs sets : List ℕ) (x : Opening) → OpenPost r figs sets x
+      → deskGiven (x .answer) (x .desk) ≡ none → (o : Railway) → recordRefusal o ≡ none → deskRow o (x .desk) ≡ true
 
 -- Q-1 and Q-9: a desk with the tables that a solver filled, in every accepted case with tables that are long enough; with any tables that can be followed, which those are; and any
 -- desk.

@@ -1,5 +1,7 @@
--- What the promises say, drawn upon: a session in Yard A by computation, with two lines among its lines that are refused and one behind `home`, and one in which the desk goes over to another case and a
--- file is refused; how many bytes decide; ten bytes for an empty case; what is known of a file that a change names; and that a desk behind any lines stands as Q-1 and Q-11 promise. Assumes nothing.
+-- What the promises say, drawn upon: a session in Yard A by computation, with two lines among its lines that are
+-- refused and one behind `home`, and one in which the desk goes over to another case and a file is refused; how many
+-- bytes decide; ten bytes for an empty case; what is known of a file that a change names; and that a desk behind any
+-- lines stands as Q-1 and Q-11 promise. Assumes nothing.
 use mathlib.Core.Path.{_≡_, refl, ap, subst}
 use mathlib.Core.Bool.{true}
 use mathlib.Core.List.{List, [], _∷_, List·Memᴰ}
@@ -59,18 +61,32 @@ named s a = record { line = bytes s; file = []; read = a; figs = figsA; sets = s
 -- YARD A: train 1 has no open signal yet; train 2 goes to 1; a line that is none; train 1 goes to 3, which is home; the last line is not read
 session : panelText yardA figsA setsA (typed "1\t3" ∷ typed "2\t1" ∷ typed "hello" ∷ typed "1\t3" ∷ typed "2\t2" ∷ [])
     ≡ bytes "train 1 at 2 | train 2 at 3 | 2 left | points +\nrefused\t12\ntrain 1 at 2 open | train 2 at 1 | 1 left | points -\nrefused\t12\nhome\n"
-unfolding bytes digits line gatherBelow answers startsWith isChange reportAt numberAt digitsAt byteAt isDigit openDesk giveSetting report reportRow allows misplaced arrivals miscarries countBelow tablesShort first weightRow weightOf unknownRow joinRow looseRow chainRow longer placeRow endAt joinedBy joined hasSignal legsOf trainOf withJoin withSignal withLegs withTrain allBelow anyBelow sumBelow listBelow sectionsIn standsOn codeOf startCode namesNone atHome shared headsFor mayMove free held signalOpen passes follow occupied isClosed settingAt
+unfolding bytes digits line gatherBelow answers startsWith isChange reportAt numberAt digitsAt byteAt isDigit openDesk
+    giveSetting report reportRow allows misplaced arrivals miscarries countBelow tablesShort first weightRow weightOf
+    unknownRow joinRow looseRow chainRow longer placeRow endAt joinedBy joined hasSignal legsOf trainOf withJoin
+    withSignal withLegs withTrain allBelow anyBelow sumBelow listBelow sectionsIn standsOn codeOf startCode namesNone
+    atHome shared headsFor mayMove free held signalOpen passes follow occupied isClosed settingAt
 session = refl
 
 -- train 2 goes to 1; a file that is out of form; the case with section 2 closed, where train 1 stands; it leaves the section, and the trains are home
 goes-over : panelText yardA figsA setsA (typed "2\t1" ∷ named "change\tnone.txt" (refused Form) ∷ named "change\tnew.txt" (accepted shut) ∷ typed "1\t3" ∷ [])
     ≡ bytes "train 1 at 2 | train 2 at 3 | 2 left | points +\ntrain 1 at 2 open | train 2 at 1 | 1 left | points -\nrefused\t2\ntrain 1 at 2 open | train 2 at 1 | 1 left | points -\nhome\n"
-unfolding bytes digits line gatherBelow answers startsWith isChange recordRefusal mismatch stranded changeTo reportAt numberAt digitsAt byteAt isDigit openDesk giveSetting report reportRow allows misplaced arrivals miscarries countBelow tablesShort first weightRow weightOf unknownRow joinRow looseRow chainRow longer placeRow endAt joinedBy joined hasSignal legsOf trainOf withJoin withSignal withClosed withLegs withTrain allBelow anyBelow sumBelow listBelow sectionsIn standsOn codeOf startCode namesNone atHome shared headsFor mayMove free held signalOpen passes follow occupied isClosed settingAt
+unfolding bytes digits line gatherBelow answers startsWith isChange recordRefusal mismatch stranded changeTo reportAt
+    numberAt digitsAt byteAt isDigit openDesk giveSetting report reportRow allows misplaced arrivals miscarries
+    countBelow tablesShort first weightRow weightOf unknownRow joinRow looseRow chainRow longer placeRow endAt joinedBy
+    joined hasSignal legsOf trainOf withJoin withSignal withClosed withLegs withTrain allBelow anyBelow sumBelow
+    listBelow sectionsIn standsOn codeOf startCode namesNone atHome shared headsFor mayMove free held signalOpen passes
+    follow occupied isClosed settingAt
 goes-over = refl
 
 -- and the case on the panel is then that one
 there-then : panelBehind (panelOf yardA figsA setsA (openDesk yardA figsA setsA .desk)) (typed "2\t1" ∷ named "change\tnew.txt" (accepted shut) ∷ []) .railway ≡ shut
-unfolding bytes panelBehind startsWith isChange recordRefusal mismatch stranded changeTo reportAt numberAt digitsAt byteAt isDigit openDesk giveSetting report reportRow allows misplaced arrivals miscarries countBelow tablesShort first weightRow weightOf unknownRow joinRow looseRow chainRow longer placeRow endAt joinedBy joined hasSignal legsOf trainOf withJoin withSignal withClosed withLegs withTrain allBelow anyBelow sumBelow listBelow sectionsIn standsOn codeOf startCode namesNone atHome shared headsFor mayMove free held signalOpen passes follow occupied isClosed settingAt
+unfolding bytes panelBehind startsWith isChange recordRefusal mismatch stranded changeTo reportAt numberAt digitsAt
+    byteAt isDigit openDesk giveSetting report reportRow allows misplaced arrivals miscarries countBelow tablesShort
+    first weightRow weightOf unknownRow joinRow looseRow chainRow longer placeRow endAt joinedBy joined hasSignal legsOf
+    trainOf withJoin withSignal withClosed withLegs withTrain allBelow anyBelow sumBelow listBelow sectionsIn standsOn
+    codeOf startCode namesNone atHome shared headsFor mayMove free held signalOpen passes follow
+    occupied isClosed settingAt
 there-then = refl
 
 -- 65 BYTES of a line are as good as the line, and 4,097 of a case as the case

@@ -1,6 +1,8 @@
 // What program deskrun does. The case is that of file case.txt in the working folder; it is solved, and a desk opened. On standard output a line for the opening, and then one for each
-// line of standard input: the state that a report leads to, or that it is refused, with the desk as it was. A line may also name a file with another case; that is solved, too, and the desk goes over to it,
-// or it is refused, and work goes on as before. Each is written before the next line is read. Behind `home`, behind an opening that is refused or has no figure, and at the end of the input it stops.
+// line of standard input: the state that a report leads to, or that it is refused, with the desk as it was. A line may
+// also name a file with another case; that is solved, too, and the desk goes over to it, or it is refused, and work
+// goes on as before. Each is written before the next line is read. Behind `home`, behind an opening that is refused or
+// has no figure, and at the end of the input it stops.
 ghost use mathlib.Core.Path.{_≡_};
 ghost use mathlib.Core.Bool.{true};
 ghost use mathlib.Core.Option.{Option·getD};
@@ -133,7 +135,9 @@ fn follow_plan(r: Railway, figures: &mut [u32], settings: &mut [u32]) -> usize
 
 // The opening.
 fn open(r: Railway, figures: &[u32], settings: &[u32]) -> Stand
-    ensures { λ t. ⌜ Wrote (heardAt r (now (figures .entry)) (now (settings .entry)) (openingSaid r (now (figures .entry)) (now (settings .entry)))) (panelOf r (now (figures .entry)) (now (settings .entry)) (deskAt (t .desk))) (t .bytes) (t .going) ⌝ }
+    ensures { λ t. ⌜ Wrote (heardAt r (now (figures .entry)) (now (settings .entry))
+        (openingSaid r (now (figures .entry)) (now (settings .entry))))
+        (panelOf r (now (figures .entry)) (now (settings .entry)) (deskAt (t .desk))) (t .bytes) (t .going) ⌝ }
 {
     let mut out = [0u8; LINE];
     let step = desk_texts::open_text(r, figures, settings, &mut out);
@@ -143,7 +147,8 @@ fn open(r: Railway, figures: &[u32], settings: &[u32]) -> Stand
 // The next line, or as many of its bytes as decide what it is. At the end of the input nothing is written.
 fn turn(desk: Desk, r: Railway, figures: &mut [u32], settings: &mut [u32]) -> Stand
     requires { ⌜ (length (now figures) ≡ entries) × (length (now settings) ≡ entries) ⌝ }
-    ensures { λ t. ⌜ Turned (panelOf r (now (figures .entry)) (now (settings .entry)) (deskAt desk)) (panelOf (t .railway) (now (figures .exit)) (now (settings .exit)) (deskAt (t .desk))) (t .bytes) (t .going) ⌝ }
+    ensures { λ t. ⌜ Turned (panelOf r (now (figures .entry)) (now (settings .entry)) (deskAt desk))
+        (panelOf (t .railway) (now (figures .exit)) (now (settings .exit)) (deskAt (t .desk))) (t .bytes) (t .going) ⌝ }
 {
     let mut line = [0u8; INPUT];
     let read = next_line(&mut line);
@@ -162,7 +167,8 @@ fn turn(desk: Desk, r: Railway, figures: &mut [u32], settings: &mut [u32]) -> St
 // A line that came: a change, or what is taken for a report.
 fn hear(desk: Desk, line: &[u8], r: Railway, figures: &mut [u32], settings: &mut [u32]) -> Stand
     requires { ⌜ (length (now figures) ≡ entries) × (length (now settings) ≡ entries) ⌝ }
-    ensures { λ t. ⌜ Turned (panelOf r (now (figures .entry)) (now (settings .entry)) (deskAt desk)) (panelOf (t .railway) (now (figures .exit)) (now (settings .exit)) (deskAt (t .desk))) (t .bytes) (t .going) ⌝ }
+    ensures { λ t. ⌜ Turned (panelOf r (now (figures .entry)) (now (settings .entry)) (deskAt desk))
+        (panelOf (t .railway) (now (figures .exit)) (now (settings .exit)) (deskAt (t .desk))) (t .bytes) (t .going) ⌝ }
 {
     if desk_lines::is_change(line) {
         return change_file(desk, line, r, figures, settings);
@@ -172,7 +178,10 @@ fn hear(desk: Desk, line: &[u8], r: Railway, figures: &mut [u32], settings: &mut
 
 // A report, or a line that is none.
 fn answer(desk: Desk, line: &[u8], r: Railway, figures: &[u32], settings: &[u32]) -> Stand
-    ensures { λ t. ⌜ Wrote (heardAt r (now (figures .entry)) (now (settings .entry)) (lineSaid r (now (figures .entry)) (now (settings .entry)) (deskAt desk) (now (line .entry)))) (panelOf (t .railway) (now (figures .entry)) (now (settings .entry)) (deskAt (t .desk))) (t .bytes) (t .going) ⌝ }
+    ensures { λ t. ⌜ Wrote (heardAt r (now (figures .entry)) (now (settings .entry))
+        (lineSaid r (now (figures .entry)) (now (settings .entry)) (deskAt desk) (now (line .entry))))
+        (panelOf (t .railway) (now (figures .entry)) (now (settings .entry)) (deskAt (t .desk)))
+        (t .bytes) (t .going) ⌝ }
 {
     let mut out = [0u8; LINE];
     let step = desk_texts::line_text(desk, line, r, figures, settings, &mut out);
@@ -181,7 +190,10 @@ fn answer(desk: Desk, line: &[u8], r: Railway, figures: &[u32], settings: &[u32]
 
 // The state where a desk stands.
 fn tell(desk: Desk, r: Railway, figures: &[u32], settings: &[u32]) -> Stand
-    ensures { λ t. ⌜ Wrote (heardAt r (now (figures .entry)) (now (settings .entry)) (stateSaid r (now (figures .entry)) (now (settings .entry)) (deskAt desk))) (panelOf (t .railway) (now (figures .entry)) (now (settings .entry)) (deskAt (t .desk))) (t .bytes) (t .going) ⌝ }
+    ensures { λ t. ⌜ Wrote (heardAt r (now (figures .entry)) (now (settings .entry))
+        (stateSaid r (now (figures .entry)) (now (settings .entry)) (deskAt desk)))
+        (panelOf (t .railway) (now (figures .entry)) (now (settings .entry)) (deskAt (t .desk)))
+        (t .bytes) (t .going) ⌝ }
 {
     let mut out = [0u8; LINE];
     let step = desk_texts::state_text(desk, r, figures, settings, &mut out);
@@ -222,7 +234,10 @@ fn change_file(
     settings: &mut [u32],
 ) -> Stand
     requires { ⌜ (length (now figures) ≡ entries) × (length (now settings) ≡ entries) ⌝ }
-    ensures { λ t. ⌜ (isChange (now (line .entry)) ≡ true → Turned (panelOf r (now (figures .entry)) (now (settings .entry)) (deskAt desk)) (panelOf (t .railway) (now (figures .exit)) (now (settings .exit)) (deskAt (t .desk))) (t .bytes) (t .going)) ⌝ }
+    ensures { λ t. ⌜ (isChange (now (line .entry)) ≡ true
+        → Turned (panelOf r (now (figures .entry)) (now (settings .entry)) (deskAt desk))
+        (panelOf (t .railway) (now (figures .exit)) (now (settings .exit)) (deskAt (t .desk)))
+        (t .bytes) (t .going)) ⌝ }
 {
     let mut text = [0u8; CASE];
     let file = open_named(line);
@@ -249,7 +264,9 @@ fn change_text(
     settings: &mut [u32],
 ) -> Stand
     requires { ⌜ (length (now figures) ≡ entries) × (length (now settings) ≡ entries) ⌝ }
-    ensures { λ t. ⌜ NewCase (now (text .entry)) (panelOf r (now (figures .entry)) (now (settings .entry)) (deskAt desk)) (panelOf (t .railway) (now (figures .exit)) (now (settings .exit)) (deskAt (t .desk))) (t .bytes) (t .going) ⌝ }
+    ensures { λ t.
+        ⌜ NewCase (now (text .entry)) (panelOf r (now (figures .entry)) (now (settings .entry)) (deskAt desk))
+        (panelOf (t .railway) (now (figures .exit)) (now (settings .exit)) (deskAt (t .desk))) (t .bytes) (t .going) ⌝ }
 {
     let mut next_figures = [0u32; ENTRIES];
     let mut next_settings = [0u32; ENTRIES];

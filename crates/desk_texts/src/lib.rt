@@ -58,7 +58,9 @@ pub fn line_text(
     settings: &[u32],
     out: &mut [u8],
 ) -> Step
-    ensures { λ x. ⌜ SaidPost (lineSaid r (now (figures .entry)) (now (settings .entry)) (deskAt desk) (now (line .entry))) (now (out .entry)) (deskAt (x .desk)) (x .put) (x .going) (now (out .exit)) ⌝ }
+    ensures { λ x.
+        ⌜ SaidPost (lineSaid r (now (figures .entry)) (now (settings .entry)) (deskAt desk) (now (line .entry)))
+        (now (out .entry)) (deskAt (x .desk)) (x .put) (x .going) (now (out .exit)) ⌝ }
 {
     match desk_lines::report_in(line) {
         ReportLine::NoReport => Step {

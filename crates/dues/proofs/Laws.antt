@@ -20,7 +20,8 @@ use Rattle.marks.specs.declared.Soon.{Soon}
 use Rattle.marks.specs.Marks.{dueAt}
 
 -- THE LEAST ENTRY of some codes, and of one more
-pub entries-next : (figs : List ℕ) (lo from q upto a b : ℕ) → LeastFrom figs lo from q a → q < upto → upto ≤ length figs → b ≤ a → (lo ≤ getD figs q 0 → b ≤ getD figs q 0) → LeastFrom figs lo from (q + 1) b
+pub entries-next : (figs : List ℕ) (lo from q upto a b : ℕ) → LeastFrom figs lo from q a → q < upto → upto ≤ length figs
+    → b ≤ a → (lo ≤ getD figs q 0 → b ≤ getD figs q 0) → LeastFrom figs lo from (q + 1) b
 entries-next figs lo from q upto a b h l long le one x lx hx lo-x = elim (eq? x q) [
   | inl z ↦
       let same : getD figs q noFigure ≡ getD figs q 0 = getD-inside figs q noFigure 0 (omega arith) in
@@ -60,7 +61,9 @@ next-more r marks m n t a b d h la ld one u q i lu first lq li due = elim (eq? u
 ]
 
 -- FOUR TRAINS, one after the other
-pub soon-each : (r : Railway) (n : ℕ) (s : Soon) → r .trains ≤ 4 → (0 < r .trains → anyBelow (sameWeight r 0) 0 ≡ false → s .first ≡ n + weightOf r 0) → (1 < r .trains → anyBelow (sameWeight r 1) 1 ≡ false → s .second ≡ n + weightOf r 1)
+pub soon-each : (r : Railway) (n : ℕ) (s : Soon) → r .trains ≤ 4
+    → (0 < r .trains → anyBelow (sameWeight r 0) 0 ≡ false → s .first ≡ n + weightOf r 0)
+    → (1 < r .trains → anyBelow (sameWeight r 1) 1 ≡ false → s .second ≡ n + weightOf r 1)
     → (2 < r .trains → anyBelow (sameWeight r 2) 2 ≡ false → s .third ≡ n + weightOf r 2) → (3 < r .trains → anyBelow (sameWeight r 3) 3 ≡ false → s .fourth ≡ n + weightOf r 3) → SoonAfter r n s
 soon-each r n s few a b c d t lt first = elim (eq? t 0) [
   | inl z ↦ rw z (a (omega arith) (rw z at first))

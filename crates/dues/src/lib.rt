@@ -67,7 +67,9 @@ pub fn next_round(table: &Table, marks: &[u32], m: u32, n: u32) -> u32
 
 // By the weight of train t alone, unless a lower train has it too.
 fn next_by(table: &Table, marks: &[u32], m: u32, n: u32, t: u8) -> u32
-    ensures { λ e. ⌜ (n < noFigure → n < e) × ((r : Railway) → Compiled r (now (table .entry)) → anyBelow (sameWeight r t) t ≡ false → (q i : ℕ) → q < m → n < i → dueAt (now (marks .entry)) t q ≤ i → e ≤ i) ⌝ }
+    ensures { λ e. ⌜ (n < noFigure → n < e)
+        × ((r : Railway) → Compiled r (now (table .entry)) → anyBelow (sameWeight r t) t ≡ false → (q i : ℕ) → q < m
+        → n < i → dueAt (now (marks .entry)) t q ≤ i → e ≤ i) ⌝ }
 {
     if shares_weight(table, t) {
         return NO_FIGURE;

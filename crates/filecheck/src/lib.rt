@@ -146,7 +146,9 @@ fn turn(
     settings: &mut [u32],
 ) -> Stand
     requires { ⌜ (at ≤ have) × (have ≤ length (now plan)) ⌝ }
-    ensures { λ x. ⌜ Turned r (now (plan .entry)) at have (checking checker (now (figures .entry)) (now (settings .entry))) (now (plan .exit)) (x .at) (x .have) (x .going) (checking (x .checker) (now (figures .exit)) (now (settings .exit))) ⌝ }
+    ensures { λ x. ⌜ Turned r (now (plan .entry)) at have
+        (checking checker (now (figures .entry)) (now (settings .entry))) (now (plan .exit)) (x .at) (x .have)
+        (x .going) (checking (x .checker) (now (figures .exit)) (now (settings .exit))) ⌝ }
 {
     let n = read_more(file, plan, have);
     let end = have + n;

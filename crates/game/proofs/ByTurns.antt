@@ -10,7 +10,9 @@ use Prim.Native.Nat.{ℕ, zero, suc, _+_, _≤_, _<_}
 use native.Mathlib.Omega.{arith}
 use lib.ListN.{length, length-append}
 use Rattle.laws.proofs.Bools.{bool?, clash}
-use Rattle.game.specs.Game.{Outcome, lost, at, Game, Turn, Way, Choice, Position, lostByMove, standing, mover, over, grown, standAfter, turn, step, play, cost, spent, spentAt, homeAt, HomeWithin, Forced, IsFigure}
+use Rattle.game.specs.Game.{Outcome, lost, at, Game, Turn, Way, Choice, Position, lostByMove, standing, mover}
+use Rattle.game.specs.Game.{over, grown, standAfter, turn, step, play, cost, spent, spentAt, homeAt, HomeWithin}
+use Rattle.game.specs.Game.{Forced, IsFigure}
 use Rattle.game.specs.Claim.{Within, figureOf, Keeps}
 use Rattle.game.specs.ByTurns.{HomeInTurns, ForcedInTurns, IsTurns, Smaller, KeepsInTurns, AllOne, AsBefore, OneAsBefore}
 use Rattle.game.proofs.Turns.{may-train, mover-cases, spent-grown}
@@ -97,7 +99,9 @@ module _ {S : Type 0} (g : Game S) (one : AllOne g) where
     by-turns p n zero l e = (0, omega arith, e)
     by-turns p n (suc m) l e = go (λ l e. by-turns p n m l e) (play g w c p m) refl (after p m) l e
       where
-        go : (spentAt g (play g w c p m) ≤ n → homeAt g (play g w c p m) ≡ true → HomeInTurns g w c p n) → (x : Position S) → play g w c p m ≡ x → After m x → spentAt g (step g w c x) ≤ n → homeAt g (step g w c x) ≡ true → HomeInTurns g w c p n
+        go : (spentAt g (play g w c p m) ≤ n → homeAt g (play g w c p m) ≡ true → HomeInTurns g w c p n)
+            → (x : Position S) → play g w c p m ≡ x → After m x → spentAt g (step g w c x) ≤ n
+            → homeAt g (step g w c x) ≡ true → HomeInTurns g w c p n
         go sooner lostByMove z a l e = clash e refl
         go sooner (standing h q) z a l e = elim (bool? (over g q)) [
           | inl o ↦ sooner (rw z (rw o at l)) (rw z (rw o at e))

@@ -5,7 +5,8 @@ use mathlib.Core.Path.{_≡_, refl, sym, _∙_, ap}
 use mathlib.Core.List.{List, [], _∷_}
 use Prim.Native.Nat.{ℕ, zero, suc, _+_, _*_, _/_, _%_, _^_, _≤_, _<_}
 use native.Mathlib.Omega.{arith}
-use native.Mathlib.Nat.{mul-suc, mul-one, mul-le-mul-left, pow-zero, pow-succ', mod-lt, mod-eq-of-lt, div-eq-of-lt, add-mul-div-left, add-mul-mod-self-left, div-lt-iff-lt-mul, mod-add-div, mul-comm, mul-assoc}
+use native.Mathlib.Nat.{mul-suc, mul-one, mul-le-mul-left, pow-zero, pow-succ', mod-lt, mod-eq-of-lt, div-eq-of-lt}
+use native.Mathlib.Nat.{add-mul-div-left, add-mul-mod-self-left, div-lt-iff-lt-mul, mod-add-div, mul-comm, mul-assoc}
 use lib.ListN.{length, getD, set}
 use Rattle.laws.specs.Below.{sumBelow}
 use Rattle.laws.proofs.Below.{sum-same, sum-first, sum-times}

@@ -8,7 +8,9 @@ use mathlib.Core.Option.{Option, none, some}
 use Prim.Native.Nat.{ℕ, zero, suc, _+_, _≤_, _<_}
 use native.Mathlib.Omega.{arith}
 use Rattle.laws.proofs.Bools.{bool?, option?, clash}
-use Rattle.game.specs.Game.{Outcome, lost, at, Game, Turn, Way, Choice, Position, lostByMove, standing, mover, home, over, grown, standAfter, turn, step, play, cost, spent, spentAt, homeAt, HomeWithin, Forced, IsFigure}
+use Rattle.game.specs.Game.{Outcome, lost, at, Game, Turn, Way, Choice, Position, lostByMove, standing, mover}
+use Rattle.game.specs.Game.{home, over, grown, standAfter, turn, step, play, cost, spent, spentAt, homeAt}
+use Rattle.game.specs.Game.{HomeWithin, Forced, IsFigure}
 use Rattle.game.specs.Claim.{Keeps}
 use Rattle.game.specs.Local.{Costs, Inside, Solved}
 use Rattle.game.proofs.Turns.{lost-not-home, may-train, mover-cases, spent-grown, keeps-map}
@@ -83,7 +85,10 @@ module _ {S : Type 0} (g : Game S) where
     unspent (standing h q) (inr b) l e = absurd (omega arith)
 
   pub forced-zero : Costs g → (p : ℕ) → Forced g p 0 → home g p ≡ true
-  forced-zero costs p x = let a : HomeWithin g (x .0) (λ h p s. 0) p 0 = x .1 (λ h p s. 0) in unspent costs (x .0) (λ h p s. 0) p (play g (x .0) (λ h p s. 0) p (a .0)) (begun costs (x .0) (λ h p s. 0) p (a .0)) (a .1) (a .2)
+  forced-zero costs p x =
+      let a : HomeWithin g (x .0) (λ h p s. 0) p 0 = x .1 (λ h p s. 0) in
+      unspent costs (x .0) (λ h p s. 0) p (play g (x .0) (λ h p s. 0) p (a .0))
+      (begun costs (x .0) (λ h p s. 0) p (a .0)) (a .1) (a .2)
 
   pub home-forced : S → (p : ℕ) → home g p ≡ true → Forced g p 0
   unfolding play spent

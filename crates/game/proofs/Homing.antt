@@ -8,7 +8,9 @@ use mathlib.Core.Option.{Option, none, some}
 use Prim.Native.Nat.{ℕ, zero, suc, _+_, _≤_, _<_}
 use native.Mathlib.Omega.{arith}
 use Rattle.laws.proofs.Bools.{bool?, option?, clash, some-none}
-use Rattle.game.specs.Game.{Outcome, lost, at, Game, Turn, Way, Choice, Position, lostByMove, standing, may, mover, home, over, grown, standAfter, turn, step, play, homeAt, spent, spentAt, HomeWithin}
+use Rattle.game.specs.Game.{Outcome, lost, at, Game, Turn, Way, Choice, Position, lostByMove, standing, may}
+use Rattle.game.specs.Game.{mover, home, over, grown, standAfter, turn, step, play, homeAt, spent, spentAt}
+use Rattle.game.specs.Game.{HomeWithin}
 use Rattle.game.specs.Claim.{Within, figureOf, Keeps}
 use Rattle.game.specs.Local.{Costs, Inside}
 use Rattle.game.proofs.Turns.{home-over, not-over, may-train, spent-grown, no-keeps-zero, mover-cases}

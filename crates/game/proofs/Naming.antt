@@ -45,7 +45,8 @@ module _ (r : Railway) (section : ℕ → ℕ) where
     -- and stands for these sections
     pub sections-named : 0 < r .sections → sectionsOf r (codeOn r section) ≡ listBelow section (r .trains)
     sections-named one =
-        let c : sectionsIn (r .sections) (length (listBelow section (r .trains))) (codeOn r section) ≡ listBelow section (r .trains) = sections-code (r .sections) (listBelow section (r .trains)) one all-in in
+        let c : sectionsIn (r .sections) (length (listBelow section (r .trains))) (codeOn r section)
+        ≡ listBelow section (r .trains) = sections-code (r .sections) (listBelow section (r .trains)) one all-in in
         rw (list-length section (r .trains)) at c
 
     pub stands-named : 0 < r .sections → (t : ℕ) → t < r .trains → standsOn r (codeOn r section) t ≡ section t

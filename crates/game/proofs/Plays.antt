@@ -75,7 +75,9 @@ shutLoop =
 yards : (recordRefusal yardA ≡ none) × (recordRefusal yardALess ≡ none) × (recordRefusal loop ≡ none) × (recordRefusal lines ≡ none) × (recordRefusal inTheWay ≡ none)
     × (recordRefusal shutLine ≡ none) × (recordRefusal shutLoop ≡ none)
     × (startCode yardA ≡ 7) × (startCode lines ≡ 513) × (startCode crossover ≡ 4) × (sectionsOf lines 524 ≡ 2 ∷ 4 ∷ 6 ∷ []) × (sectionsOf inTheWay 7 ≡ 1 ∷ 2 ∷ [])
-unfolding recordRefusal first weightRow weightOf unknownRow joinRow looseRow chainRow longer placeRow anyBelow joinedBy joined legsOf trainOf endAt withJoin withSignal withLegs withTrain startCode codeOf sumBelow listBelow sectionsIn withClosed isClosed
+unfolding recordRefusal first weightRow weightOf unknownRow joinRow looseRow chainRow longer placeRow anyBelow joinedBy
+    joined legsOf trainOf endAt withJoin withSignal withLegs withTrain startCode codeOf sumBelow listBelow
+    sectionsIn withClosed isClosed
 yards = (refl, refl, refl, refl, refl, refl, refl, refl, refl, refl, refl, refl)
 
 -- Yard A with weights: 5 for train 1, 2 for train 2.
@@ -197,7 +199,9 @@ plays :  -- home in two turns, a setting for each anew; there the play has ended
     × (play (gameOf crossover) across (names 0) 4 2 ≡ standing (turned 4 (oneOpen false 1) (some 0) ∷ turned 7 (oneOpen true 2) (some 1) ∷ []) 3)
     -- with the points left as they were the other train derails
     × (play (gameOf crossover) (always (laid false false)) (names 0) 4 2 ≡ lostByMove)
-unfolding play lowest moveOf passes follow occupied mayMove free held signalOpen headsFor standsOn sectionsIn codeOf sumBelow trainOf endAt joinedBy joined hasSignal allBelow anyBelow atHome shared withJoin withSignal withLegs withTrain entered isClosed
+unfolding play lowest moveOf passes follow occupied mayMove free held signalOpen headsFor standsOn sectionsIn codeOf
+    sumBelow trainOf endAt joinedBy joined hasSignal allBelow anyBelow atHome shared withJoin withSignal withLegs
+    withTrain entered isClosed
 plays = (refl, refl, refl, refl, refl, refl, refl, refl, refl, refl, refl, refl, refl, refl, refl, refl, refl, refl)
 
 -- WHAT PLAYS COST, in the yard with weights: the weight of the train that moved, though another was named; nothing more once home is reached;
@@ -208,7 +212,9 @@ totals : (spentAt (gameOf weighed) (play (gameOf weighed) by-placement (names 0)
     × (spentAt (gameOf weighed) (play (gameOf weighed) (always shut) (names 1) 1 3) ≡ 3)
     -- where no weight is said, the number of turns
     × (spentAt (gameOf yardA) (play (gameOf yardA) by-placement (names 0) 7 2) ≡ 2)
-unfolding spent weightOf play lowest moveOf passes follow occupied mayMove free held signalOpen headsFor standsOn sectionsIn codeOf sumBelow trainOf endAt joinedBy joined hasSignal allBelow anyBelow atHome shared withJoin withSignal withLegs withTrain entered isClosed
+unfolding spent weightOf play lowest moveOf passes follow occupied mayMove free held signalOpen headsFor standsOn
+    sectionsIn codeOf sumBelow trainOf endAt joinedBy joined hasSignal allBelow anyBelow atHome shared withJoin
+    withSignal withLegs withTrain entered isClosed
 totals = (refl, refl, refl, refl, refl)
 
 -- SMALLER BY THE WEIGHT: with a weight of 2 figure 0 is within 2, and figure 1 is not.

@@ -165,7 +165,12 @@ module _ {S : Type 0} (g : Game S) (costs : Costs g) (gap : ℕ) (most : AtMostW
   least n st p s zero hp o k = absurd (no-keeps-zero g (tab n) costs p s k)
   least n st p s (suc i) hp o k = elim (lt? i n) [
     | inl l ↦
-        let k′ : Keeps g (tab i) p s (suc i) = keeps-map g (tab n) (tab i) p s (suc i) (suc i) (λ t q j m x e lj. (later j i q j (let c : 1 ≤ g .weight t = costs t (may-train g p s t m) in omega arith) (back n q j e), lj)) k in
+        let k′ : Keeps g (tab i) p s (suc i) =
+        keeps-map g (tab n) (tab i) p s (suc i) (suc i) (λ t q j m x e lj. (
+          later j i q j
+              (let c : 1 ≤ g .weight t = costs t (may-train g p s t m) in omega arith) (back n q j e),
+          lj,
+        )) k in
         let r : (j : ℕ) × (tab (suc i) p ≡ some j) = hit i p s hp o k′ in
         (r .0, later (suc i) n p (r .0) l (r .1), range (suc i) p (r .0) (r .1))
     | inr l ↦
@@ -206,7 +211,11 @@ old? (some i) b e f = f i refl
 
 module _ {S : Type 0} (g : Game S) (costs : Costs g) (gap : ℕ) (most : AtMostWeight g gap) (meant : ℕ → ℕ → S) (find : (ℕ → Option ℕ) → ℕ → ℕ → Option ℕ) (right : Searches g meant find) where
   still : (n p : ℕ) → isSome (table g gap find n p) ≡ true → isSome (table g gap find (suc (n + gap)) p) ≡ true
-  still n p e = let j : (j : ℕ) × (table g gap find n p ≡ some j) = some-is (table g gap find n p) e in let z : table g gap find (suc (n + gap)) p ≡ some (j .0) = later g costs gap most meant find right n (suc (n + gap)) p (j .0) (omega arith) (j .1) in rw z
+  still n p e =
+      let j : (j : ℕ) × (table g gap find n p ≡ some j) = some-is (table g gap find n p) e in
+      let z : table g gap find (suc (n + gap)) p ≡ some (j .0) =
+      later g costs gap most meant find right n (suc (n + gap)) p (j .0) (omega arith) (j .1) in
+      rw z
 
   -- gap + 1 rounds add one, or the table is stable
   added-cases : (n : ℕ)
@@ -214,7 +223,8 @@ module _ {S : Type 0} (g : Game S) (costs : Costs g) (gap : ℕ) (most : AtMostW
       ⊎ ((isSome (added g gap find n) ≡ false) × Stable g costs gap most meant find right n)
   added-cases n = elim (lowest-cases (λ p. not (isSome (table g gap find n p)) && isSome (table g gap find (suc (n + gap)) p)) (g .placements)) [
     | inl r ↦
-        let x : (table g gap find n (r .0) ≡ none) × ((j : ℕ) × (table g gap find (suc (n + gap)) (r .0) ≡ some j)) = new? (table g gap find n (r .0)) (table g gap find (suc (n + gap)) (r .0)) (r .3) in
+        let x : (table g gap find n (r .0) ≡ none) × ((j : ℕ) × (table g gap find (suc (n + gap)) (r .0) ≡ some j)) =
+        new? (table g gap find n (r .0)) (table g gap find (suc (n + gap)) (r .0)) (r .3) in
         inl (rw (r .1), count-more (λ p. isSome (table g gap find n p)) (λ p. isSome (table g gap find (suc (n + gap)) p)) (still n) (g .placements) (r .0) (r .2) (rw (x .0)) (rw (x .1 .1)))
     | inr r ↦ inr (rw (r .0), λ p hp. old? (table g gap find n p) (table g gap find (suc (n + gap)) p) (r .1 p hp) (λ j. later g costs gap most meant find right n (suc (n + gap)) p j (omega arith)))
   ]

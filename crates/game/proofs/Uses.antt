@@ -87,7 +87,8 @@ module _ (F : ℕ → Option ℕ) (f : ℕ → Bool) (claims : Whole small F f) 
 -- SETTINGS THAT AGREE. Whatever else it says, a setting that has Yard A's point at plus and its signals open lets train 1 go at (2, 3), and from (1, 2)
 -- takes it to (3, 2).
 agreed : recordRefusal yardA ≡ none → (s : Setting) → SameSetting yardA everywhere s → (may (gameOf yardA) 7 s 0 ≡ true) × (moveOf yardA 3 s 0 ≡ at 5)
-unfolding mayMove signalOpen free held headsFor standsOn sectionsIn trainOf hasSignal withJoin withSignal withLegs withTrain moveOf passes follow occupied codeOf sumBelow endAt joinedBy joined anyBelow entered isClosed
+unfolding mayMove signalOpen free held headsFor standsOn sectionsIn trainOf hasSignal withJoin withSignal withLegs
+    withTrain moveOf passes follow occupied codeOf sumBelow endAt joinedBy joined anyBelow entered isClosed
 agreed accepted s same =
     (sym (agreeing-alike yardA accepted everywhere s same 7 .same-trains 0) ∙ lets .0, sym (agreeing-alike yardA accepted everywhere s same 3 .same-ends 0 (lets .1)) ∙ lets .2)
   where

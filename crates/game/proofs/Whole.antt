@@ -12,7 +12,9 @@ use Prim.Native.Nat.{ℕ, zero, suc, _+_, _≤_, _<_}
 use native.Mathlib.Omega.{arith}
 use Rattle.laws.proofs.Bools.{bool?, option?, lt?, clash, some-one}
 use Rattle.laws.proofs.Below.{upto}
-use Rattle.game.specs.Game.{Outcome, lost, at, Game, Turn, Way, Choice, following, positional, Position, lostByMove, standing, may, mover, home, over, standAfter, step, play, homeAt, grown, spent, spentAt, HomeWithin, ComesHome, Beats, IsFigure}
+use Rattle.game.specs.Game.{Outcome, lost, at, Game, Turn, Way, Choice, following, positional, Position}
+use Rattle.game.specs.Game.{lostByMove, standing, may, mover, home, over, standAfter, step, play, homeAt, grown}
+use Rattle.game.specs.Game.{spent, spentAt, HomeWithin, ComesHome, Beats, IsFigure}
 use Rattle.game.specs.Claim.{Within, figureOf, Keeps, Decides, Alike, OneChoice, Whole}
 use Rattle.game.specs.Local.{Costs, Inside, Solved}
 use Rattle.game.proofs.Turns.{not-over, may-train, spent-grown, mover-cases}

@@ -57,8 +57,10 @@ taken-more log p h e =
       each = λ i l. elim (eq? i (p .next)) [
         | inl z ↦ (let a : length (p .trains) ≡ mostEntries = h .sized .0 in let b : length (p .sections) ≡ mostEntries = h .sized .1 in
             rw z (getD-set-same (p .trains) (p .next) (entryIn log (p .next) .train) 0 (rw a (w .1)), getD-set-same (p .sections) (p .next) (entryIn log (p .next) .section) 0 (rw b (w .1))))
-        | inr z ↦ (let m : i < p .next = omega arith in
-            (getD-set-other (p .trains) (p .next) i (entryIn log (p .next) .train) 0 z ∙ h .each i m .0, getD-set-other (p .sections) (p .next) i (entryIn log (p .next) .section) 0 z ∙ h .each i m .1))
+        | inr z ↦ (let m : i < p .next = omega arith in (
+          getD-set-other (p .trains) (p .next) i (entryIn log (p .next) .train) 0 z ∙ h .each i m .0,
+          getD-set-other (p .sections) (p .next) i (entryIn log (p .next) .section) 0 z ∙ h .each i m .1,
+        ))
       ];
     })
 

@@ -115,7 +115,8 @@ module _ (r : Railway) (a b : List Entry) where
       second-long l = at-fault (or-right (faulty r a) (faulty r b) (long b (let c = counted b q hq in omega arith)))
 
       pub entries-judged : p .count ≤ mostEntries → q .count ≤ mostEntries → (x : LogAnswer)
-          → x ≡ judged (r .trains) (r .sections) (logOf (take (p .count) (p .trains)) (take (p .count) (p .sections))) (logOf (take (q .count) (q .trains)) (take (q .count) (q .sections))) → LogPost r a b x
+          → x ≡ judged (r .trains) (r .sections) (logOf (take (p .count) (p .trains)) (take (p .count) (p .sections)))
+          (logOf (take (q .count) (q .trains)) (take (q .count) (q .sections))) → LogPost r a b x
       entries-judged lp lq x z =
           let f : faulty r a ≡ any (lacks (r .trains) (r .sections)) a = short a (let c = counted a p hp in omega arith) in
           let g : faulty r b ≡ any (lacks (r .trains) (r .sections)) b = short b (let c = counted b q hq in omega arith) in

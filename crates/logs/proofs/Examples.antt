@@ -45,7 +45,8 @@ longer : (SameFor shorter panel 0 → ⊥) × (SameFor panel shorter 0 → ⊥)
 unfolding sectionsFor
 longer = ((λ e. cons-ne-nil _ _ (sym (tail-eq-of-cons-eq e))), (λ e. cons-ne-nil _ _ (tail-eq-of-cons-eq e)))
 
-faults : (faulty yardA (many 256) ≡ false) × (faulty yardA (many 257) ≡ true) × (faulty yardA (entered 3 1 ∷ []) ≡ true) × (faulty yardA (entered 1 4 ∷ []) ≡ true) × (faulty yardA (entered 2 3 ∷ []) ≡ false)
+faults : (faulty yardA (many 256) ≡ false) × (faulty yardA (many 257) ≡ true) × (faulty yardA (entered 3 1 ∷ []) ≡ true)
+    × (faulty yardA (entered 1 4 ∷ []) ≡ true) × (faulty yardA (entered 2 3 ∷ []) ≡ false)
     × (faulty yardA [] ≡ false)
 unfolding faulty any withJoin withSignal withLegs withTrain
 faults = (refl, refl, refl, refl, refl, refl)

@@ -37,11 +37,13 @@ pub all-same : Agreeing panel axles
 all-same = agreeing panel axles one-swap
 
 pub accepted : recordRefusal yardA ≡ none
-unfolding recordRefusal first weightRow weightOf unknownRow joinRow looseRow longer chainRow placeRow endAt joinedBy joined hasSignal legsOf trainOf withJoin withSignal withLegs withTrain anyBelow isClosed
+unfolding recordRefusal first weightRow weightOf unknownRow joinRow looseRow longer chainRow placeRow endAt joinedBy
+    joined hasSignal legsOf trainOf withJoin withSignal withLegs withTrain anyBelow isClosed
 accepted = refl
 
 pub taken : Taken yardA panel axles × Taken yardA panel crossed × Taken yardA panel alone × Taken yardA [] []
-unfolding first faulty any weightRow weightOf unknownRow joinRow looseRow longer chainRow placeRow endAt joinedBy joined hasSignal legsOf trainOf withJoin withSignal withLegs withTrain anyBelow isClosed
+unfolding first faulty any weightRow weightOf unknownRow joinRow looseRow longer chainRow placeRow endAt joinedBy joined
+    hasSignal legsOf trainOf withJoin withSignal withLegs withTrain anyBelow isClosed
 taken = (refl, refl, refl, refl)
 
 counts : recordRefusal emptyRailway ≡ some Count
@@ -69,11 +71,13 @@ alone-lowest = record { differs = alone-apart; below = λ u l. (let z : u ≡ 0 
 
 -- THE PROMISE. A log of 257 entries gets 17, one of 256 does not.
 too-many : (x : LogAnswer) → LogPost yardA (many 257) [] x → numberSaid x ≡ some 17
-unfolding first faulty any weightRow weightOf unknownRow joinRow looseRow longer chainRow placeRow endAt joinedBy joined hasSignal legsOf trainOf withJoin withSignal withLegs withTrain anyBelow isClosed
+unfolding first faulty any weightRow weightOf unknownRow joinRow looseRow longer chainRow placeRow endAt joinedBy joined
+    hasSignal legsOf trainOf withJoin withSignal withLegs withTrain anyBelow isClosed
 too-many x p = p .numbered
 
 just-enough : (x : LogAnswer) → LogPost yardA [] (many 256) x → numberSaid x ≡ none
-unfolding first faulty any weightRow weightOf unknownRow joinRow looseRow longer chainRow placeRow endAt joinedBy joined hasSignal legsOf trainOf withJoin withSignal withLegs withTrain anyBelow isClosed
+unfolding first faulty any weightRow weightOf unknownRow joinRow looseRow longer chainRow placeRow endAt joinedBy joined
+    hasSignal legsOf trainOf withJoin withSignal withLegs withTrain anyBelow isClosed
 just-enough x p = p .numbered
 
 -- logs that are crossed are not said to agree

@@ -44,8 +44,12 @@ mark-kept marks i x h = record { there = h; each = λ j. omega arith; others = �
 -- THOSE OF A STRETCH: the marks of four trains are lowered, one after the other, then the last is lifted
 module _ (marks : List ℕ) (c : ℕ) (room : Room marks) (small : c < mostCodes) where
   module _ (n : ℕ) (soon : Soon) (marks₁ marks₂ marks₃ marks₄ marks₅ : List ℕ) (long₁ : length marks₁ ≡ length marks) (long₂ : length marks₂ ≡ length marks₁) (long₃ : length marks₃ ≡ length marks₂)
-      (long₄ : length marks₄ ≡ length marks₃) (long₅ : length marks₅ ≡ length marks₄) (a : Lowered marks (stretchOf c) (soon .first) marks₁) (b : Lowered marks₁ (stretches + stretchOf c) (soon .second) marks₂)
-      (d : Lowered marks₂ (2 * stretches + stretchOf c) (soon .third) marks₃) (e : Lowered marks₃ (3 * stretches + stretchOf c) (soon .fourth) marks₄) (f : Lifted marks₄ (4 * stretches + stretchOf c) n marks₅) where
+      (long₄ : length marks₄ ≡ length marks₃) (long₅ : length marks₅ ≡ length marks₄)
+      (a : Lowered marks (stretchOf c) (soon .first) marks₁)
+      (b : Lowered marks₁ (stretches + stretchOf c) (soon .second) marks₂)
+      (d : Lowered marks₂ (2 * stretches + stretchOf c) (soon .third) marks₃)
+      (e : Lowered marks₃ (3 * stretches + stretchOf c) (soon .fourth) marks₄)
+      (f : Lifted marks₄ (4 * stretches + stretchOf c) n marks₅) where
     down : (j : ℕ) → j < 4 * stretches → getD marks₅ j 0 ≤ getD marks j 0
     down j l = let z = f .others j (λ y. omega arith) in omega (arith, a .each j, b .each j, d .each j, e .each j)
 

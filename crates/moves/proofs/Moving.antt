@@ -76,11 +76,15 @@ module _ (r : Railway) (p : ℕ) (table : List ℕ) (q : Placement) (on : On r p
 
     pub held-is : (b : Bool) → b ≡ heldOn r t x → b ≡ heldIn r p t
     unfolding held
-    held-is b h = h ∙ (rw (lt-ltb x mostSections some-section, parked-on, end-is t x (trainOf r t .heading) e refl) (within-is (ltb t mostTrains) (not (arrived r p t) && hasSignal r (headsFor r p t))))
+    held-is b h =
+        h ∙ (rw (lt-ltb x mostSections some-section, parked-on, end-is t x (trainOf r t .heading) e refl)
+        (within-is (ltb t mostTrains) (not (arrived r p t) && hasSignal r (headsFor r p t))))
 
     pub free-is : (b : Bool) → b ≡ freeOn r t x → b ≡ freeIn r p t
     unfolding free
-    free-is b h = h ∙ (rw (lt-ltb x mostSections some-section, parked-on, end-is t x (trainOf r t .heading) e refl) (within-is (ltb t mostTrains) (not (arrived r p t) && not (hasSignal r (headsFor r p t)))))
+    free-is b h =
+        h ∙ (rw (lt-ltb x mostSections some-section, parked-on, end-is t x (trainOf r t .heading) e refl)
+        (within-is (ltb t mostTrains) (not (arrived r p t) && not (hasSignal r (headsFor r p t)))))
 
   -- THE INDEX of the end that a train heads for, any train.
   numbered : (t : ℕ) → standsOn r p t < mostSections

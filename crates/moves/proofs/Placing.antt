@@ -156,7 +156,9 @@ module _ (q : Placement) (t x u : ℕ) where
 -- LOST AND HOME, of one train.
 module _ (r : Railway) (p : ℕ) (table : List ℕ) (q : Placement) (on : On r p table q) (t : ℕ) where
   pub shares-is : (x : ℕ) (b : Bool) → x ≡ sectionIn q t → b ≡ anyBelow (otherIn q t x) t → b ≡ sharesLower r p t
-  shares-is x b e h = h ∙ any-same (otherIn q t x) (standsWith r p t) t (λ u l. let a : sectionIn q u ≡ standsOn r p u = on .stands u in let d : x ≡ standsOn r p t = e ∙ on .stands t in rw (ne-eqb u t (λ z. omega arith), a, d))
+  shares-is x b e h =
+      h ∙ any-same (otherIn q t x) (standsWith r p t) t (λ u l. let a : sectionIn q u ≡ standsOn r p u = on .stands u in
+      let d : x ≡ standsOn r p t = e ∙ on .stands t in rw (ne-eqb u t (λ z. omega arith), a, d))
 
   pub arrived-is : (x y : ℕ) → x ≡ sectionIn q t → y ≡ trainOf r t .destination .0 → eqb x y ≡ arrived r p t
   arrived-is x y e f = let d : x ≡ standsOn r p t = e ∙ on .stands t in rw (d, f)

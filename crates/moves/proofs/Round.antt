@@ -34,7 +34,8 @@ module _ (r : Railway) (facts : Facts r) where
   unfolding standsOn
   sections-again f small t l =
       let below : AllBelow (r .sections) (listBelow f (r .trains)) = (λ i m. let n : i < r .trains = rw (list-length f (r .trains)) at m in rw (list-get f (r .trains) i 0 n) (small i n)) in
-      let again : sectionsIn (r .sections) (length (listBelow f (r .trains))) (codeOn r f) ≡ listBelow f (r .trains) = sections-code (r .sections) (listBelow f (r .trains)) (facts .one-section) below in
+      let again : sectionsIn (r .sections) (length (listBelow f (r .trains))) (codeOn r f) ≡ listBelow f (r .trains) =
+      sections-code (r .sections) (listBelow f (r .trains)) (facts .one-section) below in
       let same : sectionsOf r (codeOn r f) ≡ listBelow f (r .trains) = rw (list-length f (r .trains)) at again in
       rw same (list-get f (r .trains) t 0 l)
 

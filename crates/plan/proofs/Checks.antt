@@ -111,7 +111,8 @@ module _ (r : Railway) (a : recordRefusal r ≡ none) where
   code-in d e =
       let f = fits-parts r d e in
       let c : lineCode r d < r .sections ^ length (d .sections) =
-      code-below (r .sections) (d .sections) (λ i l. ltb-true (getD (d .sections) i 0) (r .sections) (all-in (λ x. ltb x (r .sections)) (d .sections) (getD (d .sections) i 0) (f .there) (getD-member (d .sections) i 0 l))) in
+      code-below (r .sections) (d .sections) (λ i l. ltb-true (getD (d .sections) i 0) (r .sections) (all-in (λ x.
+      ltb x (r .sections)) (d .sections) (getD (d .sections) i 0) (f .there) (getD-member (d .sections) i 0 l))) in
       rw (f .each-train) at c
 
   -- WHAT STATE AND TABLES HOLD after calls that took these lines
@@ -156,7 +157,9 @@ module _ (r : Railway) (a : recordRefusal r ≡ none) where
       no (more m ds f x y z u) = no-form r m ds (subst (λ (ls : List (List ℕ)). Form r ls m ds) e x)
   fresh-takes taken text c e t (some (startLine n)) q =
       let s = spells text (startLine n) q in
-      let f : Form r (taken ++ (text ∷ [])) n [] = subst (λ (ls : List (List ℕ)). Form r ls n []) (ap (λ (l : List ℕ). l ∷ []) (s .spelled) ∙ ap (λ (ls : List (List ℕ)). ls ++ (text ∷ [])) (sym e)) (form-start r n (s .fit)) in
+      let f : Form r (taken ++ (text ∷ [])) n [] =
+      subst (λ (ls : List (List ℕ)). Form r ls n []) (ap (λ (l : List ℕ). l ∷ []) (s .spelled)
+      ∙ ap (λ (ls : List (List ℕ)). ls ++ (text ∷ [])) (sym e)) (form-start r n (s .fit)) in
       took refl (record { start = n; lines = []; form = f; holds = tt }) (begun n [] f refl (record { figs = t .figs; sets = t .sets }))
 
   begun-takes : (taken : List (List ℕ)) (text : List ℕ) (c : Checking) (m : ℕ) (ds : List PlacementLine) → Form r taken m ds → Tables ds c
@@ -190,7 +193,11 @@ module _ (r : Railway) (a : recordRefusal r ≡ none) where
           let g : Form r (taken ++ (text ∷ [])) m (ds ++ (d ∷ [])) = subst (λ (x : List ℕ). Form r (taken ++ (x ∷ [])) m (ds ++ (d ∷ []))) (s .spelled) (form-snoc r taken m ds d f (s .fit) l) in
           took refl (record { start = m; lines = ds ++ (d ∷ []); form = g; holds = tt })
           (begun m (ds ++ (d ∷ [])) g (ap (Begun m) (sym (ap (codeAfter 0) (map-append (lineCode r) ds (d ∷ [])) ∙ code-after-snoc 0 (codes r ds) (lineCode r d))))
-          (record { figs = cells-more r noFigure (λ d. d .figure) ds d (c .figs) (t .figs) (f .rising) l (code-in d (s .fit)); sets = cells-more r 0 (lineEntry r) ds d (c .sets) (t .sets) (f .rising) l (code-in d (s .fit)) }))
+          (record {
+            figs =
+                cells-more r noFigure (λ d. d .figure) ds d (c .figs) (t .figs) (f .rising) l (code-in d (s .fit));
+            sets = cells-more r 0 (lineEntry r) ds d (c .sets) (t .sets) (f .rising) l (code-in d (s .fit));
+          }))
 
   reads-on : {taken : List (List ℕ)} {text : List ℕ} {c : Checking} {state : CheckerState} → caseRefusal r (c .figs) (c .sets) ≡ none → c .state ≡ state
       → Call taken text c (takes r c state (readLine r text)) → Call taken text c (takeLine r c text)
@@ -266,14 +273,21 @@ module _ (r : Railway) (a : recordRefusal r ≡ none) where
 
   -- the lines of the same texts pass together
   same-test : (taken : List (List ℕ)) (m n : ℕ) (ds es : List PlacementLine) → Form r taken m ds → Form r taken n es → Test r m (byLines r ds) → Test r n (byLines r es)
-  same-test taken m n ds es f g t = let o = form-one r few taken m n ds es f g in subst (λ (fs : List PlacementLine). Test r n (byLines r fs)) (o .lines) (subst (λ (i : ℕ). Test r i (byLines r ds)) (o .start) t)
+  same-test taken m n ds es f g t =
+      let o = form-one r few taken m n ds es f g in
+      subst (λ (fs : List PlacementLine). Test r n (byLines r fs)) (o .lines)
+      (subst (λ (i : ℕ). Test r i (byLines r ds)) (o .start) t)
 
-  over-lines : {taken : List (List ℕ)} (m : ℕ) (ds : List PlacementLine) (c : Checking) → Form r taken m ds → Tables ds c → (testHolds r m (byTables (c .figs) (c .sets)) ≡ true) ↔ Test r m (byLines r ds)
+  over-lines : {taken : List (List ℕ)} (m : ℕ) (ds : List PlacementLine) (c : Checking) → Form r taken m ds
+      → Tables ds c → (testHolds r m (byTables (c .figs) (c .sets)) ≡ true) ↔ Test r m (byLines r ds)
   unfolding all
   over-lines m ds c f t =
       let s = listed ds c (and-true (fits r (startLine m)) (all (fits r) (map placementLine ds)) (f .fit) .1) t in
-      let h = tested r (byTables (c .figs) (c .sets)) m in
-      (λ e. test-same r ok (byTables (c .figs) (c .sets)) (byLines r ds) s m (h .0 e), λ e. h .1 (test-same r ok (byLines r ds) (byTables (c .figs) (c .sets)) (listing-back r (byTables (c .figs) (c .sets)) (byLines r ds) s) m e))
+      let h = tested r (byTables (c .figs) (c .sets)) m in (
+        λ e. test-same r ok (byTables (c .figs) (c .sets)) (byLines r ds) s m (h .0 e),
+        λ e. h .1 (test-same r ok (byLines r ds) (byTables (c .figs) (c .sets))
+            (listing-back r (byTables (c .figs) (c .sets)) (byLines r ds) s) m e),
+      )
 
   tests-at : (c : Checking) {state : CheckerState} → caseRefusal r (c .figs) (c .sets) ≡ none → c .state ≡ state → testPlan r c .answer ≡ tests r c none state
   tests-at c e s = test-steps r c e ∙ ap (tests r c none) s
@@ -296,7 +310,8 @@ module _ (r : Railway) (a : recordRefusal r ≡ none) where
       no : {A : Type 0} (m : ℕ) (ds : List PlacementLine) → Form r taken m ds → A
       no m ds f = no-form r m ds (subst (λ (ls : List (List ℕ)). Form r ls m ds) e f)
 
-  answers-begun : (taken : List (List ℕ)) (m : ℕ) (ds : List PlacementLine) → Form r taken m ds → (b : Bool) → ((b ≡ true) ↔ Test r m (byLines r ds)) → Answers taken (cond b Pass (TestRefused PlanFault))
+  answers-begun : (taken : List (List ℕ)) (m : ℕ) (ds : List PlacementLine) → Form r taken m ds → (b : Bool)
+      → ((b ≡ true) ↔ Test r m (byLines r ds)) → Answers taken (cond b Pass (TestRefused PlanFault))
   answers-begun taken m ds f true i =
       record {
         passes = (λ q. record { start = m; lines = ds; form = f; holds = i .0 refl }, λ q. refl);

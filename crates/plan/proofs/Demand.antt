@@ -48,7 +48,9 @@ module _ (r : Railway) (accepted : recordRefusal r ≡ none) where
   line-room k l e long = le-leb (length (spell l)) k (omega (arith, lines-short r accepted l e))
 
   -- buffers with room for every line are long enough
-  room : (ls : List PlanLine) (bs : List (List ℕ)) → all (fits r) ls ≡ true → all (λ b. leb mostLineBytes (length b)) bs ≡ true → length (map spell ls) < length bs → longEnough (map spell ls) bs ≡ true
+  room : (ls : List PlanLine) (bs : List (List ℕ)) → all (fits r) ls ≡ true
+      → all (λ b. leb mostLineBytes (length b)) bs ≡ true → length (map spell ls) < length bs
+      → longEnough (map spell ls) bs ≡ true
   unfolding all longEnough
   room [] [] e h m = absurd (omega arith)
   room (l ∷ ls) [] e h m = absurd (omega arith)
@@ -58,7 +60,9 @@ module _ (r : Railway) (accepted : recordRefusal r ≡ none) where
       let g = and-true (leb mostLineBytes (length b)) (all (λ b. leb mostLineBytes (length b)) bs) h in
       and-both (leb (length (spell l)) (length b)) (longEnough (map spell ls) bs) (line-room (length b) l (f .0) (leb-true mostLineBytes (length b) (g .0))) (room ls bs (f .1) (g .1) (omega arith))
 
-  plan-room : (figs sets : List ℕ) (bs : List (List ℕ)) → all (fits r) (planLines r figs sets) ≡ true → all (λ b. leb mostLineBytes (length b)) bs ≡ true → length (planTexts r figs sets) < length bs → longEnough (planTexts r figs sets) bs ≡ true
+  plan-room : (figs sets : List ℕ) (bs : List (List ℕ)) → all (fits r) (planLines r figs sets) ≡ true
+      → all (λ b. leb mostLineBytes (length b)) bs ≡ true → length (planTexts r figs sets) < length bs
+      → longEnough (planTexts r figs sets) bs ≡ true
   unfolding planTexts
   plan-room figs sets bs e h m = room (planLines r figs sets) bs e h m
 
@@ -88,7 +92,9 @@ module _ (r : Railway) (accepted : recordRefusal r ≡ none) where
     abbrev after : LineCalls
     after = callLines r (textsOf hs) (x .checking)
 
-    handled-step : (own : Bool) → Call r accepted taken l c x → InForm r (taken ++ cond own (l ∷ ownTexts hs) (ownTexts hs)) → ((own || not (isTaken (x .answer))) && othersRefused hs (after .answers)) ≡ true
+    handled-step : (own : Bool) → Call r accepted taken l c x
+        → InForm r (taken ++ cond own (l ∷ ownTexts hs) (ownTexts hs))
+        → ((own || not (isTaken (x .answer))) && othersRefused hs (after .answers)) ≡ true
         → Handled (record { own = own; text = l } ∷ hs) (onward (x .answer) after)
     unfolding ownTexts takenTexts
     handled-step true (took e i h) f o =
@@ -102,7 +108,9 @@ module _ (r : Railway) (accepted : recordRefusal r ≡ none) where
         let n = rest taken (subst (Holds r accepted taken) (sym h) k) f (and-true (not (isTaken (x .answer))) (othersRefused hs (after .answers)) o .1) in
         record { marks = rw e (ap (λ (bs : List Bool). false ∷ bs) (n .marks)); texts = rw e (n .texts) }
 
-  handled : (hs : List Handed) (taken : List (List ℕ)) (c : Checking) → Holds r accepted taken c → InForm r (taken ++ ownTexts hs) → othersRefused hs (callLines r (textsOf hs) c .answers) ≡ true → Handled hs (callLines r (textsOf hs) c)
+  handled : (hs : List Handed) (taken : List (List ℕ)) (c : Checking) → Holds r accepted taken c
+      → InForm r (taken ++ ownTexts hs) → othersRefused hs (callLines r (textsOf hs) c .answers) ≡ true
+      → Handled hs (callLines r (textsOf hs) c)
   unfolding callLines ownTexts othersRefused takenTexts
   handled [] taken c k i e = record { marks = refl; texts = refl }
   handled (h ∷ hs) taken c k i e =

@@ -130,7 +130,8 @@ module _ (r : Railway) (figs sets : List ℕ) (unrefused : caseRefusal r figs se
         let z : length (l ++ drop (length l) b) ≡ length b = simp (length-append, length-drop) (omega arith) in
         record { here = k; there = rw z (h .1) }
 
-    line-then : (n : ℕ) (b′ : List ℕ) (rest : Emission) (l : List ℕ) (ls : List (List ℕ)) → take n b′ ≡ l → rest ≡ Whole ls → record { lines = take n b′ ∷ rest .lines; last = rest .last } ≡ Whole (l ∷ ls)
+    line-then : (n : ℕ) (b′ : List ℕ) (rest : Emission) (l : List ℕ) (ls : List (List ℕ)) → take n b′ ≡ l
+        → rest ≡ Whole ls → record { lines = take n b′ ∷ rest .lines; last = rest .last } ≡ Whole (l ∷ ls)
     line-then n b′ rest l ls p q = rw (p, q)
 
     into-from : (place : PlanPlace) (b : List ℕ) (e : Emission) → EmittingInto r figs sets place b e → Fit b (textsFrom place) → e ≡ Whole (textsFrom place)
@@ -167,7 +168,9 @@ module _ (r : Railway) (figs sets : List ℕ) (unrefused : caseRefusal r figs se
             let b′ : List ℕ = l ++ drop (length l) b in
             subst (EmittingInto r figs sets place b)
             (line-then (length l) b′ (Whole (textsFrom to)) l (textsFrom to) (take-append-seam l (drop (length l) b)) refl)
-            (wrote place to (length l) b b′ (Whole (textsFrom to)) (emits-so r figs sets place b (record { answer = Line (length l) to; buffer = b′ }) (sym (c (h .here)))) (more to b′ (omega arith) (h .there)))
+            (wrote place to (length l) b b′ (Whole (textsFrom to))
+            (emits-so r figs sets place b (record { answer = Line (length l) to; buffer = b′ }) (sym (c (h .here))))
+            (more to b′ (omega arith) (h .there)))
 
     -- THE PLAN'S LINES are those from the top on
     each-text : (xs : List ℕ) → map textFor xs ≡ map spell (map placementLine (map (lineFor r figs sets) xs))

@@ -175,7 +175,12 @@ scripts =
     ∷ []
 
 as-said : all holds scripts ≡ true
-unfolding all numbers bytes callLines takeLine testPlan caseRefusal tablesShort first weightRow weightOf unknownRow joinRow looseRow chainRow longer placeRow endAt joinedBy joined hasSignal legsOf trainOf withJoin withSignal withLegs withTrain allBelow anyBelow sumBelow whichBelow listBelow lowest fromBits any readLine guess fields valueOf sameText spell line digits fits entryFrom codeOf testHolds placementPasses listedSetting keepsTest sectionsIn standsOn startCode atHome shared headsFor mayMove free held signalOpen passes follow occupied moveOf entered isClosed withClosed
+unfolding all numbers bytes callLines takeLine testPlan caseRefusal tablesShort first weightRow weightOf unknownRow
+    joinRow looseRow chainRow longer placeRow endAt joinedBy joined hasSignal legsOf trainOf withJoin withSignal
+    withLegs withTrain allBelow anyBelow sumBelow whichBelow listBelow lowest fromBits any readLine guess fields valueOf
+    sameText spell line digits fits entryFrom codeOf testHolds placementPasses listedSetting keepsTest sectionsIn
+    standsOn startCode atHome shared headsFor mayMove free held signalOpen passes follow occupied moveOf
+    entered isClosed withClosed
 as-said = refl
 
 -- THE EMITTER in Yard A, with its tables: the first line, the last line with bytes past it, a buffer that is too short, the end, a place past
@@ -192,7 +197,9 @@ emitted :
     × (emitLine yardA (replicate 9 4294967295) setsA Top [] ≡ leaves NoPlan [])
     × (emitLine yardA (replicate 8 4294967295) setsA Top [] ≡ leaves (Refused Space) [])
     × (numberGiven (emitLine wrongJoin [] [] Top [] .answer) ≡ some 5)
-unfolding bytes emitLine caseRefusal tablesShort first weightRow weightOf unknownRow joinRow looseRow chainRow longer placeRow endAt joinedBy joined hasSignal legsOf trainOf withJoin withSignal withLegs withTrain anyBelow sumBelow whichBelow listBelow lowest lineFor spell line digits codeOf sectionsIn startCode isClosed
+unfolding bytes emitLine caseRefusal tablesShort first weightRow weightOf unknownRow joinRow looseRow chainRow longer
+    placeRow endAt joinedBy joined hasSignal legsOf trainOf withJoin withSignal withLegs withTrain anyBelow sumBelow
+    whichBelow listBelow lowest lineFor spell line digits codeOf sectionsIn startCode isClosed
 emitted = (refl, refl, refl, refl, refl, refl, refl, refl)
 
 -- THE ORDER OF SEVERAL POINTS, point 1 first and in bit 0, and of two open
@@ -209,5 +216,8 @@ several-points :
     × (lineEntry ladder startLadder ≡ 196609)
     × (lineFor ladder figsLadder (set (replicate 49 0) 42 196609) 42 ≡ startLadder)
     × (emitLine ladder figsLadder (set (replicate 49 0) 42 65540) (From 0) (replicate 12 7) ≡ record { answer = Line 12 (From 43); buffer = bytes "1\t7\t3\t1\t--+\n" })
-unfolding bytes emitLine caseRefusal tablesShort first weightRow weightOf unknownRow joinRow looseRow chainRow longer placeRow endAt joinedBy joined hasSignal legsOf trainOf withJoin withSignal withLegs withTrain anyBelow sumBelow whichBelow listBelow lowest fromBits any all readLine guess fields valueOf sameText fits lineFor spell line digits codeOf sectionsIn startCode entryFrom isClosed
+unfolding bytes emitLine caseRefusal tablesShort first weightRow weightOf unknownRow joinRow looseRow chainRow longer
+    placeRow endAt joinedBy joined hasSignal legsOf trainOf withJoin withSignal withLegs withTrain anyBelow sumBelow
+    whichBelow listBelow lowest fromBits any all readLine guess fields valueOf sameText fits lineFor spell line digits
+    codeOf sectionsIn startCode entryFrom isClosed
 several-points = (refl, refl, refl, refl, refl)

@@ -75,7 +75,8 @@ module _ (r : Railway) where
   -- A FORM WITH A LAST LINE: that line is the first, or what is before it is in form
   pub data Last (texts : List (List ℕ)) (text : List ℕ) : Type 0 where
     only : (m : ℕ) → texts ≡ [] → text ≡ spell (startLine m) → fits r (startLine m) ≡ true → Last texts text
-    more : (m : ℕ) (ds : List PlacementLine) (d : PlacementLine) → Form r texts m ds → text ≡ spell (placementLine d) → fits r (placementLine d) ≡ true → codeAfter 0 (codes ds) ≤ lineCode r d → Last texts text
+    more : (m : ℕ) (ds : List PlacementLine) (d : PlacementLine) → Form r texts m ds → text ≡ spell (placementLine d)
+        → fits r (placementLine d) ≡ true → codeAfter 0 (codes ds) ≤ lineCode r d → Last texts text
 
   pub form-last : (texts : List (List ℕ)) (text : List ℕ) → InForm r (texts ++ (text ∷ [])) → Last texts text
   unfolding all
@@ -86,12 +87,15 @@ module _ (r : Railway) where
           let s = snoc-same texts [] text (spell (startLine (i .start))) (i .form .spelled ∙ ap (λ (ds : List PlacementLine). map spell (planOf (i .start) ds)) e) in
           only (i .start) (s .front) (s .last) (and-true (fits r (startLine (i .start))) (all (fits r) (map placementLine (i .lines))) (i .form .fit) .0)
       go (snoc ds d e) =
-          let s = snoc-same texts (map spell (planOf (i .start) ds)) text (spell (placementLine d)) (i .form .spelled ∙ ap (λ (ds : List PlacementLine). map spell (planOf (i .start) ds)) e ∙ texts-snoc (i .start) ds d) in
+          let s = snoc-same texts (map spell (planOf (i .start) ds)) text (spell (placementLine d)) (i .form .spelled
+          ∙ ap (λ (ds : List PlacementLine). map spell (planOf (i .start) ds)) e ∙ texts-snoc (i .start) ds d) in
           let f = all-parts (fits r) (planOf (i .start) ds) (placementLine d ∷ [])
           (subst (λ (ls : List PlanLine). all (fits r) ls ≡ true) (ap (planOf (i .start)) e ∙ lines-snoc (i .start) ds d) (i .form .fit)) in
           let u = and-true (rises 0 (codes ds)) (leb (codeAfter 0 (codes ds)) (lineCode r d))
           (sym (rises-snoc 0 (codes ds) (lineCode r d)) ∙ ap (rises 0) (sym (ap codes e ∙ map-append (lineCode r) ds (d ∷ []))) ∙ i .form .rising) in
-          more (i .start) ds d (record { spelled = s .front; fit = f .0; rising = u .0 }) (s .last) (and-true (fits r (placementLine d)) true (f .1) .0) (leb-true (codeAfter 0 (codes ds)) (lineCode r d) (u .1))
+          more (i .start) ds d (record { spelled = s .front; fit = f .0; rising = u .0 }) (s .last)
+          (and-true (fits r (placementLine d)) true (f .1) .0)
+          (leb-true (codeAfter 0 (codes ds)) (lineCode r d) (u .1))
 
   -- of texts in form, so many from the first on are in form too, unless they are none
   pub form-front : (bs xs : List (List ℕ)) (x : List ℕ) → InForm r ((xs ++ (x ∷ [])) ++ bs) → InForm r (xs ++ (x ∷ []))

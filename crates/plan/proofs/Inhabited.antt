@@ -71,7 +71,9 @@ kept new e = record { as-long = e; past = λ p l. List·getD-eq-default new 0 {n
 
 -- a solver that keeps its promise
 post : SolverPost yardA (Figure 2) lent lent figsA setsA
-unfolding caseRefusal tablesShort first weightRow weightOf unknownRow joinRow looseRow chainRow longer placeRow endAt joinedBy joined hasSignal legsOf trainOf withJoin withSignal withLegs withTrain anyBelow startCode codeOf sumBelow listBelow isClosed
+unfolding caseRefusal tablesShort first weightRow weightOf unknownRow joinRow looseRow chainRow longer placeRow endAt
+    joinedBy joined hasSignal legsOf trainOf withJoin withSignal withLegs withTrain anyBelow startCode codeOf
+    sumBelow listBelow isClosed
 post = record { numbered = refl; leaves = (record { filled = yardA-filled; kept-figs = kept figsA refl; kept-sets = kept setsA refl }, refl) }
 
 pub demand : Demand3 yardA (Figure 2) figsA setsA
@@ -138,7 +140,13 @@ pub computed :
     × (endsLine textA ≡ true)
     × (emitLines yardA figsA setsA Top widest ≡ record { answer = Line 37 (From 8); buffer = textA ++ replicate 8 7 })
     × (emitLines yardA figsA setsA (From 8) (textA ++ replicate 8 7) ≡ record { answer = End; buffer = textA ++ replicate 8 7 })
-unfolding lowest flatten ownBytes endsLine othersLeft callFronts takeFront frontOf linesOf emitLines runFrom emitLine longEnough planTexts planLines lineFor ownTexts othersRefused bytes callLines takeLine testPlan caseRefusal tablesShort first weightRow weightOf unknownRow joinRow looseRow chainRow longer placeRow endAt joinedBy joined hasSignal legsOf trainOf withJoin withSignal withLegs withTrain allBelow anyBelow sumBelow whichBelow listBelow fromBits any all readLine guess fields valueOf sameText spell line digits fits entryFrom codeOf testHolds placementPasses listedSetting keepsTest sectionsIn standsOn startCode atHome shared headsFor mayMove free held signalOpen passes follow occupied moveOf entered isClosed
+unfolding lowest flatten ownBytes endsLine othersLeft callFronts takeFront frontOf linesOf emitLines runFrom emitLine
+    longEnough planTexts planLines lineFor ownTexts othersRefused bytes callLines takeLine testPlan caseRefusal
+    tablesShort first weightRow weightOf unknownRow joinRow looseRow chainRow longer placeRow endAt joinedBy joined
+    hasSignal legsOf trainOf withJoin withSignal withLegs withTrain allBelow anyBelow sumBelow whichBelow listBelow
+    fromBits any all readLine guess fields valueOf sameText spell line digits fits entryFrom codeOf testHolds
+    placementPasses listedSetting keepsTest sectionsIn standsOn startCode atHome shared headsFor mayMove free held
+    signalOpen passes follow occupied moveOf entered isClosed
 computed = (refl, refl, refl, refl, refl, refl, refl, refl, refl, refl, refl, refl, refl, refl, refl, refl)
 
 -- so demand 3 speaks of calls that there are: the emitter's with a buffer for each line, and with one of the most bytes, which is handed on

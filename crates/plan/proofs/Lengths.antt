@@ -63,7 +63,13 @@ at-most r ok (placementLine d) e =
     let s₂ : length (decimal (d .figure)) ≤ 10 = digits-length 10 (d .figure) in
     let s₃ : length (openField (d .opens)) ≤ 4 =
     or-length (byte "0") (map trainDigit (whichBelow (λ t. getD (d .opens) t false) (length (d .opens)))) 4
-    (omega (arith, length-map (whichBelow (λ t. getD (d .opens) t false) (length (d .opens))) trainDigit, which-length (λ t. getD (d .opens) t false) (length (d .opens)), ok .few-trains, f .opened)) (omega arith) in
+    (omega (
+      arith,
+      length-map (whichBelow (λ t. getD (d .opens) t false) (length (d .opens))) trainDigit,
+      which-length (λ t. getD (d .opens) t false) (length (d .opens)),
+      ok .few-trains,
+      f .opened,
+    )) (omega arith) in
     let s₄ : length (pointField (d .plus)) ≤ 16 = or-length (byte ".") (map sign (d .plus)) 16 (omega (arith, length-map (d .plus) sign, ok .few-points, f .pointed)) (omega arith) in
     rw (lines-total (d .sections) (decimal (d .figure)) (openField (d .opens) ∷ pointField (d .plus) ∷ [])) (omega (arith, ok .few-trains, f .each-train))
 

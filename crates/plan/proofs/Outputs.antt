@@ -24,7 +24,8 @@ use Rattle.plan.proofs.Plan.{texts-one}
 writes : (r : Railway) (s : String) (figs sets : List ℕ) → recordRefusal r ≡ none → Filled r figs sets → planText r figs sets ≡ bytes s → Writes r (some s)
 writes r s figs sets a f e = λ figs′ sets′ g. ap flatten (texts-one r a figs′ sets′ figs sets g f) ∙ e
 
-computed : (planText yardA figsA setsA ≡ bytes planA) × (planText yardALess figsA setsA ≡ bytes planA) × (planText yardOne (0 ∷ []) zeros ≡ bytes planOne) × (planText yardOneDown (0 ∷ []) zeros ≡ bytes planOne)
+computed : (planText yardA figsA setsA ≡ bytes planA) × (planText yardALess figsA setsA ≡ bytes planA)
+    × (planText yardOne (0 ∷ []) zeros ≡ bytes planOne) × (planText yardOneDown (0 ∷ []) zeros ≡ bytes planOne)
 unfolding flatten bytes planTexts planLines lineFor spell digits line sumBelow whichBelow listBelow sectionsIn startCode codeOf trainOf withJoin withSignal withLegs withTrain
 computed = (refl, refl, refl, refl)
 

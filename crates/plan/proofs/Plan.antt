@@ -58,7 +58,11 @@ which-rises f zero = record { rising = refl; next = omega arith }
 which-rises f (suc k) = go (f k) (which-rises f k)
   where
     go : (b : Bool) → Rises k (whichBelow f k) → Rises (suc k) (whichBelow f k ++ cond b (k ∷ []) [])
-    go true h = record { rising = rises-snoc 0 (whichBelow f k) k ∙ and-both (rises 0 (whichBelow f k)) (leb (codeAfter 0 (whichBelow f k)) k) (h .rising) (le-leb (codeAfter 0 (whichBelow f k)) k (h .next)); next = rw (code-after-snoc 0 (whichBelow f k) k) (omega arith) }
+    go true h = record {
+      rising = rises-snoc 0 (whichBelow f k) k ∙ and-both (rises 0 (whichBelow f k))
+          (leb (codeAfter 0 (whichBelow f k)) k) (h .rising) (le-leb (codeAfter 0 (whichBelow f k)) k (h .next));
+      next = rw (code-after-snoc 0 (whichBelow f k) k) (omega arith);
+    }
     go false h = rw (append-nil (whichBelow f k)) (record { rising = h .rising; next = omega (arith, h .next) })
 
 map-itself : (xs : List ℕ) → map (λ x. x) xs ≡ xs

@@ -38,7 +38,8 @@ pub record Fits (r : Railway) (d : PlacementLine) : Type 0 where
 pub fits-parts : (r : Railway) (d : PlacementLine) → fits r (placementLine d) ≡ true → Fits r d
 unfolding fits
 fits-parts r d e =
-    let a = five (eqb (length (d .sections)) (r .trains)) (all (λ x. ltb x (r .sections)) (d .sections)) (ltb (d .figure) noFigure) (eqb (length (d .opens)) (r .trains)) (eqb (length (d .plus)) (r .points)) e in
+    let a = five (eqb (length (d .sections)) (r .trains)) (all (λ x. ltb x (r .sections)) (d .sections))
+    (ltb (d .figure) noFigure) (eqb (length (d .opens)) (r .trains)) (eqb (length (d .plus)) (r .points)) e in
     record {
       each-train = eqb-true (length (d .sections)) (r .trains) (a .0);
       there = a .1;
@@ -98,7 +99,9 @@ unfolding all
 cut-placement [] d =
     let p = and-true (all isPlain (decimal (d .figure))) (all (all isPlain) (openField (d .opens) ∷ pointField (d .plus) ∷ [])) (last-plain d) in
     cut-line (decimal (d .figure)) (openField (d .opens) ∷ pointField (d .plus) ∷ []) (p .0) (p .1)
-cut-placement (x ∷ xs) d = cut-line (decimal (suc x)) (map sectionField xs ++ lastFields d) (decimal-plain (suc x)) (all-append (all isPlain) (map sectionField xs) (lastFields d) (sections-plain xs) (last-plain d))
+cut-placement (x ∷ xs) d =
+    cut-line (decimal (suc x)) (map sectionField xs ++ lastFields d) (decimal-plain (suc x))
+    (all-append (all isPlain) (map sectionField xs) (lastFields d) (sections-plain xs) (last-plain d))
 
 cut-start : (n : ℕ) → fields (line (planWord ∷ decimal n ∷ [])) ≡ planWord ∷ decimal n ∷ []
 unfolding bytes all isPlain
@@ -171,12 +174,25 @@ module _ (r : Railway) (s : r .sections < noFigure) where
   guess-placement d f =
       let k : length (map sectionField (d .sections)) ≡ r .trains = length-map (d .sections) sectionField ∙ f .each-train in
       let t : take (r .trains) (map sectionField (d .sections) ++ lastFields d) ≡ map sectionField (d .sections) = take-at (map sectionField (d .sections)) (lastFields d) (r .trains) k in
-      let g₀ : getD (map sectionField (d .sections) ++ lastFields d) (r .trains) [] ≡ decimal (d .figure) = getD-at (map sectionField (d .sections)) (decimal (d .figure)) (openField (d .opens) ∷ pointField (d .plus) ∷ []) [] (r .trains) k in
+      let g₀ : getD (map sectionField (d .sections) ++ lastFields d) (r .trains) [] ≡ decimal (d .figure) =
+      getD-at (map sectionField (d .sections)) (decimal (d .figure))
+      (openField (d .opens) ∷ pointField (d .plus) ∷ []) [] (r .trains) k in
       let g₁ : getD (map sectionField (d .sections) ++ lastFields d) (r .trains + 1) [] ≡ openField (d .opens) =
-      (let h : getD (map sectionField (d .sections) ++ lastFields d) (length (map sectionField (d .sections)) + 1) [] ≡ openField (d .opens) = getD-append-add (map sectionField (d .sections)) (lastFields d) 1 [] in rw k at h) in
+      (let h : getD (map sectionField (d .sections) ++ lastFields d) (length (map sectionField (d .sections)) + 1) []
+      ≡ openField (d .opens) = getD-append-add (map sectionField (d .sections)) (lastFields d) 1 [] in rw k at h) in
       let g₂ : getD (map sectionField (d .sections) ++ lastFields d) (r .trains + 2) [] ≡ pointField (d .plus) =
-      (let h : getD (map sectionField (d .sections) ++ lastFields d) (length (map sectionField (d .sections)) + 2) [] ≡ pointField (d .plus) = getD-append-add (map sectionField (d .sections)) (lastFields d) 2 [] in rw k at h) in
-      rw (t, g₀, g₁, g₂, sections-back (d .sections) (r .sections) s (f .there), value-decimal (d .figure) (omega (arith, f .figured)), open-back (d .opens) (r .trains) (f .opened), points-back (d .plus) (r .points) (f .pointed))
+      (let h : getD (map sectionField (d .sections) ++ lastFields d) (length (map sectionField (d .sections)) + 2) []
+      ≡ pointField (d .plus) = getD-append-add (map sectionField (d .sections)) (lastFields d) 2 [] in rw k at h) in
+      rw (
+        t,
+        g₀,
+        g₁,
+        g₂,
+        sections-back (d .sections) (r .sections) s (f .there),
+        value-decimal (d .figure) (omega (arith, f .figured)),
+        open-back (d .opens) (r .trains) (f .opened),
+        points-back (d .plus) (r .points) (f .pointed),
+      )
 
   guess-right : (l : PlanLine) → fits r l ≡ true → guess r (fields (spell l)) ≡ l
   unfolding bytes guess spell sameText fits

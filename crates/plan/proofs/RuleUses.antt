@@ -95,16 +95,19 @@ emit-leaves r figs sets place b b′ a p e = p .buffer ∙ emit-rule r figs sets
 numbered : (a : Emitted) (b′ : List ℕ) (x : LineAnswer) (c₁ : Checking) (t : TestAnswer) (c₂ : Checking)
     → EmitterPost yardA (replicate 8 7) (replicate 9 7) Top [] a b′ → LinePost yardA (freshChecking 8 9) [] x c₁ → TestPost yardA (freshChecking 9 8) t c₂
     → (numberGiven a ≡ some 9) × (lineNumber x ≡ some 9) × (testNumber t ≡ some 9)
-unfolding tablesShort first weightRow weightOf unknownRow joinRow looseRow chainRow longer placeRow endAt joinedBy joined hasSignal legsOf trainOf withJoin withSignal withLegs withTrain anyBelow isClosed
+unfolding tablesShort first weightRow weightOf unknownRow joinRow looseRow chainRow longer placeRow endAt joinedBy
+    joined hasSignal legsOf trainOf withJoin withSignal withLegs withTrain anyBelow isClosed
 numbered a b′ x c₁ t c₂ p q u = (p .numbered, q .numbered, u .numbered)
 
 -- THE EMITTER'S RULE, of anything that a call may have left. In Yard A the line from code 3 on has ten bytes.
 refused-first : (w : Wrote) → EmitRule yardA (replicate 8 7) (replicate 9 7) Top [] w → w .answer ≡ EmitRefused Space
-unfolding caseRefusal tablesShort first weightRow weightOf unknownRow joinRow looseRow chainRow longer placeRow endAt joinedBy joined hasSignal legsOf trainOf withJoin withSignal withLegs withTrain anyBelow isClosed
+unfolding caseRefusal tablesShort first weightRow weightOf unknownRow joinRow looseRow chainRow longer placeRow endAt
+    joinedBy joined hasSignal legsOf trainOf withJoin withSignal withLegs withTrain anyBelow isClosed
 refused-first w rule = rule .first Space refl
 
 unrefused : caseRefusal yardA figsA setsA ≡ none
-unfolding caseRefusal tablesShort first weightRow weightOf unknownRow joinRow looseRow chainRow longer placeRow endAt joinedBy joined hasSignal legsOf trainOf withJoin withSignal withLegs withTrain anyBelow isClosed
+unfolding caseRefusal tablesShort first weightRow weightOf unknownRow joinRow looseRow chainRow longer placeRow endAt
+    joinedBy joined hasSignal legsOf trainOf withJoin withSignal withLegs withTrain anyBelow isClosed
 unrefused = refl
 
 abbrev last-line : Due
@@ -213,8 +216,12 @@ otherLines =
 abbrev pub otherTexts : String → List (List ℕ)
 otherTexts first = bytes first ∷ bytes "2\t1\t8\t1\t-\n" ∷ bytes "3\t1\t7\t0\t+\n" ∷ bytes "2\t3\t9\t0\t+\n" ∷ []
 
-forms : Form yardA (otherTexts "plan\t9\n") 9 otherLines × Form yardA (otherTexts "plan\t8\n") 8 otherLines × (testHolds yardA 9 (byLines yardA otherLines) ≡ true) × (testHolds yardA 8 (byLines yardA otherLines) ≡ false)
-unfolding bytes all rises spell line digits fits allBelow anyBelow sumBelow whichBelow listBelow codeOf testHolds placementPasses listedSetting lineOn keepsTest sectionsIn standsOn startCode atHome shared headsFor held mayMove signalOpen free passes follow occupied moveOf endAt joinedBy joined hasSignal trainOf weightOf withJoin withSignal withLegs withTrain entered isClosed
+forms : Form yardA (otherTexts "plan\t9\n") 9 otherLines × Form yardA (otherTexts "plan\t8\n") 8 otherLines
+    × (testHolds yardA 9 (byLines yardA otherLines) ≡ true) × (testHolds yardA 8 (byLines yardA otherLines) ≡ false)
+unfolding bytes all rises spell line digits fits allBelow anyBelow sumBelow whichBelow listBelow codeOf testHolds
+    placementPasses listedSetting lineOn keepsTest sectionsIn standsOn startCode atHome shared headsFor held mayMove
+    signalOpen free passes follow occupied moveOf endAt joinedBy joined hasSignal trainOf weightOf withJoin withSignal
+    withLegs withTrain entered isClosed
 forms = (record { spelled = refl; fit = refl; rising = refl }, record { spelled = refl; fit = refl; rising = refl }, refl, refl)
 
 passed : Test yardA 9 (byLines yardA otherLines)
@@ -278,7 +285,9 @@ early-other : (answers : List LineAnswer) (end : Checking) → Checked yardA [] 
 early-other answers end k = k .early .1 refl
 
 -- behind the first line: the next is taken, and a text that is no line is not
-firsts : Form yardA (bytes "plan\t9\n" ∷ []) 9 [] × Form yardA (bytes "plan\t9\n" ∷ bytes "2\t1\t8\t1\t-\n" ∷ []) 9 (record { sections = 1 ∷ 0 ∷ []; figure = 8; opens = true ∷ false ∷ []; plus = false ∷ [] } ∷ []) × (readLine yardA (bytes "2\t3") ≡ none)
+firsts : Form yardA (bytes "plan\t9\n" ∷ []) 9 [] × Form yardA (bytes "plan\t9\n" ∷ bytes "2\t1\t8\t1\t-\n" ∷ []) 9
+    (record { sections = 1 ∷ 0 ∷ []; figure = 8; opens = true ∷ false ∷ []; plus = false ∷ [] } ∷ [])
+    × (readLine yardA (bytes "2\t3") ≡ none)
 unfolding bytes all rises spell line digits fits allBelow anyBelow sumBelow whichBelow listBelow codeOf any readLine guess fields valueOf sameText withJoin withSignal withLegs withTrain
 firsts = (record { spelled = refl; fit = refl; rising = refl }, record { spelled = refl; fit = refl; rising = refl }, refl)
 
@@ -292,7 +301,18 @@ module _ (answers : List LineAnswer) (taken : List (List ℕ)) (end : Checking) 
   first-taken = k .whole (record { start = 9; lines = []; form = firsts .0; holds = tt })
 
   next-taken : isTaken (takeLine yardA end (bytes "2\t1\t8\t1\t-\n") .answer) ≡ true
-  next-taken = k .more (bytes "2\t1\t8\t1\t-\n") .1 (rw first-taken (record { start = 9; lines = record { sections = 1 ∷ 0 ∷ []; figure = 8; opens = true ∷ false ∷ []; plus = false ∷ [] } ∷ []; form = firsts .1; holds = tt }))
+  next-taken =
+      k .more (bytes "2\t1\t8\t1\t-\n") .1 (rw first-taken (record {
+        start = 9;
+        lines = record {
+          sections = 1 ∷ 0 ∷ [];
+          figure = 8;
+          opens = true ∷ false ∷ [];
+          plus = false ∷ [];
+        } ∷ [];
+        form = firsts .1;
+        holds = tt;
+      }))
 
   half-not : isTaken (takeLine yardA end (bytes "2\t3") .answer) ≡ false
   half-not = not-true (isTaken (takeLine yardA end (bytes "2\t3") .answer)) (λ e. no-line taken (form-last yardA taken (bytes "2\t3") (k .more (bytes "2\t3") .0 e)))
@@ -304,7 +324,8 @@ followed L t c = plan-works yardA yardA-accepted 2 L t c
 
 -- FRESH TABLES: eight entries are too few for Yard A, which is number 9, and both tables stay as they were
 pub fresh-kept : (a : CaseAnswer) (c : Checking) → FreshPost yardA (replicate 8 5) (replicate 9 6) a c → (caseNumber a ≡ some 9) × (c .figs ≡ replicate 8 5) × (c .sets ≡ replicate 9 6)
-unfolding caseRefusal tablesShort first weightRow weightOf unknownRow joinRow looseRow chainRow longer placeRow endAt joinedBy joined hasSignal legsOf trainOf withJoin withSignal withLegs withTrain anyBelow isClosed
+unfolding caseRefusal tablesShort first weightRow weightOf unknownRow joinRow looseRow chainRow longer placeRow endAt
+    joinedBy joined hasSignal legsOf trainOf withJoin withSignal withLegs withTrain anyBelow isClosed
 fresh-kept a c p = (p .numbered, ap (λ (x : Checking). x .figs) (p .checking), ap (λ (x : Checking). x .sets) (p .checking))
 
 -- WITH ALL WEIGHTS 1, as Yard A has them: whoever says that plans are as before says that the plan by another maker passes the test in turns, and does not with another

@@ -182,8 +182,10 @@ module _ (r : Railway) (c : Checking) (text : List ℕ) where
               (getD-set-other (c .figs) (lineCode r d) p (d .figure) 0 z, getD-set-other (c .sets) (lineCode r d) p (lineEntry r d) 0 z)
               );
           own-code = λ k s p. subst (λ (x : PlacementLine). (getD (set (c .figs) (lineCode r d) (d .figure)) (lineCode r x) 0 ≡ x .figure)
-              × (getD (set (c .sets) (lineCode r d) (lineEntry r d)) (lineCode r x) 0 ≡ lineEntry r x)) (same k s)
-              (getD-set-same (c .figs) (lineCode r d) (d .figure) 0 (omega (arith, inside, long .figures)), getD-set-same (c .sets) (lineCode r d) (lineEntry r d) 0 (omega (arith, inside, long .settings)));
+              × (getD (set (c .sets) (lineCode r d) (lineEntry r d)) (lineCode r x) 0 ≡ lineEntry r x)) (same k s) (
+                getD-set-same (c .figs) (lineCode r d) (d .figure) 0 (omega (arith, inside, long .figures)),
+                getD-set-same (c .sets) (lineCode r d) (lineEntry r d) 0 (omega (arith, inside, long .settings)),
+              );
         })
       where
         inside : lineCode r d < placements r

@@ -72,7 +72,9 @@ module _ (r : Railway) (figs sets : List ℕ) where
     by-line {m} start l c e = elim (lt? (length b) (length (spell l))) [
       | inl h ↦ let w : lineWritten (spell l) (From c) b ≡ leaves (Refused Space) b = rw (lt-ltb (length b) (length (spell l)) h) in
           clash (ap isLine e) (ap (λ (x : Wrote). isLine (x .answer)) w)
-      | inr h ↦ let w : lineWritten (spell l) (From c) b ≡ record { answer = Line (length (spell l)) (From c); buffer = spell l ++ drop (length (spell l)) b } = rw (le-ltb (length b) (length (spell l)) h) in
+      | inr h ↦ let w : lineWritten (spell l) (From c) b
+          ≡ record { answer = Line (length (spell l)) (From c); buffer = spell l ++ drop (length (spell l)) b } =
+          rw (le-ltb (length b) (length (spell l)) h) in
           let z : Line (length (spell l)) (From c) ≡ Line n next = sym (ap (λ (x : Wrote). x .answer) w) ∙ e in
           let k = same-bytes z in
           let some = spell-some l in
@@ -192,7 +194,9 @@ module _ (r : Railway) (figs sets : List ℕ) where
       after m p q = λ i. runBehind (at + length l) (p i) (runFrom r figs sets m next (q i))
 
       twice : (run : Run) → runBehind (at + length l) (take at b ++ l) run ≡ runBehind at (take at b) (runBehind (length l) l run)
-      twice run = let z : (at + length l) + run .bytes ≡ at + (length l + run .bytes) = omega arith in λ i. record { bytes = z i; next = run .next; buffer = append-assoc (take at b) l (run .buffer) i }
+      twice run =
+          let z : (at + length l) + run .bytes ≡ at + (length l + run .bytes) = omega arith in
+          λ i. record { bytes = z i; next = run .next; buffer = append-assoc (take at b) l (run .buffer) i }
 
       as-long : length (take at b ++ l ++ drop (at + length l) b) ≡ length b
       as-long = simp (length-append, length-take, length-drop) (omega arith)
@@ -317,7 +321,9 @@ module _ (r : Railway) (figs sets : List ℕ) (unrefused : caseRefusal r figs se
           (ran-one b l (flatten (from next)) (runFrom r figs sets most next (drop (length l) b)) (more next (drop (length l) b) (omega (arith, d, s .byte, m)) (omega (arith, d, k, room))))
 
   -- the first line is always due
-  top-line : (b : List ℕ) → length (flatten (from Top)) ≤ length b → runWrote b (runFrom r figs sets (length b) Top b) (emitLine r figs sets Top b .answer) ≡ ranWhole (runFrom r figs sets (length b) Top b)
+  top-line : (b : List ℕ) → length (flatten (from Top)) ≤ length b
+      → runWrote b (runFrom r figs sets (length b) Top b) (emitLine r figs sets Top b .answer)
+      ≡ ranWhole (runFrom r figs sets (length b) Top b)
   top-line b room = go (from Top) (call r figs sets unrefused n start Top b) refl room
     where
       go : (ls : List (List ℕ)) → Call r figs sets unrefused n start Top b ls → from Top ≡ ls → length (flatten ls) ≤ length b

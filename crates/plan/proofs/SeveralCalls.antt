@@ -64,7 +64,8 @@ module _ (r : Railway) (figs sets : List ℕ) (unrefused : caseRefusal r figs se
   part-none : (place : PlanPlace) (b : List ℕ) → Part place b (noRun place b)
   part-none place b = record { lines = []; rest = refl; bytes = ap length (sym flatten-none); within = rw flatten-none (omega arith); buffer = rw flatten-none refl }
 
-  part-one : (place next : PlanPlace) (b l : List ℕ) (run : Run) → linesFrom place ≡ l ∷ linesFrom next → length l ≤ length b → Part next (drop (length l) b) run → Part place b (runBehind (length l) l run)
+  part-one : (place next : PlanPlace) (b l : List ℕ) (run : Run) → linesFrom place ≡ l ∷ linesFrom next
+      → length l ≤ length b → Part next (drop (length l) b) run → Part place b (runBehind (length l) l run)
   part-one place next b l run e fits k =
       let f : flatten (l ∷ k .lines) ≡ l ++ flatten (k .lines) = flatten-first l (k .lines) in
       let m : length (flatten (l ∷ k .lines)) ≡ length l + length (flatten (k .lines)) = ap length f ∙ length-append l (flatten (k .lines)) in
@@ -102,7 +103,9 @@ module _ (r : Railway) (figs sets : List ℕ) (unrefused : caseRefusal r figs se
 
   flatten-both : (ls ms : List (List ℕ)) → flatten (ls ++ ms) ≡ flatten ls ++ flatten ms
   flatten-both [] ms = rw flatten-none refl
-  flatten-both (l ∷ ls) ms = flatten-first l (ls ++ ms) ∙ ap (λ (x : List ℕ). l ++ x) (flatten-both ls ms) ∙ sym (append-assoc l (flatten ls) (flatten ms)) ∙ ap (λ (x : List ℕ). x ++ flatten ms) (sym (flatten-first l ls))
+  flatten-both (l ∷ ls) ms =
+      flatten-first l (ls ++ ms) ∙ ap (λ (x : List ℕ). l ++ x) (flatten-both ls ms)
+      ∙ sym (append-assoc l (flatten ls) (flatten ms)) ∙ ap (λ (x : List ℕ). x ++ flatten ms) (sym (flatten-first l ls))
 
   abbrev ByLines : List ℕ → List (List ℕ) → Type 0
   ByLines b ls = all (λ l. leb (length l) (length b)) ls ≡ true
@@ -294,7 +297,8 @@ module _ (r : Railway) (accepted : recordRefusal r ≡ none) where
   front-step own other more taken c c′ a k whole i p few =
       let t : Through taken (linesOf own) c = through (linesOf own) more taken c k i in
       let is : frontOf r (linesOf (own ++ other)) c ≡ frontBehind (length own) (frontOf r (linesOf other) (t .end)) =
-      ap (λ (ls : List (List ℕ)). frontOf r ls c) (lines-both own other whole) ∙ t .front (linesOf other) ∙ ap (λ (x : List ℕ). frontBehind (length x) (frontOf r (linesOf other) (t .end))) (lines-all own) in
+      ap (λ (ls : List (List ℕ)). frontOf r ls c) (lines-both own other whole) ∙ t .front (linesOf other)
+      ∙ ap (λ (x : List ℕ). frontBehind (length x) (frontOf r (linesOf other) (t .end))) (lines-all own) in
       let w : takeFront r c (own ++ other) ≡ left (Took (length own + frontOf r (linesOf other) (t .end) .bytes)) (frontOf r (linesOf other) (t .end) .checking) =
       by-front (own ++ other) (C.unrefused-holds r accepted taken c k) (frontBehind (length own) (frontOf r (linesOf other) (t .end))) is in
       let answer : a ≡ Took (length own + frontOf r (linesOf other) (t .end) .bytes) = p .answer ∙ ap (λ (x : Left FrontAnswer). x .answer) w in
@@ -313,7 +317,8 @@ module _ (r : Railway) (accepted : recordRefusal r ≡ none) where
     answers : u .answers ≡ map (λ h. Took (length (h .own))) hs
     holds : Holds r accepted (taken ++ linesOf (ownBytes hs)) (u .end)
 
-  fronts : (hs : List HandedFront) (taken : List (List ℕ)) (c : Checking) (u : FrontCalls) → Holds r accepted taken c → InForm r (taken ++ linesOf (ownBytes hs)) → all (λ h. endsLine (h .own)) hs ≡ true
+  fronts : (hs : List HandedFront) (taken : List (List ℕ)) (c : Checking) (u : FrontCalls) → Holds r accepted taken c
+      → InForm r (taken ++ linesOf (ownBytes hs)) → all (λ h. endsLine (h .own)) hs ≡ true
       → TakingFronts r c (map frontText hs) u → othersLeft hs (u .answers) ≡ true → Fronts taken hs u
   unfolding ownBytes linesOf all othersLeft
   fronts [] taken c u k i e (no-more _) o = record { answers = refl; holds = subst (λ (ts : List (List ℕ)). Holds r accepted ts c) (sym (append-nil taken)) k }
@@ -321,7 +326,9 @@ module _ (r : Railway) (accepted : recordRefusal r ≡ none) where
       let f = and-true (endsLine (h .own)) (all (λ h. endsLine (h .own)) hs) e in
       let g = and-true (leb (bytesTaken a) (length (h .own))) (othersLeft hs (v .answers)) o in
       let cut : linesOf (h .own ++ ownBytes hs) ≡ linesOf (h .own) ++ linesOf (ownBytes hs) = lines-both (h .own) (ownBytes hs) (f .0) in
-      let s = front-step (h .own) (h .other) (linesOf (ownBytes hs)) taken c c′ a k (f .0) (subst (λ (ls : List (List ℕ)). InForm r (taken ++ ls)) cut i) p (leb-true (bytesTaken a) (length (h .own)) (g .0)) in
+      let s = front-step (h .own) (h .other) (linesOf (ownBytes hs)) taken c c′ a k (f .0)
+      (subst (λ (ls : List (List ℕ)). InForm r (taken ++ ls)) cut i) p
+      (leb-true (bytesTaken a) (length (h .own)) (g .0)) in
       let regroup : (taken ++ linesOf (h .own)) ++ linesOf (ownBytes hs) ≡ taken ++ linesOf (h .own ++ ownBytes hs) =
       append-assoc taken (linesOf (h .own)) (linesOf (ownBytes hs)) ∙ ap (λ (ls : List (List ℕ)). taken ++ ls) (sym cut) in
       let x : Fronts (taken ++ linesOf (h .own)) hs v = fronts hs (taken ++ linesOf (h .own)) c′ v (s .1) (subst (InForm r) (sym regroup) i) (f .1) calls (g .1) in
@@ -329,7 +336,9 @@ module _ (r : Railway) (accepted : recordRefusal r ≡ none) where
 
   -- texts that have a passing plan in front
   pub passed-fronts : (figs sets : List ℕ) (made : CaseAnswer) (c : Checking) → placements r ≤ length figs → placements r ≤ length sets → FreshPost r figs sets made c
-      → (hs : List HandedFront) (u : FrontCalls) → TakingFronts r c (map frontText hs) u → Passing r (linesOf (ownBytes hs)) → all (λ h. endsLine (h .own)) hs ≡ true → othersLeft hs (u .answers) ≡ true
+      → (hs : List HandedFront) (u : FrontCalls) → TakingFronts r c (map frontText hs) u
+      → Passing r (linesOf (ownBytes hs)) → all (λ h. endsLine (h .own)) hs ≡ true
+      → othersLeft hs (u .answers) ≡ true
       → (test : TestAnswer) (c′ : Checking) → TestPost r (u .end) test c′ → PassedFronts hs (u .answers) test
   passed-fronts figs sets made c lf ls p hs u calls y cut others test c′ q =
       let k : Holds r accepted [] c = C.fresh-holds r accepted c (fresh-made r figs sets made c accepted lf ls p) in

@@ -93,7 +93,9 @@ none-other (l ∷ ls) [] = refl
 none-other (l ∷ ls) (x ∷ answers) = none-other ls answers
 
 empty-out : isTaken (takeLine yardA madeFresh [] .answer) ≡ false
-unfolding bytes takeLine tablesShort first weightRow weightOf unknownRow joinRow looseRow chainRow longer placeRow endAt joinedBy joined hasSignal legsOf trainOf withJoin withSignal withLegs withTrain anyBelow listBelow any all readLine guess fields valueOf sameText spell line digits fits whichBelow isClosed
+unfolding bytes takeLine tablesShort first weightRow weightOf unknownRow joinRow looseRow chainRow longer placeRow endAt
+    joinedBy joined hasSignal legsOf trainOf withJoin withSignal withLegs withTrain anyBelow listBelow any all readLine
+    guess fields valueOf sameText spell line digits fits whichBelow isClosed
 empty-out = refl
 
 -- YARD A
@@ -227,7 +229,9 @@ module _ (a : SolverAnswer) (figs sets : List ℕ) (d : Demand3 yardA a figs set
       handed-on : (e .last ≡ some End) × (test ≡ Pass)
       unfolding ownTexts
       handed-on =
-          let x = d .chain 2 at-start buffer e emitted long lent wider made c (omega (arith, nine)) (omega (arith, nine)) fresh (behindEmpty (e .lines)) u calls (own-are (e .lines)) empty-refused test c′ tested in
+          let x =
+          d .chain 2 at-start buffer e emitted long lent wider made c (omega (arith, nine)) (omega (arith, nine))
+          fresh (behindEmpty (e .lines)) u calls (own-are (e .lines)) empty-refused test c′ tested in
           (x .0, x .1 .passes)
 
     -- `checks-fronts`: of two texts with the plan's lines in front it takes 17 and 20 bytes, and the test answers pass
@@ -238,7 +242,8 @@ module _ (a : SolverAnswer) (figs sets : List ℕ) (d : Demand3 yardA a figs set
       takes-fronts : (u .answers ≡ Took 17 ∷ Took 20 ∷ []) × (test ≡ Pass)
       unfolding bytes
       takes-fronts =
-          let x = d .checks-fronts 2 at-start lent wider made c (omega (arith, nine)) (omega (arith, nine)) fresh handedFronts u calls (computed .9 ∙ sym text-is) (computed .10) left-over test c′ tested in
+          let x = d .checks-fronts 2 at-start lent wider made c (omega (arith, nine)) (omega (arith, nine)) fresh
+          handedFronts u calls (computed .9 ∙ sym text-is) (computed .10) left-over test c′ tested in
           (x .taken, x .passes)
 
     -- `chain-lines`: whatever text the emitter's calls gave is handed on as one; the calls have come to the end, all 37 bytes are taken, and the test answers pass
@@ -255,7 +260,9 @@ module _ (a : SolverAnswer) (figs sets : List ℕ) (d : Demand3 yardA a figs set
       text-handed-on : (w .last ≡ End) × (u .answers ≡ Took 37 ∷ []) × (test ≡ Pass)
       unfolding bytes ownBytes all
       text-handed-on =
-          let x = d .chain-lines 2 at-start buffer w emitted long lent wider made c (omega (arith, nine)) (omega (arith, nine)) fresh (record { own = w .text; other = [] } ∷ []) u calls (append-nil (w .text)) (rw (text-given, computed .13) refl) all-own test c′ tested in
+          let x = d .chain-lines 2 at-start buffer w emitted long lent wider made c
+          (omega (arith, nine)) (omega (arith, nine)) fresh (record { own = w .text; other = [] } ∷ []) u calls
+          (append-nil (w .text)) (rw (text-given, computed .13) refl) all-own test c′ tested in
           (x .0, x .1 .taken ∙ ap (λ (t : List ℕ). Took (length t) ∷ []) text-given, x .1 .passes)
 
 -- WITHOUT A PLAN: in the yard with trains head on

@@ -125,7 +125,8 @@ module _ (q : Placement) (t x : ℕ) {o o₁ : List ℕ} {a a₁ : ℕ} where
   section-piece is p = rw (← is, ← add-one x) p
 
 -- THE LINES
-pub start-spelled : {o o₁ o₂ : List ℕ} {a a₁ a₂ : ℕ} (n : ℕ) → Appended o a (planWord ++ (tab ∷ [])) o₁ a₁ → Appended o₁ a₁ (decimal n ++ (lineEnd ∷ [])) o₂ a₂ → Appended o a (spell (startLine n)) o₂ a₂
+pub start-spelled : {o o₁ o₂ : List ℕ} {a a₁ a₂ : ℕ} (n : ℕ) → Appended o a (planWord ++ (tab ∷ [])) o₁ a₁
+    → Appended o₁ a₁ (decimal n ++ (lineEnd ∷ [])) o₂ a₂ → Appended o a (spell (startLine n)) o₂ a₂
 unfolding spell
 start-spelled n p d = line-more planWord (decimal n) [] p (line-last (decimal n) d)
 

@@ -24,5 +24,6 @@ module _ (figs : List ℕ) (n weight : ℕ) (m : Move) where
   pub collided-within : m ≡ Collides → (o : Outcome) → ended m ≡ some o → false ≡ isWithin n weight (figureOf (figureIn figs) o)
   collided-within e o h = let z : lost collision ≡ o = some-one (sym (ap ended e) ∙ h) in rw (← z)
 
-  pub at-within : (q f : ℕ) → m ≡ At q → f ≡ getD figs q noFigure → (b : Bool) → b ≡ isWithin n weight (figureEntry f) → (o : Outcome) → ended m ≡ some o → b ≡ isWithin n weight (figureOf (figureIn figs) o)
+  pub at-within : (q f : ℕ) → m ≡ At q → f ≡ getD figs q noFigure → (b : Bool) → b ≡ isWithin n weight (figureEntry f)
+      → (o : Outcome) → ended m ≡ some o → b ≡ isWithin n weight (figureOf (figureIn figs) o)
   at-within q f e is b w o h = let z : at q ≡ o = some-one (sym (ap ended e) ∙ h) in rw (← z, ← is) w

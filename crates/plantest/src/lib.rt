@@ -45,7 +45,8 @@ pub fn test_holds(table: &Table, ways: &Ways, figures: &[u32], settings: &[u32],
 
 // Every placement.
 fn all_pass(table: &Table, ways: &Ways, figures: &[u32], settings: &[u32]) -> bool
-    ensures { λ b. ⌜ ((r : Railway) → Compiled r (now (table .entry)) → Laid r (isClosed r) (now (ways .entry)) → b ≡ allBelow (placementPasses r (byTables (now (figures .entry)) (now (settings .entry)))) (placements r)) ⌝ }
+    ensures { λ b. ⌜ ((r : Railway) → Compiled r (now (table .entry)) → Laid r (isClosed r) (now (ways .entry))
+        → b ≡ allBelow (placementPasses r (byTables (now (figures .entry)) (now (settings .entry)))) (placements r)) ⌝ }
 {
     let m = moves::placements(table);
     let mut p: u32 = 0;
@@ -124,7 +125,8 @@ fn train_signalled(table: &Table, q: Placement, v: u32, t: u8) -> bool
 
 // Entry v keeps figure n: somebody may move under it, and whoever may comes to a listed placement with a figure smaller than n by its weight at least.
 fn keeps(table: &Table, ways: &Ways, figures: &[u32], q: Placement, v: u32, n: u32) -> bool
-    ensures { λ b. ⌜ ((r : Railway) (p : ℕ) → On r p (now (table .entry)) q → Laid r (isClosed r) (now (ways .entry)) → b ≡ keepsTest (gameOf r) (figureIn (now (figures .entry))) p (settingAt r p v) n) ⌝ }
+    ensures { λ b. ⌜ ((r : Railway) (p : ℕ) → On r p (now (table .entry)) q → Laid r (isClosed r) (now (ways .entry))
+        → b ≡ keepsTest (gameOf r) (figureIn (now (figures .entry))) p (settingAt r p v) n) ⌝ }
 {
     if some_may(table, q, v) {
         all_within(table, ways, figures, q, v, n)
@@ -148,7 +150,8 @@ fn some_may(table: &Table, q: Placement, v: u32) -> bool
 }
 
 fn all_within(table: &Table, ways: &Ways, figures: &[u32], q: Placement, v: u32, n: u32) -> bool
-    ensures { λ b. ⌜ ((r : Railway) (p : ℕ) → On r p (now (table .entry)) q → Laid r (isClosed r) (now (ways .entry)) → b ≡ allBelow (goesWithin (gameOf r) (figureIn (now (figures .entry))) p (settingAt r p v) n) (r .trains)) ⌝ }
+    ensures { λ b. ⌜ ((r : Railway) (p : ℕ) → On r p (now (table .entry)) q → Laid r (isClosed r) (now (ways .entry))
+        → b ≡ allBelow (goesWithin (gameOf r) (figureIn (now (figures .entry))) p (settingAt r p v) n) (r .trains)) ⌝ }
 {
     let k = compiled::trains_in(table);
     let mut t: u8 = 0;
@@ -172,7 +175,8 @@ fn goes_within(
     n: u32,
     t: u8,
 ) -> bool
-    ensures { λ b. ⌜ ((r : Railway) (p : ℕ) → On r p (now (table .entry)) q → Laid r (isClosed r) (now (ways .entry)) → b ≡ goesWithin (gameOf r) (figureIn (now (figures .entry))) p (settingAt r p v) n t) ⌝ }
+    ensures { λ b. ⌜ ((r : Railway) (p : ℕ) → On r p (now (table .entry)) q → Laid r (isClosed r) (now (ways .entry))
+        → b ≡ goesWithin (gameOf r) (figureIn (now (figures .entry))) p (settingAt r p v) n t) ⌝ }
 {
     let m = moves::move_in(table, ways, q, v, t);
     let Move::NotAllowed = m else {

@@ -35,7 +35,9 @@ use Rattle.casefile.specs.Reading.{caseAnswer}
 use Rattle.casefile.proofs.Exactly.{accepted-exactly, reader-answers}
 use Rattle.casefile.proofs.Call.{promised}
 use Rattle.casefile.proofs.YardTexts.{yards-accepted}
-use Rattle.casefile.proofs.Uses.{descriptionA, says-a, says-a-only, shut, textShut, sayingShut, says-shut-only, crossing, textCrossing, descriptionCrossing, says-crossing-only, textSeven, textWithout, sayingWeight, weighing, says-seven-only, says-without-only}
+use Rattle.casefile.proofs.Uses.{descriptionA, says-a, says-a-only, shut, textShut, sayingShut, says-shut-only}
+use Rattle.casefile.proofs.Uses.{crossing, textCrossing, descriptionCrossing, says-crossing-only, textSeven}
+use Rattle.casefile.proofs.Uses.{textWithout, sayingWeight, weighing, says-seven-only, says-without-only}
 use Rattle.reader.proofs.Consequences.{reader-accepts}
 use Rattle.writer.proofs.Uses.{bytes-written, shut-written, crossing-written, seven-written}
 use Rattle.reader.proofs.read_case.Kinds as read

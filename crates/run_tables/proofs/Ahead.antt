@@ -60,7 +60,8 @@ module _ (r : Railway) (accepted : recordRefusal r ≡ none) (heading : Side) (y
   pub way-enters : (j z : ℕ) → LeadsTo ways j z → Enters r heading y z
   way-enters j z w =
       let small = from-small r (accepted-facts r accepted) (isClosed r) ahead (w .number) (w .way) (w .is) in
-      let suited : suits (w .way .want) (w .way .care) (w .way .want) ≡ true = bits-suit (w .way .want) (w .way .care) (w .way .want) (λ i. wanted (bit (w .way .want) i) (bit (w .way .care) i) (small .within i)) in
+      let suited : suits (w .way .want) (w .way .care) (w .way .want) ≡ true = bits-suit (w .way .want) (w .way .care)
+      (w .way .want) (λ i. wanted (bit (w .way .want) i) (bit (w .way .care) i) (small .within i)) in
       let found : any (eqb z) (reachedBy (w .way .want) ways) ≡ true = of-goes (w .way .want) (eqb z) ways (w .number) (w .way) (w .is) suited (eq-eqb z (w .way .to) (sym (w .to))) in
       record { plus = bit (w .way .want); comes = one-is (entered r (bit (w .way .want)) ahead) z (ap (any (eqb z)) (sym (from-enters r (w .way .want) ahead)) ∙ found) }
 

@@ -67,4 +67,6 @@ one-in g rows i d l h =
 pub all-same : (g : List (List ℕ)) (rows : List RunRow) (i : ℕ) → mostSections ≤ i → Same g rows i → entriesOf rows ≡ g
 all-same g rows i l h =
     ext-getD [] (entriesOf rows) g (length-map rows rowEntries ∙ h .sized ∙ sym (h .many))
-    (λ k m. (let n : k < mostSections = (let e : length (entriesOf rows) ≡ length rows = length-map rows rowEntries in omega (arith, e, h .sized, m)) in List·getD-map rowEntries rows k noEntries ∙ h .each k (omega arith)))
+    (λ k m. (let n : k < mostSections =
+    (let e : length (entriesOf rows) ≡ length rows = length-map rows rowEntries in omega (arith, e, h .sized, m)) in
+    List·getD-map rowEntries rows k noEntries ∙ h .each k (omega arith)))

@@ -109,12 +109,16 @@ module _ (r : Railway) (heading : Side) (old : List (List ℕ)) (t : CaseAnswer)
       go none d = some-none refl (sym (ap numberGiven e) ∙ judged ∙ ap numberOf d)
       go (some g) d = record { numbered = ap numberGiven (m ∙ sym e) ∙ judged; leaves = subst (λ (o : Option Refusal). TableLeft r heading old (tableIn a) o) (sym d) same }
 
-  pub filled : (ways : List ℕ) (new : List (List ℕ)) → t ≡ Accepted → a .answer ≡ Accepted → tableIn a ≡ new → Laid r (isClosed r) ways → ((q : Railway) → Lent q ways (r .sections) → RunTable q heading new) → RunPost r heading old a
+  pub filled : (ways : List ℕ) (new : List (List ℕ)) → t ≡ Accepted → a .answer ≡ Accepted → tableIn a ≡ new
+      → Laid r (isClosed r) ways → ((q : Railway) → Lent q ways (r .sections) → RunTable q heading new)
+      → RunPost r heading old a
   filled ways new e m same laid fills = go (recordRefusal r) refl
     where
       go : (o : Option Refusal) → recordRefusal r ≡ o → RunPost r heading old a
       go none d = record {
         numbered = ap numberGiven (m ∙ sym e) ∙ judged;
-        leaves = subst (λ (o : Option Refusal). TableLeft r heading old (tableIn a) o) (sym d) (subst (λ (g : List (List ℕ)). RunTable r heading g) (sym same) (fills r (record { accepted = d; laid = laid; count = refl })));
+        leaves =
+            subst (λ (o : Option Refusal). TableLeft r heading old (tableIn a) o) (sym d) (subst (λ (g : List (List ℕ)).
+            RunTable r heading g) (sym same) (fills r (record { accepted = d; laid = laid; count = refl })));
       }
       go (some g) d = some-none {o = numberOf (some g)} refl (sym (ap numberOf d) ∙ sym judged ∙ ap numberGiven e)

@@ -1,5 +1,7 @@
-// Shortest runs, by heading: `run_table` takes a record and a square table, tests the record, and hands the table back with the fewest sections that are entered from each section to each other, over any points. The
-// sections ahead of a section are at the end of its ways (crate routes). A row is filled level by level: what is entered first from a section at n is at n + 1.
+// Shortest runs, by heading: `run_table` takes a record and a square table, tests the record, and hands the table back
+// with the fewest sections that are entered from each section to each other, over any points. The sections ahead of a
+// section are at the end of its ways (crate routes). A row is filled level by level: what is entered first from a
+// section at n is at n + 1.
 ghost use mathlib.Core.Path.{_≡_};
 ghost use Prim.Native.Nat.{ℕ, suc, _<_};
 ghost use Rattle.railway.specs.declared.Railway.{Railway};

@@ -20,7 +20,9 @@ use Rattle.railway.specs.declared.Railway.{Railway}
 use Rattle.railway.specs.Bounds.{mostSections}
 use Rattle.railway.specs.Record.{trainOf, weightOf}
 use Rattle.railway.specs.Passing.{entered}
-use Rattle.game.specs.Game.{Outcome, lost, at, collision, Turn, Way, Choice, Position, lostByMove, standing, mover, over, grown, standAfter, turn, step, play, spent, spentAt, homeAt, HomeWithin, Forced, IsFigure}
+use Rattle.game.specs.Game.{Outcome, lost, at, collision, Turn, Way, Choice, Position, lostByMove, standing, mover}
+use Rattle.game.specs.Game.{over, grown, standAfter, turn, step, play, spent, spentAt, homeAt, HomeWithin, Forced}
+use Rattle.game.specs.Game.{IsFigure}
 use Rattle.game.specs.Placement.{codeOf, sectionsIn, sectionsOf, standsOn, arrived, atHome, shared, startCode}
 use Rattle.game.specs.Setting.{Setting, headsFor}
 use Rattle.game.specs.Moves.{occupied, codeWith, enters, moveOf, gameOf}
@@ -118,7 +120,9 @@ module _ (r : Railway) (ok : Facts r) where
   Stands p lostByMove = Unit {0}
   Stands p (standing h q) = Runs p q (spent (gameOf r) h)
 
-  after-move : {p q : ℕ} (h : List (Turn Setting)) (t : ℕ) → t < r .trains → (s : Setting) (o : Outcome) → moveOf r q s t ≡ o → Runs p q (spent (gameOf r) h) → Stands p (standAfter (gameOf r) (grown (gameOf r) h q s (some t)) o)
+  after-move : {p q : ℕ} (h : List (Turn Setting)) (t : ℕ) → t < r .trains → (s : Setting) (o : Outcome)
+      → moveOf r q s t ≡ o → Runs p q (spent (gameOf r) h)
+      → Stands p (standAfter (gameOf r) (grown (gameOf r) h q s (some t)) o)
   unfolding moveOf
   after-move h t l s (lost x) e w = tt
   after-move {p} {q} h t l s (at q′) e w = dearer (omega (arith, spent-grown (gameOf r) h q s (some t), ok .weights t l .0)) (landed t l s _ refl q′ e w)
@@ -175,7 +179,9 @@ module _ (r : Railway) (ok : Facts r) where
 
       same : sectionsIn (r .sections) (r .trains) (codeOf (r .sections) (listBelow (λ u. trainOf r u .start .0) (r .trains))) ≡ listBelow (λ u. trainOf r u .start .0) (r .trains)
       same =
-          let c : sectionsIn (r .sections) (length (listBelow (λ u. trainOf r u .start .0) (r .trains))) (codeOf (r .sections) (listBelow (λ u. trainOf r u .start .0) (r .trains))) ≡ listBelow (λ u. trainOf r u .start .0) (r .trains) =
+          let c : sectionsIn (r .sections) (length (listBelow (λ u. trainOf r u .start .0) (r .trains)))
+          (codeOf (r .sections) (listBelow (λ u. trainOf r u .start .0) (r .trains)))
+          ≡ listBelow (λ u. trainOf r u .start .0) (r .trains) =
           sections-code (r .sections) (listBelow (λ u. trainOf r u .start .0) (r .trains)) (ok .one-section) below in
           rw (list-length (λ u. trainOf r u .start .0) (r .trains)) at c
 
@@ -191,7 +197,8 @@ module _ (r : Railway) (ok : Facts r) where
 
     at-least : (n : ℕ) (h : Home (startCode r) n) (t : ℕ) → t < r .trains → AtLeast t (h .entered t)
     at-least n h t l =
-        let i = by-side (trainOf r t .heading) .entries (trainOf r t .start .0) (trainOf r t .destination .0) (omega (arith, ok .starts t l, ok .few-sections)) (omega (arith, ok .destinations t l, ok .few-sections)) in
+        let i = by-side (trainOf r t .heading) .entries (trainOf r t .start .0) (trainOf r t .destination .0)
+        (omega (arith, ok .starts t l, ok .few-sections)) (omega (arith, ok .destinations t l, ok .few-sections)) in
         let run : Run r (trainOf r t .heading) (trainOf r t .start .0) (trainOf r t .destination .0) (h .entered t) = rw (starts-there t l) at (h .run t l) in
         record { there = λ e. i .none-exactly .0 e (h .entered t) run; least = i .least (h .entered t) run }
 

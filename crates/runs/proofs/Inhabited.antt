@@ -1,5 +1,6 @@
--- There are answers as the statement takes them: in the yard of one section the table has 0 from it to itself, and says of all else that there is no run. So the promise can be kept in an accepted record, for either
--- heading and whatever table was handed in. Assumes nothing.
+-- There are answers as the statement takes them: in the yard of one section the table has 0 from it to itself, and says
+-- of all else that there is no run. So the promise can be kept in an accepted record, for either heading and whatever
+-- table was handed in. Assumes nothing.
 use mathlib.Core.Path.{_≡_, refl, sym, _∙_, ap, subst}
 use mathlib.Core.Logic.{inl, inr}
 use mathlib.Core.List.{List, []}
@@ -53,7 +54,8 @@ none-at x y lx ly apart = elim (eq? x 0) [
 
 -- THE YARD is accepted, and has runs from its section to itself alone
 pub one-accepted : recordRefusal yardOne ≡ none
-unfolding recordRefusal first weightRow weightOf unknownRow joinRow looseRow longer chainRow placeRow endAt joinedBy joined hasSignal legsOf trainOf withJoin withSignal withLegs withTrain anyBelow isClosed
+unfolding recordRefusal first weightRow weightOf unknownRow joinRow looseRow longer chainRow placeRow endAt joinedBy
+    joined hasSignal legsOf trainOf withJoin withSignal withLegs withTrain anyBelow isClosed
 one-accepted = refl
 
 begins : {heading : Side} {x y n : ℕ} → Run yardOne heading x y n → x ≡ 0

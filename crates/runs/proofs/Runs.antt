@@ -36,7 +36,9 @@ pub table-of : (r : Railway) (heading : Side) → recordRefusal r ≡ none → (
 table-of r heading accepted old a post = subst (λ (o : Option Refusal). TableLeft r heading old (tableIn a) o) accepted (post .leaves)
 
 -- THE SOLVER'S ANSWER is the start's figure
-module _ (r : Railway) (accepted : recordRefusal r ≡ none) (a : SolverAnswer) (figs sets figs′ sets′ : List ℕ) (lf : placements r ≤ length figs) (ls : placements r ≤ length sets) (post : SolverPost r a figs sets figs′ sets′) where
+module _ (r : Railway) (accepted : recordRefusal r ≡ none) (a : SolverAnswer) (figs sets figs′ sets′ : List ℕ)
+    (lf : placements r ≤ length figs) (ls : placements r ≤ length sets)
+    (post : SolverPost r a figs sets figs′ sets′) where
   no-row : caseRefusal r figs sets ≡ none
   no-row = case-none r figs sets .1 (accepted, record { figures = lf; settings = ls })
 

@@ -1,5 +1,5 @@
--- What a table says, from what its entries are; and, besides: of runs from a section to itself the shortest enters nothing; a run begins and ends on sections that are there, and whatever it enters is not
--- closed. Assumes nothing.
+-- What a table says, from what its entries are; and, besides: of runs from a section to itself the shortest enters
+-- nothing; a run begins and ends on sections that are there, and whatever it enters is not closed. Assumes nothing.
 use mathlib.Core.Path.{_≡_, refl, sym, _∙_}
 use mathlib.Core.Logic.{_↔_, _⊎_, inl, inr}
 use mathlib.Core.Bool.{Bool, true, false, cond}

@@ -84,7 +84,8 @@ table-square g t = (t .square .rows, t .square .columns 5 (omega arith))
 
 -- THE CALL accepts Yard A, and hands back a table with 1 from 2 to 3; where nothing is there it answers 3, and hands back the table that came
 accepts : (old : List (List ℕ)) (a : RunReply) → RunPost yardA Up old a → numberGiven (a .answer) ≡ none
-unfolding recordRefusal first weightRow weightOf unknownRow joinRow looseRow longer chainRow placeRow endAt joinedBy joined hasSignal legsOf trainOf withJoin withSignal withLegs withTrain anyBelow isClosed
+unfolding recordRefusal first weightRow weightOf unknownRow joinRow looseRow longer chainRow placeRow endAt joinedBy
+    joined hasSignal legsOf trainOf withJoin withSignal withLegs withTrain anyBelow isClosed
 accepts old a post = post .numbered
 
 refuses : (old : List (List ℕ)) (a : RunReply) → RunPost emptyRailway Up old a → numberGiven (a .answer) ≡ some 3
@@ -158,10 +159,13 @@ module _ (up down : List (List ℕ)) (say : RunsSay yardA up down) where
   bound-two : IsFigure (gameOf yardA) (startCode yardA) (some 2) → runsSum yardA up down ≤ 2
   bound-two i = say .at-least 2 i
 
-  bound-answer : (n : ℕ) (figs sets figs′ sets′ : List ℕ) → placements yardA ≤ length figs → placements yardA ≤ length sets → SolverPost yardA (Figure n) figs sets figs′ sets′ → runsSum yardA up down ≤ n
+  bound-answer : (n : ℕ) (figs sets figs′ sets′ : List ℕ) → placements yardA ≤ length figs
+      → placements yardA ≤ length sets → SolverPost yardA (Figure n) figs sets figs′ sets′ → runsSum yardA up down ≤ n
   bound-answer n figs sets figs′ sets′ lf ls post = say .solver (Figure n) figs sets figs′ sets′ lf ls post .figure n refl
 
-  -- a record that has Yard A's track, and any signals and trains, has a run of one section from 2 to 3, and none from 3 to 1, up; an entry for it there, from 2 to 3, is no larger than any run; and it has no run of no section there, by any table of Yard A
+  -- a record that has Yard A's track, and any signals and trains, has a run of one section from 2 to 3, and none from 3
+  -- to 1, up; an entry for it there, from 2 to 3, is no larger than any run; and it has no run of no section there, by
+  -- any table of Yard A
   module _ (s : Railway) (track : SameTrack yardA s) where
     run-there : Run s Up 1 2 1
     run-there = say .disregards s track .runs Up 1 2 1 .0 up-from-2
@@ -186,7 +190,8 @@ module _ (up down : List (List ℕ)) (say : RunsSay shutLine up down) (no-run : 
   unfolding withClosed withJoin withTrain
   never-forced f = say .without 0 (omega arith) no-run 5 f
 
-  verdict-none : (a : SolverAnswer) (figs sets figs′ sets′ : List ℕ) → placements shutLine ≤ length figs → placements shutLine ≤ length sets → SolverPost shutLine a figs sets figs′ sets′ → a ≡ Unsolvable
+  verdict-none : (a : SolverAnswer) (figs sets figs′ sets′ : List ℕ) → placements shutLine ≤ length figs
+      → placements shutLine ≤ length sets → SolverPost shutLine a figs sets figs′ sets′ → a ≡ Unsolvable
   unfolding withClosed withJoin withTrain
   verdict-none a figs sets figs′ sets′ lf ls post = say .solver a figs sets figs′ sets′ lf ls post .verdict 0 (omega arith) no-run
 
@@ -199,7 +204,8 @@ sum-is-two old₁ old₂ up down p q =
     rw (a, b) refl
 
 pub line-accepted : recordRefusal shutLine ≡ none
-unfolding recordRefusal first weightRow weightOf unknownRow joinRow looseRow longer chainRow placeRow endAt joinedBy joined hasSignal legsOf trainOf withJoin withSignal withClosed withLegs withTrain anyBelow isClosed
+unfolding recordRefusal first weightRow weightOf unknownRow joinRow looseRow longer chainRow placeRow endAt joinedBy
+    joined hasSignal legsOf trainOf withJoin withSignal withClosed withLegs withTrain anyBelow isClosed
 line-accepted = refl
 
 shut-before : (plus : ℕ → Bool) → entered shutLine plus (Section (record { 0 = 0 }) Up) ≡ none

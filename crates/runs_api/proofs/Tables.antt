@@ -18,7 +18,9 @@ use Rattle.runs.specs.Runs.{RunTable, tableIn, RunPost}
 use Rattle.runs.proofs.Runs.{table-of}
 use Rattle.runs_api.specs.Exported.{RailwayTables, TablesKept, TextTables}
 
-pub both : (r : Railway) → recordRefusal r ≡ none → (old₁ old₂ : List (List ℕ)) (a b : RunReply) (up down : List (List ℕ)) → RunPost r Up old₁ a → RunPost r Down old₂ b → up ≡ tableIn a → down ≡ tableIn b → RailwayTables r 0 up down
+pub both : (r : Railway) → recordRefusal r ≡ none
+    → (old₁ old₂ : List (List ℕ)) (a b : RunReply) (up down : List (List ℕ)) → RunPost r Up old₁ a
+    → RunPost r Down old₂ b → up ≡ tableIn a → down ≡ tableIn b → RailwayTables r 0 up down
 both r accepted old₁ old₂ a b up down p q e h =
     record {
       zero = refl;

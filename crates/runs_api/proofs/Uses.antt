@@ -1,5 +1,6 @@
--- The exported call at work: of a text that says Yard A it answers 0 and leaves tables with 1 from 2 to 3, up, and 1 from 3 to 1, down; of one that is refused for its form 2, and both tables as they were.
--- Texts, numbers and tables are any of which it is said. Assumes nothing.
+-- The exported call at work: of a text that says Yard A it answers 0 and leaves tables with 1 from 2 to 3, up, and 1
+-- from 3 to 1, down; of one that is refused for its form 2, and both tables as they were. Texts, numbers and tables are
+-- any of which it is said. Assumes nothing.
 use mathlib.Core.Path.{_≡_}
 use mathlib.Core.List.{List}
 use Prim.Native.Nat.{ℕ}

@@ -1,5 +1,6 @@
-// Shortest runs in a call for programs in other languages: a case text, and two square tables that are lent. The static library that `rt staticlib` writes exports it. It reads and judges the text, and
-// answers the number of the refusal, or 0; refused, it leaves both tables as they were.
+// Shortest runs in a call for programs in other languages: a case text, and two square tables that are lent. The static
+// library that `rt staticlib` writes exports it. It reads and judges the text, and answers the number of the refusal,
+// or 0; refused, it leaves both tables as they were.
 ghost use mathlib.Core.Path.{_≡_};
 ghost use mathlib.Core.Option.{none};
 ghost use Rattle.railway.specs.Rows.{recordRefusal};

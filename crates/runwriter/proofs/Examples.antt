@@ -1,4 +1,5 @@
--- Texts of runs by computation: of two trains with runs of 3 and 12; of two of which the second has none; of one that is home. No theorem rests on these; they show what the definitions say. Assumes nothing.
+-- Texts of runs by computation: of two trains with runs of 3 and 12; of two of which the second has none; of one that
+-- is home. No theorem rests on these; they show what the definitions say. Assumes nothing.
 use mathlib.Core.Path.{_≡_, refl}
 use mathlib.Core.Bool.{cond}
 use Prim.Native.Nat.{ℕ}

@@ -42,7 +42,9 @@ run-some t m v is e word train run =
     rw (b, n) (line-more (bytes "run") (decimal m) _ word (line-more (decimal m) (decimal v) [] train (line-last (decimal v) run)))
 
 -- ALL LINES, with the last
-module _ (f : ℕ → ℕ) (k : ℕ) {o o₁ o₂ : List ℕ} {a a₁ a₂ : ℕ} (trains : Appended o a (gatherBelow (λ t. runLine t (f t)) k) o₁ a₁) (some-none : Bool) (is : some-none ≡ anyBelow (λ t. isNone (f t)) k) where
+module _ (f : ℕ → ℕ) (k : ℕ) {o o₁ o₂ : List ℕ} {a a₁ a₂ : ℕ}
+    (trains : Appended o a (gatherBelow (λ t. runLine t (f t)) k) o₁ a₁) (some-none : Bool)
+    (is : some-none ≡ anyBelow (λ t. isNone (f t)) k) where
   pub text-none : some-none ≡ true → Appended o₁ a₁ (bytes "none" ++ (lineEnd ∷ [])) o₂ a₂ → Appended o a (runsText f k) o₂ a₂
   text-none e last = let b : anyBelow (λ t. isNone (f t)) k ≡ true = sym is ∙ e in rw b (append-then trains (line-last (bytes "none") last))
 
@@ -97,7 +99,8 @@ text-same f g k h =
     rw (a, b, c) refl
 
 -- A RAILWAY'S TEXT, put
-pub railway-put : (r : Railway) → recordRefusal r ≡ none → (runs old new : List ℕ) (w : Written) → TrainsRun r runs → PutPost (runsText (λ t. getD runs t 0) (r .trains)) old w new → Puts (RailwayRuns r) textBytes old w new
+pub railway-put : (r : Railway) → recordRefusal r ≡ none → (runs old new : List ℕ) (w : Written) → TrainsRun r runs
+    → PutPost (runsText (λ t. getD runs t 0) (r .trains)) old w new → Puts (RailwayRuns r) textBytes old w new
 railway-put r accepted runs old new w h p =
     record {
       text = runsText (λ t. getD runs t 0) (r .trains);

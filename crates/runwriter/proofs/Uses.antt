@@ -1,5 +1,6 @@
--- What is written of runs at work: for Yard A two runs of 1, and at least 2; for the line whose middle section is closed no run, and no plan. Of a text that is longer than a case may be the refusal's line,
--- by the bytes that are read. Of what is shown, each part gives a number. Texts are any of which it is said. Assumes nothing.
+-- What is written of runs at work: for Yard A two runs of 1, and at least 2; for the line whose middle section is
+-- closed no run, and no plan. Of a text that is longer than a case may be the refusal's line, by the bytes that are
+-- read. Of what is shown, each part gives a number. Texts are any of which it is said. Assumes nothing.
 use mathlib.Core.Path.{_≡_, refl, sym, _∙_}
 use mathlib.Core.Bool.{Bool, true, false}
 use mathlib.Core.List.{List}

@@ -53,8 +53,10 @@ pub record RailwayRuns (r : Railway) (text : List ℕ) : Type 0 where
 abbrev pub CaseRuns : List ℕ → List ℕ → Type 0
 CaseRuns case text = ByCase case (λ f. text ≡ refusalLine f) (λ r. RailwayRuns r text)
 
--- WHAT IS SHOWN OF A RAILWAY, by a text for it. There is a number for each train, its run from its start to its destination, and these are what is written. Their sum is what any plan takes at least: the
--- start's figure is not below it, nor is the figure in the first line of any plan that passes the test. Where a train has no run the start has no figure, and no plan passes.
+-- WHAT IS SHOWN OF A RAILWAY, by a text for it. There is a number for each train, its run from its start to its
+-- destination, and these are what is written. Their sum is what any plan takes at least: the start's figure is not
+-- below it, nor is the figure in the first line of any plan that passes the test. Where a train has no run the start
+-- has no figure, and no plan passes.
 pub record ShownRuns (r : Railway) (text : List ℕ) : Type 0 where
   pub run : ℕ → ℕ
   pub each : (t : ℕ) → t < r .trains → IsRun r (trainOf r t .heading) (trainOf r t .start .0) (trainOf r t .destination .0) (run t)

@@ -1,5 +1,6 @@
 // All that program showruns writes for a case text, put into a lent buffer: a line for each train with its run from start to destination, or `none`, and behind them the sum of the runs, which is what
-// any plan takes at least, or `none` where a train has none; or the line of a refusal. It stands whole at the front of the buffer, or finds no room and is refused for that, and the buffer is as it was.
+// any plan takes at least, or `none` where a train has none; or the line of a refusal. It stands whole at the front of
+// the buffer, or finds no room and is refused for that, and the buffer is as it was.
 ghost use mathlib.Core.Path.{_≡_};
 ghost use mathlib.Core.Option.{none};
 ghost use Prim.Native.Nat.{ℕ, suc, _<_, _≤_};

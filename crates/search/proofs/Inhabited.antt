@@ -217,7 +217,14 @@ module _ (r : Railway) (accepted : recordRefusal r ≡ none) (figs sets : List �
         numbered = number-none (isEnded 0) ∙ sym (ap numberOf e);
         leaves =
             subst (λ (o : Option Refusal). OpenLeaves r figs sets marks (goingOn (state 0 .search)) (state 0) o) (sym e)
-            (record { stands = stands 0; cleared = none-cleared r accepted (made 0 .new-figs) (made 0 .new-sets) (made 0 .tables); told = refl; kept-figs = made 0 .kept-figs; kept-sets = made 0 .kept-sets });
+            (record {
+              stands = stands 0;
+              cleared = none-cleared r accepted (made 0 .new-figs) (made 0 .new-sets)
+                  (made 0 .tables);
+              told = refl;
+              kept-figs = made 0 .kept-figs;
+              kept-sets = made 0 .kept-sets;
+            });
       }
 
   -- A CALL, of one that has ended and of one that has not
@@ -225,7 +232,15 @@ module _ (r : Railway) (accepted : recordRefusal r ≡ none) (figs sets : List �
   following n b = state (cond b n (suc n))
 
   rounded : (n : ℕ) (b : Bool) → isEnded n ≡ b → Rounded r (state n) (goingOn (following n b .search)) (following n b)
-  rounded n true e = record { done = λ f. refl; one-more = λ m s f. clash e f; too-many = λ l. refl; counted = λ f k. clash e f; told = refl; kept-figs = itself (state n .figs); kept-sets = itself (state n .sets) }
+  rounded n true e = record {
+    done = λ f. refl;
+    one-more = λ m s f. clash e f;
+    too-many = λ l. refl;
+    counted = λ f k. clash e f;
+    told = refl;
+    kept-figs = itself (state n .figs);
+    kept-sets = itself (state n .sets);
+  }
   rounded n false e =
       record {
         done = λ f. clash f e;

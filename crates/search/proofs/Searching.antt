@@ -32,7 +32,9 @@ use Rattle.tables.proofs.Rounds.{up-to, of-up-to, round-filled}
 use Rattle.tables.proofs.Steps.{above}
 use Rattle.search.specs.declared.SearchAnswer.{SearchAnswer}
 use Rattle.search.specs.declared.Shown.the-variants.{Figure, NotYet, NoFigure}
-use Rattle.search.specs.Search.{State, Standing, Opened, OpenPost, Rounded, SearchPost, shownBy, shown, lookedUp, lookUp, figureShown, Searching, begun, call, refused, UpToRound, SearchAt, SearchHolds}
+use Rattle.search.specs.Search.{State, Standing, Opened, OpenPost, Rounded, SearchPost, shownBy, shown, lookedUp}
+use Rattle.search.specs.Search.{lookUp, figureShown, Searching, begun, call, refused, UpToRound, SearchAt}
+use Rattle.search.specs.Search.{SearchHolds}
 
 -- an entry of the figure table is its figure, or the number for none
 entry-some : (x j : ℕ) → figureEntry x ≡ some j → x ≡ j
@@ -186,7 +188,9 @@ module _ (r : Railway) (accepted : recordRefusal r ≡ none) (figs sets : List �
 
     not-yet : (section : ℕ → ℕ) → namesNone r section ≡ false → (j : ℕ) → IsFigure (gameOf r) (codeOn r section) (some j) → s .search .rounds < j → lookUp r section s ≡ NotYet
     not-yet section e j i b =
-        by section e none (entry (codeOn r section) (code-named r section e) (some j) i ∙ above (s .search .rounds) (some j) j refl b) ∙ ap (shownBy none) (running (codeOn r section) j (code-named r section e) i b)
+        by section e none
+        (entry (codeOn r section) (code-named r section e) (some j) i ∙ above (s .search .rounds) (some j) j refl b)
+        ∙ ap (shownBy none) (running (codeOn r section) j (code-named r section e) i b)
 
     none-yet : (section : ℕ → ℕ) → namesNone r section ≡ false → IsFigure (gameOf r) (codeOn r section) none → lookUp r section s ≡ cond (s .search .ended) NoFigure NotYet
     none-yet section e i = by section e none (entry (codeOn r section) (code-named r section e) none i) ∙ by-end (s .search .ended)

@@ -38,7 +38,9 @@ use Rattle.search.specs.declared.Shown.{Shown}
 use Rattle.search.specs.declared.SearchAnswer.{SearchAnswer}
 use Rattle.search.specs.declared.SearchAnswer.the-variants.{Going, Ended}
 use Rattle.search.specs.declared.Shown.the-variants.{Figure, NotYet, NoFigure, Refused as ShownRefused}
-use Rattle.search.specs.Search.{State, numberGiven, Standing, Opened, OpenPost, Rounded, SearchPost, lookedUp, lookUp, Searching, begun, call, refused, SearchAt, SearchHolds, numberShown, figureShown, LookPost}
+use Rattle.search.specs.Search.{State, numberGiven, Standing, Opened, OpenPost, Rounded, SearchPost, lookedUp}
+use Rattle.search.specs.Search.{lookUp, Searching, begun, call, refused, SearchAt, SearchHolds, numberShown}
+use Rattle.search.specs.Search.{figureShown, LookPost}
 use Rattle.search.proofs.Searching.{search-holds}
 use Rattle.search.proofs.Inhabited.{Searched, search-exists}
 
@@ -244,7 +246,8 @@ module _ (s : State) where
 -- OPENING. With a figure table of 8 entries it is refused with 9; all that is lent is left, and the search handed out has ended with no round finished, and none is to come.
 short : (a : SearchAnswer) (s : State) → OpenPost weighed (replicate 8 5) S M a s
     → (numberGiven a ≡ some 9) × (s .figs ≡ replicate 8 5) × (s .sets ≡ S) × (s .marks ≡ M) × (s .search .ended ≡ true) × (s .search .rounds ≡ 0) × (s .search .coming ≡ noFigure)
-unfolding caseRefusal tablesShort first weightRow weightOf unknownRow joinRow looseRow chainRow longer placeRow endAt joinedBy joined hasSignal legsOf trainOf withJoin withSignal withLegs withTrain anyBelow isClosed
+unfolding caseRefusal tablesShort first weightRow weightOf unknownRow joinRow looseRow chainRow longer placeRow endAt
+    joinedBy joined hasSignal legsOf trainOf withJoin withSignal withLegs withTrain anyBelow isClosed
 short a s post = (
   post .numbered,
   ap (λ (x : State). x .figs) (post .leaves),
@@ -257,7 +260,8 @@ short a s post = (
 
 -- with tables of ten it goes on, no round is finished, and the tenth entries are left
 opens : (a : SearchAnswer) (s : State) → OpenPost weighed F S M a s → (numberGiven a ≡ none) × Opened weighed F S a s
-unfolding caseRefusal tablesShort first weightRow weightOf unknownRow joinRow looseRow chainRow longer placeRow endAt joinedBy joined hasSignal legsOf trainOf withJoin withSignal withLegs withTrain anyBelow isClosed
+unfolding caseRefusal tablesShort first weightRow weightOf unknownRow joinRow looseRow chainRow longer placeRow endAt
+    joinedBy joined hasSignal legsOf trainOf withJoin withSignal withLegs withTrain anyBelow isClosed
 opens a s post = (post .numbered, post .leaves)
 
 opened : (a : SearchAnswer) (s : State) → Opened weighed F S a s → (a ≡ Going) × (s .search .rounds ≡ 0) × (getD (s .figs) 9 0 ≡ 5) × (getD (s .sets) 9 0 ≡ 6)
@@ -302,16 +306,20 @@ shortened s = record { search = s; figs = replicate 8 5; sets = S; marks = M }
 
 refuses : (s : Search) (a : SearchAnswer) (new : State) → SearchPost weighed (shortened s) a new
     → (numberGiven a ≡ some 9) × (new ≡ shortened s) × (new .marks ≡ M) × (lookUp weighed (on 1 4) (shortened s) ≡ ShownRefused Space)
-unfolding lookedUp caseRefusal tablesShort first weightRow weightOf unknownRow joinRow looseRow chainRow longer placeRow endAt joinedBy joined hasSignal legsOf trainOf withJoin withSignal withLegs withTrain anyBelow isClosed
+unfolding lookedUp caseRefusal tablesShort first weightRow weightOf unknownRow joinRow looseRow chainRow longer placeRow
+    endAt joinedBy joined hasSignal legsOf trainOf withJoin withSignal withLegs withTrain anyBelow isClosed
 refuses s a new post = (post .numbered, post .leaves, ap (λ (x : State). x .marks) (post .leaves), refl)
 
 -- a look-up with such tables answers 9, and shows no figure
 look-refused : (search : Search) (a : Shown) → LookPost weighed (on 2 1) search (replicate 8 5) S a → (numberShown a ≡ some 9) × (figureShown a ≡ none)
-unfolding lookedUp caseRefusal tablesShort first weightRow weightOf unknownRow joinRow looseRow chainRow longer placeRow endAt joinedBy joined hasSignal legsOf trainOf withJoin withSignal withLegs withTrain anyBelow isClosed
+unfolding lookedUp caseRefusal tablesShort first weightRow weightOf unknownRow joinRow looseRow chainRow longer placeRow
+    endAt joinedBy joined hasSignal legsOf trainOf withJoin withSignal withLegs withTrain anyBelow isClosed
 look-refused search a post = (post .numbered, ap figureShown (post .answers))
 
 -- whatever search it is: one that says 1,353,646,081 rounds is handed back as it was, and one that says 11 and goes on has 12 afterwards
-foreign : (old : State) (a : SearchAnswer) (new : State) → Rounded weighed old a new → (old .search .rounds ≡ 1353646081 → new ≡ old) × (old .search .ended ≡ false → old .search .rounds ≡ 11 → new .search .rounds ≡ 12)
+foreign : (old : State) (a : SearchAnswer) (new : State) → Rounded weighed old a new
+    → (old .search .rounds ≡ 1353646081 → new ≡ old)
+    × (old .search .ended ≡ false → old .search .rounds ≡ 11 → new .search .rounds ≡ 12)
 foreign old a new x = (
   (λ e. x .too-many (omega (arith, e))),
   (λ going e. x .counted going (omega (arith, e)) ∙ ap suc e),

@@ -23,7 +23,8 @@ use Rattle.searcher.specs.Steps.{Shows, Finished}
 use Rattle.searcher.proofs.Looking.{round-ready, next-coming}
 use Rattle.searcher.proofs.Standings.{none-after, some-after}
 
-module _ (r : Railway) (accepted : recordRefusal r ≡ none) (n e : ℕ) (figs sets figs₁ sets₁ marks₁ : List ℕ) (on : n < e) (post : RoundPost r n figs sets figs₁ sets₁ e) (marked : MarkedFor r e figs₁ marks₁) (b : Bool)
+module _ (r : Railway) (accepted : recordRefusal r ≡ none) (n e : ℕ) (figs sets figs₁ sets₁ marks₁ : List ℕ)
+    (on : n < e) (post : RoundPost r n figs sets figs₁ sets₁ e) (marked : MarkedFor r e figs₁ marks₁) (b : Bool)
     (came : (b ≡ true) ↔ Stands r n figs₁) where
   tables : RoundTables r n figs₁ sets₁
   tables = post .after .tables

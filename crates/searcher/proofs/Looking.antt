@@ -57,7 +57,8 @@ none-before r accepted n e figs sets figs′ sets′ l post j h b = elim (lt? j 
 ]
 
 -- BEHIND A ROUND
-pub round-ready : (r : Railway) → recordRefusal r ≡ none → (n e : ℕ) (figs sets figs′ sets′ marks′ : List ℕ) → n < e → RoundPost r n figs sets figs′ sets′ e → MarkedFor r e figs′ marks′ → Ready r n e figs′ sets′ marks′
+pub round-ready : (r : Railway) → recordRefusal r ≡ none → (n e : ℕ) (figs sets figs′ sets′ marks′ : List ℕ) → n < e
+    → RoundPost r n figs sets figs′ sets′ e → MarkedFor r e figs′ marks′ → Ready r n e figs′ sets′ marks′
 round-ready r accepted n e figs sets figs′ sets′ marks′ l post marked =
     record { later = l; tables = post .after .tables; between = none-before r accepted n e figs sets figs′ sets′ l post; marked = marked }
 
@@ -67,7 +68,8 @@ module _ (r : Railway) (n d : ℕ) (figs sets marks : List ℕ) (y : Ready r n d
   ready-tables = tables-later r n (d - 1) (omega (arith, y .later)) (λ j h b. omega (arith, y .between j h b)) figs sets (y .tables)
 
   -- it brings none
-  module _ (accepted : recordRefusal r ≡ none) (brings-none : HasFigure r d → ⊥) (e : ℕ) (figs′ sets′ marks′ : List ℕ) (onward : d < e) (post : RoundPost r d figs sets figs′ sets′ e) (marked : MarkedFor r e figs′ marks′) where
+  module _ (accepted : recordRefusal r ≡ none) (brings-none : HasFigure r d → ⊥) (e : ℕ) (figs′ sets′ marks′ : List ℕ)
+      (onward : d < e) (post : RoundPost r d figs sets figs′ sets′ e) (marked : MarkedFor r e figs′ marks′) where
     not-d : (j : ℕ) → HasFigure r j → n < j → d < j
     not-d j h b = elim (eq? j d) [ inl z ↦ absurd (brings-none (rw z at h)) | inr z ↦ omega (arith, y .between j h b, z) ]
 
@@ -108,19 +110,23 @@ pub record LookedTo (table ways behind : List ℕ) (figs₀ sets₀ marks₀ fig
 -- what the calls in it promise
 abbrev pub Brings : List ℕ → List ℕ → List ℕ → List ℕ → List ℕ → ℕ → Bool → Type 0
 Brings table ways behind figs marks n b =
-    (r : Railway) (k : ℕ) (sets : List ℕ) → Compiled r table → Laid r (isClosed r) ways → Behind r behind → n ≡ suc k → RoundTables r k figs sets → MarkedFor r n figs marks → (b ≡ true) ↔ HasFigure r n
+    (r : Railway) (k : ℕ) (sets : List ℕ) → Compiled r table → Laid r (isClosed r) ways → Behind r behind → n ≡ suc k
+    → RoundTables r k figs sets → MarkedFor r n figs marks → (b ≡ true) ↔ HasFigure r n
 
 abbrev pub Rounds : List ℕ → List ℕ → List ℕ → ℕ → List ℕ → List ℕ → List ℕ → List ℕ → List ℕ → List ℕ → ℕ → Type 0
 Rounds table ways behind n figs sets marks figs′ sets′ marks′ e =
-    (r : Railway) (k : ℕ) → Compiled r table → Laid r (isClosed r) ways → Behind r behind → placements r ≤ length figs → placements r ≤ length sets → n ≤ mostFigure → n ≡ suc k → RoundTables r k figs sets
+    (r : Railway) (k : ℕ) → Compiled r table → Laid r (isClosed r) ways → Behind r behind → placements r ≤ length figs
+    → placements r ≤ length sets → n ≤ mostFigure → n ≡ suc k → RoundTables r k figs sets
     → MarkedFor r n figs marks → RoundPost r n figs sets figs′ sets′ e × MarkedFor r e figs′ marks′
 
 module _ (table ways behind : List ℕ) (figs₀ sets₀ marks₀ : List ℕ) (from : ℕ) where
   pub looked-start : LookedTo table ways behind figs₀ sets₀ marks₀ figs₀ sets₀ marks₀ from from
   looked-start = record { long-figs = refl; long-sets = refl; long-marks = refl; looked = λ r n h w b lf ls y. (y, kept-self r figs₀, kept-self r sets₀) }
 
-  module _ (figs sets marks : List ℕ) (d : ℕ) (x : LookedTo table ways behind figs₀ sets₀ marks₀ figs sets marks from d) (b : Bool) (brings : Brings table ways behind figs marks d b) (few : d ≤ mostFigure) where
-    pub looked-found : b ≡ true → (r : Railway) (n : ℕ) → Compiled r table → Laid r (isClosed r) ways → Behind r behind → placements r ≤ length figs₀ → placements r ≤ length sets₀ → Ready r n from figs₀ sets₀ marks₀
+  module _ (figs sets marks : List ℕ) (d : ℕ) (x : LookedTo table ways behind figs₀ sets₀ marks₀ figs sets marks from d)
+      (b : Bool) (brings : Brings table ways behind figs marks d b) (few : d ≤ mostFigure) where
+    pub looked-found : b ≡ true → (r : Railway) (n : ℕ) → Compiled r table → Laid r (isClosed r) ways → Behind r behind
+        → placements r ≤ length figs₀ → placements r ≤ length sets₀ → Ready r n from figs₀ sets₀ marks₀
         → Shows r n d figs₀ sets₀ figs sets marks
     looked-found told r n h w back lf ls y₀ =
         let y = x .looked r n h w back lf ls y₀ in
@@ -153,7 +159,8 @@ module _ (table ways behind : List ℕ) (figs₀ sets₀ marks₀ : List ℕ) (f
         }
 
   pub looked-over : (figs sets marks : List ℕ) (d : ℕ) → LookedTo table ways behind figs₀ sets₀ marks₀ figs sets marks from d → mostFigure < d
-      → (r : Railway) (n : ℕ) → n < noFigure → Compiled r table → Laid r (isClosed r) ways → Behind r behind → placements r ≤ length figs₀ → placements r ≤ length sets₀ → Ready r n from figs₀ sets₀ marks₀
+      → (r : Railway) (n : ℕ) → n < noFigure → Compiled r table → Laid r (isClosed r) ways → Behind r behind
+      → placements r ≤ length figs₀ → placements r ≤ length sets₀ → Ready r n from figs₀ sets₀ marks₀
       → Shows r n noFigure figs₀ sets₀ figs sets marks
   looked-over figs sets marks d x l r n room h w back lf ls y₀ =
       let y = x .looked r n h w back lf ls y₀ in

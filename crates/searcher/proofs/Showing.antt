@@ -47,4 +47,9 @@ module _ (r : Railway) (figs sets : List ℕ) (c : Compilation) (p : CasePost r 
     pub looks-there : b ≡ false → (at f : ℕ) (a : Shown) → ((q : Railway) → Compiled q (c .table) → at ≡ codeOn q section) → f ≡ getD figs at noFigure → a ≡ shownBy (figureEntry f) (s .ended)
         → LookPost r section s figs sets a
     looks-there y at f a code entry shows =
-        record { numbered = ap numberShown shows ∙ shown-number (figureEntry f) (s .ended) ∙ ap numberOf (sym fine); answers = shows ∙ ap (λ (z : ℕ). shownBy (figureEntry z) (s .ended)) (entry ∙ ap (λ (z : ℕ). getD figs z noFigure) (code r (opened-table p e))) ∙ sym (found ∙ rw y refl) }
+        record {
+          numbered = ap numberShown shows ∙ shown-number (figureEntry f) (s .ended)
+              ∙ ap numberOf (sym fine);
+          answers = shows ∙ ap (λ (z : ℕ). shownBy (figureEntry z) (s .ended))
+              (entry ∙ ap (λ (z : ℕ). getD figs z noFigure) (code r (opened-table p e))) ∙ sym (found ∙ rw y refl);
+        }

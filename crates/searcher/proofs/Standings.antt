@@ -79,7 +79,9 @@ module _ (r : Railway) (accepted : recordRefusal r ≡ none) where
       }
 
 -- A ROUND THAT BRINGS NOTHING, c being what comes, as the search carries it or none behind the last
-module _ (r : Railway) (accepted : recordRefusal r ≡ none) (s : Search) (figs sets marks : List ℕ) (c : ℕ) (small : c ≤ noFigure) (last : mostFigure < s .rounds + 1 → c ≡ noFigure) (same : s .rounds + 1 ≤ mostFigure → c ≡ s .coming) where
+module _ (r : Railway) (accepted : recordRefusal r ≡ none) (s : Search) (figs sets marks : List ℕ) (c : ℕ)
+    (small : c ≤ noFigure) (last : mostFigure < s .rounds + 1 → c ≡ noFigure) (same : s .rounds + 1 ≤ mostFigure
+    → c ≡ s .coming) where
   abbrev one-on : Search
   one-on = record { rounds = s .rounds + 1; ended = eqb c noFigure; coming = c }
 
@@ -90,7 +92,11 @@ module _ (r : Railway) (accepted : recordRefusal r ≡ none) (s : Search) (figs 
         let y : Carried r n (searching s figs sets marks) = x .carried e in
         let is : s .rounds ≡ n = x .rounds in
         elim (lt? mostFigure (s .rounds + 1)) [
-          | inl l ↦ (let z : c ≡ noFigure = last l in rw z (nothing-coming r accepted n (omega (arith, going-few r accepted n (searching s figs sets marks) x e)) (omega arith), λ k. absurd (omega arith)))
+          | inl l ↦ (let z : c ≡ noFigure = last l in rw z (
+            nothing-coming r accepted n (omega (arith, going-few r accepted n (searching s figs sets marks) x e))
+                (omega arith),
+            λ k. absurd (omega arith),
+          ))
           | inr l ↦ (let z : c ≡ s .coming = same l in rw z (y .coming, y .marked))
         ]
 
@@ -165,7 +171,8 @@ module _ (r : Railway) (figs sets marks : List ℕ) (c : Compilation) (p : CaseP
       let due : caseRefusal r figs sets ≡ some f = opened-refused p e in
       record { numbered = ap numberGiven (x .0) ∙ ap numberOf (sym due); leaves = rw due (ap (λ (z : Search). searching z figs sets marks) (x .1 ∙ made)) }
 
-  pub round-refused : (f : Refusal) → c .tested ≡ Refused f → (a : SearchAnswer) (s s′ : Search) → (a ≡ Refuses f) × (s′ ≡ s) → SearchPost r (searching s figs sets marks) a (searching s′ figs sets marks)
+  pub round-refused : (f : Refusal) → c .tested ≡ Refused f → (a : SearchAnswer) (s s′ : Search)
+      → (a ≡ Refuses f) × (s′ ≡ s) → SearchPost r (searching s figs sets marks) a (searching s′ figs sets marks)
   round-refused f e a s s′ x =
       let due : caseRefusal r figs sets ≡ some f = opened-refused p e in
       record { numbered = ap numberGiven (x .0) ∙ ap numberOf (sym due); leaves = rw due (ap (λ (z : Search). searching z figs sets marks) (x .1)) }
@@ -239,7 +246,9 @@ module _ (r : Railway) (figs sets marks : List ℕ) (c : Compilation) (p : CaseP
       round-beyond l = rests (λ z. l)
 
     -- COUNTED
-    pub round-counted : (s s′ : Search) (a : SearchAnswer) (coming : ℕ) → s .rounds ≤ mostFigure → coming ≤ noFigure → (mostFigure < s .rounds + 1 → coming ≡ noFigure) × (s .rounds + 1 ≤ mostFigure → coming ≡ s .coming) → s .ended ≡ false → s .rounds + 1 < coming
+    pub round-counted : (s s′ : Search) (a : SearchAnswer) (coming : ℕ) → s .rounds ≤ mostFigure → coming ≤ noFigure
+        → (mostFigure < s .rounds + 1 → coming ≡ noFigure) × (s .rounds + 1 ≤ mostFigure → coming ≡ s .coming)
+        → s .ended ≡ false → s .rounds + 1 < coming
         → (a ≡ goingOn s′) × (s′ ≡ record { rounds = s .rounds + 1; ended = eqb coming noFigure; coming = coming }) → SearchPost r (searching s figs sets marks) a (searching s′ figs sets marks)
     round-counted s s′ a coming few small is going l made =
         rounded-post s a (searching s′ figs sets marks)
@@ -254,7 +263,9 @@ module _ (r : Railway) (figs sets marks : List ℕ) (c : Compilation) (p : CaseP
         })
 
     -- FINISHED, by a round on the entries of the placements
-    module _ (s s′ : Search) (a : SearchAnswer) (m coming : ℕ) (next : Onward) (figs₁ sets₁ marks′ : List ℕ) (counts : (q : Railway) → Compiled q (c .table) → m ≡ placements q) (going : s .ended ≡ false) (few : s .rounds ≤ mostFigure)
+    module _ (s s′ : Search) (a : SearchAnswer) (m coming : ℕ) (next : Onward) (figs₁ sets₁ marks′ : List ℕ)
+        (counts : (q : Railway) → Compiled q (c .table) → m ≡ placements q)
+        (going : s .ended ≡ false) (few : s .rounds ≤ mostFigure)
         (small : coming ≤ noFigure) (is : (mostFigure < s .rounds + 1 → coming ≡ noFigure) × (s .rounds + 1 ≤ mostFigure → coming ≡ s .coming)) (due : coming ≤ s .rounds + 1)
         (lf : length figs₁ ≡ length (take m figs)) (ls : length sets₁ ≡ length (take m sets))
         (finishes : (k : ℕ) → Compiled r (c .table) → placements r ≤ length (take m figs) → placements r ≤ length (take m sets) → s .rounds + 1 ≤ mostFigure → s .rounds + 1 ≡ suc k
@@ -286,7 +297,9 @@ module _ (r : Railway) (figs sets marks : List ℕ) (c : Compilation) (p : CaseP
           let y = part-round n x in
           record {
             tables =
-                tables-same r accepted figs₁ (figs₁ ++ drop m figs) (λ q l. joined-part m figs figs₁ enough-figs lf q noFigure (rw is-m l)) sets₁ (sets₁ ++ drop m sets) (λ q l. joined-part m sets sets₁ enough-sets ls q 0 (rw is-m l)) (suc n) (y .tables);
+                tables-same r accepted figs₁ (figs₁ ++ drop m figs)
+                (λ q l. joined-part m figs figs₁ enough-figs lf q noFigure (rw is-m l)) sets₁ (sets₁ ++ drop m sets)
+                (λ q l. joined-part m sets sets₁ enough-sets ls q 0 (rw is-m l)) (suc n) (y .tables);
             kept-figs = joined-kept m figs figs₁ enough-figs lf r is-m;
             kept-sets = joined-kept m sets sets₁ enough-sets ls r is-m;
             ended = y .ended;
@@ -301,7 +314,9 @@ module _ (r : Railway) (figs sets marks : List ℕ) (c : Compilation) (p : CaseP
             done = λ z. clash z going;
             too-many = λ l. absurd (omega arith);
             counted = λ z k. ap (λ (x : Search). x .rounds) (made .1) ∙ add-one (s .rounds);
-            one-more = λ n x z. rw (made .1) (finished-stands r (suc n) (s .rounds + 1) next figs sets (figs₁ ++ drop m figs) (sets₁ ++ drop m sets) marks′ (omega (arith, x .rounds)) (whole-round n x));
+            one-more =
+                λ n x z. rw (made .1) (finished-stands r (suc n) (s .rounds + 1) next figs sets (figs₁ ++ drop m figs)
+                (sets₁ ++ drop m sets) marks′ (omega (arith, x .rounds)) (whole-round n x));
             told = made .0;
             kept-figs = joined-kept m figs figs₁ enough-figs lf r is-m;
             kept-sets = joined-kept m sets sets₁ enough-sets ls r is-m;

@@ -42,7 +42,8 @@ pub struct Onward {
 
 // OPENING a search: home has figure 0, every other placement none, and no setting is set; no round is finished.
 pub fn open(r: Railway, figures: &mut [u32], settings: &mut [u32], marks: &mut Marks) -> SearchReply
-    ensures { λ a. ⌜ OpenPost r (now (figures .entry)) (now (settings .entry)) (now (marks .entry)) (a .answer) (searching (a .search) (now (figures .exit)) (now (settings .exit)) (now (marks .exit))) ⌝ }
+    ensures { λ a. ⌜ OpenPost r (now (figures .entry)) (now (settings .entry)) (now (marks .entry)) (a .answer)
+        (searching (a .search) (now (figures .exit)) (now (settings .exit)) (now (marks .exit))) ⌝ }
 {
     let c = cases::open_case(r, figures, settings);
     let tested = c.tested;
@@ -66,7 +67,8 @@ pub fn round(
     settings: &mut [u32],
     marks: &mut Marks,
 ) -> SearchReply
-    ensures { λ a. ⌜ SearchPost r (searching search (now (figures .entry)) (now (settings .entry)) (now (marks .entry))) (a .answer) (searching (a .search) (now (figures .exit)) (now (settings .exit)) (now (marks .exit))) ⌝ }
+    ensures { λ a. ⌜ SearchPost r (searching search (now (figures .entry)) (now (settings .entry)) (now (marks .entry)))
+        (a .answer) (searching (a .search) (now (figures .exit)) (now (settings .exit)) (now (marks .exit))) ⌝ }
 {
     let c = cases::open_case(r, figures, settings);
     let tested = c.tested;
@@ -140,7 +142,12 @@ fn finish(
     marks: &mut [u32],
     n: u32,
 ) -> Onward
-    ensures { λ x. ⌜ ((r : Railway) (k : ℕ) → Compiled r (now (table .entry)) → Laid r (isClosed r) (now (ways .entry)) → Behind r (now (behind .entry)) → placements r ≤ length (now (figures .entry)) → placements r ≤ length (now (settings .entry)) → n ≤ mostFigure → n ≡ suc k → RoundTables r k (now (figures .entry)) (now (settings .entry)) → MarkedFor r n (now (figures .entry)) (now (marks .entry)) → Finished r n x (now (figures .entry)) (now (settings .entry)) (now (figures .exit)) (now (settings .exit)) (now (marks .exit))) ⌝ }
+    ensures { λ x. ⌜ ((r : Railway) (k : ℕ) → Compiled r (now (table .entry)) → Laid r (isClosed r) (now (ways .entry))
+        → Behind r (now (behind .entry)) → placements r ≤ length (now (figures .entry))
+        → placements r ≤ length (now (settings .entry)) → n ≤ mostFigure → n ≡ suc k
+        → RoundTables r k (now (figures .entry)) (now (settings .entry))
+        → MarkedFor r n (now (figures .entry)) (now (marks .entry)) → Finished r n x (now (figures .entry))
+        (now (settings .entry)) (now (figures .exit)) (now (settings .exit)) (now (marks .exit))) ⌝ }
 {
     let d = rounds::round(table, ways, behind, figures, settings, marks, n);
     if ahead::came(table, figures, marks, n) {
@@ -184,7 +191,12 @@ fn look_ahead(
     marks: &mut [u32],
     from: u32,
 ) -> u32
-    ensures { λ c. ⌜ ((r : Railway) (n : ℕ) → n < noFigure → Compiled r (now (table .entry)) → Laid r (isClosed r) (now (ways .entry)) → Behind r (now (behind .entry)) → placements r ≤ length (now (figures .entry)) → placements r ≤ length (now (settings .entry)) → Ready r n from (now (figures .entry)) (now (settings .entry)) (now (marks .entry)) → Shows r n c (now (figures .entry)) (now (settings .entry)) (now (figures .exit)) (now (settings .exit)) (now (marks .exit))) ⌝ }
+    ensures { λ c. ⌜ ((r : Railway) (n : ℕ) → n < noFigure → Compiled r (now (table .entry))
+        → Laid r (isClosed r) (now (ways .entry)) → Behind r (now (behind .entry))
+        → placements r ≤ length (now (figures .entry)) → placements r ≤ length (now (settings .entry))
+        → Ready r n from (now (figures .entry)) (now (settings .entry)) (now (marks .entry))
+        → Shows r n c (now (figures .entry)) (now (settings .entry)) (now (figures .exit)) (now (settings .exit))
+        (now (marks .exit))) ⌝ }
 {
     let mut d = from;
     while d <= LAST_ROUND {

@@ -37,7 +37,8 @@ pub record Filling (table ways behind : List ℕ) (m : ℕ) (figs₀ sets₀ fig
 -- what a round promises of every railway of these tables
 abbrev pub Rounds : List ℕ → List ℕ → List ℕ → ℕ → List ℕ → List ℕ → List ℕ → List ℕ → List ℕ → List ℕ → ℕ → Type 0
 Rounds table ways behind n figs sets marks figs′ sets′ marks′ e =
-    (r : Railway) (k : ℕ) → Compiled r table → Laid r (isClosed r) ways → Behind r behind → placements r ≤ length figs → placements r ≤ length sets → n ≤ mostFigure → n ≡ suc k → RoundTables r k figs sets
+    (r : Railway) (k : ℕ) → Compiled r table → Laid r (isClosed r) ways → Behind r behind → placements r ≤ length figs
+    → placements r ≤ length sets → n ≤ mostFigure → n ≡ suc k → RoundTables r k figs sets
     → MarkedFor r n figs marks → RoundPost r n figs sets figs′ sets′ e × MarkedFor r e figs′ marks′
 
 -- what stands before the rounds
@@ -77,7 +78,9 @@ module _ (table ways behind : List ℕ) (m : ℕ) (figs sets figs₀ sets₀ : L
           kept-sets = kept-on r sets sets₀ sets₁ (cleared r h e .kept-sets) (p .kept-sets);
         }
 
-    pub filling-next : (figs′ sets′ marks′ : List ℕ) (e : ℕ) → n < e → n ≤ mostFigure → m ≤ length figs₁ → m ≤ length sets₁ → Rounds table ways behind n figs₁ sets₁ marks₁ figs′ sets′ marks′ e → length figs′ ≡ length figs₁ → length sets′ ≡ length sets₁ → length marks′ ≡ length marks₁
+    pub filling-next : (figs′ sets′ marks′ : List ℕ) (e : ℕ) → n < e → n ≤ mostFigure → m ≤ length figs₁
+        → m ≤ length sets₁ → Rounds table ways behind n figs₁ sets₁ marks₁ figs′ sets′ marks′ e
+        → length figs′ ≡ length figs₁ → length sets′ ≡ length sets₁ → length marks′ ≡ length marks₁
         → Filling table ways behind m figs₀ sets₀ figs′ sets′ marks′ e
     filling-next figs′ sets′ marks′ e on small lf ls round ef es em =
         record {

@@ -51,7 +51,9 @@ fn fill(
 )
     requires { ⌜ m ≤ mostCodes ⌝ }
     requires { ⌜ (m ≤ length (now figures)) × (m ≤ length (now settings)) ⌝ }
-    ensures { λ u. ⌜ ((r : Railway) → Compiled r (now (table .entry)) → Laid r (isClosed r) (now (ways .entry)) → Behind r (now (behind .entry)) → m ≡ placements r → SolverTables r (now (figures .entry)) (now (settings .entry)) (now (figures .exit)) (now (settings .exit))) ⌝ }
+    ensures { λ u. ⌜ ((r : Railway) → Compiled r (now (table .entry)) → Laid r (isClosed r) (now (ways .entry))
+        → Behind r (now (behind .entry)) → m ≡ placements r → SolverTables r (now (figures .entry))
+        (now (settings .entry)) (now (figures .exit)) (now (settings .exit))) ⌝ }
 {
     rounds::begin(table, figures, settings);
     let mut marks = [0u32; MARKS];

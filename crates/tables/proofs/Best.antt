@@ -58,7 +58,8 @@ module _ (r : Railway) (ok : Facts r) (p : ℕ) (F : ℕ → Option ℕ) (n : �
         omega (arith, bits-least (λ t. false) b x (keeps-closed r ok p F n o k (f .0) (f .1) (f .2))))
 
     -- ONE SIGNAL OPEN, where no train is free
-    module _ (none-free : (u : ℕ) → u < r .trains → free r p u ≡ false) (t b : ℕ) (l : t < r .trains) (its : held r p t ≡ true) (before : (u : ℕ) → u < t → tryOpen r F p n (eqb u) ≡ none) (x : Tried r F p n (eqb t) b) where
+    module _ (none-free : (u : ℕ) → u < r .trains → free r p u ≡ false) (t b : ℕ) (l : t < r .trains) (its : held r p t
+        ≡ true) (before : (u : ℕ) → u < t → tryOpen r F p n (eqb u) ≡ none) (x : Tried r F p n (eqb t) b) where
       -- the setting opens the signal of some train; the lowest is not below t
       some-open : signalOpen r p o (k .one-may .0) ≡ true
       some-open =

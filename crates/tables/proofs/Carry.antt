@@ -31,7 +31,12 @@ Carries r F G n = (q j : ℕ) → q < placements r → j < n → F q ≡ some j 
 
 module _ (r : Railway) (ok : Facts r) (F G : ℕ → Option ℕ) (p : ℕ) (l : p < placements r) where
   pub keeps-carry : (n : ℕ) → Carries r F G n → (s : Setting) → Keeps (gameOf r) F p s n → Keeps (gameOf r) G p s n
-  keeps-carry n c s = keeps-map (gameOf r) F G p s n n (λ t q j m e f b. (c q j (inside r ok p s t q l m e) (let w : 1 ≤ weightOf r t = costs r ok t (may-train (gameOf r) p s t m) in omega arith) f, b))
+  keeps-carry n c s =
+      keeps-map (gameOf r) F G p s n n (λ t q j m e f b. (
+        c q j (inside r ok p s t q l m e)
+            (let w : 1 ≤ weightOf r t = costs r ok t (may-train (gameOf r) p s t m) in omega arith) f,
+        b,
+      ))
 
 pub entry-carry : (r : Railway) → Facts r → (F G : ℕ → Option ℕ) (p : ℕ) → p < placements r → (f : Option ℕ) (v : ℕ)
     → ((n : ℕ) → f ≡ some n → Carries r F G n) → ((n : ℕ) → f ≡ some n → Carries r G F n) → IsPlanEntry r F p f v → IsPlanEntry r G p f v
@@ -45,7 +50,8 @@ entry-carry r ok F G p l (some (suc n)) v to from x = (
   x .1,
 )
 
-pub entry-same-figures : (r : Railway) → Facts r → (F G : ℕ → Option ℕ) → ((q : ℕ) → q < placements r → F q ≡ G q) → (p : ℕ) (f : Option ℕ) (v : ℕ) → p < placements r → IsPlanEntry r F p f v → IsPlanEntry r G p f v
+pub entry-same-figures : (r : Railway) → Facts r → (F G : ℕ → Option ℕ) → ((q : ℕ) → q < placements r → F q ≡ G q)
+    → (p : ℕ) (f : Option ℕ) (v : ℕ) → p < placements r → IsPlanEntry r F p f v → IsPlanEntry r G p f v
 entry-same-figures r ok F G same p f v l x = entry-carry r ok F G p l f v (λ n e q j lq b h. sym (same q lq) ∙ h) (λ n e q j lq b h. same q lq ∙ h) x
 
 -- THE SEARCH for a figure looks at the smaller figures alone too

@@ -121,7 +121,12 @@ module _ (r : Railway) (accepted : recordRefusal r ≡ none) (figs sets : List �
 
   -- a setting that keeps some number keeps a larger one too, and any number that no figure reaches
   keeps-at : (p : ℕ) (s : Setting) (n m : ℕ) → p < placements r → ((j w : ℕ) → j < noFigure → w ≤ 255 → 1 ≤ w → j + w ≤ n → j + w ≤ m) → Keeps (gameOf r) F p s n → Keeps (gameOf r) F p s m
-  keeps-at p s n m l up = keeps-map (gameOf r) F F p s n m (λ t q j a e h b. let lq : q < placements r = inside r ok p s t q l a e in (h, up j (weightOf r t) (figure-small (getD figs q noFigure) j (at q lq .0) h) (most r ok t (may-train (gameOf r) p s t a)) (costs r ok t (may-train (gameOf r) p s t a)) b))
+  keeps-at p s n m l up =
+      keeps-map (gameOf r) F F p s n m (λ t q j a e h b. let lq : q < placements r = inside r ok p s t q l a e in (
+        h,
+        up j (weightOf r t) (figure-small (getD figs q noFigure) j (at q lq .0) h)
+            (most r ok t (may-train (gameOf r) p s t a)) (costs r ok t (may-train (gameOf r) p s t a)) b,
+      ))
 
   module _ (p : ℕ) (l : p < placements r) where
     lost-none : (f : Option ℕ) (v : ℕ) → Right r F p f v → shared r p ≡ true → f ≡ none

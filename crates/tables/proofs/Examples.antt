@@ -51,7 +51,8 @@ refusals :
     × (numberGiven Unsolvable ≡ none)
     × (figureGiven (Figure 2) ≡ some 2)
     × (figureGiven Unsolvable ≡ none)
-unfolding caseRefusal tablesShort first weightRow weightOf unknownRow joinRow looseRow chainRow longer placeRow endAt joinedBy joined hasSignal legsOf trainOf withJoin withSignal withLegs withTrain anyBelow isClosed
+unfolding caseRefusal tablesShort first weightRow weightOf unknownRow joinRow looseRow chainRow longer placeRow endAt
+    joinedBy joined hasSignal legsOf trainOf withJoin withSignal withLegs withTrain anyBelow isClosed
 refusals = (refl, refl, refl, refl, refl, refl, refl, refl, refl, refl)
 
 -- ENTRIES AND FIGURES. In Yard A's placement of code 1 train 1 is held and train 2 parked, in that of code 7 train 2 is free; head on, in
@@ -155,7 +156,9 @@ several-points :
     × (moved 6 0 ≡ reaches 44)
     × (moved 3 1 ≡ reaches 14)
     × (moved 4 1 ≡ lost derailment)
-unfolding settingAt entryFrom signalOpen held headsFor standsOn sectionsIn codeOf moveOf passes follow occupied entered isClosed caseRefusal tablesShort first weightRow weightOf unknownRow joinRow looseRow chainRow longer placeRow endAt joinedBy joined hasSignal legsOf trainOf withJoin withSignal withLegs withTrain anyBelow sumBelow listBelow fromBits
+unfolding settingAt entryFrom signalOpen held headsFor standsOn sectionsIn codeOf moveOf passes follow occupied entered
+    isClosed caseRefusal tablesShort first weightRow weightOf unknownRow joinRow looseRow chainRow longer placeRow endAt
+    joinedBy joined hasSignal legsOf trainOf withJoin withSignal withLegs withTrain anyBelow sumBelow listBelow fromBits
 several-points = (refl, refl, refl, refl, refl, refl, refl, refl, refl, refl, refl, refl, refl, refl, refl)
 
 abbrev N : ℕ
@@ -198,7 +201,10 @@ together :
     -- together, they want point 3 at plus too: then train 2 goes into the loop
     × (find loopYard (figureIn figsLoop) 12 3 ≡ some 7)
     × (find loopYard (figureIn figsLoop) 12 2 ≡ none)
-unfolding find firstFound tryOpen keepsTest settingAt entryFrom mayMove free held signalOpen headsFor standsOn sectionsIn codeOf moveOf passes follow occupied entered isClosed caseRefusal tablesShort first weightRow weightOf unknownRow joinRow looseRow chainRow longer placeRow endAt joinedBy joined hasSignal legsOf trainOf withJoin withSignal withLegs withTrain allBelow anyBelow sumBelow lowest fromBits
+unfolding find firstFound tryOpen keepsTest settingAt entryFrom mayMove free held signalOpen headsFor standsOn
+    sectionsIn codeOf moveOf passes follow occupied entered isClosed caseRefusal tablesShort first weightRow weightOf
+    unknownRow joinRow looseRow chainRow longer placeRow endAt joinedBy joined hasSignal legsOf trainOf withJoin
+    withSignal withLegs withTrain allBelow anyBelow sumBelow lowest fromBits
 together = (refl, refl, refl, refl, refl, refl)
 
 -- WEIGHTS. Yard A with 5 for train 1 and 2 for train 2: the figures are 0, 5 and 7, and the settings are those of Yard A. WeighedYards has the proof that these are
@@ -223,5 +229,7 @@ weights :
     × (find weighed (figureIn figsW) 7 6 ≡ none)
     × (find weighed (figureIn figsW) 1 5 ≡ some 65536)
     × (find weighed (figureIn figsW) 1 4 ≡ none)
-unfolding find firstFound tryOpen keepsTest settingAt entryFrom mayMove free held signalOpen headsFor standsOn sectionsIn codeOf moveOf passes follow occupied entered isClosed weightOf endAt joinedBy joined hasSignal legsOf trainOf withJoin withSignal withLegs withTrain allBelow anyBelow sumBelow lowest fromBits
+unfolding find firstFound tryOpen keepsTest settingAt entryFrom mayMove free held signalOpen headsFor standsOn
+    sectionsIn codeOf moveOf passes follow occupied entered isClosed weightOf endAt joinedBy joined hasSignal legsOf
+    trainOf withJoin withSignal withLegs withTrain allBelow anyBelow sumBelow lowest fromBits
 weights = (refl, refl, refl, refl, refl, refl, refl, refl)

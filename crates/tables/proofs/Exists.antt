@@ -65,7 +65,13 @@ module _ (r : Railway) (accepted : recordRefusal r ≡ none) where
   few-placements = omega (arith, pow-le-pow-left (ok .few-sections) (r .trains), pow-le-pow-right {n = mostSections} (omega arith) {i = r .trains} {j = mostTrains} (ok .few-trains))
 
   most-figure : (p j : ℕ) → G p ≡ some j → j ≤ mostWeight * placements r
-  most-figure p j e = omega (arith, range (gameOf r) (costs r ok) 254 (most r ok) (settingAt r) (find r) searches (rounds (gameOf r) 254 (find r)) p j e, settled (gameOf r) (costs r ok) 254 (most r ok) (settingAt r) (find r) searches .1)
+  most-figure p j e =
+      omega (
+        arith,
+        range (gameOf r) (costs r ok) 254 (most r ok) (settingAt r) (find r) searches
+            (rounds (gameOf r) 254 (find r)) p j e,
+        settled (gameOf r) (costs r ok) 254 (most r ok) (settingAt r) (find r) searches .1,
+      )
 
   small-figure : (p j : ℕ) → G p ≡ some j → j < noFigure
   small-figure p j e = omega (arith, most-figure p j e, few-placements)
@@ -80,7 +86,9 @@ module _ (r : Railway) (accepted : recordRefusal r ≡ none) where
     | inr x ↦ absurd (no-keeps-zero (gameOf r) G (costs r ok) p (settingAt r p (x .0)) (find-sound r G p 0 (x .0) (x .1)))
   ])
   plan-at p l (some (suc n)) e =
-      let away : home (gameOf r) p ≡ false = not-true (home (gameOf r) p) (λ y. let z : _≡_ {A = Option ℕ} (some (suc n)) (some 0) = sym e ∙ agrees .home-zero p l y in let w : suc n ≡ 0 = cc in omega arith) in
+      let away : home (gameOf r) p ≡ false =
+      not-true (home (gameOf r) p) (λ y. let z : _≡_ {A = Option ℕ} (some (suc n)) (some 0) = sym e
+      ∙ agrees .home-zero p l y in let w : suc n ≡ 0 = cc in omega arith) in
       let apart : shared r p ≡ false = not-true (shared r p) (λ y. some-none e (agrees .lost-none p l y)) in
       let x : (v : ℕ) × (find r G p (suc n) ≡ some v) = find-complete r G p (suc n) ok (settingAt r p (W p)) (agrees .kept p (suc n) l e away) in
       let b : Best r ok p G (suc n) (x .0) = find-best r ok p G (suc n) apart (x .0) (x .1) in
@@ -131,7 +139,9 @@ module _ (r : Railway) (F : ℕ → Option ℕ) (E : ℕ → ℕ) (small : (p j 
   pub entries-kept : Kept r sets entries-written
   entries-kept = record { as-long = overwritten-length E (placements r) sets ls; past = λ p l. overwritten-past E (placements r) sets ls p 0 l }
 
-  pub settings-written : Facts r → ((p : ℕ) → p < placements r → IsPlanEntry r F p (F p) (E p)) → (p : ℕ) → p < placements r → IsPlanEntry r (figureIn figures-written) p (figureIn figures-written p) (getD entries-written p 0)
+  pub settings-written : Facts r → ((p : ℕ) → p < placements r → IsPlanEntry r F p (F p) (E p)) → (p : ℕ)
+      → p < placements r
+      → IsPlanEntry r (figureIn figures-written) p (figureIn figures-written p) (getD entries-written p 0)
   settings-written ok plan p l =
       let e : figureIn figures-written p ≡ F p = figure-at p l in
       rw (entry-at p l, e) (entry-same-figures r ok F (figureIn figures-written) (λ q lq. sym (figure-at q lq)) p (F p) (E p) l (plan p l))

@@ -59,7 +59,10 @@ sure : Sure yardA figsA setsA
     × Sure upTwoOne (0 ∷ N ∷ []) zeros
     × Sure upTwoOneHeld (0 ∷ N ∷ []) zeros
     × Sure headOn (N ∷ 0 ∷ N ∷ N ∷ []) zeros
-unfolding recordRefusal first weightRow weightOf unknownRow joinRow looseRow chainRow longer placeRow endAt joinedBy joined hasSignal legsOf trainOf withJoin withSignal withLegs withTrain allBelow anyBelow sumBelow lowest fromBits certified keepsTest sectionsIn standsOn codeOf atHome shared headsFor mayMove free held signalOpen passes follow occupied moveOf entered isClosed settingAt entryFrom tryOpen firstFound find
+unfolding recordRefusal first weightRow weightOf unknownRow joinRow looseRow chainRow longer placeRow endAt joinedBy
+    joined hasSignal legsOf trainOf withJoin withSignal withLegs withTrain allBelow anyBelow sumBelow lowest fromBits
+    certified keepsTest sectionsIn standsOn codeOf atHome shared headsFor mayMove free held signalOpen passes follow
+    occupied moveOf entered isClosed settingAt entryFrom tryOpen firstFound find
 sure = (
   record { accepted = refl; passes = refl },
   record { accepted = refl; passes = refl },
@@ -95,7 +98,9 @@ headOn-filled = (sure .7 .accepted, filled (sure .7))
 abbrev there : KnownFigure → Bool
 there x = eqb (length (x .sections)) (x .yard .trains) && (all (λ n. leb 1 n && leb n (x .yard .sections)) (x .sections) && ltb (knownCode x) (placements (x .yard)))
 
-known-figure : {x : KnownFigure} {figs sets : List ℕ} → Sure (x .yard) figs sets → (x .ofStart ≡ true → startCode (x .yard) ≡ knownCode x) → there x ≡ true → figureIn figs (knownCode x) ≡ x .figure → Holds x
+known-figure : {x : KnownFigure} {figs sets : List ℕ} → Sure (x .yard) figs sets
+    → (x .ofStart ≡ true → startCode (x .yard) ≡ knownCode x) → there x ≡ true
+    → figureIn figs (knownCode x) ≡ x .figure → Holds x
 known-figure {x} {figs} s start t e =
     let h = and-true (eqb (length (x .sections)) (x .yard .trains)) (all (λ n. leb 1 n && leb n (x .yard .sections)) (x .sections) && ltb (knownCode x) (placements (x .yard))) t in
     let k = and-true (all (λ n. leb 1 n && leb n (x .yard .sections)) (x .sections)) (ltb (knownCode x) (placements (x .yard))) (h .1) in

@@ -23,7 +23,10 @@ use Rattle.tables.proofs.Examples.{loopYard, figsLoop, setsLoop}
 use Rattle.tables.proofs.Certify.{certified, certify}
 
 computed : (recordRefusal loopYard ≡ none) × (certified loopYard figsLoop setsLoop ≡ true) × (startCode loopYard ≡ 12)
-unfolding certified find firstFound tryOpen keepsTest settingAt entryFrom mayMove free held signalOpen headsFor standsOn sectionsIn startCode codeOf atHome shared moveOf passes follow occupied entered isClosed recordRefusal first weightRow weightOf unknownRow joinRow looseRow chainRow longer placeRow endAt joinedBy joined hasSignal legsOf trainOf withJoin withSignal withLegs withTrain allBelow anyBelow sumBelow listBelow lowest fromBits
+unfolding certified find firstFound tryOpen keepsTest settingAt entryFrom mayMove free held signalOpen headsFor standsOn
+    sectionsIn startCode codeOf atHome shared moveOf passes follow occupied entered isClosed recordRefusal first
+    weightRow weightOf unknownRow joinRow looseRow chainRow longer placeRow endAt joinedBy joined hasSignal legsOf
+    trainOf withJoin withSignal withLegs withTrain allBelow anyBelow sumBelow listBelow lowest fromBits
 computed = (refl, refl, refl)
 
 pub loop-accepted : recordRefusal loopYard ≡ none

@@ -49,7 +49,9 @@ module _ (r : Railway) (ok : Facts r) (p : ℕ) (apart : shared r p ≡ false) (
     enters-good t none = refl
     enters-good t (some x) = refl
 
-    pub good-is : (plus : ℕ → Bool) (t : ℕ) → isWithin n (weightOf r t) (figureOf F (moveOf r p (settingAt r p (entryFrom r plus opens)) t)) ≡ isGood (endsGood r F p n t) (entered r plus (headsFor r p t))
+    pub good-is : (plus : ℕ → Bool) (t : ℕ)
+        → isWithin n (weightOf r t) (figureOf F (moveOf r p (settingAt r p (entryFrom r plus opens)) t))
+        ≡ isGood (endsGood r F p n t) (entered r plus (headsFor r p t))
     unfolding moveOf
     good-is plus t =
         ap (λ (o : Outcome). isWithin n (weightOf r t) (figureOf F o)) (move-same r ok (setting plus) (record { plus = plus; isOpen = λ i. false }) (setting-plus r (ok .few-points) plus opens p) p t)

@@ -66,7 +66,9 @@ module _ (r : Railway) (accepted : recordRefusal r ≡ none) where
 
   is-going : (p n : ℕ) → p < placements r → G p ≡ some (suc n) → Going p n
   is-going p n l e =
-      let away : home (gameOf r) p ≡ false = not-true (home (gameOf r) p) (λ y. let z : _≡_ {A = Option ℕ} (some (suc n)) (some 0) = sym e ∙ agrees .home-zero p l y in let w : suc n ≡ 0 = cc in omega arith) in
+      let away : home (gameOf r) p ≡ false =
+      not-true (home (gameOf r) p) (λ y. let z : _≡_ {A = Option ℕ} (some (suc n)) (some 0) = sym e
+      ∙ agrees .home-zero p l y in let w : suc n ≡ 0 = cc in omega arith) in
       let apart : shared r p ≡ false = not-true (shared r p) (λ y. some-none e (agrees .lost-none p l y)) in
       record { going = not-over (shared r p) (atHome r p) apart away; keeps = agrees .kept p (suc n) l e away }
 
@@ -207,7 +209,8 @@ module _ (r : Railway) (accepted : recordRefusal r ≡ none) where
     plan-step : (p f v f′ v′ : ℕ) → p < placements r → figureIn figs p ≡ figureEntry f → IsPlanEntry r (figureIn figs) p (figureEntry f) v
         → Step r (figureIn figs) (suc n) p f v f′ v′ → IsPlanEntry r (figureIn figs′) p (figureEntry f′) v′
     plan-step p f v f′ v′ l e x (stays ef ev h) =
-        rw (ef, ev) (entry-carry r ok (figureIn figs) (figureIn figs′) p l (figureEntry f) v (λ m em. onward m) (λ m em. backward m (let d = down n (figureIn figs) before p m l (e ∙ em) in omega (arith, d .1))) x)
+        rw (ef, ev) (entry-carry r ok (figureIn figs) (figureIn figs′) p l (figureEntry f) v (λ m em. onward m)
+        (λ m em. backward m (let d = down n (figureIn figs) before p m l (e ∙ em) in omega (arith, d .1))) x)
     plan-step p f v f′ v′ l e x (gains none-there o ef h) =
         let best : Best r ok p (figureIn figs) (suc n) v′ = find-best r ok p (figureIn figs) (suc n) (or-false (shared r p) (atHome r p) o .0) v′ h in
         let y : IsPlanEntry r (figureIn figs) p (some (suc n)) v′ = (best .plans, best .itself) in

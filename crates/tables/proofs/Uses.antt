@@ -74,7 +74,8 @@ none-keeps found exact = exact .finds-nothing .0 (finds-nothing found exact)
 -- ALL SETTINGS. Whatever else it says, a setting whose entry at (2, 3) has the point at plus and train 1 open lets train 1 go, and takes train 2 to
 -- section 1.
 entry-lets : (may (gameOf yardA) 7 (settingAt yardA 7 65537) 0 ≡ true) × (may (gameOf yardA) 7 (settingAt yardA 7 65537) 1 ≡ true) × (moveOf yardA 7 (settingAt yardA 7 65537) 1 ≡ at 1)
-unfolding settingAt mayMove signalOpen free held headsFor standsOn sectionsIn trainOf hasSignal withJoin withSignal withLegs withTrain moveOf passes follow occupied codeOf sumBelow endAt joinedBy joined anyBelow entered isClosed
+unfolding settingAt mayMove signalOpen free held headsFor standsOn sectionsIn trainOf hasSignal withJoin withSignal
+    withLegs withTrain moveOf passes follow occupied codeOf sumBelow endAt joinedBy joined anyBelow entered isClosed
 entry-lets = (refl, refl, refl)
 
 acts-so : (s : Setting) → entryOf yardA 7 s ≡ 65537 → (may (gameOf yardA) 7 s 0 ≡ true) × (moveOf yardA 7 s 1 ≡ at 1)
@@ -89,13 +90,15 @@ never-home w = one-choice-holds yardA yardA-accepted .beats w 6 (omega arith) (k
 
 -- A SOLVER that is lent a figure table of 8 entries refuses with 9, and leaves both tables
 refuses : (a : SolverAnswer) (figs sets : List ℕ) → SolverPost yardA a (replicate 8 5) (replicate 9 5) figs sets → (numberGiven a ≡ some 9) × (figs ≡ replicate 8 5) × (sets ≡ replicate 9 5)
-unfolding caseRefusal tablesShort first weightRow weightOf unknownRow joinRow looseRow chainRow longer placeRow endAt joinedBy joined hasSignal legsOf trainOf withJoin withSignal withLegs withTrain anyBelow isClosed
+unfolding caseRefusal tablesShort first weightRow weightOf unknownRow joinRow looseRow chainRow longer placeRow endAt
+    joinedBy joined hasSignal legsOf trainOf withJoin withSignal withLegs withTrain anyBelow isClosed
 refuses a figs sets post = (post .numbered, post .leaves .0, post .leaves .1)
 
 -- with tables of ten entries it leaves the last, and their length
 keeps-last : (a : SolverAnswer) (figs sets : List ℕ) → SolverPost yardA a (replicate 10 5) (replicate 10 6) figs sets
     → (length figs ≡ 10) × (getD figs 9 0 ≡ 5) × (length sets ≡ 10) × (getD sets 9 0 ≡ 6)
-unfolding caseRefusal tablesShort first weightRow weightOf unknownRow joinRow looseRow chainRow longer placeRow endAt joinedBy joined hasSignal legsOf trainOf withJoin withSignal withLegs withTrain anyBelow isClosed
+unfolding caseRefusal tablesShort first weightRow weightOf unknownRow joinRow looseRow chainRow longer placeRow endAt
+    joinedBy joined hasSignal legsOf trainOf withJoin withSignal withLegs withTrain anyBelow isClosed
 keeps-last a figs sets post =
     let x = post .leaves .0 in
     (x .kept-figs .as-long, x .kept-figs .past 9 (omega arith), x .kept-sets .as-long, x .kept-sets .past 9 (omega arith))

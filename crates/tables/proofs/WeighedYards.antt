@@ -71,7 +71,10 @@ computed :
     (recordRefusal weighed ≡ none) × (certified weighed figsW setsW ≡ true)
     × (recordRefusal (sidings 5) ≡ none) × (certified (sidings 5) figsDear setsDear ≡ true) × (startCode (sidings 5) ≡ 10)
     × (recordRefusal (sidings 1) ≡ none) × (certified (sidings 1) figsEven setsEven ≡ true)
-unfolding certified find firstFound tryOpen keepsTest settingAt entryFrom mayMove free held signalOpen headsFor standsOn sectionsIn startCode codeOf atHome shared moveOf passes follow occupied entered isClosed recordRefusal first weightRow weightOf unknownRow joinRow looseRow chainRow longer placeRow endAt joinedBy joined hasSignal legsOf trainOf withJoin withSignal withLegs withTrain allBelow anyBelow sumBelow listBelow lowest fromBits
+unfolding certified find firstFound tryOpen keepsTest settingAt entryFrom mayMove free held signalOpen headsFor standsOn
+    sectionsIn startCode codeOf atHome shared moveOf passes follow occupied entered isClosed recordRefusal first
+    weightRow weightOf unknownRow joinRow looseRow chainRow longer placeRow endAt joinedBy joined hasSignal legsOf
+    trainOf withJoin withSignal withLegs withTrain allBelow anyBelow sumBelow listBelow lowest fromBits
 computed = (refl, refl, refl, refl, refl, refl, refl)
 
 -- These are the tables.

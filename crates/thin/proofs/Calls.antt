@@ -61,7 +61,8 @@ module _ (r : Railway) (accepted : recordRefusal r ≡ none) (taken : List (List
       go (unbegun z s t) = (let y : _≡_ {A = ℕ} 0 1 = ap isFresh (sym s ∙ e) in absurd (omega arith))
       go (begun n ds f s t) = ap figure (sym e ∙ s) ∙ form-one r few taken n (w .start) ds (w .lines) f (w .form) .start
 
-module _ (r : Railway) (texts : List (List ℕ)) (answers : List LineAnswer) (taken : List (List ℕ)) (c : Checking) (k : Checked r texts answers taken c) (a : ThinAnswer) (c′ : Checking) (w : ThinClaims r c a c′) where
+module _ (r : Railway) (texts : List (List ℕ)) (answers : List LineAnswer) (taken : List (List ℕ)) (c : Checking)
+    (k : Checked r texts answers taken c) (a : ThinAnswer) (c′ : Checking) (w : ThinClaims r c a c′) where
   pub thinned-so : (a ≡ Thinned) ↔ Passing r taken
   thinned-so = (λ e. k .passes .0 (w .passed .0 e), λ e. w .passed .1 (k .passes .1 e))
 

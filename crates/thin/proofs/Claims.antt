@@ -288,7 +288,8 @@ lines-similar r [] c d s = refl
 lines-similar r (l ∷ ls) c d s =
     let w = take-similar r c d l s in
     let a : takeLine r d l .answer ≡ takeLine r c l .answer = w .answers in
-    let b : callLines r ls (takeLine r d l .checking) .answers ≡ callLines r ls (takeLine r c l .checking) .answers = lines-similar r ls (takeLine r c l .checking) (takeLine r d l .checking) (w .left) in
+    let b : callLines r ls (takeLine r d l .checking) .answers ≡ callLines r ls (takeLine r c l .checking) .answers =
+    lines-similar r ls (takeLine r c l .checking) (takeLine r d l .checking) (w .left) in
     rw (a, b)
 
 -- THE CALL

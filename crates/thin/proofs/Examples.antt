@@ -103,7 +103,8 @@ entries =
     ∷ []
 
 as-said : all holds entries ≡ true
-unfolding all at thinnedEntry stays someFree settingAt listBelow allBelow anyBelow lowest sectionsIn standsOn atHome headsFor mayMove free held signalOpen hasSignal trainOf withJoin withSignal withLegs withTrain
+unfolding all at thinnedEntry stays someFree settingAt listBelow allBelow anyBelow lowest sectionsIn standsOn atHome
+    headsFor mayMove free held signalOpen hasSignal trainOf withJoin withSignal withLegs withTrain
 as-said = refl
 
 -- WHOLE CALLS: thinned, also where train 1 is free; thinned already; no line taken; another figure in the first line; a plan in which nobody may move; tables
@@ -117,10 +118,16 @@ pub calls :
     × (thinPlan sidings (handed (Begun 2 14) figsS (table 0 196608 0 65536 0)) ≡ left (Refused PlanFault) (handed (Begun 2 14) figsS (table 0 196608 0 65536 0)))
     × (thinPlan sidings (handed (Begun 2 14) figsS (drop 1 generous)) ≡ left (Refused Space) (handed (Begun 2 14) figsS (drop 1 generous)))
     × (thinPlan (yardH 0 0 2) (handed (Begun 2 14) [] []) ≡ left (Refused Count) (handed (Begun 2 14) [] []))
-unfolding thinPlan thinnedEntry stays someFree settingAt tablesShort first weightRow weightOf unknownRow joinRow looseRow chainRow longer placeRow endAt joinedBy joined hasSignal legsOf trainOf withJoin withSignal withLegs withTrain allBelow anyBelow sumBelow listBelow lowest codeOf testHolds placementPasses listedSetting keepsTest sectionsIn standsOn startCode atHome shared headsFor mayMove free held signalOpen passes follow occupied moveOf entered isClosed
+unfolding thinPlan thinnedEntry stays someFree settingAt tablesShort first weightRow weightOf unknownRow joinRow
+    looseRow chainRow longer placeRow endAt joinedBy joined hasSignal legsOf trainOf withJoin withSignal withLegs
+    withTrain allBelow anyBelow sumBelow listBelow lowest codeOf testHolds placementPasses listedSetting keepsTest
+    sectionsIn standsOn startCode atHome shared headsFor mayMove free held signalOpen passes follow occupied
+    moveOf entered isClosed
 calls = (refl, refl, refl, refl, refl, refl, refl, refl)
 
 -- BOTH TRAINS BEFORE ONE SIGNAL
 pub common-fails : CommonFails
-unfolding recordRefusal first weightRow weightOf unknownRow joinRow looseRow chainRow longer placeRow endAt joinedBy joined hasSignal legsOf trainOf withJoin withSignal withLegs withTrain anyBelow sectionsIn standsOn shared headsFor mayMove free held signalOpen isClosed
+unfolding recordRefusal first weightRow weightOf unknownRow joinRow looseRow chainRow longer placeRow endAt joinedBy
+    joined hasSignal legsOf trainOf withJoin withSignal withLegs withTrain anyBelow sectionsIn standsOn shared headsFor
+    mayMove free held signalOpen isClosed
 common-fails = record { accepted = refl; together = refl; either-way = refl; not-in-common = refl }

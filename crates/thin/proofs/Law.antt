@@ -118,7 +118,8 @@ module _ (r : Railway) (p : ℕ) (plus : ℕ → Bool) (t : ℕ) (l : t < r .tra
   -- nobody open: a train that is held may not move
   pub by-none : (o : ℕ → Bool) → ((u : ℕ) → o u ≡ false) → moves r p plus o t ≡ false
   by-none o e =
-      let n : opensAt r p o t ≡ false = none-any (opensEnd r p o (endIndex (headsFor r p t))) (r .trains) (λ u k. ap (λ (x : Bool). x && eqb (endIndex (headsFor r p t)) (endIndex (headsFor r p u))) (e u)) in
+      let n : opensAt r p o t ≡ false = none-any (opensEnd r p o (endIndex (headsFor r p t))) (r .trains)
+      (λ u k. ap (λ (x : Bool). x && eqb (endIndex (headsFor r p t)) (endIndex (headsFor r p u))) (e u)) in
       may-is r p plus o t ∙ rw (n, held-not-free r p t h, h) (and-off (ltb t (r .trains)))
 
 not-both : (t u : ℕ) → (t ≡ u → ⊥) → (v : ℕ) → inBoth (eqb t) (eqb u) v ≡ false

@@ -51,7 +51,8 @@ module _ (r : Railway) (figs sets : List ℕ) where
       let n : length (listBelow (thinnedEntry r figs sets) (placements r)) ≡ placements r = list-length (thinnedEntry r figs sets) (placements r) in
       let k : ℕ = p - placements r in
       let e : p ≡ placements r + k = omega (arith, l) in
-      let a : getD (listBelow (thinnedEntry r figs sets) (placements r) ++ drop (placements r) sets) (length (listBelow (thinnedEntry r figs sets) (placements r)) + k) 0 ≡ getD (drop (placements r) sets) k 0 =
+      let a : getD (listBelow (thinnedEntry r figs sets) (placements r) ++ drop (placements r) sets)
+      (length (listBelow (thinnedEntry r figs sets) (placements r)) + k) 0 ≡ getD (drop (placements r) sets) k 0 =
       getD-append-add (listBelow (thinnedEntry r figs sets) (placements r)) (drop (placements r) sets) k 0 in
       let b : getD (drop (placements r) sets) k 0 ≡ getD sets (placements r + k) 0 = getD-drop (placements r) sets k 0 in
       ap (λ (q : ℕ). getD new q 0) (e ∙ ap (λ (z : ℕ). z + k) (sym n)) ∙ a ∙ b ∙ ap (λ (q : ℕ). getD sets q 0) (sym e)

@@ -99,7 +99,10 @@ abbrev early : Checking
 early = handed Fresh figsS generous
 
 tests : (testPlan sidings rich .answer ≡ Pass) × (testPlan sidings early .answer ≡ TestRefused PlanForm)
-unfolding testPlan tablesShort first weightRow weightOf unknownRow joinRow looseRow chainRow longer placeRow endAt joinedBy joined hasSignal legsOf trainOf withJoin withSignal withLegs withTrain allBelow anyBelow sumBelow listBelow codeOf testHolds placementPasses listedSetting keepsTest sectionsIn standsOn startCode atHome shared headsFor mayMove free held signalOpen passes follow occupied moveOf entered isClosed
+unfolding testPlan tablesShort first weightRow weightOf unknownRow joinRow looseRow chainRow longer placeRow endAt
+    joinedBy joined hasSignal legsOf trainOf withJoin withSignal withLegs withTrain allBelow anyBelow sumBelow listBelow
+    codeOf testHolds placementPasses listedSetting keepsTest sectionsIn standsOn startCode atHome shared headsFor
+    mayMove free held signalOpen passes follow occupied moveOf entered isClosed
 tests = (refl, refl)
 
 -- THE PROMISE: the answer, its number, and what is left
@@ -108,7 +111,8 @@ module _ (a : ThinAnswer) (c′ : Checking) where
   answered h = h .answer ∙ ap (λ x. x .answer) (calls .0)
 
   numbered : ThinPost sidings early a c′ → thinNumber a ≡ some 10
-  unfolding testPlan tablesShort first weightRow weightOf unknownRow joinRow looseRow chainRow longer placeRow endAt joinedBy joined hasSignal legsOf trainOf withJoin withSignal withLegs withTrain anyBelow listBelow isClosed
+  unfolding testPlan tablesShort first weightRow weightOf unknownRow joinRow looseRow chainRow longer placeRow endAt
+      joinedBy joined hasSignal legsOf trainOf withJoin withSignal withLegs withTrain anyBelow listBelow isClosed
   numbered h = h .numbered
 
   left-lean : ThinPost sidings rich a c′ → c′ .sets ≡ leanS
@@ -154,7 +158,10 @@ module _ (a : ThinAnswer) (c′ : Checking) where
 
     -- a line for (3, 4), code 14, is taken, and one for (1, 1), code 0, behind it is not
     more-lines : callLines sidings (bytes "3\t4\t5\t0\t.\n" ∷ bytes "1\t1\t5\t0\t.\n" ∷ []) c′ .answers ≡ Taken ∷ LineRefused PlanForm ∷ []
-    unfolding bytes callLines takeLine tablesShort first weightRow weightOf unknownRow joinRow looseRow chainRow longer placeRow endAt joinedBy joined hasSignal legsOf trainOf withJoin withSignal withLegs withTrain allBelow anyBelow sumBelow whichBelow listBelow fromBits any all readLine guess fields valueOf sameText spell line digits fits entryFrom codeOf isClosed
+    unfolding bytes callLines takeLine tablesShort first weightRow weightOf unknownRow joinRow looseRow chainRow longer
+        placeRow endAt joinedBy joined hasSignal legsOf trainOf withJoin withSignal withLegs withTrain allBelow anyBelow
+        sumBelow whichBelow listBelow fromBits any all readLine guess fields valueOf sameText spell line digits fits
+        entryFrom codeOf isClosed
     more-lines = h .more (bytes "3\t4\t5\t0\t.\n" ∷ bytes "1\t1\t5\t0\t.\n" ∷ [])
 
 -- A PLAN THAT WAS THINNED

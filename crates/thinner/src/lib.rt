@@ -58,7 +58,8 @@ pub fn thin(checker: Checker, r: Railway, figures: &[u32], settings: &mut [u32])
 
 // One pass over the codes. A table that is too short is written as far as it goes.
 fn thin_table(table: &Table, figures: &[u32], settings: &mut [u32])
-    ensures { λ _. ⌜ ((r : Railway) → Compiled r (now (table .entry)) → placements r ≤ length (now (settings .entry)) → now (settings .exit) ≡ thinnedTable r (now (figures .entry)) (now (settings .entry))) ⌝ }
+    ensures { λ _. ⌜ ((r : Railway) → Compiled r (now (table .entry)) → placements r ≤ length (now (settings .entry))
+        → now (settings .exit) ≡ thinnedTable r (now (figures .entry)) (now (settings .entry))) ⌝ }
 {
     let n = moves::placements(table);
     let mut p: u32 = 0;

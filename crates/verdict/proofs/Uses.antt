@@ -72,7 +72,8 @@ unfolding startCode codeOf sumBelow listBelow endAt joinedBy joined hasSignal le
 start-figure = refl
 
 passing : Passing yardA (linesOf planA)
-unfolding linesOf bytes planTexts planLines lineFor whichBelow listBelow startCode codeOf sumBelow sectionsIn spell line digits endAt joinedBy joined hasSignal legsOf trainOf withJoin withSignal withLegs withTrain
+unfolding linesOf bytes planTexts planLines lineFor whichBelow listBelow startCode codeOf sumBelow sectionsIn spell line
+    digits endAt joinedBy joined hasSignal legsOf trainOf withJoin withSignal withLegs withTrain
 passing = plan-passes yardA yardA-accepted figsA setsA yardA-filled 2 start-figure
 
 pub passes : (a : TestAnswer) → PlanPost yardA planA a → a ≡ Pass

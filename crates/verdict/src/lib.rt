@@ -66,7 +66,8 @@ pub fn go_on(
     figures: &mut [u32],
     settings: &mut [u32],
 ) -> Progress
-    ensures { λ x. ⌜ PiecePost r (checking checker (now (figures .entry)) (now (settings .entry))) (now (rest .entry)) (x .bytes) (x .stopped) (checking (x .checker) (now (figures .exit)) (now (settings .exit))) ⌝ }
+    ensures { λ x. ⌜ PiecePost r (checking checker (now (figures .entry)) (now (settings .entry))) (now (rest .entry))
+        (x .bytes) (x .stopped) (checking (x .checker) (now (figures .exit)) (now (settings .exit))) ⌝ }
 {
     let taken = checker.take_front(r, rest, figures, settings);
     let answer = taken.answer;

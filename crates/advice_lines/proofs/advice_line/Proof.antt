@@ -8,17 +8,29 @@ use Rattle.advice_lines.proofs.advice_line.Tie as tie
 
 returns : tie.Need-returns
 unfolding bytes line
-returns c = let w = c .before .before in line-for _ NotNeeded _ _ _ (w .before .before .before .enum-told .given .1) (w .put .ensures)
+returns c =
+    let w = c .before .before in
+    let enum-told = w .before .before .before in
+    line-for _ NotNeeded _ _ _ (enum-told .enum-told .given .1) (w .put .ensures)
 
 returns-2 : tie.Need-returns-2
-returns-2 c = let w = c .before .before in line-for _ _ _ _ _ (w .before .before .before .a .given .1) (w .end-line .ensures)
+returns-2 c =
+    let w = c .before .before in
+    let a = w .before .before .before in
+    line-for _ _ _ _ _ (a .a .given .1) (w .end-line .ensures)
 
 returns-3 : tie.Need-returns-3
 unfolding bytes line
-returns-3 c = let w = c .before .before in line-for _ NoneHelps _ _ _ (w .before .before .before .enum-told2 .given .1) (w .put2 .ensures)
+returns-3 c =
+    let w = c .before .before in
+    let enum-told2 = w .before .before .before in
+    line-for _ NoneHelps _ _ _ (enum-told2 .enum-told2 .given .1) (w .put2 .ensures)
 
 returns-4 : tie.Need-returns-4
-returns-4 c = let w = c .before .before in line-for _ _ _ _ _ (w .before .before .before .a2 .given .1) (w .refusal-line .ensures)
+returns-4 c =
+    let w = c .before .before in
+    let a2 = w .before .before .before in
+    line-for _ _ _ _ _ (a2 .a2 .given .1) (w .refusal-line .ensures)
 
 pub advice-line-spec : {M : Type 1} → statement M
 advice-line-spec =

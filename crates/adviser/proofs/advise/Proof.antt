@@ -15,7 +15,8 @@ returns : tie.Need-returns
 returns c =
     let o = c .before .before .before in
     let a = o .before .before .before .before .before in
-    told-refused (a .args .r) (a .args .figures .now) (a .args .settings .now) _ (o .open-case .ensures) _ (c .before .tested .given .1)
+    told-refused (a .args .r) (a .args .figures .now) (a .args .settings .now) _ (o .open-case .ensures) _
+    (c .before .tested .given .1)
 
 returns-2 : tie.Need-returns-2
 returns-2 c =
@@ -23,7 +24,8 @@ returns-2 c =
     let t = e .before .before .before in
     let o = t .before .before in
     let a = o .before .before .before .before .before in
-    e .advise-case .ensures (told-fine (a .args .r) (a .args .figures .now) (a .args .settings .now) _ (o .open-case .ensures) (t .enum-told .given .1))
+    e .advise-case .ensures (told-fine (a .args .r) (a .args .figures .now) (a .args .settings .now) _
+    (o .open-case .ensures) (t .enum-told .given .1))
 
 pub advise-spec : {M : Type 1} → statement M
 advise-spec =

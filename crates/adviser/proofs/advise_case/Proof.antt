@@ -10,8 +10,10 @@ returns c =
     let o = c .before .before .before .before in
     let f = o .before .before .before .before .before in
     let a = f .before .before .before in
-    λ fine. o .solve-case .ensures (a .args .figures .now) (a .args .settings .now)
-    (untouched (a .args .r) _ (a .args .figures .now) (a .args .settings .now) (a .args .figures .now) (a .args .settings .now) (f .first-bare .ensures) fine)
+    λ fine.
+    o .solve-case .ensures (a .args .figures .now) (a .args .settings .now)
+    (untouched (a .args .r) _ (a .args .figures .now) (a .args .settings .now) (a .args .figures .now)
+    (a .args .settings .now) (f .first-bare .ensures) fine)
 
 returns-2 : tie.Need-returns-2
 returns-2 c =
@@ -20,8 +22,10 @@ returns-2 c =
     let e = t .before .before .before in
     let f = e .before .before in
     let a = f .before .before .before in
-    λ fine. o .solve-case2 .ensures (a .args .figures .now) (a .args .settings .now)
-    (first-tried (a .args .r) _ (a .args .figures .now) (a .args .settings .now) _ _ (f .first-bare .ensures) _ (omega (arith, e .if1 .left)) fine (t .try-end .ensures))
+    λ fine.
+    o .solve-case2 .ensures (a .args .figures .now) (a .args .settings .now)
+    (first-tried (a .args .r) _ (a .args .figures .now) (a .args .settings .now) _ _ (f .first-bare .ensures) _
+    (omega (arith, e .if1 .left)) fine (t .try-end .ensures))
 
 returns-3 : tie.Need-returns-3
 returns-3 c =
@@ -31,8 +35,10 @@ returns-3 c =
     let e = t .before .before .before in
     let f = e .before .before in
     let a = f .before .before .before in
-    λ fine. o .try-ends .ensures (a .args .figures .now) (a .args .settings .now)
-    (first-useless (a .args .r) _ (a .args .figures .now) (a .args .settings .now) _ _ (f .first-bare .ensures) _ (omega (arith, e .if1 .left)) fine (n .if2 .left) (t .try-end .ensures))
+    λ fine.
+    o .try-ends .ensures (a .args .figures .now) (a .args .settings .now)
+    (first-useless (a .args .r) _ (a .args .figures .now) (a .args .settings .now) _ _ (f .first-bare .ensures) _
+    (omega (arith, e .if1 .left)) fine (n .if2 .left) (t .try-end .ensures))
 
 pub advise-case-spec : {M : Type 1} → statement M
 advise-case-spec =

@@ -27,7 +27,10 @@ returns c =
     bare-found (l .before .before .args .r) (l .loop .i) _ (l .loop .inv .0) (n .loop-test .taken) (c .before .flag-at .ensures) (c .if1 .taken)
 
 add-i : tie.Need-add-i Inv-loop μ-loop
-add-i c = let n = c .before .before in omega (arith, n .loop-test .taken, n .before .before .before .pre)
+add-i c =
+    let n = c .before .before in
+    let start = n .before .before .before in
+    omega (arith, n .loop-test .taken, start .pre)
 
 loop-less : tie.Need-loop-less Inv-loop μ-loop
 loop-less c = let n = c .before .before in omega (arith, n .loop-test .taken)

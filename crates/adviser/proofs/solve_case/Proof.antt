@@ -8,13 +8,17 @@ returns : tie.Need-returns
 returns c =
     let o = c .before .before .before .before .before .before .before in
     let a = o .before .before .before .before .before in
-    λ figs sets u. case-refused (a .args .r) (a .args .i) (a .args .figures .now) (a .args .settings .now) _ _ _ (o .solve .ensures) figs sets u _ (c .before .f .given .1)
+    λ figs sets u.
+    case-refused (a .args .r) (a .args .i) (a .args .figures .now) (a .args .settings .now) _ _ _ (o .solve .ensures)
+    figs sets u _ (c .before .f .given .1)
 
 returns-2 : tie.Need-returns-2
 returns-2 c =
     let o = c .before .before .before .before .before .before in
     let a = o .before .before .before .before .before in
-    λ figs sets u. case-figure (a .args .r) (a .args .i) (a .args .figures .now) (a .args .settings .now) _ _ _ (o .solve .ensures) figs sets u _ (c .enum-told .given .1)
+    λ figs sets u.
+    case-figure (a .args .r) (a .args .i) (a .args .figures .now) (a .args .settings .now) _ _ _ (o .solve .ensures)
+    figs sets u _ (c .enum-told .given .1)
 
 returns-3 : tie.Need-returns-3
 returns-3 c =
@@ -22,7 +26,9 @@ returns-3 c =
     let k = e .before .before .before in
     let o = k .before .before .before .before .before .before in
     let a = o .before .before .before .before .before in
-    λ figs sets u. e .try-ends .ensures figs sets (case-unsolved (a .args .r) (a .args .i) (a .args .figures .now) (a .args .settings .now) _ _ _ (o .solve .ensures) figs sets u (k .enum-told2 .given .1))
+    λ figs sets u.
+    e .try-ends .ensures figs sets (case-unsolved (a .args .r) (a .args .i) (a .args .figures .now)
+    (a .args .settings .now) _ _ _ (o .solve .ensures) figs sets u (k .enum-told2 .given .1))
 
 pub solve-case-spec : {M : Type 1} → statement M
 solve-case-spec =

@@ -10,7 +10,8 @@ returns : tie.Need-returns
 returns c =
     let f = c .before in
     let a = f .before .before .before in
-    tried-passed (a .args .r) (a .args .i) _ (a .args .figures .now) (a .args .settings .now) (f .flag-at .ensures) (c .if1 .taken)
+    tried-passed (a .args .r) (a .args .i) _ (a .args .figures .now) (a .args .settings .now)
+    (f .flag-at .ensures) (c .if1 .taken)
 
 returns-2 : tie.Need-returns-2
 returns-2 c =
@@ -20,7 +21,9 @@ returns-2 c =
     let l = e .before in
     let f = l .before in
     let a = f .before .before .before in
-    tried-one (a .args .r) (a .args .i) _ _ _ _ _ (a .args .figures .now) (a .args .settings .now) _ _ (f .flag-at .ensures) (l .if1 .left) (e .end-at .ensures) (w .with-signal .ensures) (o .solve .ensures) (sym (ap solved (c .enum-told .given .1)))
+    tried-one (a .args .r) (a .args .i) _ _ _ _ _ (a .args .figures .now) (a .args .settings .now) _ _
+    (f .flag-at .ensures) (l .if1 .left) (e .end-at .ensures) (w .with-signal .ensures) (o .solve .ensures)
+    (sym (ap solved (c .enum-told .given .1)))
 
 returns-3 : tie.Need-returns-3
 returns-3 c =
@@ -30,7 +33,9 @@ returns-3 c =
     let l = e .before in
     let f = l .before in
     let a = f .before .before .before in
-    tried-one (a .args .r) (a .args .i) _ _ _ _ _ (a .args .figures .now) (a .args .settings .now) _ _ (f .flag-at .ensures) (l .if1 .left) (e .end-at .ensures) (w .with-signal .ensures) (o .solve .ensures) (sym (ap solved (c .enum-told2 .given .1)))
+    tried-one (a .args .r) (a .args .i) _ _ _ _ _ (a .args .figures .now) (a .args .settings .now) _ _
+    (f .flag-at .ensures) (l .if1 .left) (e .end-at .ensures) (w .with-signal .ensures) (o .solve .ensures)
+    (sym (ap solved (c .enum-told2 .given .1)))
 
 returns-4 : tie.Need-returns-4
 returns-4 c =
@@ -40,7 +45,9 @@ returns-4 c =
     let l = e .before in
     let f = l .before in
     let a = f .before .before .before in
-    tried-one (a .args .r) (a .args .i) _ _ _ _ _ (a .args .figures .now) (a .args .settings .now) _ _ (f .flag-at .ensures) (l .if1 .left) (e .end-at .ensures) (w .with-signal .ensures) (o .solve .ensures) (sym (ap solved (c .enum-told3 .given .1)))
+    tried-one (a .args .r) (a .args .i) _ _ _ _ _ (a .args .figures .now) (a .args .settings .now) _ _
+    (f .flag-at .ensures) (l .if1 .left) (e .end-at .ensures) (w .with-signal .ensures) (o .solve .ensures)
+    (sym (ap solved (c .enum-told3 .given .1)))
 
 pub try-end-spec : {M : Type 1} → statement M
 try-end-spec =

@@ -16,7 +16,8 @@ returns : tie.Need-returns
 returns c =
     let t = c .before .before in
     let p = t .before .before .before .before in
-    made-put (p .spell-refusal .ensures) (refusal-short (p .before .before .before .args .f)) (t .put .ensures)
+    let a = p .before .before .before .args in
+    made-put (p .spell-refusal .ensures) (refusal-short (a .f)) (t .put .ensures)
 
 pub refusal-line-spec : {M : Type 1} → statement M
 refusal-line-spec =

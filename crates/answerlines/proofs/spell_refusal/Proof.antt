@@ -11,7 +11,8 @@ unfolding bytes
 returns c =
     let n = c .before .before in
     let b = n .before .before .before .before .before in
-    refusal-made (b .before .before .before .before .args .f) _ (n .before .number .ensures) (b .bytes .ensures) (n .number2 .ensures)
+    let a = b .before .before .before .before .args in
+    refusal-made (a .f) _ (n .before .number .ensures) (b .bytes .ensures) (n .number2 .ensures)
 
 pub spell-refusal-spec : {M : Type 1} → statement M
 spell-refusal-spec =

@@ -8,10 +8,16 @@ use Rattle.answerlines.proofs.test_line.Tie as tie
 
 returns : tie.Need-returns
 unfolding bytes line
-returns c = let w = c .before .before in passed-line _ _ _ _ (w .before .before .before .enum-told .given .1) (w .put .ensures)
+returns c =
+    let w = c .before .before in
+    let enum-told = w .before .before .before in
+    passed-line _ _ _ _ (enum-told .enum-told .given .1) (w .put .ensures)
 
 returns-2 : tie.Need-returns-2
-returns-2 c = let w = c .before .before in refused-line _ _ _ _ _ (w .before .before .before .a .given .1) (w .refusal-line .ensures)
+returns-2 c =
+    let w = c .before .before in
+    let a = w .before .before .before in
+    refused-line _ _ _ _ _ (a .a .given .1) (w .refusal-line .ensures)
 
 pub test-line-spec : {M : Type 1} → statement M
 test-line-spec =

@@ -8,7 +8,8 @@ use Rattle.cases.proofs.case_ways.Tie as tie
 returns : tie.Need-returns
 returns c =
     let a = c .before .before .before .before .before in
-    laid-closed (a .args .r) _ _ (own-closed (a .args .r) _ (a .good .0)) (c .ways-of .ensures (a .args .r) (own-links (a .args .r) _ (a .good .0)))
+    laid-closed (a .args .r) _ _ (own-closed (a .args .r) _ (a .good .0))
+    (c .ways-of .ensures (a .args .r) (own-links (a .args .r) _ (a .good .0)))
 
 pub case-ways-spec : {M : Type 1} → statement M
 case-ways-spec = tie.close (tie.spec (λ c κs. search needs) returns)

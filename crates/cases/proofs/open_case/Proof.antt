@@ -7,22 +7,39 @@ use Rattle.cases.proofs.open_case.Statement.{statement}
 use Rattle.cases.proofs.open_case.Tie as tie
 
 returns : tie.Need-returns
-returns c = record-refused (c .before .before .before .before .before .args .r) _ _ _ _ (c .before .before .compile .ensures) (c .enum-told2 .given .1)
+returns c =
+    let compile = c .before .before in
+    let a = compile .before .before .before .args in
+    record-refused (a .r) _ _ _ _ (compile .compile .ensures) (c .enum-told2 .given .1)
 
 returns-2 : tie.Need-returns-2
 returns-2 c =
-    too-short (c .before .before .before .before .before .before .before .before .before .before .args .r) _ _ _ (c .before .before .before .before .before .before .before .compile .ensures)
-    (c .before .before .before .before .before .enum-told .given .1) _ (c .before .before .placements .ensures) (inl (c .before .if1 .taken)) _ (c .short .ensures)
+    let placements = c .before .before in
+    let enum-told = placements .before .before .before in
+    let compile = enum-told .before .before in
+    let a = compile .before .before .before .args in
+    too-short (a .r) _ _ _ (compile .compile .ensures)
+    (enum-told .enum-told .given .1) _ (placements .placements .ensures) (inl (c .before .if1 .taken))
+    _ (c .short .ensures)
 
 returns-3 : tie.Need-returns-3
 returns-3 c =
-    too-short (c .before .before .before .before .before .before .before .before .before .before .before .args .r) _ _ _ (c .before .before .before .before .before .before .before .before .compile .ensures)
-    (c .before .before .before .before .before .before .enum-told .given .1) _ (c .before .before .before .placements .ensures) (inr (c .before .if2 .taken)) _ (c .short2 .ensures)
+    let placements = c .before .before .before in
+    let enum-told = placements .before .before .before in
+    let compile = enum-told .before .before in
+    let a = compile .before .before .before .args in
+    too-short (a .r) _ _ _ (compile .compile .ensures)
+    (enum-told .enum-told .given .1) _ (placements .placements .ensures) (inr (c .before .if2 .taken)) _
+    (c .short2 .ensures)
 
 returns-4 : tie.Need-returns-4
 returns-4 c =
-    opened (c .before .before .before .before .before .before .before .before .before .before .args .r) _ _ _ (c .before .before .before .before .before .before .before .compile .ensures)
-    (c .before .before .before .before .before .enum-told .given .1) _ (c .before .before .placements .ensures) (c .before .if1 .left) (c .if2 .left)
+    let placements = c .before .before in
+    let enum-told = placements .before .before .before in
+    let compile = enum-told .before .before in
+    let a = compile .before .before .before .args in
+    opened (a .r) _ _ _ (compile .compile .ensures)
+    (enum-told .enum-told .given .1) _ (placements .placements .ensures) (c .before .if1 .left) (c .if2 .left)
 
 pub open-case-spec : {M : Type 1} → statement M
 open-case-spec =

@@ -10,7 +10,8 @@ returns : tie.Need-returns
 returns c =
     let k = c .before .before .before .before .before .before .before .before .before in
     let a = k .before .before .before .before .before .before .before .before .before in
-    answered _ _ _ _ _ _ (k .check-files .kept .1 .1 .0 ∙ a .pre .0) (k .check-files .kept .1 .1 .1 .0 ∙ a .pre .1) (a .pre .2) _ (k .check-files .ensures) _ (c .bytes-put .ensures)
+    answered _ _ _ _ _ _ (k .check-files .kept .1 .1 .0 ∙ a .pre .0) (k .check-files .kept .1 .1 .1 .0 ∙ a .pre .1)
+    (a .pre .2) _ (k .check-files .ensures) _ (c .bytes-put .ensures)
 
 pub check-input-spec : {M : Type 1} → statement M
 check-input-spec =

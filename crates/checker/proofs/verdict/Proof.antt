@@ -10,8 +10,10 @@ returns : tie.Need-returns
 returns c =
     λ r k h w.
     let t = c .before in
-    let a = t .before .before .before .before .before .before .args in
-    verdict-pass r (checking k (a .figures .now) (a .settings .now)) (a .state) _ _ (t .before .before .state .given .1) _ (t .test-holds .ensures r h w) (c .if1 .taken)
+    let state = t .before .before in
+    let a = state .before .before .before .before .args in
+    verdict-pass r (checking k (a .figures .now) (a .settings .now)) (a .state) _ _ (state .state .given .1) _
+    (t .test-holds .ensures r h w) (c .if1 .taken)
 
 returns-2 : tie.Need-returns-2
 returns-2 c =
@@ -23,8 +25,10 @@ returns-3 : tie.Need-returns-3
 returns-3 c =
     λ r k h w.
     let t = c .before in
-    let a = t .before .before .before .before .before .before .args in
-    verdict-fault r (checking k (a .figures .now) (a .settings .now)) (a .state) _ _ (t .before .before .state .given .1) _ (t .test-holds .ensures r h w) (c .if1 .left)
+    let state = t .before .before in
+    let a = state .before .before .before .before .args in
+    verdict-fault r (checking k (a .figures .now) (a .settings .now)) (a .state) _ _ (state .state .given .1) _
+    (t .test-holds .ensures r h w) (c .if1 .left)
 
 pub verdict-spec : {M : Type 1} → statement M
 verdict-spec =

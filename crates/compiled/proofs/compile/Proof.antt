@@ -30,7 +30,9 @@ abbrev tested : tie.After-trains-of Inv-loop μ-loop Inv-loop2 μ-loop2 → tie.
 tested e = e .before .before .before .before
 
 returns : tie.Need-returns Inv-loop μ-loop Inv-loop2 μ-loop2
-returns c = post-refused (c .before .before .before .args .r) _ (c .before .before .test-record .ensures) _ (c .enum-told2 .given .1)
+returns c =
+    let test-record = c .before .before in
+    post-refused (test-record .before .args .r) _ (test-record .test-record .ensures) _ (c .enum-told2 .given .1)
 
 loop-holds : tie.Need-loop-holds Inv-loop μ-loop Inv-loop2 μ-loop2
 loop-holds c = (omega arith, filled-none (tested c .before .args .r) 0 _ refl)
@@ -40,8 +42,11 @@ loop-again c =
     let i = c .before .before .before .before in
     let l = i .before in
     let s = tested (l .before) .before in
-    let r = s .args .r in
-    (omega arith, c .fill-stands .ensures r (own-signals r _ (s .good .0)) (l .before .trains-of .ensures .each (l .loop .t) _ (i .loop-test .taken)) (l .loop .inv .1))
+    let r = s .args .r in (
+      omega arith,
+      c .fill-stands .ensures r (own-signals r _ (s .good .0))
+          (l .before .trains-of .ensures .each (l .loop .t) _ (i .loop-test .taken)) (l .loop .inv .1),
+    )
 
 loop2-holds : tie.Need-loop2-holds Inv-loop μ-loop Inv-loop2 μ-loop2
 loop2-holds c = let l = c .before in (omega arith, filled-stands (tested (l .before) .before .args .r) _ _ (l .loop .inv .0) (c .loop-test .left) (l .loop .inv .1))
@@ -65,7 +70,8 @@ returns-2 c =
     let m = c .before in
     let e = m .before .before .before in
     let t = tested e in
-    post-accepted (t .before .args .r) _ (t .test-record .ensures) _ _ (e .before .before .enum-told .given .1) (m .loop2 .inv .1) (c .loop2-test .left)
+    post-accepted (t .before .args .r) _ (t .test-record .ensures) _ _ (e .before .before .enum-told .given .1)
+    (m .loop2 .inv .1) (c .loop2-test .left)
 
 pub compile-spec : {M : Type 1} → statement M
 compile-spec =

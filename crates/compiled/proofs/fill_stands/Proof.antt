@@ -19,7 +19,9 @@ use Rattle.compiled.proofs.fill_stands.Tie as tie
 
 abbrev Inv-loop : tie.InvT-loop
 Inv-loop table₀ signals t side home first x₀ table x =
-    (x ≤ mostSections) × ((r : Railway) → SignalsOf r signals → side ≡ sideIndex (trainOf r t .heading) → home ≡ trainOf r t .destination .0 → FilledBefore r t table₀ → FilledTo (compiledByte r) tableBytes table (48 * t + x))
+    (x ≤ mostSections) × ((r : Railway) → SignalsOf r signals → side ≡ sideIndex (trainOf r t .heading)
+    → home ≡ trainOf r t .destination .0 → FilledBefore r t table₀
+    → FilledTo (compiledByte r) tableBytes table (48 * t + x))
 
 abbrev μ-loop : tie.MeasureT-loop
 μ-loop table₀ signals t side home first x₀ table x = mostSections - x

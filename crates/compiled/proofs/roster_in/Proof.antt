@@ -15,7 +15,10 @@ returns-3 : tie.Need-returns-3
 returns-3 c = λ r h. no-weight r _ _ _ h (c .before .before .if1 .left) (c .if3 .taken)
 
 returns-4 : tie.Need-returns-4
-returns-4 c = λ r h. no-section r _ _ _ h (c .before .before .if1 .left) (c .before .before .before .pre) (c .before .if2 .left) (c .if3 .left)
+returns-4 c =
+    λ r h.
+    let if1 = c .before .before in
+    no-section r _ _ _ h (if1 .if1 .left) (if1 .before .pre) (c .before .if2 .left) (c .if3 .left)
 
 pub roster-in-spec : {M : Type 1} → statement M
 roster-in-spec =

@@ -12,7 +12,12 @@ returns : tie.Need-returns
 returns c = λ r h k. let s = c .before .before in for-count r _ _ (s .pre .0) (c .before .if1 .taken) (c .count-byte .ensures r h)
 
 returns-2 : tie.Need-returns-2
-returns-2 c = λ r h k. let e = c .before .before in let i = e .before .args .i in for-roster r _ _ (e .before .pre .0) (e .if1 .left) (c .roster-byte .ensures r ((i - countBytes) % 4) (k .each ((i - countBytes) % 4) _ (omega arith)))
+returns-2 c =
+    λ r h k.
+    let e = c .before .before in
+    let i = e .before .args .i in
+    for-roster r _ _ (e .before .pre .0) (e .if1 .left)
+    (c .roster-byte .ensures r ((i - countBytes) % 4) (k .each ((i - countBytes) % 4) _ (omega arith)))
 
 pub tail-byte-spec : {M : Type 1} → statement M
 tail-byte-spec =

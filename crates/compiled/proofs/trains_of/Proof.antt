@@ -6,7 +6,12 @@ use Rattle.compiled.proofs.trains_of.Statement.{statement}
 use Rattle.compiled.proofs.trains_of.Tie as tie
 
 returns : tie.Need-returns
-returns c = let d = c .before in let e = d .before in let f = e .before in rostered (f .before .args .r) _ _ _ _ (f .train-of .ensures) (e .train-of2 .ensures) (d .train-of3 .ensures) (c .train-of4 .ensures)
+returns c =
+    let d = c .before in
+    let e = d .before in
+    let f = e .before in
+    rostered (f .before .args .r) _ _ _ _ (f .train-of .ensures) (e .train-of2 .ensures) (d .train-of3 .ensures)
+    (c .train-of4 .ensures)
 
 pub trains-of-spec : {M : Type 1} → statement M
 trains-of-spec =

@@ -11,7 +11,8 @@ returns c =
     let p = c .before .before in
     let s = p .before .before in
     let st = s .before .before .before .before in
-    told-counts (now (st .args .figures)) (now (st .args .counts)) (st .args .n) _ (s .so-far .ensures) (st .pre) (p .put-counts .kept .0) (p .put-counts .ensures)
+    told-counts (now (st .args .figures)) (now (st .args .counts)) (st .args .n) _ (s .so-far .ensures) (st .pre)
+    (p .put-counts .kept .0) (p .put-counts .ensures)
 
 pub counted-text-spec : {M : Type 1} → statement M
 counted-text-spec =

@@ -9,14 +9,17 @@ use Rattle.count_io.proofs.counts_input.Statement.{statement}
 use Rattle.count_io.proofs.counts_input.Tie as tie
 
 slice-aggregate-write-all : tie.Need-slice-aggregate-write-all
-slice-aggregate-write-all c = let h = c .before .before .before .case-text .ensures .within in simp length-take (omega (arith, h))
+slice-aggregate-write-all c =
+    let h = c .before .before .before .case-text .ensures .within in
+    simp length-take (omega (arith, h))
 
 returns : tie.Need-returns
 returns c =
     let t = c .before .before .before .before in
     let r = t .before .before .before .before .before in
     let st = r .before .before .before .before in
-    shown (now (st .args .case)) _ _ _ _ (st .pre .0) (r .read-full .kept .1 .0) (r .read-full .ensures .0) (t .case-text .ensures)
+    shown (now (st .args .case)) _ _ _ _ (st .pre .0) (r .read-full .kept .1 .0) (r .read-full .ensures .0)
+    (t .case-text .ensures)
 
 pub counts-input-spec : {M : Type 1} → statement M
 counts-input-spec =

@@ -11,7 +11,8 @@ returns c =
     let m = t .before .before .before in
     let k = m .before .before .before in
     let s = k .before .before .before .before in
-    railway-refused _ _ _ _ (s .solve .ensures) _ (k .count-figures .ensures) _ (m .answer .given .1) (t .refused-text .ensures)
+    railway-refused _ _ _ _ (s .solve .ensures) _ (k .count-figures .ensures) _ (m .answer .given .1)
+    (t .refused-text .ensures)
 
 returns-2 : tie.Need-returns-2
 returns-2 c =
@@ -20,7 +21,8 @@ returns-2 c =
     let m = p .before in
     let k = m .before .before .before in
     let s = k .before .before .before .before in
-    railway-counted _ _ _ _ (s .solve .ensures) _ (k .count-figures .ensures) _ (m .enum-told .given .1) (p .power .ensures) (t .counted-text .ensures)
+    railway-counted _ _ _ _ (s .solve .ensures) _ (k .count-figures .ensures) _ (m .enum-told .given .1)
+    (p .power .ensures) (t .counted-text .ensures)
 
 pub railway-text-spec : {M : Type 1} → statement M
 railway-text-spec =

@@ -8,12 +8,14 @@ use Rattle.count_io.proofs.refused_text.Tie as tie
 returns : tie.Need-returns
 returns c =
     let p = c .before .before .before .before .before in
-    refused-whole (p .before .before .before .args .f) (p .refusal-line .ensures) _ (c .before .n .given .1)
+    let a = p .before .before .before .args in
+    refused-whole (a .f) (p .refusal-line .ensures) _ (c .before .n .given .1)
 
 returns-2 : tie.Need-returns-2
 returns-2 c =
     let p = c .before .before .before .before in
-    refused-never (p .before .before .before .args .f) (p .refusal-line .ensures) (p .before .before .before .pre) _ (c .enum-told .given .1)
+    let start = p .before .before .before in
+    refused-never (start .args .f) (p .refusal-line .ensures) (start .pre) _ (c .enum-told .given .1)
 
 pub refused-text-spec : {M : Type 1} → statement M
 refused-text-spec =

@@ -15,7 +15,8 @@ returns c =
     let g = h .before .before in
     let w = g .before in
     let a = w .before .before .before .args in
-    counts-made (a .m) (a .a) (now (a .counts)) _ _ _ (w .entry-at .ensures) (g .entry-at2 .ensures) (s .span-of .ensures) (h .put-head .ensures) (r .put-rows .ensures) (m .put-more .ensures)
+    counts-made (a .m) (a .a) (now (a .counts)) _ _ _ (w .entry-at .ensures) (g .entry-at2 .ensures)
+    (s .span-of .ensures) (h .put-head .ensures) (r .put-rows .ensures) (m .put-more .ensures)
 
 pub put-counts-spec : {M : Type 1} → statement M
 put-counts-spec =

@@ -13,7 +13,8 @@ returns c =
     let none = largest .before .before .before .before .before in
     let home = none .before .before .before .before .before in
     let all = home .before .before .before .before .before in
-    append-then (append-then (append-then (all .put-named .ensures) (home .put-named2 .ensures)) (none .put-named3 .ensures)) (largest .put-named4 .ensures)
+    append-then (append-then (append-then (all .put-named .ensures) (home .put-named2 .ensures))
+    (none .put-named3 .ensures)) (largest .put-named4 .ensures)
 
 pub put-head-spec : {M : Type 1} → statement M
 put-head-spec =

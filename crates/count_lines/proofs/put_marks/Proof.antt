@@ -24,8 +24,11 @@ loop-holds c = (pieces-none markPiece, omega arith, refl)
 loop-again : tie.Need-loop-again Inv-loop μ-loop
 loop-again c =
     let p = c .before .before in
-    let l = p .before .before .before in
-    (pieces-next markPiece (l .loop .i) (l .loop .inv .0) (p .byte .ensures), omega arith, p .byte .kept .0 ∙ l .loop .inv .2)
+    let l = p .before .before .before in (
+      pieces-next markPiece (l .loop .i) (l .loop .inv .0) (p .byte .ensures),
+      omega arith,
+      p .byte .kept .0 ∙ l .loop .inv .2,
+    )
 
 same-length : tie.Need-same-length Inv-loop μ-loop
 same-length c = c .before .loop .inv .2

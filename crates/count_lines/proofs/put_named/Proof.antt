@@ -10,7 +10,8 @@ returns c =
     let n = c .before .before in
     let t = n .before .before .before .before in
     let w = t .before .before .before .before in
-    named-made _ (w .before .before .before .before .args .n) (w .bytes .ensures) (t .byte .ensures) (n .number .ensures)
+    let a = w .before .before .before .before .args in
+    named-made _ (a .n) (w .bytes .ensures) (t .byte .ensures) (n .number .ensures)
 
 pub put-named-spec : {M : Type 1} → statement M
 put-named-spec =

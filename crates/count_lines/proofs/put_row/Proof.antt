@@ -11,7 +11,8 @@ returns : tie.Need-returns
 returns c =
     let t = c .before in
     let a = t .before .before .before .args in
-    row-of (a .h) (label (a .s) (a .first)) _ (together (now (a .counts)) (a .s) (a .first)) (t .together .ensures) (row-none (a .h) (label (a .s) (a .first)) _ (c .if1 .taken))
+    row-of (a .h) (label (a .s) (a .first)) _ (together (now (a .counts)) (a .s) (a .first)) (t .together .ensures)
+    (row-none (a .h) (label (a .s) (a .first)) _ (c .if1 .taken))
 
 returns-2 : tie.Need-returns-2
 returns-2 c =

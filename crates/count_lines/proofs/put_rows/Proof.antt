@@ -41,8 +41,11 @@ loop-again : tie.Need-loop-again Inv-loop μ-loop
 loop-again c =
     let p = c .before .before in
     let l = p .before .before .before in
-    let a = l .before .before .before .args in
-    (pieces-next (figureRow (a .h) (a .s) (now (a .counts))) (l .loop .b) (l .loop .inv .0) (p .put-row .ensures), omega arith, p .put-row .kept .0 ∙ l .loop .inv .2)
+    let a = l .before .before .before .args in (
+      pieces-next (figureRow (a .h) (a .s) (now (a .counts))) (l .loop .b) (l .loop .inv .0) (p .put-row .ensures),
+      omega arith,
+      p .put-row .kept .0 ∙ l .loop .inv .2,
+    )
 
 same-length : tie.Need-same-length Inv-loop μ-loop
 same-length c = c .before .loop .inv .2
@@ -51,7 +54,8 @@ returns : tie.Need-returns Inv-loop μ-loop
 returns c =
     let l = c .before in
     let a = l .before .before .before .args in
-    pieces-all (figureRow (a .h) (a .s) (now (a .counts))) (l .loop .b) rows (l .loop .inv .1) (c .loop-test .left) (l .loop .inv .0)
+    pieces-all (figureRow (a .h) (a .s) (now (a .counts))) (l .loop .b) rows (l .loop .inv .1)
+    (c .loop-test .left) (l .loop .inv .0)
 
 pub put-rows-spec : {M : Type 1} → statement M
 put-rows-spec =

@@ -21,19 +21,33 @@ mul-counts : tie.Need-mul-counts Inv-loop μ-loop
 mul-counts c = omega (arith, class-there (c .before .entry-at .result) _ (c .class-of .ensures))
 
 array-read-counts : tie.Need-array-read-counts Inv-loop μ-loop
-array-read-counts c = omega (arith, class-there (c .before .entry-at .result) _ (c .class-of .ensures), c .before .before .before .loop .inv .sized)
+array-read-counts c =
+    let loop = c .before .before .before in
+    omega (arith, class-there (c .before .entry-at .result) _ (c .class-of .ensures), loop .loop .inv .sized)
 
 add-counts : tie.Need-add-counts Inv-loop μ-loop
-add-counts c = omega (arith, tally-most (c .before .before .before .loop .inv) _ (class-there (c .before .entry-at .result) _ (c .class-of .ensures)), c .before .before .loop-test .taken)
+add-counts c =
+    let loop-test = c .before .before in
+    omega (
+      arith,
+      tally-most (loop-test .before .loop .inv) _
+          (class-there (c .before .entry-at .result) _ (c .class-of .ensures)),
+      loop-test .loop-test .taken,
+    )
 
 array-write-counts : tie.Need-array-write-counts Inv-loop μ-loop
-array-write-counts c = omega (arith, class-there (c .before .entry-at .result) _ (c .class-of .ensures), c .before .before .before .loop .inv .sized)
+array-write-counts c =
+    let loop = c .before .before .before in
+    omega (arith, class-there (c .before .entry-at .result) _ (c .class-of .ensures), loop .loop .inv .sized)
 
 loop-less : tie.Need-loop-less Inv-loop μ-loop
 loop-less c = omega (arith, c .before .before .loop-test .taken)
 
 loop-again : tie.Need-loop-again Inv-loop μ-loop
-loop-again c = tally-next (c .before .before .before .loop .inv) (c .before .before .loop-test .taken) _ _ (c .before .entry-at .ensures) (c .class-of .ensures)
+loop-again c =
+    let loop-test = c .before .before in
+    tally-next (loop-test .before .loop .inv) (loop-test .loop-test .taken) _ _ (c .before .entry-at .ensures)
+    (c .class-of .ensures)
 
 returns : tie.Need-returns Inv-loop μ-loop
 returns c = tally-all (c .before .loop .inv) (c .loop-test .left)

@@ -11,14 +11,19 @@ returns : tie.Need-returns
 returns c = let h = c .before in let a = h .before .args in λ r p on laid. counts-home r p (a .v) (a .t) (a .x) _ (h .home-in .ensures r p on) (c .if1 .taken)
 
 returns-2 : tie.Need-returns-2
-returns-2 c = let a = c .before .before .before .args in λ r p on laid. counts-nowhere r p (a .v) (a .t) (a .x) (table-facts r _ (on .compiled)) (c .if2 .taken)
+returns-2 c =
+    let a = c .before .before .before .args in
+    λ r p on laid.
+    counts-nowhere r p (a .v) (a .t) (a .x) (table-facts r _ (on .compiled)) (c .if2 .taken)
 
 returns-3 : tie.Need-returns-3
 returns-3 c =
     let o = c .before in
     let n = o .before in
     let a = n .before .before .before .before .args in
-    λ r p on laid. counts-taken r p (a .v) (a .t) (a .x) _ (other-on r p _ (a .q) on (a .t) (a .x) _ _ (n .trains-in .ensures r (on .compiled)) (o .other-in .ensures)) (c .if3 .taken)
+    λ r p on laid.
+    counts-taken r p (a .v) (a .t) (a .x) _ (other-on r p _ (a .q) on (a .t) (a .x) _ _
+    (n .trains-in .ensures r (on .compiled)) (o .other-in .ensures)) (c .if3 .taken)
 
 returns-4 : tie.Need-returns-4
 returns-4 c =

@@ -10,7 +10,9 @@ returns : tie.Need-returns
 returns c =
     let f = c .before .before .before .before in
     let rf = f .before .before .before .before .before .before in
-    λ is. turned-change _ _ _ _ _ _ (short-text _ _ _ refl (rf .read-full .kept .1 .0) (rf .read-full .ensures .0)) (f .change-text .ensures) is
+    λ is.
+    turned-change _ _ _ _ _ _ (short-text _ _ _ refl (rf .read-full .kept .1 .0) (rf .read-full .ensures .0))
+    (f .change-text .ensures) is
 
 pub change-file-spec : {M : Type 1} → statement M
 change-file-spec =

@@ -17,7 +17,8 @@ returns c =
     let so = ch .before .before .before .before .before in
     let rd = so .before .before .before .before in
     let a = rd .before .before .before .before .args in
-    new-made _ (panelOf (a .r) _ _ (deskAt (a .desk))) _ (rd .read-case .ensures) _ _ _ (so .solve .ensures) _ (ch .change .ensures)
+    new-made _ (panelOf (a .r) _ _ (deskAt (a .desk))) _ (rd .read-case .ensures) _ _ _ (so .solve .ensures) _
+    (ch .change .ensures)
     _ _ (c1 .copy .ensures) (c2 .copy2 .ensures) (told .enum-told .given .1) _ _ _ _ (c .tell .ensures)
 
 returns-2 : tie.Need-returns-2
@@ -27,8 +28,10 @@ returns-2 c =
     let so = ch .before .before .before .before .before in
     let rd = so .before .before .before .before in
     let a = rd .before .before .before .before .args in
-    new-refused _ (panelOf (a .r) _ _ (deskAt (a .desk))) _ (rd .read-case .ensures) _ _ _ (so .solve .ensures) _ (ch .change .ensures)
-    _ (m .answer .given .1) _ _ _ _ (c .refuse .ensures .0) (ap deskAt (c .refuse .ensures .1)) (c .refuse .ensures .2) (c .refuse .ensures .3)
+    new-refused _ (panelOf (a .r) _ _ (deskAt (a .desk))) _ (rd .read-case .ensures) _ _ _ (so .solve .ensures) _
+    (ch .change .ensures)
+    _ (m .answer .given .1) _ _ _ _ (c .refuse .ensures .0) (ap deskAt (c .refuse .ensures .1)) (c .refuse .ensures .2)
+    (c .refuse .ensures .3)
 
 pub change-text-spec : {M : Type 1} → statement M
 change-text-spec =

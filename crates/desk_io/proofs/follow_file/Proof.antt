@@ -10,7 +10,8 @@ returns : tie.Need-returns
 returns c =
     let f = c .before .before .before .before in
     let st = f .before .before .before .before .before in
-    followed-by (now (st .args .case)) _ _ _ (st .pre) (f .read-full .kept .1 .0) (f .read-full .ensures .0) (c .follow-case .ensures)
+    followed-by (now (st .args .case)) _ _ _ (st .pre) (f .read-full .kept .1 .0) (f .read-full .ensures .0)
+    (c .follow-case .ensures)
 
 pub follow-file-spec : {M : Type 1} → statement M
 follow-file-spec =

@@ -37,14 +37,19 @@ add-bytes c =
     let t = c .before .before .before .before .before .before .before in
     let e = t .before .before .before in
     let i = e .before in
-    let b = counted _ _ _ _ _ _ _ (i .before .loop .inv .0) (i .loop-test .taken) _ _ _ (t .turn .ensures) (e .if1 .left) in
+    let b =
+    counted _ _ _ _ _ _ _ (i .before .loop .inv .0) (i .loop-test .taken) _ _ _ (t .turn .ensures) (e .if1 .left) in
     omega (arith, b)
 
 add-turns : tie.Need-add-turns Inv-loop μ-loop
-add-turns c = omega (arith, c .before .before .before .before .before .before .before .before .before .before .if1 .left)
+add-turns c =
+    let if1 = c .before .before .before .before .before .before .before .before .before .before in
+    omega (arith, if1 .if1 .left)
 
 loop-less : tie.Need-loop-less Inv-loop μ-loop
-loop-less c = omega (arith, c .before .before .before .before .before .before .before .before .before .before .if1 .left)
+loop-less c =
+    let if1 = c .before .before .before .before .before .before .before .before .before .before in
+    omega (arith, if1 .if1 .left)
 
 loop-again : tie.Need-loop-again Inv-loop μ-loop
 loop-again c =

@@ -19,7 +19,8 @@ returns-2 c =
     let e = c .before .before .before in
     let i = e .before in
     let a = i .before .before .before .before .args in
-    turned-line _ (panelOf (a .r) _ _ (deskAt (a .desk))) _ _ _ (sym (i .is-change .ensures) ∙ e .if1 .left) (c .answer .ensures)
+    turned-line _ (panelOf (a .r) _ _ (deskAt (a .desk))) _ _ _ (sym (i .is-change .ensures) ∙ e .if1 .left)
+    (c .answer .ensures)
 
 pub hear-spec : {M : Type 1} → statement M
 hear-spec =

@@ -37,7 +37,8 @@ loop-less c = omega (arith, c .before .before .before .before .before .before .b
 loop-again : tie.Need-loop-again Inv-loop μ-loop
 loop-again c =
     let p = c .before .before in
-    kept-next (p .before .before .before .before .before .before .before .before .loop .inv) _ _ _ (p .byte .ensures) (p .byte .kept .0)
+    let loop = p .before .before .before .before .before .before .before .before in
+    kept-next (loop .loop .inv) _ _ _ (p .byte .ensures) (p .byte .kept .0)
 
 same-length-3 : tie.Need-same-length-3 Inv-loop μ-loop
 same-length-3 c = c .before .loop .inv .sized

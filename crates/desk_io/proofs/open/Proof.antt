@@ -11,7 +11,8 @@ use Rattle.desk_io.proofs.open.Tie as tie
 returns : tie.Need-returns
 returns c =
     let p = c .before .before .before in
-    wrote (p .open-text .ensures) (own-length _ _ refl) _ _ _ _ _ _ _ (ap deskAt (c .write .ensures .0)) (c .write .ensures .1) (c .write .ensures .2) refl
+    wrote (p .open-text .ensures) (own-length _ _ refl) _ _ _ _ _ _ _ (ap deskAt (c .write .ensures .0))
+    (c .write .ensures .1) (c .write .ensures .2) refl
 
 pub open-spec : {M : Type 1} → statement M
 open-spec =

@@ -11,7 +11,8 @@ use Rattle.desk_io.proofs.tell.Tie as tie
 returns : tie.Need-returns
 returns c =
     let p = c .before .before .before in
-    wrote (p .state-text .ensures) (own-length _ _ refl) _ _ _ _ _ _ _ (ap deskAt (c .write .ensures .0)) (c .write .ensures .1) (c .write .ensures .2) (c .write .ensures .3)
+    wrote (p .state-text .ensures) (own-length _ _ refl) _ _ _ _ _ _ _ (ap deskAt (c .write .ensures .0))
+    (c .write .ensures .1) (c .write .ensures .2) (c .write .ensures .3)
 
 pub tell-spec : {M : Type 1} → statement M
 tell-spec =

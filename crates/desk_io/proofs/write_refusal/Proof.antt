@@ -10,7 +10,8 @@ use Rattle.desk_io.proofs.write_refusal.Tie as tie
 returns : tie.Need-returns
 returns c =
     let p = c .before .before .before .before in
-    refusal-count _ _ _ (p .before .before .args .f) (own-length _ _ refl) (p .refusal-line .ensures) _ (c .bytes-put .ensures)
+    refusal-count _ _ _ (p .before .before .args .f) (own-length _ _ refl) (p .refusal-line .ensures) _
+    (c .bytes-put .ensures)
 
 pub write-refusal-spec : {M : Type 1} → statement M
 write-refusal-spec =

@@ -8,7 +8,10 @@ use Rattle.desk_lines.proofs.put_points.Tie as tie
 
 returns : tie.Need-returns
 unfolding bytes
-returns c = let b = c .before .before in let i = b .before .before .before in points-none (i .before .before .args .m) (i .before .before .args .v) (i .if1 .taken) (b .bytes .ensures)
+returns c =
+    let b = c .before .before in
+    let i = b .before .before .before in
+    points-none (i .before .before .args .m) (i .before .before .args .v) (i .if1 .taken) (b .bytes .ensures)
 
 returns-2 : tie.Need-returns-2
 returns-2 c = let s = c .before .before in let i = s .before .before in points-some (i .before .before .args .m) (i .before .before .args .v) (i .if1 .left) (s .put-signs .ensures)

@@ -25,8 +25,11 @@ loop-again : tie.Need-loop-again Inv-loop μ-loop
 loop-again c =
     let p = c .before .before in
     let l = p .before .before .before in
-    let a = l .before .before .args in
-    (pieces-next (trainPiece (a .q) (a .v)) (l .loop .t) (l .loop .inv .0) (p .put-train .ensures), omega arith, p .put-train .kept .0 ∙ l .loop .inv .2)
+    let a = l .before .before .args in (
+      pieces-next (trainPiece (a .q) (a .v)) (l .loop .t) (l .loop .inv .0) (p .put-train .ensures),
+      omega arith,
+      p .put-train .kept .0 ∙ l .loop .inv .2,
+    )
 
 same-length : tie.Need-same-length Inv-loop μ-loop
 same-length c = c .before .loop .inv .2

@@ -33,7 +33,8 @@ returns-4 c =
     let b = f .before .before in
     let t = b .before .before in
     more-behind _ _ _ (sym (t .before .before .number-at .ensures) ∙ ap numberGot (t .t .given .1))
-    _ (b .byte-at .ensures) _ (f .field .given .1) _ _ (sym (n .number-at2 .ensures) ∙ ap numberGot (x .x .given .1)) (c .if1 .taken)
+    _ (b .byte-at .ensures) _ (f .field .given .1) _ _
+    (sym (n .number-at2 .ensures) ∙ ap numberGot (x .x .given .1)) (c .if1 .taken)
 
 returns-5 : tie.Need-returns-5
 returns-5 c =
@@ -43,7 +44,8 @@ returns-5 c =
     let b = f .before .before in
     let t = b .before .before in
     a-report _ _ _ (sym (t .before .before .number-at .ensures) ∙ ap numberGot (t .t .given .1))
-    _ (b .byte-at .ensures) _ (f .field .given .1) _ _ (sym (n .number-at2 .ensures) ∙ ap numberGot (x .x .given .1)) (c .if1 .left)
+    _ (b .byte-at .ensures) _ (f .field .given .1) _ _
+    (sym (n .number-at2 .ensures) ∙ ap numberGot (x .x .given .1)) (c .if1 .left)
 
 pub report-in-spec : {M : Type 1} → statement M
 report-in-spec =

@@ -15,7 +15,8 @@ returns c =
     let n = w .before .before .before .before .before in
     let t = n .before .before .before .before in
     let a = t .before .before .before .args in
-    state-made (a .k) (a .m) (a .q) (a .n) (a .v) (t .put-trains .ensures) (n .number .ensures) (w .bytes .ensures) (p .put-points .ensures) (e .byte .ensures)
+    state-made (a .k) (a .m) (a .q) (a .n) (a .v) (t .put-trains .ensures) (n .number .ensures) (w .bytes .ensures)
+    (p .put-points .ensures) (e .byte .ensures)
 
 pub state-line-spec : {M : Type 1} → statement M
 state-line-spec =

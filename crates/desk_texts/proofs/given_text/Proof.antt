@@ -12,7 +12,8 @@ returns c =
     let i = l .before .before in
     let s = i .before .before .before in
     let a = s .before .before .before .args in
-    λ accepted. given-home (a .r) (a .figures .now) (deskAt (a .desk)) (a .v) _ _ _ (i .if1 .taken) (l .home-line .ensures)
+    λ accepted.
+    given-home (a .r) (a .figures .now) (deskAt (a .desk)) (a .v) _ _ _ (i .if1 .taken) (l .home-line .ensures)
 
 returns-2 : tie.Need-returns-2
 returns-2 c =
@@ -21,7 +22,9 @@ returns-2 c =
     let i = n .before in
     let s = i .before .before .before in
     let a = s .before .before .before .args in
-    λ accepted. given-away (a .r) (a .figures .now) (deskAt (a .desk)) (a .v) _ _ _ accepted (i .if1 .left) _ (n .entry-at .ensures) (l .put-state .ensures)
+    λ accepted.
+    given-away (a .r) (a .figures .now) (deskAt (a .desk)) (a .v) _ _ _ accepted (i .if1 .left) _ (n .entry-at .ensures)
+    (l .put-state .ensures)
 
 pub given-text-spec : {M : Type 1} → statement M
 given-text-spec =

@@ -15,7 +15,8 @@ returns c =
     let m = w .before .before in
     let i = m .before .before in
     let a = i .before .before .before .before .before .args in
-    line-said (a .r) _ _ (deskAt (a .desk)) _ _ (sym (ap reportRead (m .enum-told .given .1)) ∙ i .report-in .ensures) (refused-said _ _ _ Report (deskAt (a .desk)) _ (w .refusal-line .ensures))
+    line-said (a .r) _ _ (deskAt (a .desk)) _ _ (sym (ap reportRead (m .enum-told .given .1)) ∙ i .report-in .ensures)
+    (refused-said _ _ _ Report (deskAt (a .desk)) _ (w .refusal-line .ensures))
 
 returns-2 : tie.Need-returns-2
 returns-2 c =
@@ -26,7 +27,8 @@ returns-2 c =
     let i = m .before .before in
     let a = i .before .before .before .before .before .args in
     line-said (a .r) _ _ (deskAt (a .desk)) _ _ (sym (ap reportRead (m .t .given .1)) ∙ i .report-in .ensures)
-    (report-said (a .r) _ _ (deskAt (a .desk)) (record { train = m .t .given .0 .0; section = m .t .given .0 .1 .0 }) _ _ (t .place-of .ensures) (x .place-of2 .ensures) (w .report-text .ensures))
+    (report-said (a .r) _ _ (deskAt (a .desk)) (record { train = m .t .given .0 .0; section = m .t .given .0 .1 .0 }) _
+    _ (t .place-of .ensures) (x .place-of2 .ensures) (w .report-text .ensures))
 
 pub line-text-spec : {M : Type 1} → statement M
 line-text-spec =

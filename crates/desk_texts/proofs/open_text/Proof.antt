@@ -24,7 +24,8 @@ returns-3 c =
     let w = c .before .before in
     let m = w .before .before .before in
     let o = m .before .before .before in
-    opening-said _ _ _ _ (o .«open» .ensures) _ (m .answer .given .1) (refused-said _ _ _ (m .answer .given .0 .0) _ _ (w .refusal-line .ensures))
+    opening-said _ _ _ _ (o .«open» .ensures) _ (m .answer .given .1)
+    (refused-said _ _ _ (m .answer .given .0 .0) _ _ (w .refusal-line .ensures))
 
 pub open-text-spec : {M : Type 1} → statement M
 open-text-spec =

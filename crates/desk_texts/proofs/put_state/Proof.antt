@@ -18,7 +18,8 @@ returns c =
     let w = c .before .before in
     let p = w .before .before .before .before in
     let a = p .before .before .before .args in
-    λ trains points. made-put (p .state-line .ensures) (state-short (a .k) (a .m) (a .q) (a .n) (a .v) trains points) (w .put .ensures)
+    λ trains points.
+    made-put (p .state-line .ensures) (state-short (a .k) (a .m) (a .q) (a .n) (a .v) trains points) (w .put .ensures)
 
 pub put-state-spec : {M : Type 1} → statement M
 put-state-spec =

@@ -12,7 +12,8 @@ returns c =
     let m = w .before .before in
     let o = m .before .before .before in
     let a = o .before .before .before .before .args in
-    reply-said (a .r) _ _ (deskAt (a .desk)) (a .t) (a .x) _ (o .report .ensures) _ (m .enum-told .given .1) (w .state-text .ensures)
+    reply-said (a .r) _ _ (deskAt (a .desk)) (a .t) (a .x) _ (o .report .ensures) _ (m .enum-told .given .1)
+    (w .state-text .ensures)
 
 returns-2 : tie.Need-returns-2
 returns-2 c =
@@ -20,7 +21,8 @@ returns-2 c =
     let m = w .before .before .before in
     let o = m .before .before .before in
     let a = o .before .before .before .before .args in
-    reply-said (a .r) _ _ (deskAt (a .desk)) (a .t) (a .x) _ (o .report .ensures) _ (m .answer .given .1) (refused-said _ _ _ (m .answer .given .0 .0) _ _ (w .refusal-line .ensures))
+    reply-said (a .r) _ _ (deskAt (a .desk)) (a .t) (a .x) _ (o .report .ensures) _ (m .answer .given .1)
+    (refused-said _ _ _ (m .answer .given .0 .0) _ _ (w .refusal-line .ensures))
 
 pub report-text-spec : {M : Type 1} → statement M
 report-text-spec =

@@ -13,7 +13,8 @@ returns c =
     let s = v .before .before in
     let a = s .before .before .before .before .args in
     let accepted = given-accepted (a .r) _ _ (deskAt (a .desk)) _ (s .setting .ensures) _ (v .v .given .1) in
-    setting-said (a .r) _ _ (deskAt (a .desk)) _ (s .setting .ensures) _ (v .v .given .1) (g .given-text .ensures accepted)
+    setting-said (a .r) _ _ (deskAt (a .desk)) _ (s .setting .ensures) _ (v .v .given .1)
+    (g .given-text .ensures accepted)
 
 returns-2 : tie.Need-returns-2
 returns-2 c =
@@ -21,7 +22,8 @@ returns-2 c =
     let f = w .before .before .before in
     let s = f .before .before in
     let a = s .before .before .before .before .args in
-    setting-said (a .r) _ _ (deskAt (a .desk)) _ (s .setting .ensures) _ (f .f .given .1) (refused-said _ _ _ (f .f .given .0 .0) (deskAt (a .desk)) _ (w .refusal-line .ensures))
+    setting-said (a .r) _ _ (deskAt (a .desk)) _ (s .setting .ensures) _ (f .f .given .1)
+    (refused-said _ _ _ (f .f .given .0 .0) (deskAt (a .desk)) _ (w .refusal-line .ensures))
 
 pub state-text-spec : {M : Type 1} → statement M
 state-text-spec =

@@ -24,7 +24,9 @@ returns-3 c =
     let f = l .before .before .before in
     let w = f .before in
     let a = w .before .before .args in
-    λ r h. rw (← (w .weight-in .ensures r h)) (due-least (a .figures .now) (a .most) (a .n) _ (a .from) (a .upto) _ _ _ (f .least-ahead .ensures) (l .least-from .ensures) (c .with-weight .ensures))
+    λ r h.
+    rw (← (w .weight-in .ensures r h)) (due-least (a .figures .now) (a .most) (a .n) _ (a .from) (a .upto) _ _ _
+    (f .least-ahead .ensures) (l .least-from .ensures) (c .with-weight .ensures))
 
 pub due-behind-spec : {M : Type 1} → statement M
 due-behind-spec =

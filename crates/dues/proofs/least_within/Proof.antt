@@ -26,7 +26,8 @@ loop-again c =
     let i = f .before .before in
     let l = i .before in
     let s = l .before .before in
-    entries-next (s .args .figures .now) _ _ _ (s .args .upto) _ _ (l .loop .inv) (i .loop-test .taken) (s .pre) (c .smaller .ensures .0) (λ h. omega (arith, c .smaller .ensures .1, f .from-on .ensures h))
+    entries-next (s .args .figures .now) _ _ _ (s .args .upto) _ _ (l .loop .inv) (i .loop-test .taken) (s .pre)
+    (c .smaller .ensures .0) (λ h. omega (arith, c .smaller .ensures .1, f .from-on .ensures h))
 
 returns : tie.Need-returns Inv-loop μ-loop
 returns c = let l = c .before in λ x a b h. l .loop .inv x a (omega (arith, c .loop-test .left)) h

@@ -28,11 +28,14 @@ loop-less c = omega (arith, c .before .before .loop-test .taken)
 
 loop-again : tie.Need-loop-again Inv-loop μ-loop
 loop-again c =
+    let s = c .smaller .ensures in
     let d = c .before in
     let l = d .before .before in
-    let a = l .before .before .before .args in
-    let s = c .smaller .ensures in
-    (λ x. s .2 _ (l .loop .inv .0 x) (d .next-by .ensures .0 x), λ r h. next-more r (a .marks .now) (a .m) (a .n) _ _ _ _ (l .loop .inv .1 r h) (s .0) (s .1) (d .next-by .ensures .1 r h))
+    let a = l .before .before .before .args in (
+      λ x. s .2 _ (l .loop .inv .0 x) (d .next-by .ensures .0 x),
+      λ r h. next-more r (a .marks .now) (a .m) (a .n) _ _ _ _ (l .loop .inv .1 r h) (s .0) (s .1)
+          (d .next-by .ensures .1 r h),
+    )
 
 returns : tie.Need-returns Inv-loop μ-loop
 returns c =

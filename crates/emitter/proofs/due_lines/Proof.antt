@@ -31,7 +31,8 @@ returns c =
     λ r h ok.
     let d = c .before .before .before in
     let a = d .before .before .before .before .before .args in
-    due-none r (now (a .figures)) (now (a .settings)) (a .place) (now (a .out)) ok (d .emit-due .ensures r h) (no-line (d .emit-due .result) (c .match .keys2))
+    due-none r (now (a .figures)) (now (a .settings)) (a .place) (now (a .out)) ok (d .emit-due .ensures r h)
+    (no-line (d .emit-due .result) (c .match .keys2))
 
 returns-2 : tie.Need-returns-2
 returns-2 c =
@@ -39,7 +40,8 @@ returns-2 c =
     let k = c .before .before in
     let d = k .before .before .before .before .before in
     let a = d .before .before .before .before .before .args in
-    due-top r (now (a .figures)) (now (a .settings)) (a .place) (now (a .out)) ok (d .emit-due .ensures r h) _ _ (k .before .first .given .1) (c .enum-told .given .1)
+    due-top r (now (a .figures)) (now (a .settings)) (a .place) (now (a .out)) ok (d .emit-due .ensures r h) _ _
+    (k .before .first .given .1) (c .enum-told .given .1)
 
 returns-3 : tie.Need-returns-3
 returns-3 c =
@@ -49,7 +51,9 @@ returns-3 c =
     let k = n .before .before in
     let d = k .before .before .before .before .before in
     let a = d .before .before .before .before .before .args in
-    due-more r (now (a .figures)) (now (a .settings)) (a .place) (now (a .out)) ok (d .emit-due .ensures r h) _ _ (k .before .first .given .1) _ (n .next .given .1) (d .emit-due .kept .1 .1 .1 .1 .0) (λ whole. m .more-lines .ensures r whole h)
+    due-more r (now (a .figures)) (now (a .settings)) (a .place) (now (a .out)) ok (d .emit-due .ensures r h) _ _
+    (k .before .first .given .1) _ (n .next .given .1) (d .emit-due .kept .1 .1 .1 .1 .0)
+    (λ whole. m .more-lines .ensures r whole h)
 
 pub due-lines-spec : {M : Type 1} → statement M
 due-lines-spec =

@@ -7,13 +7,36 @@ use Rattle.emitter.proofs.emit_due.Statement.{statement}
 use Rattle.emitter.proofs.emit_due.Tie as tie
 
 returns : tie.Need-returns
-returns c = λ r h. let a = c .before .before .before .before .before .before .args in none-emitted r (now (a .figures)) (now (a .settings)) (a .place) (now (a .out)) _ _ (c .before .before .start-code .ensures r h) (c .before .entry-at .ensures) (c .if1 .taken)
+returns c =
+    λ r h.
+    let start-code = c .before .before in
+    let a = start-code .before .before .before .before .args in
+    none-emitted r (now (a .figures)) (now (a .settings)) (a .place) (now (a .out)) _ _
+    (start-code .start-code .ensures r h) (c .before .entry-at .ensures) (c .if1 .taken)
 
 returns-2 : tie.Need-returns-2
-returns-2 c = λ r h. let a = c .before .before .before .before .before .before .before .before .before .before .before .before .args in top-emitted r (now (a .figures)) (now (a .settings)) (a .place) (now (a .out)) _ _ (c .before .before .before .before .before .before .before .before .start-code .ensures r h) (c .before .before .before .before .before .before .before .entry-at .ensures) (c .before .before .before .before .before .before .if1 .left) (c .before .before .before .before .enum-told .given .1) (c .before .before .emit-start .ensures)
+returns-2 c =
+    λ r h.
+    let emit-start = c .before .before in
+    let enum-told = emit-start .before .before in
+    let if1 = enum-told .before .before in
+    let start-code = if1 .before .before in
+    let a = start-code .before .before .before .before .args in
+    top-emitted r (now (a .figures)) (now (a .settings)) (a .place) (now (a .out)) _ _
+    (start-code .start-code .ensures r h) (if1 .before .entry-at .ensures) (if1 .if1 .left)
+    (enum-told .enum-told .given .1) (emit-start .emit-start .ensures)
 
 returns-3 : tie.Need-returns-3
-returns-3 c = λ r h. let a = c .before .before .before .before .before .before .before .before .before .before .before .before .before .args in from-emitted r (now (a .figures)) (now (a .settings)) (a .place) (now (a .out)) _ _ (c .before .before .before .before .before .before .before .before .before .start-code .ensures r h) (c .before .before .before .before .before .before .before .before .entry-at .ensures) (c .before .before .before .before .before .before .before .if1 .left) _ (c .before .before .before .before .before .place .given .1) (c .before .before .emit-from .ensures r h)
+returns-3 c =
+    λ r h.
+    let emit-from = c .before .before in
+    let place = emit-from .before .before .before in
+    let if1 = place .before .before in
+    let start-code = if1 .before .before in
+    let a = start-code .before .before .before .before .args in
+    from-emitted r (now (a .figures)) (now (a .settings)) (a .place) (now (a .out)) _ _
+    (start-code .start-code .ensures r h) (if1 .before .entry-at .ensures) (if1 .if1 .left) _
+    (place .place .given .1) (emit-from .emit-from .ensures r h)
 
 pub emit-due-spec : {M : Type 1} → statement M
 emit-due-spec =

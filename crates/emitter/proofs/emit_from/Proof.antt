@@ -7,10 +7,22 @@ use Rattle.emitter.proofs.emit_from.Statement.{statement}
 use Rattle.emitter.proofs.emit_from.Tie as tie
 
 returns : tie.Need-returns
-returns c = λ r h. let a = c .before .before .before .before .before .before .before .before .before .before .args in due-placement r (now (a .figures)) (now (a .settings)) (a .c) _ _ (now (a .out)) (c .before .before .before .before .before .next-code .ensures) (c .before .before .before .before .before .before .placements .ensures r h) (c .before .before .before .before .if1 .taken) (c .before .before .emit-placement .ensures r h)
+returns c =
+    λ r h.
+    let emit-placement = c .before .before in
+    let if1 = emit-placement .before .before in
+    let placements = if1 .before .before in
+    let a = placements .before .before .before .before .args in
+    due-placement r (now (a .figures)) (now (a .settings)) (a .c) _ _ (now (a .out)) (if1 .before .next-code .ensures)
+    (placements .placements .ensures r h) (if1 .if1 .taken) (emit-placement .emit-placement .ensures r h)
 
 returns-2 : tie.Need-returns-2
-returns-2 c = λ r h. let a = c .before .before .before .before .before .before .args in due-end r (now (a .figures)) (now (a .settings)) (a .c) _ _ (now (a .out)) (c .before .next-code .ensures) (c .before .before .placements .ensures r h) (c .if1 .left)
+returns-2 c =
+    λ r h.
+    let placements = c .before .before in
+    let a = placements .before .before .before .before .args in
+    due-end r (now (a .figures)) (now (a .settings)) (a .c) _ _ (now (a .out)) (c .before .next-code .ensures)
+    (placements .placements .ensures r h) (c .if1 .left)
 
 pub emit-from-spec : {M : Type 1} → statement M
 emit-from-spec =

@@ -7,10 +7,20 @@ use Rattle.emitter.proofs.emit_line.Statement.{statement}
 use Rattle.emitter.proofs.emit_line.Tie as tie
 
 returns : tie.Need-returns
-returns c = let a = c .before .before .before .before .before .before .before .before .args in case-refused (a .r) (now (a .figures)) (now (a .settings)) (a .place) (now (a .out)) (c .before .before .before .before .open-case .ensures) (c .before .tested .given .0 .0) (c .before .tested .given .1)
+returns c =
+    let open-case = c .before .before .before .before in
+    let a = open-case .before .before .before .before .args in
+    case-refused (a .r) (now (a .figures)) (now (a .settings)) (a .place) (now (a .out)) (open-case .open-case .ensures)
+    (c .before .tested .given .0 .0) (c .before .tested .given .1)
 
 returns-2 : tie.Need-returns-2
-returns-2 c = let a = c .before .before .before .before .before .before .before .before .before .before .before .before .args in case-emitted (a .r) (now (a .figures)) (now (a .settings)) (a .place) (now (a .out)) (c .before .before .before .before .before .before .before .before .open-case .ensures) (c .before .before .before .before .before .enum-told .given .1) (c .before .before .emit-due .ensures)
+returns-2 c =
+    let emit-due = c .before .before in
+    let enum-told = emit-due .before .before .before in
+    let open-case = enum-told .before .before .before in
+    let a = open-case .before .before .before .before .args in
+    case-emitted (a .r) (now (a .figures)) (now (a .settings)) (a .place) (now (a .out)) (open-case .open-case .ensures)
+    (enum-told .enum-told .given .1) (emit-due .emit-due .ensures)
 
 pub emit-line-spec : {M : Type 1} → statement M
 emit-line-spec =

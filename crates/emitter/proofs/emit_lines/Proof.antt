@@ -11,7 +11,8 @@ returns c =
     let t = c .before in
     let o = t .before .before .before in
     let a = o .before .before .before .before .args in
-    lines-refused (a .r) (now (a .figures)) (now (a .settings)) (a .place) (now (a .out)) (o .open-case .ensures) (t .tested .given .0 .0) (t .tested .given .1)
+    lines-refused (a .r) (now (a .figures)) (now (a .settings)) (a .place) (now (a .out)) (o .open-case .ensures)
+    (t .tested .given .0 .0) (t .tested .given .1)
 
 returns-2 : tie.Need-returns-2
 returns-2 c =
@@ -19,7 +20,8 @@ returns-2 c =
     let t = d .before .before .before in
     let o = t .before .before .before in
     let a = o .before .before .before .before .args in
-    lines-emitted (a .r) (now (a .figures)) (now (a .settings)) (a .place) (now (a .out)) (o .open-case .ensures) (t .enum-told .given .1) (d .due-lines .ensures)
+    lines-emitted (a .r) (now (a .figures)) (now (a .settings)) (a .place) (now (a .out)) (o .open-case .ensures)
+    (t .enum-told .given .1) (d .due-lines .ensures)
 
 pub emit-lines-spec : {M : Type 1} → statement M
 emit-lines-spec =

@@ -13,10 +13,23 @@ array-share-prefix-text : tie.Need-array-share-prefix-text
 array-share-prefix-text c = front-fits (c .before .before .placement-line .ensures) (c .before .before .placement-line .kept .0)
 
 slice-aggregate-put-line : tie.Need-slice-aggregate-put-line
-slice-aggregate-put-line c = front-cut (c .before .before .before .placement-line .ensures) (c .before .before .before .placement-line .kept .0)
+slice-aggregate-put-line c =
+    let placement-line = c .before .before .before in
+    front-cut (placement-line .placement-line .ensures) (placement-line .placement-line .kept .0)
 
 returns : tie.Need-returns
-returns c = λ r h has. let a = c .before .before .before .before .before .before .before .before .before .before .before .before .before .before .before .before .args in placement-written r (now (a .figures)) (now (a .settings)) (a .p) (now (a .out)) h has (c .before .before .before .before .before .before .before .before .before .before .before .before .entry-at .ensures) (omega arith) (c .before .before .before .before .before .before .before .before .before .before .before .entry-at2 .ensures) (c .before .before .before .before .before .before .before .before .before .before .placement-of .ensures r h) (c .before .before .before .before .before .before .before .before .before .trains-in .ensures r h) (c .before .before .before .before .before .before .before .before .points-in .ensures r h) refl (c .before .before .before .before .before .before .placement-line .ensures) (c .before .before .put-line .ensures)
+returns c =
+    λ r h has.
+    let put-line = c .before .before in
+    let placement-line = put-line .before .before .before .before in
+    let points-in = placement-line .before .before in
+    let placement-of = points-in .before .before in
+    let entry-at = placement-of .before .before in
+    let a = entry-at .before .before .before .before .args in
+    placement-written r (now (a .figures)) (now (a .settings)) (a .p) (now (a .out)) h has (entry-at .entry-at .ensures)
+    (omega arith) (placement-of .before .entry-at2 .ensures) (placement-of .placement-of .ensures r h)
+    (points-in .before .trains-in .ensures r h) (points-in .points-in .ensures r h) refl
+    (placement-line .placement-line .ensures) (put-line .put-line .ensures)
 
 pub emit-placement-spec : {M : Type 1} → statement M
 emit-placement-spec =

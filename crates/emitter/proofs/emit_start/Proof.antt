@@ -13,10 +13,17 @@ array-share-prefix-text : tie.Need-array-share-prefix-text
 array-share-prefix-text c = front-fits (c .before .before .start-line .ensures) (c .before .before .start-line .kept .0)
 
 slice-aggregate-put-line : tie.Need-slice-aggregate-put-line
-slice-aggregate-put-line c = front-cut (c .before .before .before .start-line .ensures) (c .before .before .before .start-line .kept .0)
+slice-aggregate-put-line c =
+    let start-line = c .before .before .before in
+    front-cut (start-line .start-line .ensures) (start-line .start-line .kept .0)
 
 returns : tie.Need-returns
-returns c = own-written refl (c .before .before .before .before .before .before .start-line .ensures) (From 0) (now (c .before .before .before .before .before .before .before .before .before .args .out)) (start-short (c .before .before .before .before .before .before .before .before .before .args .n)) (c .before .before .put-line .ensures)
+returns c =
+    let put-line = c .before .before in
+    let start-line = put-line .before .before .before .before in
+    let a = start-line .before .before .before .args in
+    own-written refl (start-line .start-line .ensures) (From 0) (now (a .out)) (start-short (a .n))
+    (put-line .put-line .ensures)
 
 pub emit-start-spec : {M : Type 1} → statement M
 emit-start-spec =

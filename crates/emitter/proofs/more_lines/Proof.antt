@@ -37,10 +37,14 @@ returns c =
     let n = c .before in
     let l = n .before in
     let a = l .before .before .before .before .before .args in
-    lines-over r (now (a .figures)) (now (a .settings)) p whole (l .loop .c) (l .loop .at) (l .loop .out) (l .loop .inv .1 r whole h p u) _ _ (n .next-code .ensures) (l .before .placements .ensures r h) (c .if1 .taken)
+    lines-over r (now (a .figures)) (now (a .settings)) p whole (l .loop .c) (l .loop .at) (l .loop .out)
+    (l .loop .inv .1 r whole h p u) _ _ (n .next-code .ensures) (l .before .placements .ensures r h) (c .if1 .taken)
 
 same-length-2 : tie.Need-same-length-2 Inv-loop μ-loop
-same-length-2 c = let u = c .before .before .before in u .put-placement .kept .1 .1 .1 .1 .0 ∙ u .before .before .before .before .loop .inv .0
+same-length-2 c =
+    let u = c .before .before .before in
+    let loop = u .before .before .before .before in
+    u .put-placement .kept .1 .1 .1 .1 .0 ∙ loop .loop .inv .0
 
 returns-2 : tie.Need-returns-2 Inv-loop μ-loop
 returns-2 c =
@@ -50,7 +54,9 @@ returns-2 c =
     let n = e .before in
     let l = n .before in
     let a = l .before .before .before .before .before .args in
-    lines-full r (now (a .figures)) (now (a .settings)) p whole (l .loop .c) (l .loop .at) (l .loop .out) (l .loop .inv .1 r whole h p u) _ _ (n .next-code .ensures) (l .before .placements .ensures r h) (e .if1 .left) (t .put-placement .ensures r h) (c .if2 .taken)
+    lines-full r (now (a .figures)) (now (a .settings)) p whole (l .loop .c) (l .loop .at) (l .loop .out)
+    (l .loop .inv .1 r whole h p u) _ _ (n .next-code .ensures) (l .before .placements .ensures r h) (e .if1 .left)
+    (t .put-placement .ensures r h) (c .if2 .taken)
 
 loop-less : tie.Need-loop-less Inv-loop μ-loop
 loop-less c =
@@ -68,7 +74,9 @@ loop-again c =
     let l = n .before in
     let a = l .before .before .before .before .before .args in (
       t .put-placement .kept .1 .1 .1 .1 .0 ∙ l .loop .inv .0,
-      λ r whole h p u. lines-next r (now (a .figures)) (now (a .settings)) p whole (l .loop .c) (l .loop .at) (l .loop .out) (l .loop .inv .1 r whole h p u) _ _ (n .next-code .ensures) (l .before .placements .ensures r h) (e .if1 .left) (t .put-placement .ensures r h) (c .if2 .left),
+      λ r whole h p u. lines-next r (now (a .figures)) (now (a .settings)) p whole (l .loop .c) (l .loop .at)
+          (l .loop .out) (l .loop .inv .1 r whole h p u) _ _ (n .next-code .ensures)
+          (l .before .placements .ensures r h) (e .if1 .left) (t .put-placement .ensures r h) (c .if2 .left),
     )
 
 pub more-lines-spec : {M : Type 1} → statement M

@@ -22,10 +22,21 @@ loop-holds : tie.Need-loop-holds Inv-loop μ-loop
 loop-holds c = let a = c .before .args in (omega arith, next-start (now (a .figures)) (a .c))
 
 returns : tie.Need-returns Inv-loop μ-loop
-returns c = let l = c .before .before .before in let a = l .before .before .args in next-found (now (a .figures)) (a .c) (l .loop .p) (l .loop .inv .0) (l .loop .inv .1) _ (c .before .has-figure .ensures) (a .total) (c .if1 .taken) (c .before .before .loop-test .taken)
+returns c =
+    let loop-test = c .before .before in
+    let l = loop-test .before in
+    let a = l .before .before .args in
+    next-found (now (a .figures)) (a .c) (l .loop .p) (l .loop .inv .0) (l .loop .inv .1) _
+    (c .before .has-figure .ensures) (a .total) (c .if1 .taken) (loop-test .loop-test .taken)
 
 loop-again : tie.Need-loop-again Inv-loop μ-loop
-loop-again c = let l = c .before .before .before in let a = l .before .before .args in (omega arith, next-step (now (a .figures)) (a .c) (l .loop .p) (l .loop .inv .0) (l .loop .inv .1) _ (c .before .has-figure .ensures) (c .if1 .left))
+loop-again c =
+    let l = c .before .before .before in
+    let a = l .before .before .args in (
+      omega arith,
+      next-step (now (a .figures)) (a .c) (l .loop .p) (l .loop .inv .0) (l .loop .inv .1) _
+          (c .before .has-figure .ensures) (c .if1 .left),
+    )
 
 returns-2 : tie.Need-returns-2 Inv-loop μ-loop
 returns-2 c = let l = c .before in let a = l .before .before .args in next-none (now (a .figures)) (a .c) (l .loop .p) (l .loop .inv .0) (l .loop .inv .1) (a .total) (c .loop-test .left)

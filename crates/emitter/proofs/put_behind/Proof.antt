@@ -10,7 +10,10 @@ returns : tie.Need-returns
 returns c = let a = c .before .before .before .args in put-past (now (a .line)) (now (a .out)) (a .at) (c .if1 .taken)
 
 returns-2 : tie.Need-returns-2
-returns-2 c = let e = c .before in let a = e .before .before .before .args in put-short (now (a .line)) (now (a .out)) (a .at) (e .if1 .left) (c .if2 .taken)
+returns-2 c =
+    let e = c .before in
+    let a = e .before .before .before .args in
+    put-short (now (a .line)) (now (a .out)) (a .at) (e .if1 .left) (c .if2 .taken)
 
 returns-3 : tie.Need-returns-3
 returns-3 c =

@@ -8,7 +8,9 @@ use Rattle.filecheck.proofs.answer_to.Statement.{statement}
 use Rattle.filecheck.proofs.answer_to.Tie as tie
 
 returns : tie.Need-returns
-returns c = let r = c .before .before .before in (omega arith, by-refused _ _ _ _ (r .read-case .ensures) _ (c .before .answer .given .1) refl)
+returns c =
+    let r = c .before .before .before in
+    (omega arith, by-refused _ _ _ _ (r .read-case .ensures) _ (c .before .answer .given .1) refl)
 
 returns-2 : tie.Need-returns-2
 returns-2 c =

@@ -10,7 +10,11 @@ returns c =
     let t = c .before .before in
     let a = t .before .before .before .before in
     let r = a .before .before .before .before .before in
-    record { case-within = r .read-full .ensures .0; plan-within = a .answer-to .ensures .0; put = answer-put _ _ _ _ _ _ (a .answer-to .ensures .1) (t .test-line .ensures) }
+    record {
+      case-within = r .read-full .ensures .0;
+      plan-within = a .answer-to .ensures .0;
+      put = answer-put _ _ _ _ _ _ (a .answer-to .ensures .1) (t .test-line .ensures);
+    }
 
 pub check-files-spec : {M : Type 1} → statement M
 check-files-spec =

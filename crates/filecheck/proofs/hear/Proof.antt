@@ -31,8 +31,11 @@ loop-less c =
 loop-again : tie.Need-loop-again Inv-loop μ-loop
 loop-again c =
     let t = c .before .before .before .before .before .before .before in
-    let l = t .before .before .before .before .before in
-    (t .turn .kept .1 .1 .1 .1 .1 .1 .0 ∙ l .loop .inv .0, t .turn .kept .1 .1 .1 .1 .1 .1 .1 .0 ∙ l .loop .inv .1, listening-next _ _ _ _ _ _ _ (l .loop .inv .2) _ _ _ _ _ (t .turn .ensures))
+    let l = t .before .before .before .before .before in (
+      t .turn .kept .1 .1 .1 .1 .1 .1 .0 ∙ l .loop .inv .0,
+      t .turn .kept .1 .1 .1 .1 .1 .1 .1 .0 ∙ l .loop .inv .1,
+      listening-next _ _ _ _ _ _ _ (l .loop .inv .2) _ _ _ _ _ (t .turn .ensures),
+    )
 
 sub-finish : tie.Need-sub-finish Inv-loop μ-loop
 sub-finish c = c .before .loop .inv .2 .behind
@@ -53,7 +56,9 @@ same-length-3 : tie.Need-same-length-3 Inv-loop μ-loop
 same-length-3 c = c .before .before .before .before .before .before .loop .inv .1
 
 returns : tie.Need-returns Inv-loop μ-loop
-returns c = listening-end _ _ _ _ _ _ _ (c .before .before .before .before .before .before .loop .inv .2) _ (c .finish .ensures)
+returns c =
+    let loop = c .before .before .before .before .before .before in
+    listening-end _ _ _ _ _ _ _ (loop .loop .inv .2) _ (c .finish .ensures)
 
 pub hear-spec : {M : Type 1} → statement M
 hear-spec =

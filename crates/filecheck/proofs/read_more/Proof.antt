@@ -11,7 +11,8 @@ returns c =
     let r = n .before .before .before .before in
     let e = r .before .before .before in
     let a = e .before .before in
-    more-read (a .args .plan .now) (r .read .last .1 .0) (a .args .have) (e .piece-end .result) _ (e .piece-end .ensures .0) (e .piece-end .ensures .1) (r .read .kept .1 .0) (n .count .ensures .0 .0)
+    more-read (a .args .plan .now) (r .read .last .1 .0) (a .args .have) (e .piece-end .result) _
+    (e .piece-end .ensures .0) (e .piece-end .ensures .1) (r .read .kept .1 .0) (n .count .ensures .0 .0)
 
 pub read-more-spec : {M : Type 1} → statement M
 read-more-spec =

@@ -45,8 +45,10 @@ slice-aggregate-read-full c = simp length-take (omega arith)
 returns-2 : tie.Need-returns-2
 returns-2 c =
     let read = c .before .before .before in
-    let start = read .before .before .before .before in
-    filled (now (start .args .space)) (read .read-full .last .1 .0) (start .args .n) (read .before .before .if1 .left) (read .read-full .kept .1 .0) _ _ (c .record-of .ensures)
+    let if1 = read .before .before in
+    let start = if1 .before .before in
+    filled (now (start .args .space)) (read .read-full .last .1 .0) (start .args .n) (if1 .if1 .left)
+    (read .read-full .kept .1 .0) _ _ (c .record-of .ensures)
 
 pub fill-spec : {M : Type 1} → statement M
 fill-spec =

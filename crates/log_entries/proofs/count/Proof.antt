@@ -73,7 +73,10 @@ module _ {M : Type 1} (𝓤 : URA M) (H : Heap 𝓤) (A : Atoms 𝓤) (W : Given
 
 count-meets : {M : Type 1} (𝓤 : URA M) (H : Heap 𝓤) (A : Atoms 𝓤) (W : Given 𝓤 H A) (mem : Memory → SProp 𝓤) (run : Routine → Fun 𝓤) (𝓣 : Tables 𝓤 H)
     → Meets 𝓤 H A count.signature (WpFn 𝓤 H (𝓣 .C) (𝓣 .Λ) code.function) (count.spec 𝓤 H A mem run)
-count-meets 𝓤 H A W mem run 𝓣 = walk-meets 𝓤 H A count.ended stayed W (goes-none-slice 𝓤 H A W 1 (0 ∷ []) tt (plain (λ _. T.the-row)) yes, tt) (count.clauses 𝓤 H A mem run) (WpFn 𝓤 H (𝓣 .C) (𝓣 .Λ) code.function) (WpFn-mono 𝓤 H (W .laws) 𝓣 code.function) (count-walks 𝓤 H A W mem run (𝓣 .C) (𝓣 .Λ))
+count-meets 𝓤 H A W mem run 𝓣 =
+    walk-meets 𝓤 H A count.ended stayed W (goes-none-slice 𝓤 H A W 1 (0 ∷ []) tt (plain (λ _. T.the-row)) yes, tt)
+    (count.clauses 𝓤 H A mem run) (WpFn 𝓤 H (𝓣 .C) (𝓣 .Λ) code.function) (WpFn-mono 𝓤 H (W .laws) 𝓣 code.function)
+    (count-walks 𝓤 H A W mem run (𝓣 .C) (𝓣 .Λ))
 
 pub count-spec : {M : Type 1} → stated.statement M
 unfolding code.routine tablesOf

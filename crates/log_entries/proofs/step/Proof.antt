@@ -88,7 +88,8 @@ module _ {M : Type 1} (𝓤 : URA M) (H : Heap 𝓤) (A : Atoms 𝓤) (mem : Mem
   abbrev Put : Contract 𝓤
   Put = tripleOf 𝓤 H A put.signature (put.spec 𝓤 H A mem run)
 
-module _ {M : Type 1} (𝓤 : URA M) (H : Heap 𝓤) (A : Atoms 𝓤) (W : Given 𝓤 H A) (mem : Memory → SProp 𝓤) (run : Routine → Fun 𝓤) (κ : Lft) (q : Share) (s : RefT (List Entry)) (p : Packed) (v : Val) where
+module _ {M : Type 1} (𝓤 : URA M) (H : Heap 𝓤) (A : Atoms 𝓤) (W : Given 𝓤 H A) (mem : Memory → SProp 𝓤)
+    (run : Routine → Fun 𝓤) (κ : Lft) (q : Share) (s : RefT (List Entry)) (p : Packed) (v : Val) where
   abbrev log : Val
   log = sliceVal (s .ptr) (length (s .now))
 
@@ -169,14 +170,18 @@ module _ {M : Type 1} (𝓤 : URA M) (H : Heap 𝓤) (A : Atoms 𝓤) (W : Given
         use1 W (‵ Log ⊛ ‵ Log) (shr-slice-copy 𝓤 H A W (named 0) κ T.the-row .twice s (log ∷ [])) $ split ! $ move ! (12 ∷ 0 ∷ []) $
         use2 W (raw (At 𝓤 H A mem run .pre (to-entry i z))) (entry-pre i z oi (rw ei l)) $
         calls-at ! fm (At 𝓤 H A mem run) known-entry (to-entry i z) (and-then ! (load ! (from ! (stop !)) (look ! 8 refl)) (and-then ! (load ! (from ! (stop !)) (look ! 2 refl)) (no-more !))) (λ y.
-        use1 W (later (some (λ (e : Entry). (token ⊛ ‵ (T.the-row .own e (y ∷ []))) ⊛ raw (ensured 𝓤 H A entry.ended (entry.clauses 𝓤 H A mem run) (κ, tt) (s, (i, tt)) tt e)))) (id⊢ 𝓤 _) $ await ! tt $ pick ! (λ e.
+        use1 W (later (some (λ (e : Entry). (token ⊛ ‵ (T.the-row .own e (y ∷ []))) ⊛ raw
+        (ensured 𝓤 H A entry.ended (entry.clauses 𝓤 H A mem run) (κ, tt) (s, (i, tt)) tt e)))) (id⊢ 𝓤 _) $
+        await ! tt $ pick ! (λ e.
         split ! $ move ! (1 ∷ []) $ use1 W (raw (fact 𝓤 (e ≡ entryIn (now s) i))) (entry-said i z e) $ heard ! (e ≡ entryIn (now s) i) (λ ee. split ! $ move ! (1 ∷ []) $
         facts ! T.the-row (Is T.the-row) (shows 𝓤 H A T.the-row) e (y ∷ []) (λ oe.
         -- [the token; the log's; _4; ..]
         land ! (from ! (stop !)) (init ! 4 refl (typed-entry e y oe)) $
         use0 W (raw (Put 𝓤 H A mem run .pre (to-put e y))) (put-pre e y is oe) $
         calls-at ! fm (Put 𝓤 H A mem run) known-put (to-put e y) (and-then ! (load ! (from ! (stop !)) (look ! 7 refl)) (and-then ! (load ! (from ! (stop !)) (look ! 5 refl)) (no-more !))) (λ w.
-        use1 W (later (some (λ (r : Packed). (‵ ftrue ⊛ ‵ (K.the-row .own r (w ∷ []))) ⊛ raw (ensured 𝓤 H A put.ended (put.clauses 𝓤 H A mem run) tt (p, (e, tt)) tt r)))) (id⊢ 𝓤 _) $ await ! tt $ pick ! (λ r.
+        use1 W (later (some (λ (r : Packed). (‵ ftrue ⊛ ‵ (K.the-row .own r (w ∷ []))) ⊛ raw
+        (ensured 𝓤 H A put.ended (put.clauses 𝓤 H A mem run) tt (p, (e, tt)) tt r)))) (id⊢ 𝓤 _) $
+        await ! tt $ pick ! (λ r.
         split ! $ move ! (1 ∷ []) $ use1 W (raw (fact 𝓤 (r ≡ withEntry p e))) (put-said e y r) $ heard ! (r ≡ withEntry p e) (λ er. split ! $ move ! (1 ∷ []) $
         facts ! K.the-row (Is K.the-row) (shows 𝓤 H A K.the-row) r (w ∷ []) (λ or. drop ! $
         land ! (from ! (stop !)) (init ! 10 refl (typed-packed r w or)) $
@@ -188,8 +193,14 @@ step-meets : {M : Type 1} (𝓤 : URA M) (H : Heap 𝓤) (A : Atoms 𝓤) (W : G
     → Triple 𝓤 (𝓣 .C #next) (Next 𝓤 H A mem run) → Triple 𝓤 (𝓣 .C #entry) (At 𝓤 H A mem run) → Triple 𝓤 (𝓣 .C #put) (Put 𝓤 H A mem run)
     → Meets 𝓤 H A fn.signature (WpFn 𝓤 H (𝓣 .C) (𝓣 .Λ) code.function) (fn.spec 𝓤 H A mem run)
 step-meets 𝓤 H A W mem run 𝓣 kn ke kp =
-    walk-meets 𝓤 H A fn.ended stayed W (goes-none-slice 𝓤 H A W 1 (0 ∷ []) tt (plain (λ _. T.the-row)) yes, (goes-none 𝓤 H A W 1 (λ _. K.the-row) yes (λ κs x f. refl), tt)) (fn.clauses 𝓤 H A mem run) (WpFn 𝓤 H (𝓣 .C) (𝓣 .Λ) code.function) (WpFn-mono 𝓤 H (W .laws) 𝓣 code.function)
-    (walked 𝓤 H A fn.ended stayed (fn.clauses 𝓤 H A mem run) (WpFn 𝓤 H (𝓣 .C) (𝓣 .Λ) code.function) (λ κs. (slice-vals, ((λ w. K′.lowered w ∷ []), tt))) (λ κs. (shr-slice-tells (named 0) (κs .0) T.the-row, (K′.lowers .val-is, tt)))
+    walk-meets 𝓤 H A fn.ended stayed W (
+      goes-none-slice 𝓤 H A W 1 (0 ∷ []) tt (plain (λ _. T.the-row)) yes,
+      (goes-none 𝓤 H A W 1 (λ _. K.the-row) yes (λ κs x f. refl), tt),
+    ) (fn.clauses 𝓤 H A mem run)
+    (WpFn 𝓤 H (𝓣 .C) (𝓣 .Λ) code.function) (WpFn-mono 𝓤 H (W .laws) 𝓣 code.function)
+    (walked 𝓤 H A fn.ended stayed (fn.clauses 𝓤 H A mem run) (WpFn 𝓤 H (𝓣 .C) (𝓣 .Λ) code.function)
+    (λ κs. (slice-vals, ((λ w. K′.lowered w ∷ []), tt)))
+    (λ κs. (shr-slice-tells (named 0) (κs .0) T.the-row, (K′.lowers .val-is, tt)))
     (λ κs qs bounds a g are. needs 𝓤 _ _ (λ l.
     walk 𝓤 H A W mem run (κs .0) (qs .0) (a .0) (a .1 .0) (K′.lowered (a .1 .0)) 𝓣 kn ke kp (sliceTy (tyRef (named 0) imm (pointee (T.the-row .written)))) K′.mir T′.mir
     (λ w x ok. LL.lawful K.the-type K′.the-laws 𝓤 H A W .typed w (x ∷ []) ok .0) (λ e x ok. LL.lawful T.the-type T′.the-laws 𝓤 H A W .typed e (x ∷ []) ok .0)

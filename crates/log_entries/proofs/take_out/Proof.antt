@@ -21,8 +21,11 @@ use prog.Wp.{Heap, Out, Env, afterSeq, afterBlock, afterTurn, Wp, atReturn, WpFn
 use ghost.Atoms.{Atoms, sem}
 use contract.Monad.{Fun, fact, factI}
 use contract.Running.{givenOf, tables, tablesOf}
-use types.Kit.{Given, Item, ‵, raw, _⊛_, ⋆, some, later, runs, anyQ, atRet, Sq, _$_, _∵_, !, qed, by, move, drop, use0, use1, use2, split, join, pick, rewrite, fsplit, fjoin, suffices, frame, await, done}
-use types.Run.{look, store, init, forget, stop, from, load, of-opd, and-then, no-more, assigns, land, land-last, first, skips, jumps, blocks, branches, returns, enter, alloc1, alloc0, params1, pass1, pass0, free1, free0, exec, Below, again, loops}
+use types.Kit.{Given, Item, ‵, raw, _⊛_, ⋆, some, later, runs, anyQ, atRet, Sq, _$_, _∵_, !, qed, by, move, drop, use0}
+use types.Kit.{use1, use2, split, join, pick, rewrite, fsplit, fjoin, suffices, frame, await, done}
+use types.Run.{look, store, init, forget, stop, from, load, of-opd, and-then, no-more, assigns, land, land-last, first}
+use types.Run.{skips, jumps, blocks, branches, returns, enter, alloc1, alloc0, params1, pass1, pass0, free1, free0}
+use types.Run.{exec, Below, again, loops}
 use sound.WpLaws.{FmC, fmOf, WpFn-mono}
 use denote.RattleType.{owns}
 use denote.Laws.{Is, shows}
@@ -168,7 +171,9 @@ module _ {M : Type 1} (𝓤 : URA M) (H : Heap 𝓤) (A : Atoms 𝓤) (W : Given
 
     step-pre : Is K.the-row p (v ∷ []) → p .next < length (now s) → ent 𝓤 (⋆ 𝓤 H A (token ∷ ‵ Log ∷ [])) (Step 𝓤 H A mem run .pre to-step)
     step-pre is l =
-        qed W (token ∷ ‵ Log ∷ []) ∵ nothing ! $ owned ! K.the-row (Is K.the-row) (LL.makes K.the-type K′.the-plain 𝓤 H A) p (v ∷ []) is $ fjoin ! $ move ! (2 ∷ 0 ∷ []) $ fjoin ! $ move ! (1 ∷ 0 ∷ []) $ join ! $ frame ! $
+        qed W (token ∷ ‵ Log ∷ []) ∵ nothing ! $
+        owned ! K.the-row (Is K.the-row) (LL.makes K.the-type K′.the-plain 𝓤 H A) p (v ∷ []) is $ fjoin ! $
+        move ! (2 ∷ 0 ∷ []) $ fjoin ! $ move ! (1 ∷ 0 ∷ []) $ join ! $ frame ! $
         by ! (factI 𝓤 (p .next < length (now s)) (emp 𝓤) l)
 
     step-said : (r : Packed) → ent 𝓤 (ensured 𝓤 H A step.ended (step.clauses 𝓤 H A mem run) (κ, tt) (s, (p, tt)) tt r) (fact 𝓤 (r ≡ withEntry p (entryIn (now s) (p .next))))
@@ -190,7 +195,9 @@ module _ {M : Type 1} (𝓤 : URA M) (H : Heap 𝓤) (A : Atoms 𝓤) (W : Given
   exits : (x : State) → wants (x .p) ≡ false → ent 𝓤 (⋆ 𝓤 H A (token ∷ ‵ Log ∷ [])) (Post (x .v))
   exits x e =
       qed W (token ∷ ‵ Log ∷ []) ∵
-      suffices ! _ (ends-at 𝓤 H A fn.ended stayed (fn.clauses 𝓤 H A mem run) W (((κ, tt), (q, tt), tt, (s, tt), args), tt) (x .v) (x .p) (tt, tt) (tt, tt)) $ says ! (record { out = x .out; all = e }) $ frame ! $
+      suffices ! _ (ends-at 𝓤 H A fn.ended stayed (fn.clauses 𝓤 H A mem run) W
+      (((κ, tt), (q, tt), tt, (s, tt), args), tt) (x .v) (x .p) (tt, tt) (tt, tt)) $
+      says ! (record { out = x .out; all = e }) $ frame ! $
       nothing ! $ move ! (1 ∷ 0 ∷ []) $ fjoin ! $ frame ! $ owned ! K.the-row (Is K.the-row) (LL.makes K.the-type K′.the-plain 𝓤 H A) (x .p) (x .v ∷ []) (x .is) $ done !
 
   module _ (𝓣 : Tables 𝓤 H) (known-count : Triple 𝓤 (𝓣 .C #count) (Count 𝓤 H A mem run)) (known-begin : Triple 𝓤 (𝓣 .C #begin) (Begin 𝓤 H A mem run))
@@ -216,9 +223,15 @@ module _ {M : Type 1} (𝓤 : URA M) (H : Heap 𝓤) (A : Atoms 𝓤) (W : Given
       takes x e =
           move ! (1 ∷ []) $ use1 W (‵ Log ⊛ ‵ Log) (shr-slice-copy 𝓤 H A W (named 0) κ T.the-row .twice s (log ∷ [])) $ split ! $ move ! (2 ∷ 0 ∷ []) $
           use2 W (raw (Step 𝓤 H A mem run .pre (to-step (x .p) (x .v)))) (step-pre (x .p) (x .v) (x .is) (more-there (now s) (x .p) (x .out) e)) $
-          calls-at-last ! fm (Step 𝓤 H A mem run) known-step (to-step (x .p) (x .v)) (and-then ! (load ! (from ! (stop !)) (look ! 8 refl)) (and-then ! (load ! (from ! (stop !)) (look ! 6 refl)) (no-more !))) (λ y.
-          use1 W (later (some (λ (r : Packed). (token ⊛ ‵ (K.the-row .own r (y ∷ []))) ⊛ raw (ensured 𝓤 H A step.ended (step.clauses 𝓤 H A mem run) (κ, tt) (s, (x .p, tt)) tt r)))) (id⊢ 𝓤 _) $ await ! tt $ pick ! (λ r.
-          split ! $ move ! (1 ∷ []) $ use1 W (raw (fact 𝓤 (r ≡ withEntry (x .p) (entryIn (now s) (x .p .next))))) (step-said (x .p) (x .v) r) $ heard ! (r ≡ withEntry (x .p) (entryIn (now s) (x .p .next))) (λ er. split ! $ move ! (1 ∷ []) $
+          calls-at-last ! fm (Step 𝓤 H A mem run) known-step (to-step (x .p) (x .v))
+          (and-then ! (load ! (from ! (stop !)) (look ! 8 refl))
+          (and-then ! (load ! (from ! (stop !)) (look ! 6 refl)) (no-more !))) (λ y.
+          use1 W (later (some (λ (r : Packed). (token ⊛ ‵ (K.the-row .own r (y ∷ []))) ⊛ raw
+          (ensured 𝓤 H A step.ended (step.clauses 𝓤 H A mem run) (κ, tt) (s, (x .p, tt)) tt r)))) (id⊢ 𝓤 _) $
+          await ! tt $ pick ! (λ r.
+          split ! $ move ! (1 ∷ []) $
+          use1 W (raw (fact 𝓤 (r ≡ withEntry (x .p) (entryIn (now s) (x .p .next))))) (step-said (x .p) (x .v) r) $
+          heard ! (r ≡ withEntry (x .p) (entryIn (now s) (x .p .next))) (λ er. split ! $ move ! (1 ∷ []) $
           facts ! K.the-row (Is K.the-row) (shows 𝓤 H A K.the-row) r (y ∷ []) (λ ir.
           land-last ! (from ! (stop !)) (store ! 6 refl (typed-packed r y ir)) $
           (let t = turned (now s) (x .p) r (x .out) e er in
@@ -235,7 +248,9 @@ module _ {M : Type 1} (𝓤 : URA M) (H : Heap 𝓤) (A : Atoms 𝓤) (W : Given
       turns x =
           use0 W (raw (Goes 𝓤 H A mem run .pre (to-goes (x .p) (x .v)))) (goes-pre (x .p) (x .v) (x .is)) $
           calls-at ! fm (Goes 𝓤 H A mem run) known-goes (to-goes (x .p) (x .v)) (and-then ! (load ! (from ! (stop !)) (look ! 7 refl)) (no-more !)) (λ z.
-          use1 W (later (some (λ (b : Bool). (‵ ftrue ⊛ ‵ (Boolean .own b (z ∷ []))) ⊛ raw (ensured 𝓤 H A goes.ended (goes.clauses 𝓤 H A mem run) tt (x .p, tt) tt b)))) (id⊢ 𝓤 _) $ await ! tt $ pick ! (λ b.
+          use1 W (later (some (λ (b : Bool). (‵ ftrue ⊛ ‵ (Boolean .own b (z ∷ []))) ⊛ raw
+          (ensured 𝓤 H A goes.ended (goes.clauses 𝓤 H A mem run) tt (x .p, tt) tt b)))) (id⊢ 𝓤 _) $
+          await ! tt $ pick ! (λ b.
           split ! $ move ! (1 ∷ []) $ use1 W (raw (fact 𝓤 (b ≡ wants (x .p)))) (goes-said (x .p) (x .v) b) $ heard ! (b ≡ wants (x .p)) (λ e. split ! $ move ! (1 ∷ []) $
           facts ! Boolean (Is Boolean) (shows 𝓤 H A Boolean) b (z ∷ []) (λ ok. drop ! $
           land ! (from ! (stop !)) (init ! 2 refl (subst (λ (y : Val). Typed tyBool y) (sym (ap only ok)) (tt, tt))) $ rewrite ! 2 (λ (y : Val). ‵ (fat fullShare tyBool l₄ 0 y)) (ap only ok) refl $
@@ -252,13 +267,17 @@ module _ {M : Type 1} (𝓤 : URA M) (H : Heap 𝓤) (A : Atoms 𝓤) (W : Given
         use1 W (‵ Log ⊛ ‵ Log) (shr-slice-copy 𝓤 H A W (named 0) κ T.the-row .twice s (log ∷ [])) $ split ! $ move ! (12 ∷ 0 ∷ []) $
         use2 W (raw (Count 𝓤 H A mem run .pre to-count)) count-pre $
         calls-at ! fm (Count 𝓤 H A mem run) known-count to-count (and-then ! (load ! (from ! (stop !)) (look ! 8 refl)) (no-more !)) (λ z.
-        use1 W (later (some (λ (n : ℕ). (token ⊛ ‵ (usize .own n (z ∷ []))) ⊛ raw (ensured 𝓤 H A count.ended (count.clauses 𝓤 H A mem run) (κ, tt) (s, tt) tt n)))) (id⊢ 𝓤 _) $ await ! tt $ pick ! (λ n.
+        use1 W (later (some (λ (n : ℕ). (token ⊛ ‵ (usize .own n (z ∷ []))) ⊛ raw
+        (ensured 𝓤 H A count.ended (count.clauses 𝓤 H A mem run) (κ, tt) (s, tt) tt n)))) (id⊢ 𝓤 _) $
+        await ! tt $ pick ! (λ n.
         split ! $ move ! (1 ∷ []) $ use1 W (raw (fact 𝓤 (n ≡ length (now s)))) (count-said n) $ heard ! (n ≡ length (now s)) (λ en. split ! $ move ! (1 ∷ []) $
         facts ! usize (Is usize) (shows 𝓤 H A usize) n (z ∷ []) (λ on.
         land ! (from ! (stop !)) (init ! 4 refl (subst (λ (x : Val). Typed (tyInt w64) x) (sym (ap only (on .0))) (tt, record { fits = on .1 }))) $
         use0 W (raw (Begin 𝓤 H A mem run .pre (to-begin n z))) (begin-pre n z on) $
         calls-at ! fm (Begin 𝓤 H A mem run) known-begin (to-begin n z) (and-then ! (load ! (from ! (stop !)) (look ! 5 refl)) (no-more !)) (λ y.
-        use1 W (later (some (λ (p : Packed). (‵ ftrue ⊛ ‵ (K.the-row .own p (y ∷ []))) ⊛ raw (ensured 𝓤 H A begin.ended (begin.clauses 𝓤 H A mem run) tt (n, tt) tt p)))) (id⊢ 𝓤 _) $ await ! tt $ pick ! (λ p.
+        use1 W (later (some (λ (p : Packed). (‵ ftrue ⊛ ‵ (K.the-row .own p (y ∷ []))) ⊛ raw
+        (ensured 𝓤 H A begin.ended (begin.clauses 𝓤 H A mem run) tt (n, tt) tt p)))) (id⊢ 𝓤 _) $
+        await ! tt $ pick ! (λ p.
         split ! $ move ! (1 ∷ []) $ use1 W (raw (fact 𝓤 (p ≡ begun n))) (begin-said n z p) $ heard ! (p ≡ begun n) (λ ep. split ! $ move ! (1 ∷ []) $
         facts ! K.the-row (Is K.the-row) (shows 𝓤 H A K.the-row) p (y ∷ []) (λ ip. drop ! $
         land ! (from ! (stop !)) (init ! 6 refl (typed-packed p y ip)) $ forget ! 4 refl $
@@ -269,7 +288,8 @@ take-meets : {M : Type 1} (𝓤 : URA M) (H : Heap 𝓤) (A : Atoms 𝓤) (W : G
     → Triple 𝓤 (𝓣 .C #count) (Count 𝓤 H A mem run) → Triple 𝓤 (𝓣 .C #begin) (Begin 𝓤 H A mem run) → Triple 𝓤 (𝓣 .C #goes) (Goes 𝓤 H A mem run) → Triple 𝓤 (𝓣 .C #step) (Step 𝓤 H A mem run)
     → Meets 𝓤 H A fn.signature (WpFn 𝓤 H (𝓣 .C) (𝓣 .Λ) code.function) (fn.spec 𝓤 H A mem run)
 take-meets 𝓤 H A W mem run 𝓣 kc kb kg ks =
-    walk-meets 𝓤 H A fn.ended stayed W (goes-none-slice 𝓤 H A W 1 (0 ∷ []) tt (plain (λ _. T.the-row)) yes, tt) (fn.clauses 𝓤 H A mem run) (WpFn 𝓤 H (𝓣 .C) (𝓣 .Λ) code.function) (WpFn-mono 𝓤 H (W .laws) 𝓣 code.function)
+    walk-meets 𝓤 H A fn.ended stayed W (goes-none-slice 𝓤 H A W 1 (0 ∷ []) tt (plain (λ _. T.the-row)) yes, tt)
+    (fn.clauses 𝓤 H A mem run) (WpFn 𝓤 H (𝓣 .C) (𝓣 .Λ) code.function) (WpFn-mono 𝓤 H (W .laws) 𝓣 code.function)
     (walked 𝓤 H A fn.ended stayed (fn.clauses 𝓤 H A mem run) (WpFn 𝓤 H (𝓣 .C) (𝓣 .Λ) code.function) (λ κs. (slice-vals, tt)) (λ κs. (shr-slice-tells (named 0) (κs .0) T.the-row, tt))
     (λ κs qs bounds a g are. via 𝓤 _ (fst∗ 𝓤 _ (emp 𝓤))
     (walk 𝓤 H A W mem run (κs .0) (qs .0) (a .0) 𝓣 kc kb kg ks (sliceTy (tyRef (named 0) imm (pointee (T.the-row .written)))) K′.mir

@@ -110,7 +110,8 @@ module _ {M : Type 1} (𝓤 : URA M) (H : Heap 𝓤) (A : Atoms 𝓤) (W : Given
   twice : ent 𝓤 (sem 𝓤 H A Log) (sep 𝓤 (sem 𝓤 H A Log) (sem 𝓤 H A Log))
   twice = shr-slice-copy 𝓤 H A W (named 0) κ T.the-row .twice s (log ∷ [])
 
-module _ {M : Type 1} (𝓤 : URA M) (H : Heap 𝓤) (A : Atoms 𝓤) (W : Given 𝓤 H A) (mem : Memory → SProp 𝓤) (run : Routine → Fun 𝓤) (κ κ′ : Lft) (q q′ : Share) (r : Railway) (v : Val) (s s′ : RefT (List Entry)) where
+module _ {M : Type 1} (𝓤 : URA M) (H : Heap 𝓤) (A : Atoms 𝓤) (W : Given 𝓤 H A) (mem : Memory → SProp 𝓤)
+    (run : Routine → Fun 𝓤) (κ κ′ : Lft) (q q′ : Share) (r : Railway) (v : Val) (s s′ : RefT (List Entry)) where
   abbrev κs : Lfts 2
   κs = (κ, (κ′, tt))
 
@@ -185,7 +186,9 @@ module _ {M : Type 1} (𝓤 : URA M) (H : Heap 𝓤) (A : Atoms 𝓤) (W : Given
         use2 W (raw (Take 𝓤 H A mem run .pre (to-take 𝓤 H A W mem run κ q s))) (take-pre 𝓤 H A W mem run κ q s) $
         -- [asked; the panel's; the second token; the axles'; _5; ..]
         calls-at ! fm (Take 𝓤 H A mem run) known-take (to-take 𝓤 H A W mem run κ q s) (and-then ! (load ! (from ! (stop !)) (look ! 10 refl)) (no-more !)) (λ z.
-        use1 W (later (some (λ (p : Packed). (first-token ⊛ ‵ (K.the-row .own p (z ∷ []))) ⊛ raw (ensured 𝓤 H A take.ended (take.clauses 𝓤 H A mem run) (κ, tt) (s, tt) tt p)))) (id⊢ 𝓤 _) $ await ! tt $ pick ! (λ p.
+        use1 W (later (some (λ (p : Packed). (first-token ⊛ ‵ (K.the-row .own p (z ∷ []))) ⊛ raw
+        (ensured 𝓤 H A take.ended (take.clauses 𝓤 H A mem run) (κ, tt) (s, tt) tt p)))) (id⊢ 𝓤 _) $
+        await ! tt $ pick ! (λ p.
         split ! $ move ! (1 ∷ []) $ use1 W (raw (fact 𝓤 (PackedPost (now s) p))) (take-said 𝓤 H A W mem run κ q s p) $ heard ! (PackedPost (now s) p) (λ ep. split ! $ move ! (1 ∷ []) $
         facts ! K.the-row (Is K.the-row) (shows 𝓤 H A K.the-row) p (z ∷ []) (λ ip.
         -- [the first token; the panel's; the second token; the axles'; _5; ..]
@@ -194,7 +197,9 @@ module _ {M : Type 1} (𝓤 : URA M) (H : Heap 𝓤) (A : Atoms 𝓤) (W : Given
         use2 W (raw (Take 𝓤 H A mem run .pre (to-take 𝓤 H A W mem run κ′ q′ s′))) (take-pre 𝓤 H A W mem run κ′ q′ s′) $
         -- [asked; the axles'; the first token; the panel's; _5; ..]
         calls-at ! fm (Take 𝓤 H A mem run) known-take (to-take 𝓤 H A W mem run κ′ q′ s′) (and-then ! (load ! (from ! (stop !)) (look ! 8 refl)) (no-more !)) (λ z′.
-        use1 W (later (some (λ (p′ : Packed). (second-token ⊛ ‵ (K.the-row .own p′ (z′ ∷ []))) ⊛ raw (ensured 𝓤 H A take.ended (take.clauses 𝓤 H A mem run) (κ′, tt) (s′, tt) tt p′)))) (id⊢ 𝓤 _) $ await ! tt $ pick ! (λ p′.
+        use1 W (later (some (λ (p′ : Packed). (second-token ⊛ ‵ (K.the-row .own p′ (z′ ∷ []))) ⊛ raw
+        (ensured 𝓤 H A take.ended (take.clauses 𝓤 H A mem run) (κ′, tt) (s′, tt) tt p′)))) (id⊢ 𝓤 _) $
+        await ! tt $ pick ! (λ p′.
         split ! $ move ! (1 ∷ []) $ use1 W (raw (fact 𝓤 (PackedPost (now s′) p′))) (take-said 𝓤 H A W mem run κ′ q′ s′ p′) $ heard ! (PackedPost (now s′) p′) (λ ep′. split ! $ move ! (1 ∷ []) $
         facts ! K.the-row (Is K.the-row) (shows 𝓤 H A K.the-row) p′ (z′ ∷ []) (λ ip′.
         -- [the second token; the axles'; the first token; the panel's; _5; ..]
@@ -202,20 +207,28 @@ module _ {M : Type 1} (𝓤 : URA M) (H : Heap 𝓤) (A : Atoms 𝓤) (W : Given
         use0 W (raw (Judge 𝓤 H A mem run .pre (to-judge p p′ z z′))) (judge-pre p p′ z z′ ir ip ip′) $
         calls-at ! fm (Judge 𝓤 H A mem run) known-judge (to-judge p p′ z z′)
         (and-then ! (load ! (from ! (stop !)) (look ! 13 refl)) (and-then ! (load ! (from ! (stop !)) (look ! 7 refl)) (and-then ! (load ! (from ! (stop !)) (look ! 5 refl)) (no-more !)))) (λ u.
-        use1 W (later (some (λ (x : LogAnswer). (‵ ftrue ⊛ ‵ (X.the-row .own x (u ∷ []))) ⊛ raw (ensured 𝓤 H A judge.ended (judge.clauses 𝓤 H A mem run) tt (r, (p, (p′, tt))) tt x)))) (id⊢ 𝓤 _) $ await ! tt $ pick ! (λ x.
+        use1 W (later (some (λ (x : LogAnswer). (‵ ftrue ⊛ ‵ (X.the-row .own x (u ∷ []))) ⊛ raw
+        (ensured 𝓤 H A judge.ended (judge.clauses 𝓤 H A mem run) tt (r, (p, (p′, tt))) tt x)))) (id⊢ 𝓤 _) $
+        await ! tt $ pick ! (λ x.
         split ! $ move ! (1 ∷ []) $ use1 W (raw (fact 𝓤 (Judges p p′ x))) (judge-said p p′ z z′ x) $ heard ! (Judges p p′ x) (λ ex. split ! $ drop ! $
         peeks ! X.the-row (Is X.the-row) (shows 𝓤 H A X.the-row) x (u ∷ []) (λ ix.
         -- [the answer's; the second token; the axles'; the first token; the panel's; _5; ..; _4; ..; _3; ..; _2; ..; _1; ..; _0; ..]
         land ! (from ! (stop !)) (init ! 15 refl (typed-answer x u ix)) $
         returns ! (look ! 15 refl) $ forget ! 5 refl $ forget ! 7 refl $ forget ! 9 refl $ forget ! 11 refl $ forget ! 13 refl $ forget ! 15 refl $
-        move ! (15 ∷ 16 ∷ []) $ free1 ! $ move ! (13 ∷ 14 ∷ []) $ free1 ! $ move ! (11 ∷ 12 ∷ []) $ free1 ! $ move ! (9 ∷ 10 ∷ []) $ free1 ! $ move ! (7 ∷ 8 ∷ []) $ free1 ! $ move ! (5 ∷ 6 ∷ []) $ free1 ! $ free0 ! $
+        move ! (15 ∷ 16 ∷ []) $ free1 ! $ move ! (13 ∷ 14 ∷ []) $ free1 ! $ move ! (11 ∷ 12 ∷ []) $ free1 ! $
+        move ! (9 ∷ 10 ∷ []) $ free1 ! $ move ! (7 ∷ 8 ∷ []) $ free1 ! $ move ! (5 ∷ 6 ∷ []) $ free1 ! $ free0 ! $
         by ! (exits ir x u (ex (now s) (now s′) ep ep′))))))))))))))))))))
 
 compare-meets : {M : Type 1} (𝓤 : URA M) (H : Heap 𝓤) (A : Atoms 𝓤) (W : Given 𝓤 H A) (mem : Memory → SProp 𝓤) (run : Routine → Fun 𝓤) (𝓣 : Tables 𝓤 H)
     → Triple 𝓤 (𝓣 .C #take) (Take 𝓤 H A mem run) → Triple 𝓤 (𝓣 .C #judge) (Judge 𝓤 H A mem run) → Meets 𝓤 H A fn.signature (WpFn 𝓤 H (𝓣 .C) (𝓣 .Λ) code.function) (fn.spec 𝓤 H A mem run)
 compare-meets 𝓤 H A W mem run 𝓣 kt kj =
-    walk-meets 𝓤 H A fn.ended stayed W
-    (goes-none 𝓤 H A W 2 (λ _. R.the-row) yes (λ κs x f. refl), (goes-none-slice 𝓤 H A W 2 (0 ∷ []) tt (plain (λ _. T.the-row)) yes, (goes-none-slice 𝓤 H A W 2 (1 ∷ []) tt (plain (λ _. T.the-row)) yes, tt)))
+    walk-meets 𝓤 H A fn.ended stayed W (
+      goes-none 𝓤 H A W 2 (λ _. R.the-row) yes (λ κs x f. refl),
+      (
+        goes-none-slice 𝓤 H A W 2 (0 ∷ []) tt (plain (λ _. T.the-row)) yes,
+        (goes-none-slice 𝓤 H A W 2 (1 ∷ []) tt (plain (λ _. T.the-row)) yes, tt),
+      ),
+    )
     (fn.clauses 𝓤 H A mem run) (WpFn 𝓤 H (𝓣 .C) (𝓣 .Λ) code.function) (WpFn-mono 𝓤 H (W .laws) 𝓣 code.function)
     (walked 𝓤 H A fn.ended stayed (fn.clauses 𝓤 H A mem run) (WpFn 𝓤 H (𝓣 .C) (𝓣 .Λ) code.function) (λ κs. ((λ x. R′.lowered x ∷ []), (slice-vals, (slice-vals, tt))))
     (λ κs. (R′.lowers .val-is, (shr-slice-tells (named 0) (κs .0) T.the-row, (shr-slice-tells (named 1) (κs .1 .0) T.the-row, tt))))

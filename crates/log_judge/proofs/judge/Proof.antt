@@ -87,11 +87,13 @@ returns-3 c = λ panel axles p q.
     judge-refused _ panel axles _ (test .test-record .ensures) (known .tested .given .0 .0) (known .tested .given .1)
 
 returns-4 : tie.Need-returns-4
-returns-4 c = λ panel axles p q.
+returns-4 c =
+    λ panel axles p q.
     let two = c .before .before .before .before .before .before .before .before .before in
     let told = two .before .before in
     let test = told .before .before in
-    entries-judged _ panel axles _ (test .test-record .ensures) (told .enum-told .given .1) _ _ p q (two .before .if1 .left) (two .if2 .left) _ (c .judge-entries .ensures)
+    entries-judged _ panel axles _ (test .test-record .ensures) (told .enum-told .given .1) _ _ p q
+    (two .before .if1 .left) (two .if2 .left) _ (c .judge-entries .ensures)
 
 pub judge-spec : {M : Type 1} → statement M
 judge-spec =

@@ -29,9 +29,11 @@ returns-2 c =
 
 loop-again : tie.Need-loop-again Inv-loop μ-loop
 loop-again c =
-    let one = c .before .before .before in
+    let if1 = c .before .before in
+    let one = if1 .before in
     let i = one .before in
-    none-next _ _ _ _ _ (i .before .loop .inv) _ _ (i .loop-test .taken) (one .byte-in .ensures) (c .before .byte-in2 .ensures) (c .before .before .if1 .left) (c .if2 .left)
+    none-next _ _ _ _ _ (i .before .loop .inv) _ _ (i .loop-test .taken) (one .byte-in .ensures)
+    (c .before .byte-in2 .ensures) (if1 .if1 .left) (c .if2 .left)
 
 returns-3 : tie.Need-returns-3 Inv-loop μ-loop
 returns-3 c = none-at-all _ _ _ _ _ (c .before .loop .inv) (c .loop-test .left)

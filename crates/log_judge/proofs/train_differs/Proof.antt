@@ -39,7 +39,9 @@ loop-again c =
     let two = test .before in
     let one = two .before in
     let i = one .before .before in
-    pass-next _ _ _ _ _ _ _ (i .before .loop .inv) _ _ _ _ (i .loop-test .taken) (one .before .if1 .left) (one .byte-in .ensures) (two .byte-in2 .ensures) (test .if2 .left) (c .before .next-place3 .ensures) (c .next-place4 .ensures)
+    pass-next _ _ _ _ _ _ _ (i .before .loop .inv) _ _ _ _ (i .loop-test .taken) (one .before .if1 .left)
+    (one .byte-in .ensures) (two .byte-in2 .ensures) (test .if2 .left) (c .before .next-place3 .ensures)
+    (c .next-place4 .ensures)
 
 returns-3 : tie.Need-returns-3 Inv-loop μ-loop
 returns-3 c = pass-end _ _ _ _ _ _ _ (c .before .loop .inv) (c .loop-test .left)

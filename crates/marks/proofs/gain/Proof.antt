@@ -14,7 +14,8 @@ returns p =
     let l = b .before .before .before .before in
     let a = l .before .before .before .args in
     λ room small.
-    marks-raised (a .marks .now) (a .c) room small (a .n) (a .soon) _ _ _ _ _ (l .lower .kept .0) (b .lower2 .kept .0) (d .lower3 .kept .0) (e .lower4 .kept .0) (f .lift .kept .0)
+    marks-raised (a .marks .now) (a .c) room small (a .n) (a .soon) _ _ _ _ _ (l .lower .kept .0) (b .lower2 .kept .0)
+    (d .lower3 .kept .0) (e .lower4 .kept .0) (f .lift .kept .0)
     (l .lower .ensures) (b .lower2 .ensures) (d .lower3 .ensures) (e .lower4 .ensures) (f .lift .ensures)
 
 pub gain-spec : {M : Type 1} → statement M

@@ -6,7 +6,14 @@ use Rattle.moves.proofs.code_with.Statement.{statement}
 use Rattle.moves.proofs.code_with.Tie as tie
 
 returns : tie.Need-returns
-returns c = λ r h. code-with-is r _ h (c .before .before .before .before .before .before .before .args .q) _ _ _ _ _ _ _ _ _ (c .before .before .before .before .before .before .sections-in .ensures r h) (c .before .before .before .before .before .trains-in .ensures r h) (c .before .before .before .before .moved-to .ensures) (c .before .before .before .moved-to2 .ensures) (c .before .before .moved-to3 .ensures) (c .before .moved-to4 .ensures) (c .code-of-sections .ensures)
+returns c =
+    λ r h.
+    let moved-to3 = c .before .before in
+    let moved-to = moved-to3 .before .before in
+    let sections-in = moved-to .before .before in
+    code-with-is r _ h (sections-in .before .args .q) _ _ _ _ _ _ _ _ _ (sections-in .sections-in .ensures r h)
+    (moved-to .before .trains-in .ensures r h) (moved-to .moved-to .ensures) (moved-to3 .before .moved-to2 .ensures)
+    (moved-to3 .moved-to3 .ensures) (c .before .moved-to4 .ensures) (c .code-of-sections .ensures)
 
 pub code-with-spec : {M : Type 1} → statement M
 code-with-spec =

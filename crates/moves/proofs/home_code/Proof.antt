@@ -13,7 +13,9 @@ returns c =
     let d = c .before in
     let b = d .before in
     let a = b .before in
-    λ r h. code-each r _ h (λ t. trainOf r t .destination .0) _ _ _ _ _ (a .before .destination-in .ensures r h) (a .destination-in2 .ensures r h) (b .destination-in3 .ensures r h) (d .destination-in4 .ensures r h) (c .code-of .ensures r h)
+    λ r h. code-each r _ h (λ t. trainOf r t .destination .0) _ _ _ _ _ (a .before .destination-in .ensures r h)
+    (a .destination-in2 .ensures r h) (b .destination-in3 .ensures r h) (d .destination-in4 .ensures r h)
+    (c .code-of .ensures r h)
 
 pub home-code-spec : {M : Type 1} → statement M
 home-code-spec =

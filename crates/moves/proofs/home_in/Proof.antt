@@ -26,10 +26,24 @@ unfolding allBelow
 loop-holds c = (omega arith, λ r p on. refl)
 
 loop-again : tie.Need-loop-again Inv-loop μ-loop
-loop-again c = let l = c .before .before .before .before in (omega arith, λ r p on. all-next (arrived r p) _ (l .loop .inv .1 r p on) (sym (arrived-is r _ _ _ on _ _ _ (c .before .before .section-at .ensures) (c .before .destination-in .ensures r (on .compiled))) ∙ eq-eqb _ _ (c .if1 .taken)))
+loop-again c =
+    let section-at = c .before .before in
+    let l = section-at .before .before in (
+      omega arith,
+      λ r p on. all-next (arrived r p) _ (l .loop .inv .1 r p on)
+          (sym (arrived-is r _ _ _ on _ _ _ (section-at .section-at .ensures)
+          (c .before .destination-in .ensures r (on .compiled))) ∙ eq-eqb _ _ (c .if1 .taken)),
+    )
 
 returns : tie.Need-returns Inv-loop μ-loop
-returns c = λ r p on. let l = c .before .before .before .before in let m = l .before in not-home r _ _ (l .loop .t) (m .trains-in .ensures r (on .compiled)) (c .before .before .before .loop-test .taken) (sym (arrived-is r _ _ _ on _ _ _ (c .before .before .section-at .ensures) (c .before .destination-in .ensures r (on .compiled))) ∙ ne-eqb _ _ (c .if1 .left))
+returns c =
+    λ r p on.
+    let section-at = c .before .before in
+    let l = section-at .before .before in
+    let m = l .before in
+    not-home r _ _ (l .loop .t) (m .trains-in .ensures r (on .compiled)) (section-at .before .loop-test .taken)
+    (sym (arrived-is r _ _ _ on _ _ _ (section-at .section-at .ensures)
+    (c .before .destination-in .ensures r (on .compiled))) ∙ ne-eqb _ _ (c .if1 .left))
 
 returns-2 : tie.Need-returns-2 Inv-loop μ-loop
 returns-2 c = λ r p on. let l = c .before in is-home r _ _ (l .loop .t) (l .before .trains-in .ensures r (on .compiled)) (l .loop .inv .0) (c .loop-test .left) (l .loop .inv .1 r p on)

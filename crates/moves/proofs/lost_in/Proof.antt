@@ -25,10 +25,23 @@ unfolding anyBelow
 loop-holds c = (omega arith, λ r p h. refl)
 
 returns : tie.Need-returns Inv-loop μ-loop
-returns c = λ r p h. let l = c .before .before .before .before in is-lost r p _ (l .loop .t) (l .before .trains-in .ensures r (h .compiled)) (c .before .before .before .loop-test .taken) (sym (shares-is r p _ _ h _ _ _ (c .before .before .section-at .ensures) (c .before .other-in .ensures)) ∙ c .if1 .taken)
+returns c =
+    λ r p h.
+    let section-at = c .before .before in
+    let l = section-at .before .before in
+    is-lost r p _ (l .loop .t) (l .before .trains-in .ensures r (h .compiled)) (section-at .before .loop-test .taken)
+    (sym (shares-is r p _ _ h _ _ _ (section-at .section-at .ensures) (c .before .other-in .ensures))
+    ∙ c .if1 .taken)
 
 loop-again : tie.Need-loop-again Inv-loop μ-loop
-loop-again c = let l = c .before .before .before .before in (omega arith, λ r p h. any-next (sharesLower r p) _ (l .loop .inv .1 r p h) (sym (shares-is r p _ _ h _ _ _ (c .before .before .section-at .ensures) (c .before .other-in .ensures)) ∙ c .if1 .left))
+loop-again c =
+    let section-at = c .before .before in
+    let l = section-at .before .before in (
+      omega arith,
+      λ r p h. any-next (sharesLower r p) _ (l .loop .inv .1 r p h)
+          (sym (shares-is r p _ _ h _ _ _ (section-at .section-at .ensures) (c .before .other-in .ensures))
+          ∙ c .if1 .left),
+    )
 
 returns-2 : tie.Need-returns-2 Inv-loop μ-loop
 returns-2 c = λ r p h. let l = c .before in not-lost r p _ (l .loop .t) (l .before .trains-in .ensures r (h .compiled)) (l .loop .inv .0) (c .loop-test .left) (l .loop .inv .1 r p h)

@@ -23,7 +23,8 @@ returns c =
     let x = c .before in
     let i = x .before in
     let k = i .before .before in
-    λ r h. sym (some-named r _ (i .before .loop .t) (omega (arith, i .loop-test .taken, k .trains-in .ensures r h)) (omega (arith, c .if1 .taken, x .section-at .ensures, k .before .sections-in .ensures r h)))
+    λ r h. sym (some-named r _ (i .before .loop .t) (omega (arith, i .loop-test .taken, k .trains-in .ensures r h))
+    (omega (arith, c .if1 .taken, x .section-at .ensures, k .before .sections-in .ensures r h)))
 
 add-t : tie.Need-add-t Inv-loop μ-loop
 add-t c = omega (arith, c .before .before .loop-test .taken)

@@ -25,13 +25,28 @@ unfolding anyBelow
 loop-holds c = (omega arith, λ r p h. refl)
 
 returns : tie.Need-returns Inv-loop μ-loop
-returns c = λ r p h. let l = c .before .before .before in some-opens r p _ _ h (l .before .before .args .v) _ _ (l .loop .u) (l .before .trains-in .ensures r (h .compiled)) (c .before .before .loop-test .taken) (sym (c .before .opens-end .ensures r p h) ∙ c .if1 .taken)
+returns c =
+    λ r p h.
+    let loop-test = c .before .before in
+    let l = loop-test .before in
+    some-opens r p _ _ h (l .before .before .args .v) _ _ (l .loop .u) (l .before .trains-in .ensures r (h .compiled))
+    (loop-test .loop-test .taken) (sym (c .before .opens-end .ensures r p h) ∙ c .if1 .taken)
 
 loop-again : tie.Need-loop-again Inv-loop μ-loop
-loop-again c = let l = c .before .before .before in let a = l .before .before .args in (omega arith, λ r p h. any-next (opensEnd r p (opensIn (a .v)) (a .i)) _ (l .loop .inv .1 r p h) (sym (c .before .opens-end .ensures r p h) ∙ c .if1 .left))
+loop-again c =
+    let l = c .before .before .before in
+    let a = l .before .before .args in (
+      omega arith,
+      λ r p h. any-next (opensEnd r p (opensIn (a .v)) (a .i)) _ (l .loop .inv .1 r p h)
+          (sym (c .before .opens-end .ensures r p h) ∙ c .if1 .left),
+    )
 
 returns-2 : tie.Need-returns-2 Inv-loop μ-loop
-returns-2 c = λ r p h. let l = c .before in none-opens r p _ _ h (l .before .before .args .v) _ _ (l .loop .u) (l .before .trains-in .ensures r (h .compiled)) (l .loop .inv .0) (c .loop-test .left) (l .loop .inv .1 r p h)
+returns-2 c =
+    λ r p h.
+    let l = c .before in
+    none-opens r p _ _ h (l .before .before .args .v) _ _ (l .loop .u) (l .before .trains-in .ensures r (h .compiled))
+    (l .loop .inv .0) (c .loop-test .left) (l .loop .inv .1 r p h)
 
 pub open-in-spec : {M : Type 1} → statement M
 open-in-spec =

@@ -6,7 +6,11 @@ use Rattle.moves.proofs.opens_end.Statement.{statement}
 use Rattle.moves.proofs.opens_end.Tie as tie
 
 returns : tie.Need-returns
-returns c = λ r p h. opens-if r p _ _ h (c .before .before .before .args .v) _ _ _ _ (c .before .before .bit-at .ensures) (c .before .if1 .taken) (c .front-in .ensures r p h)
+returns c =
+    λ r p h.
+    let bit-at = c .before .before in
+    opens-if r p _ _ h (bit-at .before .args .v) _ _ _ _ (bit-at .bit-at .ensures) (c .before .if1 .taken)
+    (c .front-in .ensures r p h)
 
 returns-2 : tie.Need-returns-2
 returns-2 c = λ r p h. opens-not r p _ _ h (c .before .before .args .v) _ _ _ (c .before .bit-at .ensures) (c .if1 .left)

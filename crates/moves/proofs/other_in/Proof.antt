@@ -22,10 +22,21 @@ unfolding anyBelow
 loop-holds c = (omega arith, refl)
 
 returns : tie.Need-returns Inv-loop μ-loop
-returns c = let l = c .before .before .before in let a = l .before .args in any-one (otherIn (a .q) (a .t) (a .x)) _ (l .loop .u) (c .before .before .loop-test .taken) (sym (c .before .is-other .ensures) ∙ c .if1 .taken)
+returns c =
+    let loop-test = c .before .before in
+    let l = loop-test .before in
+    let a = l .before .args in
+    any-one (otherIn (a .q) (a .t) (a .x)) _ (l .loop .u) (loop-test .loop-test .taken)
+    (sym (c .before .is-other .ensures) ∙ c .if1 .taken)
 
 loop-again : tie.Need-loop-again Inv-loop μ-loop
-loop-again c = let l = c .before .before .before in let a = l .before .args in (omega arith, any-next (otherIn (a .q) (a .t) (a .x)) _ (l .loop .inv .1) (sym (c .before .is-other .ensures) ∙ c .if1 .left))
+loop-again c =
+    let l = c .before .before .before in
+    let a = l .before .args in (
+      omega arith,
+      any-next (otherIn (a .q) (a .t) (a .x)) _ (l .loop .inv .1)
+          (sym (c .before .is-other .ensures) ∙ c .if1 .left),
+    )
 
 returns-2 : tie.Need-returns-2 Inv-loop μ-loop
 returns-2 c = let l = c .before in let a = l .before .args in any-none (otherIn (a .q) (a .t) (a .x)) _ _ (l .loop .inv .1) (l .loop .inv .0) (c .loop-test .left)

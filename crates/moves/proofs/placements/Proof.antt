@@ -8,7 +8,9 @@ use Rattle.moves.proofs.placements.Statement.{statement}
 use Rattle.moves.proofs.placements.Tie as tie
 
 returns : tie.Need-returns
-returns c = λ r h. placements-are r _ _ _ (c .before .before .sections-in .ensures r h) (c .before .trains-in .ensures r h) (c .power .ensures ∙ stride-is _ _ (few-trains r _ h _ (c .before .trains-in .ensures r h)))
+returns c =
+    λ r h. placements-are r _ _ _ (c .before .before .sections-in .ensures r h) (c .before .trains-in .ensures r h)
+    (c .power .ensures ∙ stride-is _ _ (few-trains r _ h _ (c .before .trains-in .ensures r h)))
 
 pub placements-spec : {M : Type 1} → statement M
 placements-spec =

@@ -29,7 +29,12 @@ times-if-requires-4 c κs =
     )
 
 returns : tie.Need-returns
-returns c = let d = c .before in let b = d .before in let a = b .before .before .args in power-is (a .s) (a .k) _ _ _ _ (b .before .times-if .ensures) (b .times-if2 .ensures) (d .times-if3 .ensures) (c .times-if4 .ensures)
+returns c =
+    let d = c .before in
+    let b = d .before in
+    let a = b .before .before .args in
+    power-is (a .s) (a .k) _ _ _ _ (b .before .times-if .ensures) (b .times-if2 .ensures) (d .times-if3 .ensures)
+    (c .times-if4 .ensures)
 
 pub power-spec : {M : Type 1} → statement M
 power-spec =

@@ -13,7 +13,8 @@ returns c =
     let d = c .before in
     let b = d .before in
     let a = b .before in
-    λ r h. code-each r _ h (λ t. trainOf r t .start .0) _ _ _ _ _ (a .before .start-in .ensures r h) (a .start-in2 .ensures r h) (b .start-in3 .ensures r h) (d .start-in4 .ensures r h) (c .code-of .ensures r h)
+    λ r h. code-each r _ h (λ t. trainOf r t .start .0) _ _ _ _ _ (a .before .start-in .ensures r h)
+    (a .start-in2 .ensures r h) (b .start-in3 .ensures r h) (d .start-in4 .ensures r h) (c .code-of .ensures r h)
 
 pub start-code-spec : {M : Type 1} → statement M
 start-code-spec =

@@ -22,10 +22,19 @@ unfolding anyBelow
 loop-holds c = (omega arith, refl)
 
 returns : tie.Need-returns Inv-loop μ-loop
-returns c = let l = c .before .before .before in any-one (opensIn (l .before .args .v)) _ (l .loop .t) (c .before .before .loop-test .taken) (sym (c .before .bit-at .ensures) ∙ c .if1 .taken)
+returns c =
+    let loop-test = c .before .before in
+    let l = loop-test .before in
+    any-one (opensIn (l .before .args .v)) _ (l .loop .t) (loop-test .loop-test .taken)
+    (sym (c .before .bit-at .ensures) ∙ c .if1 .taken)
 
 loop-again : tie.Need-loop-again Inv-loop μ-loop
-loop-again c = let l = c .before .before .before in (omega arith, any-next (opensIn (l .before .args .v)) (l .loop .t) (l .loop .inv .1) (sym (c .before .bit-at .ensures) ∙ c .if1 .left))
+loop-again c =
+    let l = c .before .before .before in (
+      omega arith,
+      any-next (opensIn (l .before .args .v)) (l .loop .t) (l .loop .inv .1)
+          (sym (c .before .bit-at .ensures) ∙ c .if1 .left),
+    )
 
 returns-2 : tie.Need-returns-2 Inv-loop μ-loop
 returns-2 c = let l = c .before in any-none (opensIn (l .before .args .v)) _ (l .loop .t) (l .loop .inv .1) (l .loop .inv .0) (c .loop-test .left)

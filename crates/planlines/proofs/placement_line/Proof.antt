@@ -6,7 +6,16 @@ use Rattle.planlines.proofs.placement_line.Statement.{statement}
 use Rattle.planlines.proofs.placement_line.Tie as tie
 
 returns : tie.Need-returns
-returns c = let a = c .before .before .before .before .before .before .before .before .before .before .before .before .before .before .before .before .before .before .before .before .before .before .before .before .before .args in placement-spelled (a .k) (a .m) (a .q) (a .n) (a .v) (c .before .before .before .before .before .before .before .before .before .before .before .before .before .before .before .before .before .before .before .before .before .before .put-sections .ensures) (c .before .before .before .before .before .before .before .before .before .before .before .before .before .before .before .before .before .before .number .ensures) (c .before .before .before .before .before .before .before .before .before .before .before .before .before .before .put-open .ensures) (c .before .before .before .before .before .before .before .before .before .before .byte .ensures) (c .before .before .before .before .before .before .put-points .ensures) (c .before .before .byte2 .ensures)
+returns c =
+    let byte2 = c .before .before in
+    let put-points = byte2 .before .before .before .before in
+    let byte = put-points .before .before .before .before in
+    let put-open = byte .before .before .before .before in
+    let number = put-open .before .before .before .before in
+    let put-sections = number .before .before .before .before in
+    let a = put-sections .before .before .before .args in
+    placement-spelled (a .k) (a .m) (a .q) (a .n) (a .v) (put-sections .put-sections .ensures) (number .number .ensures)
+    (put-open .put-open .ensures) (byte .byte .ensures) (put-points .put-points .ensures) (byte2 .byte2 .ensures)
 
 pub placement-line-spec : {M : Type 1} → statement M
 placement-line-spec =

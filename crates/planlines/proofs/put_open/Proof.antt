@@ -7,10 +7,20 @@ use Rattle.planlines.proofs.put_open.Statement.{statement}
 use Rattle.planlines.proofs.put_open.Tie as tie
 
 returns : tie.Need-returns
-returns c = let l = c .before .before .before .before .before in let a = l .before .before .args in open-some (opensIn (a .v)) (a .k) _ (l .any-open .ensures) (c .before .before .before .before .if1 .taken) (c .before .before .put-trains .ensures)
+returns c =
+    let put-trains = c .before .before in
+    let if1 = put-trains .before .before in
+    let l = if1 .before in
+    let a = l .before .before .args in
+    open-some (opensIn (a .v)) (a .k) _ (l .any-open .ensures) (if1 .if1 .taken) (put-trains .put-trains .ensures)
 
 returns-2 : tie.Need-returns-2
-returns-2 c = let l = c .before .before .before .before .before in let a = l .before .before .args in open-none (opensIn (a .v)) (a .k) _ (l .any-open .ensures) (c .before .before .before .before .if1 .left) (c .before .before .byte .ensures)
+returns-2 c =
+    let byte = c .before .before in
+    let if1 = byte .before .before in
+    let l = if1 .before in
+    let a = l .before .before .args in
+    open-none (opensIn (a .v)) (a .k) _ (l .any-open .ensures) (if1 .if1 .left) (byte .byte .ensures)
 
 pub put-open-spec : {M : Type 1} → statement M
 put-open-spec =

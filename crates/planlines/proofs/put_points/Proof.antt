@@ -7,10 +7,18 @@ use Rattle.planlines.proofs.put_points.Statement.{statement}
 use Rattle.planlines.proofs.put_points.Tie as tie
 
 returns : tie.Need-returns
-returns c = let a = c .before .before .before .before .before .before .args in points-none (bit (a .v)) (a .m) (c .before .before .before .before .if1 .taken) (c .before .before .byte .ensures)
+returns c =
+    let byte = c .before .before in
+    let if1 = byte .before .before in
+    let a = if1 .before .before .args in
+    points-none (bit (a .v)) (a .m) (if1 .if1 .taken) (byte .byte .ensures)
 
 returns-2 : tie.Need-returns-2
-returns-2 c = let a = c .before .before .before .before .before .before .args in points-some (bit (a .v)) (a .m) (c .before .before .before .before .if1 .left) (c .before .before .put-signs .ensures)
+returns-2 c =
+    let put-signs = c .before .before in
+    let if1 = put-signs .before .before in
+    let a = if1 .before .before .args in
+    points-some (bit (a .v)) (a .m) (if1 .if1 .left) (put-signs .put-signs .ensures)
 
 pub put-points-spec : {M : Type 1} → statement M
 put-points-spec =

@@ -23,7 +23,15 @@ loop-holds : tie.Need-loop-holds Inv-loop μ-loop
 loop-holds c = let a = c .before .args in (pieces-none (sectionPiece (a .q)), omega arith, refl)
 
 loop-again : tie.Need-loop-again Inv-loop μ-loop
-loop-again c = let l = c .before .before .before .before .before .before in let a = l .before .before .args in (pieces-next (sectionPiece (a .q)) (l .loop .t) (l .loop .inv .0) (section-piece (a .q) (l .loop .t) _ (c .before .before .before .section-at .ensures) (c .before .before .number .ensures)), omega arith, c .before .before .number .kept .0 ∙ l .loop .inv .2)
+loop-again c =
+    let number = c .before .before in
+    let l = number .before .before .before .before in
+    let a = l .before .before .args in (
+      pieces-next (sectionPiece (a .q)) (l .loop .t) (l .loop .inv .0)
+          (section-piece (a .q) (l .loop .t) _ (number .before .section-at .ensures) (number .number .ensures)),
+      omega arith,
+      number .number .kept .0 ∙ l .loop .inv .2,
+    )
 
 same-length : tie.Need-same-length Inv-loop μ-loop
 same-length c = c .before .loop .inv .2

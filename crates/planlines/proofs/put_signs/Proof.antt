@@ -24,7 +24,16 @@ loop-holds : tie.Need-loop-holds Inv-loop μ-loop
 loop-holds c = let a = c .before .args in (pieces-none (pointPiece (bit (a .v))), omega arith, refl)
 
 loop-again : tie.Need-loop-again Inv-loop μ-loop
-loop-again c = let l = c .before .before .before .before .before .before .before in let a = l .before .before .args in (pieces-next (pointPiece (bit (a .v))) (l .loop .n) (l .loop .inv .0) (sign-piece (bit (a .v)) (l .loop .n) _ _ (c .before .before .before .before .bit-at .ensures) (c .before .before .before .sign .ensures) (c .before .before .byte .ensures)), omega arith, c .before .before .byte .kept .0 ∙ l .loop .inv .2)
+loop-again c =
+    let byte = c .before .before in
+    let bit-at = byte .before .before in
+    let l = bit-at .before .before .before in
+    let a = l .before .before .args in (
+      pieces-next (pointPiece (bit (a .v))) (l .loop .n) (l .loop .inv .0) (sign-piece (bit (a .v)) (l .loop .n) _ _
+          (bit-at .bit-at .ensures) (byte .before .sign .ensures) (byte .byte .ensures)),
+      omega arith,
+      byte .byte .kept .0 ∙ l .loop .inv .2,
+    )
 
 same-length : tie.Need-same-length Inv-loop μ-loop
 same-length c = c .before .loop .inv .2

@@ -8,13 +8,24 @@ use Rattle.planlines.proofs.put_train.Statement.{statement}
 use Rattle.planlines.proofs.put_train.Tie as tie
 
 add-byte : tie.Need-add-byte
-add-byte c = let s = c .before .before .before .before in let h = open-digit (s .args .v) (s .args .t) _ (omega arith) (c .before .before .bit-at .ensures) (c .before .if1 .taken) in omega arith
+add-byte c =
+    let bit-at = c .before .before in
+    let s = bit-at .before .before in
+    let h = open-digit (s .args .v) (s .args .t) _ (omega arith) (bit-at .bit-at .ensures) (c .before .if1 .taken) in
+    omega arith
 
 returns : tie.Need-returns
-returns c = let l = c .before .before .before .before .before in let a = l .before .before .args in train-open (opensIn (a .v)) (a .t) _ (l .bit-at .ensures) (c .before .before .before .before .if1 .taken) (c .before .before .byte .ensures)
+returns c =
+    let byte = c .before .before in
+    let if1 = byte .before .before in
+    let l = if1 .before in
+    let a = l .before .before .args in
+    train-open (opensIn (a .v)) (a .t) _ (l .bit-at .ensures) (if1 .if1 .taken) (byte .byte .ensures)
 
 returns-2 : tie.Need-returns-2
-returns-2 c = let a = c .before .before .before .args in train-closed (opensIn (a .v)) (a .t) _ (c .before .bit-at .ensures) (c .if1 .left)
+returns-2 c =
+    let a = c .before .before .before .args in
+    train-closed (opensIn (a .v)) (a .t) _ (c .before .bit-at .ensures) (c .if1 .left)
 
 pub put-train-spec : {M : Type 1} → statement M
 put-train-spec =

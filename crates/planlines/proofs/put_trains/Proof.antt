@@ -23,7 +23,14 @@ loop-holds : tie.Need-loop-holds Inv-loop μ-loop
 loop-holds c = let a = c .before .args in (pieces-none (openPiece (opensIn (a .v))), omega arith, refl)
 
 loop-again : tie.Need-loop-again Inv-loop μ-loop
-loop-again c = let l = c .before .before .before .before .before in let a = l .before .before .args in (pieces-next (openPiece (opensIn (a .v))) (l .loop .t) (l .loop .inv .0) (c .before .before .put-train .ensures), omega arith, c .before .before .put-train .kept .0 ∙ l .loop .inv .2)
+loop-again c =
+    let put-train = c .before .before in
+    let l = put-train .before .before .before in
+    let a = l .before .before .args in (
+      pieces-next (openPiece (opensIn (a .v))) (l .loop .t) (l .loop .inv .0) (put-train .put-train .ensures),
+      omega arith,
+      put-train .put-train .kept .0 ∙ l .loop .inv .2,
+    )
 
 same-length : tie.Need-same-length Inv-loop μ-loop
 same-length c = c .before .loop .inv .2

@@ -11,7 +11,8 @@ unfolding bytes
 returns c =
     let n = c .before .before in
     let b = n .before .before .before .before in
-    start-spelled (b .before .before .before .before .args .n) (b .bytes .ensures) (n .number .ensures)
+    let a = b .before .before .before .before .args in
+    start-spelled (a .n) (b .bytes .ensures) (n .number .ensures)
 
 pub start-line-spec : {M : Type 1} → statement M
 start-line-spec =

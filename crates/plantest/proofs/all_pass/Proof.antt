@@ -28,13 +28,20 @@ unfolding allBelow
 loop-holds c = (omega arith, λ r h w. refl)
 
 loop-again : tie.Need-loop-again Inv-loop μ-loop
-loop-again c = let l = c .before .before .before in (omega arith, λ r h w. all-next _ _ (l .loop .inv .1 r h w) (sym (c .before .placement-passes .ensures r h w) ∙ c .if1 .taken))
+loop-again c =
+    let l = c .before .before .before in (
+      omega arith,
+      λ r h w.
+          all-next _ _ (l .loop .inv .1 r h w) (sym (c .before .placement-passes .ensures r h w) ∙ c .if1 .taken),
+    )
 
 returns : tie.Need-returns Inv-loop μ-loop
 returns c =
     λ r h w.
-    let l = c .before .before .before in
-    but-one (l .before .placements .ensures r h) _ (l .loop .p) (c .before .before .loop-test .taken) (sym (c .before .placement-passes .ensures r h w) ∙ c .if1 .left)
+    let loop-test = c .before .before in
+    let l = loop-test .before in
+    but-one (l .before .placements .ensures r h) _ (l .loop .p) (loop-test .loop-test .taken)
+    (sym (c .before .placement-passes .ensures r h w) ∙ c .if1 .left)
 
 returns-2 : tie.Need-returns-2 Inv-loop μ-loop
 returns-2 c =

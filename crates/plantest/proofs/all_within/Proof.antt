@@ -20,7 +20,9 @@ use Rattle.plantest.proofs.all_within.Statement.{statement}
 use Rattle.plantest.proofs.all_within.Tie as tie
 
 abbrev Inv-loop : tie.InvT-loop
-Inv-loop table ways figures q v n k t₀ t = (t ≤ k) × ((r : Railway) (p : ℕ) → On r p table q → Laid r (isClosed r) ways → allBelow (goesWithin (gameOf r) (figureIn figures) p (settingAt r p v) n) t ≡ true)
+Inv-loop table ways figures q v n k t₀ t =
+    (t ≤ k) × ((r : Railway) (p : ℕ) → On r p table q → Laid r (isClosed r) ways
+    → allBelow (goesWithin (gameOf r) (figureIn figures) p (settingAt r p v) n) t ≡ true)
 
 abbrev μ-loop : tie.MeasureT-loop
 μ-loop table ways figures q v n k t₀ t = k - t
@@ -30,13 +32,20 @@ unfolding allBelow
 loop-holds c = (omega arith, λ r p on w. refl)
 
 loop-again : tie.Need-loop-again Inv-loop μ-loop
-loop-again c = let l = c .before .before .before in (omega arith, λ r p on w. all-next _ _ (l .loop .inv .1 r p on w) (sym (c .before .goes-within .ensures r p on w) ∙ c .if1 .taken))
+loop-again c =
+    let l = c .before .before .before in (
+      omega arith,
+      λ r p on w.
+          all-next _ _ (l .loop .inv .1 r p on w) (sym (c .before .goes-within .ensures r p on w) ∙ c .if1 .taken),
+    )
 
 returns : tie.Need-returns Inv-loop μ-loop
 returns c =
     λ r p on w.
-    let l = c .before .before .before in
-    but-one (l .before .trains-in .ensures r (on .compiled)) _ (l .loop .t) (c .before .before .loop-test .taken) (sym (c .before .goes-within .ensures r p on w) ∙ c .if1 .left)
+    let loop-test = c .before .before in
+    let l = loop-test .before in
+    but-one (l .before .trains-in .ensures r (on .compiled)) _ (l .loop .t) (loop-test .loop-test .taken)
+    (sym (c .before .goes-within .ensures r p on w) ∙ c .if1 .left)
 
 returns-2 : tie.Need-returns-2 Inv-loop μ-loop
 returns-2 c =

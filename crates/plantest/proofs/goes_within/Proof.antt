@@ -33,7 +33,9 @@ returns c =
     let k = h .before in
     let m = k .before in
     let a = m .before .before .args in
-    moves-within r (a .figures .now) p (a .v) (a .n) (a .t) (m .move-in .result) (m .move-in .ensures r p on w) _ (h .weight-in .ensures r (on .compiled)) _ (moved (m .move-in .result) (k .match .keys2)) (c .is-within .ensures)
+    moves-within r (a .figures .now) p (a .v) (a .n) (a .t) (m .move-in .result) (m .move-in .ensures r p on w) _
+    (h .weight-in .ensures r (on .compiled)) _ (moved (m .move-in .result) (k .match .keys2))
+    (c .is-within .ensures)
 
 returns-2 : tie.Need-returns-2
 returns-2 c =

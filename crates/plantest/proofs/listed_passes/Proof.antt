@@ -10,17 +10,20 @@ returns c =
     λ r h ways.
     let w = c .before in
     let a = w .before .before .before .before .args in
-    lost-fails r (a .figures .now) (a .settings .now) (a .p) (a .n) _ (w .lost-in .ensures r _ (w .before .placement-of .ensures r h)) (c .if1 .taken)
+    lost-fails r (a .figures .now) (a .settings .now) (a .p) (a .n) _
+    (w .lost-in .ensures r _ (w .before .placement-of .ensures r h)) (c .if1 .taken)
 
 returns-2 : tie.Need-returns-2
 returns-2 c =
     λ r h ways.
-    let o = c .before .before .before in
+    let if2 = c .before .before in
+    let o = if2 .before in
     let e = o .before in
     let w = e .before .before in
     let a = w .before .before .before .before .args in
     let on = w .before .placement-of .ensures r h in
-    home-passes r (a .figures .now) (a .settings .now) (a .p) (a .n) _ (w .lost-in .ensures r _ on) (e .before .if1 .left) _ (e .entry-at .ensures) _ (o .opens-signalled .ensures r _ on) (c .before .before .if2 .taken) _
+    home-passes r (a .figures .now) (a .settings .now) (a .p) (a .n) _ (w .lost-in .ensures r _ on)
+    (e .before .if1 .left) _ (e .entry-at .ensures) _ (o .opens-signalled .ensures r _ on) (if2 .if2 .taken) _
     (c .before .home-in .ensures r _ on) (c .if3 .taken)
 
 returns-3 : tie.Need-returns-3
@@ -32,7 +35,8 @@ returns-3 c =
     let w = e .before .before in
     let a = w .before .before .before .before .args in
     let on = w .before .placement-of .ensures r h in
-    kept-passes r (a .figures .now) (a .settings .now) (a .p) (a .n) _ (w .lost-in .ensures r _ on) (e .before .if1 .left) _ (e .entry-at .ensures) _ (o .opens-signalled .ensures r _ on) (i .before .if2 .taken) _
+    kept-passes r (a .figures .now) (a .settings .now) (a .p) (a .n) _ (w .lost-in .ensures r _ on)
+    (e .before .if1 .left) _ (e .entry-at .ensures) _ (o .opens-signalled .ensures r _ on) (i .before .if2 .taken) _
     (i .home-in .ensures r _ on) _ (c .before .if3 .left) (c .keeps .ensures r _ on ways)
 
 returns-4 : tie.Need-returns-4
@@ -43,7 +47,8 @@ returns-4 c =
     let w = e .before .before in
     let a = w .before .before .before .before .args in
     let on = w .before .placement-of .ensures r h in
-    unsignalled-fails r (a .figures .now) (a .settings .now) (a .p) (a .n) _ (w .lost-in .ensures r _ on) (e .before .if1 .left) _ (e .entry-at .ensures) _ (o .opens-signalled .ensures r _ on) (c .if2 .left)
+    unsignalled-fails r (a .figures .now) (a .settings .now) (a .p) (a .n) _ (w .lost-in .ensures r _ on)
+    (e .before .if1 .left) _ (e .entry-at .ensures) _ (o .opens-signalled .ensures r _ on) (c .if2 .left)
 
 pub listed-passes-spec : {M : Type 1} → statement M
 listed-passes-spec =

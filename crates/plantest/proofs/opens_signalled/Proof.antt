@@ -26,16 +26,24 @@ loop-holds c = (omega arith, λ r p on. refl)
 
 loop-again : tie.Need-loop-again Inv-loop μ-loop
 loop-again c =
-    let l = c .before .before .before in
-    (omega arith, λ r p on. let there = within (l .before .trains-in .ensures r (on .compiled)) _ (c .before .before .loop-test .taken) in all-next _ _ (l .loop .inv .1 r p on) (sym (c .before .train-signalled .ensures r p on there) ∙ c .if1 .taken))
+    let loop-test = c .before .before in
+    let l = loop-test .before in (
+      omega arith,
+      λ r p on. let there =
+          within (l .before .trains-in .ensures r (on .compiled)) _ (loop-test .loop-test .taken) in
+          all-next _ _ (l .loop .inv .1 r p on)
+          (sym (c .before .train-signalled .ensures r p on there) ∙ c .if1 .taken),
+    )
 
 returns : tie.Need-returns Inv-loop μ-loop
 returns c =
     λ r p on.
-    let l = c .before .before .before in
+    let loop-test = c .before .before in
+    let l = loop-test .before in
     let e = l .before .trains-in .ensures r (on .compiled) in
-    let there = within e _ (c .before .before .loop-test .taken) in
-    but-one e _ (l .loop .t) (c .before .before .loop-test .taken) (sym (c .before .train-signalled .ensures r p on there) ∙ c .if1 .left)
+    let there = within e _ (loop-test .loop-test .taken) in
+    but-one e _ (l .loop .t) (loop-test .loop-test .taken)
+    (sym (c .before .train-signalled .ensures r p on there) ∙ c .if1 .left)
 
 returns-2 : tie.Need-returns-2 Inv-loop μ-loop
 returns-2 c =

@@ -14,8 +14,10 @@ returns c =
 returns-2 : tie.Need-returns-2
 returns-2 c =
     λ r h w.
-    let a = c .before .before .before .before .before .args in
-    listed-decides r (a .figures .now) (a .settings .now) (a .p) _ (c .before .before .entry-at .ensures) _ (c .before .if1 .left) (c .listed-passes .ensures r h w)
+    let entry-at = c .before .before in
+    let a = entry-at .before .before .before .args in
+    listed-decides r (a .figures .now) (a .settings .now) (a .p) _ (entry-at .entry-at .ensures) _
+    (c .before .if1 .left) (c .listed-passes .ensures r h w)
 
 pub placement-passes-spec : {M : Type 1} → statement M
 placement-passes-spec = tie.close (tie.spec (λ c κs. search needs) returns (λ c κs. search needs) returns-2)

@@ -29,11 +29,17 @@ loop-holds c = (omega arith, λ r p on. refl)
 returns : tie.Need-returns Inv-loop μ-loop
 returns c =
     λ r p on.
-    let l = c .before .before .before in
-    one-of (l .before .trains-in .ensures r (on .compiled)) _ (l .loop .t) (c .before .before .loop-test .taken) (sym (c .before .may-in .ensures r p on) ∙ c .if1 .taken)
+    let loop-test = c .before .before in
+    let l = loop-test .before in
+    one-of (l .before .trains-in .ensures r (on .compiled)) _ (l .loop .t) (loop-test .loop-test .taken)
+    (sym (c .before .may-in .ensures r p on) ∙ c .if1 .taken)
 
 loop-again : tie.Need-loop-again Inv-loop μ-loop
-loop-again c = let l = c .before .before .before in (omega arith, λ r p on. any-next _ _ (l .loop .inv .1 r p on) (sym (c .before .may-in .ensures r p on) ∙ c .if1 .left))
+loop-again c =
+    let l = c .before .before .before in (
+      omega arith,
+      λ r p on. any-next _ _ (l .loop .inv .1 r p on) (sym (c .before .may-in .ensures r p on) ∙ c .if1 .left),
+    )
 
 returns-2 : tie.Need-returns-2 Inv-loop μ-loop
 returns-2 c =

@@ -10,7 +10,8 @@ returns c =
     λ r h w.
     let f = c .before in
     let a = f .before .before .before .before .args in
-    start-unlisted r (a .figures .now) (a .settings .now) (a .m) _ _ (f .before .start-code .ensures r h) (f .entry-at .ensures) (c .if1 .taken)
+    start-unlisted r (a .figures .now) (a .settings .now) (a .m) _ _ (f .before .start-code .ensures r h)
+    (f .entry-at .ensures) (c .if1 .taken)
 
 returns-2 : tie.Need-returns-2
 returns-2 c =
@@ -18,7 +19,8 @@ returns-2 c =
     let e = c .before .before in
     let f = e .before in
     let a = f .before .before .before .before .args in
-    start-same r (a .figures .now) (a .settings .now) (a .m) _ _ (f .before .start-code .ensures r h) (f .entry-at .ensures) (e .if1 .left) _ (c .before .if2 .taken) (c .all-pass .ensures r h w)
+    start-same r (a .figures .now) (a .settings .now) (a .m) _ _ (f .before .start-code .ensures r h)
+    (f .entry-at .ensures) (e .if1 .left) _ (c .before .if2 .taken) (c .all-pass .ensures r h w)
 
 returns-3 : tie.Need-returns-3
 returns-3 c =
@@ -26,7 +28,8 @@ returns-3 c =
     let e = c .before in
     let f = e .before in
     let a = f .before .before .before .before .args in
-    start-other r (a .figures .now) (a .settings .now) (a .m) _ _ (f .before .start-code .ensures r h) (f .entry-at .ensures) (e .if1 .left) (c .if2 .left)
+    start-other r (a .figures .now) (a .settings .now) (a .m) _ _ (f .before .start-code .ensures r h)
+    (f .entry-at .ensures) (e .if1 .left) (c .if2 .left)
 
 pub test-holds-spec : {M : Type 1} → statement M
 test-holds-spec =

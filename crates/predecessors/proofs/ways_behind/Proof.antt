@@ -8,7 +8,10 @@ use Rattle.predecessors.proofs.ways_behind.Statement.{statement}
 use Rattle.predecessors.proofs.ways_behind.Tie as tie
 
 returns : tie.Need-returns
-returns c = let a = c .before .before .before .before in laid-open (a .args .r) mostSections _ _ refl (c .ways-of .ensures (a .args .r) (own-links (a .args .r) _ (a .good .0)))
+returns c =
+    let a = c .before .before .before .before in
+    laid-open (a .args .r) mostSections _ _ refl
+    (c .ways-of .ensures (a .args .r) (own-links (a .args .r) _ (a .good .0)))
 
 pub ways-behind-spec : {M : Type 1} → statement M
 ways-behind-spec = tie.close (tie.spec (λ c κs. search needs) returns)

@@ -14,7 +14,8 @@ returns c =
     let number = count .before .before .before .before in
     let word = number .before .before .before .before in
     let st = word .before .before .before .before in
-    line-made (st .args .round) (st .args .a) (word .bytes .ensures) (number .number .ensures) (count .number2 .ensures) (largest .number3 .ensures)
+    line-made (st .args .round) (st .args .a) (word .bytes .ensures) (number .number .ensures) (count .number2 .ensures)
+    (largest .number3 .ensures)
 
 pub spell-round-spec : {M : Type 1} → statement M
 spell-round-spec =

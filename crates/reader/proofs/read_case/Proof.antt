@@ -10,13 +10,27 @@ use Rattle.reader.proofs.read_case.Statement.{statement}
 use Rattle.reader.proofs.read_case.Tie as tie
 
 returns : tie.Need-returns
-returns c = let text = now (c .before .before .before .args .text) in reader-answers text _ .0 (c .refuse .ensures ∙ too-long text (c .before .if1 .taken))
+returns c =
+    let a = c .before .before .before .args in
+    let text = now (a .text) in reader-answers text _ .0 (c .refuse .ensures ∙ too-long text (c .before .if1 .taken))
 
 returns-2 : tie.Need-returns-2
-returns-2 c = let t = c .before in let l = t .before in let e = l .before in let text = now (e .before .before .args .text) in reader-answers text _ .0 (c .answer .ensures ∙ answered text (e .if1 .left) _ _ (sym (l .read-lines .ensures) ∙ lines-got _ (t .if2 .taken)))
+returns-2 c =
+    let t = c .before in
+    let l = t .before in
+    let e = l .before in
+    let text = now (e .before .before .args .text) in
+    reader-answers text _ .0
+    (c .answer .ensures ∙ answered text (e .if1 .left) _ _ (sym (l .read-lines .ensures) ∙ lines-got _ (t .if2 .taken)))
 
 returns-3 : tie.Need-returns-3
-returns-3 c = let t = c .before in let l = t .before in let e = l .before in let text = now (e .before .before .args .text) in reader-answers text _ .0 (c .refuse2 .ensures ∙ not-in-form text (e .if1 .left) (sym (l .read-lines .ensures) ∙ lines-bad _ (t .if2 .left)))
+returns-3 c =
+    let t = c .before in
+    let l = t .before in
+    let e = l .before in
+    let text = now (e .before .before .args .text) in
+    reader-answers text _ .0
+    (c .refuse2 .ensures ∙ not-in-form text (e .if1 .left) (sym (l .read-lines .ensures) ∙ lines-bad _ (t .if2 .left)))
 
 pub read-case-spec : {M : Type 1} → statement M
 read-case-spec =

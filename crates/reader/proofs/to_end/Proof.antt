@@ -9,7 +9,10 @@ use Rattle.reader.proofs.to_end.Statement.{statement}
 use Rattle.reader.proofs.to_end.Tie as tie
 
 returns : tie.Need-returns
-returns c = let t = c .before in let a = t .before .before .before .before .args in ap linesGot (c .not-in-form .ensures) ∙ more-left (now (a .text)) (a .all) (t .if1 .taken)
+returns c =
+    let t = c .before in
+    let a = t .before .before .before .before .args in
+    ap linesGot (c .not-in-form .ensures) ∙ more-left (now (a .text)) (a .all) (t .if1 .taken)
 
 returns-2 : tie.Need-returns-2
 returns-2 c = let a = c .before .before .before .before .args in all-read (now (a .text)) (a .all) (c .if1 .left)

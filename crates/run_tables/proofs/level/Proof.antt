@@ -23,7 +23,9 @@ loop-holds c = λ r x s h l k. level-begun r _ x s _ h _ l _ k
 loop-again : tie.Need-loop-again Inv-loop μ-loop
 loop-again c =
     let l = c .before .before .before in
-    λ r x s h b k. let e : l .loop .y + 1 ≡ suc (l .loop .y) = add-one (l .loop .y) in rw e (c .leave .ensures r x s h b (l .loop .inv r x s h b k))
+    λ r x s h b k.
+    let e : l .loop .y + 1 ≡ suc (l .loop .y) = add-one (l .loop .y) in
+    rw e (c .leave .ensures r x s h b (l .loop .inv r x s h b k))
 
 returns : tie.Need-returns Inv-loop μ-loop
 returns c = λ r x s h l k. level-done r _ x s _ h _ l _ _ (c .loop-test .left) (c .before .loop .inv r x s h l k)

@@ -17,7 +17,8 @@ returns-3 : tie.Need-returns-3
 returns-3 c =
     let i = c .before .before in
     let a = i .before .before .args in
-    λ r h. row-done r (a .heading) (a .x) (a .sections) (a .ways .now) h _ (c .levels .ensures r (a .x) h (row-begun r (a .heading) (a .x) (a .sections) (a .ways .now) h _ (omega (arith, i .before .if1 .left)) refl))
+    λ r h. row-done r (a .heading) (a .x) (a .sections) (a .ways .now) h _ (c .levels .ensures r (a .x) h
+    (row-begun r (a .heading) (a .x) (a .sections) (a .ways .now) h _ (omega (arith, i .before .if1 .left)) refl))
 
 pub row-from-spec : {M : Type 1} → statement M
 row-from-spec = tie.close (tie.spec returns returns-2 (λ c. search needs) (λ c κs. search needs) returns-3)

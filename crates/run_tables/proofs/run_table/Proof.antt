@@ -19,7 +19,8 @@ returns-2 c =
     let told = ways .before in
     let test = told .before .before in
     let a = test .before .args in
-    filled (a .r) (a .heading) (a .table) _ (test .test-record .ensures) _ _ _ (told .enum-told .given .1) (c .reply2 .ensures .0) (c .reply2 .ensures .1) (ways .case-ways .ensures) (fill .fill .ensures)
+    filled (a .r) (a .heading) (a .table) _ (test .test-record .ensures) _ _ _ (told .enum-told .given .1)
+    (c .reply2 .ensures .0) (c .reply2 .ensures .1) (ways .case-ways .ensures) (fill .fill .ensures)
 
 pub run-table-spec : {M : Type 1} → statement M
 run-table-spec =

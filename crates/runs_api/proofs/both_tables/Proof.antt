@@ -9,7 +9,8 @@ returns c =
     let up = c .before in
     let down = up .before .before .before in
     let st = down .before .before in
-    both (st .args .r) (st .pre) _ _ (down .before .run-table .result) (down .run-table2 .result) _ _ (down .before .run-table .ensures) (down .run-table2 .ensures) (up .table-in .ensures) (c .table-in2 .ensures)
+    both (st .args .r) (st .pre) _ _ (down .before .run-table .result) (down .run-table2 .result) _ _
+    (down .before .run-table .ensures) (down .run-table2 .ensures) (up .table-in .ensures) (c .table-in2 .ensures)
 
 pub both-tables-spec : {M : Type 1} → statement M
 both-tables-spec =

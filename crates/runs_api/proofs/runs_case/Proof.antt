@@ -15,7 +15,8 @@ returns c =
 returns-2 : tie.Need-returns-2
 returns-2 c =
     let told = c .before .before .before in
-    text-read _ _ (told .before .before .read-case .ensures) _ _ _ _ _ (told .enum-told .given .1) (c .both-tables .ensures)
+    text-read _ _ (told .before .before .read-case .ensures) _ _ _ _ _ (told .enum-told .given .1)
+    (c .both-tables .ensures)
 
 pub runs-case-spec : {M : Type 1} → statement M
 runs-case-spec =

@@ -26,7 +26,9 @@ returns c =
     let st = runs .before .before in
     let r = st .args .r in
     railway-put r (st .pre) _ _ _ _ (runs .runs-of .ensures)
-    (made-put (spelled .spell-runs .ensures) (text-short (λ t. getD (runs .runs-of .result) t 0) (r .trains) (facts r (st .pre) .few-trains)) (put .put .ensures))
+    (made-put (spelled .spell-runs .ensures)
+    (text-short (λ t. getD (runs .runs-of .result) t 0) (r .trains) (facts r (st .pre) .few-trains))
+    (put .put .ensures))
 
 pub railway-runs-spec : {M : Type 1} → statement M
 railway-runs-spec =

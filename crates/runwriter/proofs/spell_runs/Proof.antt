@@ -14,7 +14,8 @@ returns c =
     let any = none .before in
     let trains = any .before .before .before in
     let a = trains .before .before .before .args in
-    text-none (λ t. getD (a .runs) t 0) (a .k) (trains .spell-trains .ensures) _ (any .any-none .ensures) (none .if1 .taken) (last .bytes .ensures)
+    text-none (λ t. getD (a .runs) t 0) (a .k) (trains .spell-trains .ensures) _ (any .any-none .ensures)
+    (none .if1 .taken) (last .bytes .ensures)
 
 returns-2 : tie.Need-returns-2
 unfolding bytes
@@ -26,7 +27,8 @@ returns-2 c =
     let any = some .before in
     let trains = any .before .before .before in
     let a = trains .before .before .before .args in
-    text-sum (λ t. getD (a .runs) t 0) (a .k) (trains .spell-trains .ensures) _ (any .any-none .ensures) _ (some .if1 .left) (sum .sum-of .ensures) (word .bytes2 .ensures) (last .number .ensures)
+    text-sum (λ t. getD (a .runs) t 0) (a .k) (trains .spell-trains .ensures) _ (any .any-none .ensures) _
+    (some .if1 .left) (sum .sum-of .ensures) (word .bytes2 .ensures) (last .number .ensures)
 
 pub spell-runs-spec : {M : Type 1} → statement M
 spell-runs-spec =

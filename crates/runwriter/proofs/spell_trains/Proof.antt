@@ -21,7 +21,10 @@ loop-holds : tie.Need-loop-holds Inv-loop μ-loop
 loop-holds c = let a = c .before .args in (pieces-none (λ i. runLine i (getD (a .t2) i 0)), omega arith, refl)
 
 array-read-spell-run : tie.Need-array-read-spell-run Inv-loop μ-loop
-array-read-spell-run c = let i = c .before in omega (arith, i .loop-test .taken, i .before .before .before .pre)
+array-read-spell-run c =
+    let i = c .before in
+    let start = i .before .before .before in
+    omega (arith, i .loop-test .taken, start .pre)
 
 loop-less : tie.Need-loop-less Inv-loop μ-loop
 loop-less c = omega (arith, c .before .before .before .before .loop-test .taken)

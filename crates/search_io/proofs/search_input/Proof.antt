@@ -27,7 +27,8 @@ returns c =
     let t = c .before .before .before .before in
     let r = t .before .before .before .before .before .before .before in
     let st = r .before .before .before .before in
-    planned (now (st .args .case)) _ _ _ _ (st .pre .0) (r .read-full .kept .1 .0) (r .read-full .ensures .0) (t .whole-text .ensures (omega (arith, st .pre .1)))
+    planned (now (st .args .case)) _ _ _ _ (st .pre .0) (r .read-full .kept .1 .0) (r .read-full .ensures .0)
+    (t .whole-text .ensures (omega (arith, st .pre .1)))
 
 pub search-input-spec : {M : Type 1} → statement M
 search-input-spec =

@@ -17,7 +17,8 @@ abbrev μ-loop : tie.MeasureT-loop
 loop-holds : tie.Need-loop-holds Inv-loop μ-loop
 loop-holds c =
     let a = c .before .before .before in
-    looked-start (a .args .table .now) (a .args .ways .now) (a .args .behind .now) (a .args .figures .now) (a .args .settings .now) (a .args .marks .now) (a .args .from)
+    looked-start (a .args .table .now) (a .args .ways .now) (a .args .behind .now) (a .args .figures .now)
+    (a .args .settings .now) (a .args .marks .now) (a .args .from)
 
 same-length : tie.Need-same-length Inv-loop μ-loop
 same-length c = c .before .before .before .before .before .loop .inv .long-figs
@@ -34,7 +35,11 @@ returns c =
     let i = b .before .before .before in
     let l = i .before in
     let a = l .before .before .before .before in
-    λ r n room. looked-found (a .args .table .now) (a .args .ways .now) (a .args .behind .now) (a .args .figures .now) (a .args .settings .now) (a .args .marks .now) (a .args .from) (l .loop .figures) (l .loop .settings) (l .loop .marks) (l .loop .d) (l .loop .inv) _ (b .brings .ensures) (omega (arith, i .loop-test .taken)) (c .if1 .taken) r n
+    λ r n room.
+    looked-found (a .args .table .now) (a .args .ways .now) (a .args .behind .now) (a .args .figures .now)
+    (a .args .settings .now) (a .args .marks .now) (a .args .from) (l .loop .figures) (l .loop .settings)
+    (l .loop .marks) (l .loop .d) (l .loop .inv) _ (b .brings .ensures)
+    (omega (arith, i .loop-test .taken)) (c .if1 .taken) r n
 
 loop-less : tie.Need-loop-less Inv-loop μ-loop
 loop-less c =
@@ -50,8 +55,12 @@ loop-again c =
     let i = b .before .before .before in
     let l = i .before in
     let a = l .before .before .before .before in
-    looked-next (a .args .table .now) (a .args .ways .now) (a .args .behind .now) (a .args .figures .now) (a .args .settings .now) (a .args .marks .now) (a .args .from) (l .loop .figures) (l .loop .settings) (l .loop .marks) (l .loop .d) (l .loop .inv) _ (b .brings .ensures) (omega (arith, i .loop-test .taken)) (e .if1 .left)
-    _ _ _ _ (o .round .kept .1 .1 .1 .0) (o .round .kept .1 .1 .1 .1 .0) (o .round .kept .1 .1 .1 .1 .1 .0) (o .round .ensures .0 (omega (arith, i .loop-test .taken))) (o .round .ensures .1)
+    looked-next (a .args .table .now) (a .args .ways .now) (a .args .behind .now) (a .args .figures .now)
+    (a .args .settings .now) (a .args .marks .now) (a .args .from) (l .loop .figures) (l .loop .settings)
+    (l .loop .marks) (l .loop .d) (l .loop .inv) _ (b .brings .ensures)
+    (omega (arith, i .loop-test .taken)) (e .if1 .left)
+    _ _ _ _ (o .round .kept .1 .1 .1 .0) (o .round .kept .1 .1 .1 .1 .0) (o .round .kept .1 .1 .1 .1 .1 .0)
+    (o .round .ensures .0 (omega (arith, i .loop-test .taken))) (o .round .ensures .1)
 
 same-length-4 : tie.Need-same-length-4 Inv-loop μ-loop
 same-length-4 c = c .before .loop .inv .long-figs
@@ -66,7 +75,9 @@ returns-2 : tie.Need-returns-2 Inv-loop μ-loop
 returns-2 c =
     let l = c .before in
     let a = l .before .before .before .before in
-    looked-over (a .args .table .now) (a .args .ways .now) (a .args .behind .now) (a .args .figures .now) (a .args .settings .now) (a .args .marks .now) (a .args .from) (l .loop .figures) (l .loop .settings) (l .loop .marks) (l .loop .d) (l .loop .inv) (omega (arith, c .loop-test .left))
+    looked-over (a .args .table .now) (a .args .ways .now) (a .args .behind .now) (a .args .figures .now)
+    (a .args .settings .now) (a .args .marks .now) (a .args .from) (l .loop .figures) (l .loop .settings)
+    (l .loop .marks) (l .loop .d) (l .loop .inv) (omega (arith, c .loop-test .left))
 
 pub look-ahead-spec : {M : Type 1} → statement M
 look-ahead-spec =

@@ -11,14 +11,16 @@ returns c =
     let t = x .before .before in
     let o = t .before .before .before in
     let a = o .before .before .before in
-    looks-nowhere (a .args .r) (a .args .figures .now) (a .args .settings .now) _ (o .open-case .ensures) (a .args .search) _ (t .enum-told .given .1) _ (x .names-none .ensures) (c .if1 .taken)
+    looks-nowhere (a .args .r) (a .args .figures .now) (a .args .settings .now) _ (o .open-case .ensures)
+    (a .args .search) _ (t .enum-told .given .1) _ (x .names-none .ensures) (c .if1 .taken)
 
 returns-2 : tie.Need-returns-2
 returns-2 c =
     let t = c .before in
     let o = t .before .before .before in
     let a = o .before .before .before in
-    looks-refused (a .args .r) (a .args .figures .now) (a .args .settings .now) _ (o .open-case .ensures) (a .args .search) _ _ (t .tested .given .1)
+    looks-refused (a .args .r) (a .args .figures .now) (a .args .settings .now) _ (o .open-case .ensures)
+    (a .args .search) _ _ (t .tested .given .1)
 
 returns-3 : tie.Need-returns-3
 returns-3 c =
@@ -29,7 +31,9 @@ returns-3 c =
     let t = x .before .before in
     let o = t .before .before .before in
     let a = o .before .before .before in
-    looks-there (a .args .r) (a .args .figures .now) (a .args .settings .now) _ (o .open-case .ensures) (a .args .search) _ (t .enum-told .given .1) _ (x .names-none .ensures) (e .if1 .left) _ _ _ (z .code-of .ensures) (y .entry-at .ensures) (c .shows .ensures)
+    looks-there (a .args .r) (a .args .figures .now) (a .args .settings .now) _ (o .open-case .ensures)
+    (a .args .search) _ (t .enum-told .given .1) _ (x .names-none .ensures) (e .if1 .left) _ _ _
+    (z .code-of .ensures) (y .entry-at .ensures) (c .shows .ensures)
 
 pub look-up-spec : {M : Type 1} → statement M
 look-up-spec =

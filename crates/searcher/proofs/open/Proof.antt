@@ -11,7 +11,8 @@ returns c =
     let t = u .before .before in
     let o = t .before .before .before in
     let a = o .before .before .before .before .before in
-    open-refused (a .args .r) (a .args .figures .now) (a .args .settings .now) (a .args .marks .now) _ (o .open-case .ensures) _ (t .tested .given .1) _ _ _ (u .unopened .ensures) (c .refused .ensures)
+    open-refused (a .args .r) (a .args .figures .now) (a .args .settings .now) (a .args .marks .now) _
+    (o .open-case .ensures) _ (t .tested .given .1) _ _ _ (u .unopened .ensures) (c .refused .ensures)
 
 returns-2 : tie.Need-returns-2
 returns-2 c =
@@ -19,7 +20,8 @@ returns-2 c =
     let t = g .before .before .before .before in
     let o = t .before .before .before in
     let a = o .before .before .before .before .before in
-    open-stands (a .args .r) (a .args .figures .now) (a .args .settings .now) (a .args .marks .now) _ (o .open-case .ensures) (t .enum-told .given .1) _ _ _ _ (g .begin .ensures (a .args .r)) (c .standing .ensures)
+    open-stands (a .args .r) (a .args .figures .now) (a .args .settings .now) (a .args .marks .now) _
+    (o .open-case .ensures) (t .enum-told .given .1) _ _ _ _ (g .begin .ensures (a .args .r)) (c .standing .ensures)
 
 pub open-spec : {M : Type 1} → statement M
 open-spec =

@@ -16,7 +16,8 @@ returns c =
     let t = i .before in
     let o = t .before .before .before in
     let a = o .before .before .before .before .before in
-    round-done (a .args .r) (a .args .figures .now) (a .args .settings .now) (a .args .marks .now) _ (o .open-case .ensures) (t .enum-told .given .1) (a .args .search) _ _ (c .as-it-was .ensures) (i .if1 .taken)
+    round-done (a .args .r) (a .args .figures .now) (a .args .settings .now) (a .args .marks .now) _
+    (o .open-case .ensures) (t .enum-told .given .1) (a .args .search) _ _ (c .as-it-was .ensures) (i .if1 .taken)
 
 returns-2 : tie.Need-returns-2
 returns-2 c =
@@ -24,7 +25,8 @@ returns-2 c =
     let t = i .before .before .before in
     let o = t .before .before .before in
     let a = o .before .before .before .before .before in
-    round-beyond (a .args .r) (a .args .figures .now) (a .args .settings .now) (a .args .marks .now) _ (o .open-case .ensures) (t .enum-told .given .1) (a .args .search) _ _ (c .as-it-was2 .ensures) (i .if2 .taken)
+    round-beyond (a .args .r) (a .args .figures .now) (a .args .settings .now) (a .args .marks .now) _
+    (o .open-case .ensures) (t .enum-told .given .1) (a .args .search) _ _ (c .as-it-was2 .ensures) (i .if2 .taken)
 
 returns-3 : tie.Need-returns-3
 returns-3 c =
@@ -35,18 +37,25 @@ returns-3 c =
     let t = k .before in
     let o = t .before .before .before in
     let a = o .before .before .before .before .before in
-    round-counted (a .args .r) (a .args .figures .now) (a .args .settings .now) (a .args .marks .now) _ (o .open-case .ensures) (t .enum-told .given .1) (a .args .search) _ _ _ (omega (arith, j .if2 .left)) (omega (arith, b .coming-before-last .ok)) (b .coming-before-last .ensures) (k .if1 .left) (i .if3 .taken) (c .standing .ensures)
+    round-counted (a .args .r) (a .args .figures .now) (a .args .settings .now) (a .args .marks .now) _
+    (o .open-case .ensures) (t .enum-told .given .1) (a .args .search) _ _ _ (omega (arith, j .if2 .left))
+    (omega (arith, b .coming-before-last .ok)) (b .coming-before-last .ensures) (k .if1 .left) (i .if3 .taken)
+    (c .standing .ensures)
 
 -- both tables have an entry for each placement
 abbrev opened : (p : tie.After-placements) → tie.After-enum-told
 opened p = p .before .before .before .before .before .before .before .before .before .before
 
-enough : (p : tie.After-placements) → (p .placements .result ≤ length (opened p .before .before .before .before .before .before .before .before .args .figures .now)) × (p .placements .result ≤ length (opened p .before .before .before .before .before .before .before .before .args .settings .now))
+enough : (p : tie.After-placements) → (p .placements .result
+    ≤ length (opened p .before .before .before .before .before .before .before .before .args .figures .now))
+    × (p .placements .result
+    ≤ length (opened p .before .before .before .before .before .before .before .before .args .settings .now))
 enough p =
     let t = opened p in
     let o = t .before .before .before in
     let a = o .before .before .before .before .before in
-    room (a .args .r) (a .args .figures .now) (a .args .settings .now) (a .args .marks .now) _ (o .open-case .ensures) (t .enum-told .given .1) _ (p .placements .ensures)
+    room (a .args .r) (a .args .figures .now) (a .args .settings .now) (a .args .marks .now) _ (o .open-case .ensures)
+    (t .enum-told .given .1) _ (p .placements .ensures)
 
 slice-relend-prefix-finish : tie.Need-slice-relend-prefix-finish
 slice-relend-prefix-finish c = enough (c .before .before .before) .0
@@ -65,7 +74,8 @@ returns-4 c =
     let t = c .before .before in
     let o = t .before .before .before in
     let a = o .before .before .before .before .before in
-    round-refused (a .args .r) (a .args .figures .now) (a .args .settings .now) (a .args .marks .now) _ (o .open-case .ensures) _ (t .tested .given .1) _ (a .args .search) _ (c .refused .ensures)
+    round-refused (a .args .r) (a .args .figures .now) (a .args .settings .now) (a .args .marks .now) _
+    (o .open-case .ensures) _ (t .tested .given .1) _ (a .args .search) _ (c .refused .ensures)
 
 returns-5 : tie.Need-returns-5
 returns-5 c =
@@ -80,9 +90,13 @@ returns-5 c =
     let t = k .before in
     let o = t .before .before .before in
     let a = o .before .before .before .before .before in
-    round-finished (a .args .r) (a .args .figures .now) (a .args .settings .now) (a .args .marks .now) _ (o .open-case .ensures) (t .enum-told .given .1) (a .args .search) _ _ _ _ _ _ _ _ (p .placements .ensures) (k .if1 .left) (omega (arith, j .if2 .left))
-    (omega (arith, b .coming-before-last .ok)) (b .coming-before-last .ensures) (omega (arith, i .if3 .left)) (f .finish .kept .1 .1 .1 .0) (f .finish .kept .1 .1 .1 .1 .0)
-    (λ n h lf ls few e tables marked. f .finish .ensures (a .args .r) n h (v .case-ways .ensures) (w .ways-behind .ensures) lf ls few e tables marked) (c .standing2 .ensures)
+    round-finished (a .args .r) (a .args .figures .now) (a .args .settings .now) (a .args .marks .now) _
+    (o .open-case .ensures) (t .enum-told .given .1) (a .args .search) _ _ _ _ _ _ _ _ (p .placements .ensures)
+    (k .if1 .left) (omega (arith, j .if2 .left))
+    (omega (arith, b .coming-before-last .ok)) (b .coming-before-last .ensures) (omega (arith, i .if3 .left))
+    (f .finish .kept .1 .1 .1 .0) (f .finish .kept .1 .1 .1 .1 .0)
+    (λ n h lf ls few e tables marked. f .finish .ensures (a .args .r) n h (v .case-ways .ensures)
+    (w .ways-behind .ensures) lf ls few e tables marked) (c .standing2 .ensures)
 
 pub round-spec : {M : Type 1} → statement M
 round-spec =

@@ -11,10 +11,15 @@ fill-requires c κs =
     let t = n .before .before in
     let o = t .before .before .before in
     let a = o .before .before .before .before .before in
-    room (a .args .r) (a .args .figures .now) (a .args .settings .now) _ (o .open-case .ensures) (t .enum-told .given .1) _ (n .placements .ensures)
+    room (a .args .r) (a .args .figures .now) (a .args .settings .now) _ (o .open-case .ensures)
+    (t .enum-told .given .1) _ (n .placements .ensures)
 
 returns : tie.Need-returns
-returns c = let o = c .before .before .before .before in let a = o .before .before .before .before .before in answer-refused (a .args .r) (a .args .figures .now) (a .args .settings .now) _ (o .open-case .ensures) _ (c .before .tested .given .1)
+returns c =
+    let o = c .before .before .before .before in
+    let a = o .before .before .before .before .before in
+    answer-refused (a .args .r) (a .args .figures .now) (a .args .settings .now) _ (o .open-case .ensures) _
+    (c .before .tested .given .1)
 
 returns-2 : tie.Need-returns-2
 returns-2 c =
@@ -25,8 +30,10 @@ returns-2 c =
     let t = n .before .before in
     let o = t .before .before .before in
     let a = o .before .before .before .before .before in
-    answer-solved (a .args .r) (a .args .figures .now) (a .args .settings .now) _ (o .open-case .ensures) (t .enum-told .given .1) _ (n .placements .ensures) _ _ _
-    (λ h e. f .fill .ensures (a .args .r) h (w .case-ways .ensures) (s .ways-behind .ensures) e) (c .start-answer .ensures)
+    answer-solved (a .args .r) (a .args .figures .now) (a .args .settings .now) _ (o .open-case .ensures)
+    (t .enum-told .given .1) _ (n .placements .ensures) _ _ _
+    (λ h e. f .fill .ensures (a .args .r) h (w .case-ways .ensures) (s .ways-behind .ensures) e)
+    (c .start-answer .ensures)
 
 pub solve-spec : {M : Type 1} → statement M
 solve-spec =

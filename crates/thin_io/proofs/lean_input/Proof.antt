@@ -9,7 +9,9 @@ use Rattle.thin_io.proofs.lean_input.Statement.{statement}
 use Rattle.thin_io.proofs.lean_input.Tie as tie
 
 slice-aggregate-write-all : tie.Need-slice-aggregate-write-all
-slice-aggregate-write-all c = let h = c .before .before .before .whole-text .ensures .within in simp length-take (omega (arith, h))
+slice-aggregate-write-all c =
+    let h = c .before .before .before .whole-text .ensures .within in
+    simp length-take (omega (arith, h))
 
 returns : tie.Need-returns
 returns c =
@@ -17,7 +19,8 @@ returns c =
     let m = t .before .before .before .before .before .before in
     let n = m .before .before .before .before in
     let s = n .before .before .before .before .before .before .before in
-    thinned _ _ _ _ _ _ (n .read-full .kept .1 .0 ∙ s .pre .0) (n .read-full .ensures .0) (m .read-full2 .kept .1 .0 ∙ s .pre .1) (m .read-full2 .ensures .0) (t .whole-text .ensures)
+    thinned _ _ _ _ _ _ (n .read-full .kept .1 .0 ∙ s .pre .0) (n .read-full .ensures .0)
+    (m .read-full2 .kept .1 .0 ∙ s .pre .1) (m .read-full2 .ensures .0) (t .whole-text .ensures)
 
 pub lean-input-spec : {M : Type 1} → statement M
 lean-input-spec =

@@ -11,7 +11,8 @@ returns c =
     let n = c .before in
     let v = n .before in
     let a = v .before .before .before .args in
-    entry-unlisted r (a .figures .now) (a .settings .now) (a .p) _ _ (v .entry-at .ensures) (n .entry-at2 .ensures) (c .if1 .taken)
+    entry-unlisted r (a .figures .now) (a .settings .now) (a .p) _ _ (v .entry-at .ensures)
+    (n .entry-at2 .ensures) (c .if1 .taken)
 
 returns-2 : tie.Need-returns-2
 returns-2 c =
@@ -21,7 +22,8 @@ returns-2 c =
     let n = e .before in
     let v = n .before in
     let a = v .before .before .before .args in
-    entry-home r (a .figures .now) (a .settings .now) (a .p) _ _ (v .entry-at .ensures) (n .entry-at2 .ensures) (e .if1 .left) _ (w .home-in .ensures r _ (w .before .placement-of .ensures r h)) (c .if2 .taken)
+    entry-home r (a .figures .now) (a .settings .now) (a .p) _ _ (v .entry-at .ensures) (n .entry-at2 .ensures)
+    (e .if1 .left) _ (w .home-in .ensures r _ (w .before .placement-of .ensures r h)) (c .if2 .taken)
 
 returns-3 : tie.Need-returns-3
 returns-3 c =
@@ -32,7 +34,8 @@ returns-3 c =
     let v = n .before in
     let a = v .before .before .before .args in
     let on = w .before .placement-of .ensures r h in
-    entry-lean r (a .figures .now) (a .settings .now) (a .p) _ _ (v .entry-at .ensures) (n .entry-at2 .ensures) (e .if1 .left) _ (w .home-in .ensures r _ on) (c .before .if2 .left) _
+    entry-lean r (a .figures .now) (a .settings .now) (a .p) _ _ (v .entry-at .ensures) (n .entry-at2 .ensures)
+    (e .if1 .left) _ (w .home-in .ensures r _ on) (c .before .if2 .left) _
     (c .lean-entry .ensures r _ on)
 
 pub entry-at-spec : {M : Type 1} → statement M

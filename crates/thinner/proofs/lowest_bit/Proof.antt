@@ -30,15 +30,21 @@ loop-holds c = (omega arith, λ r p on. refl)
 returns : tie.Need-returns Inv-loop μ-loop
 returns c =
     let i = c .before in
-    let l = i .before .before .before in (
+    let loop-test = i .before .before in
+    let l = loop-test .before in (
       c .train-bit .ensures .0,
       λ r p on.
-          first-bit _ (l .before .trains-in .ensures r (on .compiled)) (facts r (on .compiled .accepted) .few-trains) (l .loop .t) (l .loop .inv .1 r p on) (i .before .before .loop-test .taken)
+          first-bit _ (l .before .trains-in .ensures r (on .compiled)) (facts r (on .compiled .accepted) .few-trains)
+          (l .loop .t) (l .loop .inv .1 r p on) (loop-test .loop-test .taken)
           (sym (i .before .may-in .ensures r p on) ∙ i .if1 .taken) _ (c .train-bit .ensures .1),
     )
 
 loop-again : tie.Need-loop-again Inv-loop μ-loop
-loop-again c = let l = c .before .before .before in (omega arith, λ r p on. any-next _ _ (l .loop .inv .1 r p on) (sym (c .before .may-in .ensures r p on) ∙ c .if1 .left))
+loop-again c =
+    let l = c .before .before .before in (
+      omega arith,
+      λ r p on. any-next _ _ (l .loop .inv .1 r p on) (sym (c .before .may-in .ensures r p on) ∙ c .if1 .left),
+    )
 
 returns-2 : tie.Need-returns-2 Inv-loop μ-loop
 returns-2 c =

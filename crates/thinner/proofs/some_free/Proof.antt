@@ -28,17 +28,22 @@ loop-holds c = (omega arith, λ r p on. refl)
 returns : tie.Need-returns Inv-loop μ-loop
 returns c =
     λ r p on.
-    let l = c .before .before .before in
+    let loop-test = c .before .before in
+    let l = loop-test .before in
     let e = l .before .trains-in .ensures r (on .compiled) in
-    one-free r p e (l .loop .t) (c .before .before .loop-test .taken) (sym (as-there r p _ _ on _ (within e (l .loop .t) (c .before .before .loop-test .taken)) _ _ (c .before .free-in .ensures r p on)) ∙ c .if1 .taken)
+    one-free r p e (l .loop .t) (loop-test .loop-test .taken) (sym (as-there r p _ _ on _
+    (within e (l .loop .t) (loop-test .loop-test .taken)) _ _ (c .before .free-in .ensures r p on)) ∙ c .if1 .taken)
 
 loop-again : tie.Need-loop-again Inv-loop μ-loop
 loop-again c =
-    let l = c .before .before .before in (
+    let loop-test = c .before .before in
+    let l = loop-test .before in (
       omega arith,
       λ r p on.
           let e = l .before .trains-in .ensures r (on .compiled) in
-          any-next _ _ (l .loop .inv .1 r p on) (sym (as-there r p _ _ on _ (within e (l .loop .t) (c .before .before .loop-test .taken)) _ _ (c .before .free-in .ensures r p on)) ∙ c .if1 .left),
+          any-next _ _ (l .loop .inv .1 r p on)
+          (sym (as-there r p _ _ on _ (within e (l .loop .t) (loop-test .loop-test .taken)) _ _
+          (c .before .free-in .ensures r p on)) ∙ c .if1 .left),
     )
 
 returns-2 : tie.Need-returns-2 Inv-loop μ-loop

@@ -11,7 +11,8 @@ returns : tie.Need-returns
 returns c =
     let t = c .before .before .before .before in
     let a = t .before .before .before .before .args in
-    thin-refused (a .r) (checking (a .checker) (a .figures .now) (a .settings .now)) _ _ (t .test .ensures) _ (c .before .answer .given .1) _ _ refl refl refl refl
+    thin-refused (a .r) (checking (a .checker) (a .figures .now) (a .settings .now)) _ _ (t .test .ensures) _
+    (c .before .answer .given .1) _ _ refl refl refl refl
 
 returns-2 : tie.Need-returns-2
 returns-2 c =
@@ -22,7 +23,9 @@ returns-2 c =
     let a = t .before .before .before .before .args in
     let k = checking (a .checker) (a .figures .now) (a .settings .now) in
     thin-done (a .r) k _ _ (t .test .ensures) (e .enum-told .given .1) _ _ refl refl refl
-    (w .thin-table .ensures (a .r) (m .compile .ensures .accepted (thin-accepted (a .r) k _ _ (t .test .ensures) (e .enum-told .given .1))) (thin-enough (a .r) k _ _ (t .test .ensures) (e .enum-told .given .1)))
+    (w .thin-table .ensures (a .r)
+    (m .compile .ensures .accepted (thin-accepted (a .r) k _ _ (t .test .ensures) (e .enum-told .given .1)))
+    (thin-enough (a .r) k _ _ (t .test .ensures) (e .enum-told .given .1)))
 
 pub thin-spec : {M : Type 1} → statement M
 thin-spec =

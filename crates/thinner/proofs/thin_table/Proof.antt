@@ -27,10 +27,13 @@ loop-again c =
     let u = c .before .before in
     let e = u .before .before in
     let i = e .before .before in
-    let l = i .before in (
+    let l = i .before in
+    let a = l .before .before .before .before .args in (
       omega (arith, i .loop-test .taken),
-      put-length (l .before .before .before .before .args .settings .now) (l .loop .settings) (u .put .last .0) (l .loop .p) (e .entry-at .result) (u .put .ensures) (l .loop .inv .1),
-      λ r h k. thin-put r _ _ _ (l .loop .p) (l .loop .inv .2 r h k) (l .before .placements .ensures r h) k (i .loop-test .taken) _ (e .entry-at .ensures r h) _ (u .put .ensures),
+      put-length (a .settings .now) (l .loop .settings) (u .put .last .0) (l .loop .p) (e .entry-at .result)
+          (u .put .ensures) (l .loop .inv .1),
+      λ r h k. thin-put r _ _ _ (l .loop .p) (l .loop .inv .2 r h k) (l .before .placements .ensures r h) k
+          (i .loop-test .taken) _ (e .entry-at .ensures r h) _ (u .put .ensures),
     )
 
 same-length : tie.Need-same-length Inv-loop μ-loop

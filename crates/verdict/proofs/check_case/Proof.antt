@@ -10,7 +10,9 @@ returns : tie.Need-returns
 returns c = by-refused _ _ _ _ (c .before .before .before .read-case .ensures) _ (c .before .answer .given .1) refl
 
 returns-2 : tie.Need-returns-2
-returns-2 c = by-accepted _ _ _ _ (c .before .before .before .read-case .ensures) (c .before .enum-told .given .1) (c .check-plan .ensures)
+returns-2 c =
+    let read-case = c .before .before .before in
+    by-accepted _ _ _ _ (read-case .read-case .ensures) (c .before .enum-told .given .1) (c .check-plan .ensures)
 
 pub check-case-spec : {M : Type 1} → statement M
 check-case-spec =

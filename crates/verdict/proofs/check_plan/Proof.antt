@@ -18,7 +18,8 @@ returns c =
     let g = c .before .before .before .before .before .before in
     let f = g .before .before .before .before .before in
     let a = f .before .before .before .before .args in
-    one-piece (a .r) _ _ _ _ refl refl (f .fresh .ensures) (now (a .plan)) _ _ _ (g .go-on .ensures) _ (c .finish .ensures)
+    one-piece (a .r) _ _ _ _ refl refl (f .fresh .ensures) (now (a .plan)) _ _ _ (g .go-on .ensures) _
+    (c .finish .ensures)
 
 pub check-plan-spec : {M : Type 1} → statement M
 check-plan-spec =

@@ -11,13 +11,15 @@ returns : tie.Need-returns
 returns c =
     let t = c .before in
     let a = t .before .before .before .before .args in
-    ends-left (a .r) (checking (a .checker) (now (a .figures)) (now (a .settings))) (now (a .rest)) _ (t .if1 .taken) (c .not-taken .ensures)
+    ends-left (a .r) (checking (a .checker) (now (a .figures)) (now (a .settings))) (now (a .rest)) _ (t .if1 .taken)
+    (c .not-taken .ensures)
 
 returns-2 : tie.Need-returns-2
 returns-2 c =
     let t = c .before in
     let a = t .before .before .before .before .args in
-    ends-tested (a .r) (checking (a .checker) (now (a .figures)) (now (a .settings))) (now (a .rest)) _ _ (t .if1 .left) (c .test .ensures)
+    ends-tested (a .r) (checking (a .checker) (now (a .figures)) (now (a .settings))) (now (a .rest)) _ _
+    (t .if1 .left) (c .test .ensures)
 
 pub finish-spec : {M : Type 1} → statement M
 finish-spec = tie.close (tie.spec (λ c κs. search needs) returns (λ c κs. search needs) returns-2)

@@ -19,15 +19,17 @@ loop-holds c = let a = c .args in not-yet (now (a .text)) (a .from)
 
 returns : tie.Need-returns Inv-loop μ-loop
 returns c =
-    let l = c .before .before .before in
+    let loop-test = c .before .before in
+    let l = loop-test .before in
     let a = l .before .args in
-    found (now (a .text)) (a .from) (l .loop .at) (l .loop .inv) (c .before .before .loop-test .taken) (c .if1 .taken)
+    found (now (a .text)) (a .from) (l .loop .at) (l .loop .inv) (loop-test .loop-test .taken) (c .if1 .taken)
 
 loop-again : tie.Need-loop-again Inv-loop μ-loop
 loop-again c =
-    let l = c .before .before .before in
+    let loop-test = c .before .before in
+    let l = loop-test .before in
     let a = l .before .args in
-    not-yet-next (now (a .text)) (a .from) (l .loop .at) (l .loop .inv) (c .before .before .loop-test .taken) (c .if1 .left)
+    not-yet-next (now (a .text)) (a .from) (l .loop .at) (l .loop .inv) (loop-test .loop-test .taken) (c .if1 .left)
 
 returns-2 : tie.Need-returns-2 Inv-loop μ-loop
 returns-2 c =

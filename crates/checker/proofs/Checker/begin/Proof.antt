@@ -10,13 +10,15 @@ returns : tie.Need-returns
 returns c =
     λ figs sets.
     let a = c .before .before .before .args in
-    start-first (checking (a .self) figs sets) (a .self .state) _ (a .n) (c .before .enum-told .given .1) (c .begun .ensures figs sets)
+    start-first (checking (a .self) figs sets) (a .self .state) _ (a .n) (c .before .enum-told .given .1)
+    (c .begun .ensures figs sets)
 
 returns-2 : tie.Need-returns-2
 returns-2 c =
     λ figs sets.
     let a = c .before .before .before .args in
-    start-again (checking (a .self) figs sets) (a .self .state) _ (a .n) _ _ (c .before .enum-told2 .given .1) (c .refused .ensures figs sets)
+    start-again (checking (a .self) figs sets) (a .self .state) _ (a .n) _ _ (c .before .enum-told2 .given .1)
+    (c .refused .ensures figs sets)
 
 pub begin-spec : {M : Type 1} → statement M
 begin-spec =

@@ -12,7 +12,8 @@ fill-requires c κs =
     let t = n .before .before .before in
     let o = t .before .before in
     let a = o .before .before .before .before .before .args in
-    enough (a .r) (a .figures .now) (a .settings .now) (o .open-case .ensures) (t .enum-told .given .1) _ (n .placements .ensures) .0
+    enough (a .r) (a .figures .now) (a .settings .now) (o .open-case .ensures) (t .enum-told .given .1) _
+    (n .placements .ensures) .0
 
 fill-requires-2 : tie.Need-fill-requires-2
 fill-requires-2 c κs =
@@ -20,14 +21,16 @@ fill-requires-2 c κs =
     let t = n .before .before .before in
     let o = t .before .before in
     let a = o .before .before .before .before .before .args in
-    enough (a .r) (a .figures .now) (a .settings .now) (o .open-case .ensures) (t .enum-told .given .1) _ (n .placements .ensures) .1
+    enough (a .r) (a .figures .now) (a .settings .now) (o .open-case .ensures) (t .enum-told .given .1) _
+    (n .placements .ensures) .1
 
 returns : tie.Need-returns
 returns c =
     let t = c .before .before in
     let o = t .before .before in
     let a = o .before .before .before .before .before .args in
-    fresh-refused (a .r) (a .figures .now) (a .settings .now) (o .open-case .ensures) _ (t .tested .given .1) _ _ (c .unbegun .ensures .0) (c .unbegun .ensures .1) refl refl
+    fresh-refused (a .r) (a .figures .now) (a .settings .now) (o .open-case .ensures) _ (t .tested .given .1) _ _
+    (c .unbegun .ensures .0) (c .unbegun .ensures .1) refl refl
 
 returns-2 : tie.Need-returns-2
 returns-2 c =
@@ -37,7 +40,8 @@ returns-2 c =
     let t = n .before .before .before in
     let o = t .before .before in
     let a = o .before .before .before .before .before .args in
-    fresh-filled (a .r) (a .figures .now) (a .settings .now) (o .open-case .ensures) (t .enum-told .given .1) _ (n .placements .ensures) _ _
+    fresh-filled (a .r) (a .figures .now) (a .settings .now) (o .open-case .ensures) (t .enum-told .given .1) _
+    (n .placements .ensures) _ _
     (c .unbegun2 .ensures .0) (c .unbegun2 .ensures .1) (f .fill .ensures) (s .fill2 .ensures)
 
 pub fresh-spec : {M : Type 1} → statement M

@@ -10,12 +10,14 @@ returns : tie.Need-returns
 returns c =
     let k = c .before .before in
     let a = k .before .before .before .before .before .args in
-    placed-low (checking (a .self) (a .figures .now) (a .settings .now)) (a .self .state) _ (a .code) (a .n) (a .v) _ _ (k .before .state .given .1) (c .before .if1 .taken) (c .refused2 .ensures (a .figures .now) (a .settings .now))
+    placed-low (checking (a .self) (a .figures .now) (a .settings .now)) (a .self .state) _ (a .code) (a .n) (a .v) _ _
+    (k .before .state .given .1) (c .before .if1 .taken) (c .refused2 .ensures (a .figures .now) (a .settings .now))
 
 returns-2 : tie.Need-returns-2
 returns-2 c =
     let a = c .before .before .before .before .before .args in
-    placed-early (checking (a .self) (a .figures .now) (a .settings .now)) (a .self .state) _ (a .code) (a .n) (a .v) (c .before .enum-told .given .1) (c .refused .ensures (a .figures .now) (a .settings .now))
+    placed-early (checking (a .self) (a .figures .now) (a .settings .now)) (a .self .state) _ (a .code) (a .n) (a .v)
+    (c .before .enum-told .given .1) (c .refused .ensures (a .figures .now) (a .settings .now))
 
 returns-3 : tie.Need-returns-3
 returns-3 c =
@@ -24,7 +26,8 @@ returns-3 c =
     let e = o .before .before in
     let k = e .before in
     let a = k .before .before .before .before .before .args in
-    placed-next (checking (a .self) (a .figures .now) (a .settings .now)) (a .self .state) _ (a .code) (a .n) (a .v) _ _ (k .before .state .given .1) (e .if1 .left) _ _ (o .put .ensures) (t .put2 .ensures) (c .begun .ensures _ _)
+    placed-next (checking (a .self) (a .figures .now) (a .settings .now)) (a .self .state) _ (a .code) (a .n) (a .v) _ _
+    (k .before .state .given .1) (e .if1 .left) _ _ (o .put .ensures) (t .put2 .ensures) (c .begun .ensures _ _)
 
 pub list-spec : {M : Type 1} → statement M
 list-spec =

@@ -8,14 +8,17 @@ use Rattle.checker.proofs.Checker.take.Statement.{statement}
 use Rattle.checker.proofs.Checker.take.Tie as tie
 
 take-line-requires : tie.Need-take-line-requires
-take-line-requires c κs = let e = c .before .before .before .before in table-of (e .before .before .open-case .ensures) (e .enum-told .given .1)
+take-line-requires c κs =
+    let e = c .before .before .before .before in
+    table-of (e .before .before .open-case .ensures) (e .enum-told .given .1)
 
 returns : tie.Need-returns
 returns c =
     let t = c .before .before in
     let o = t .before .before in
     let a = o .before .before .before .before .before .before .args in
-    line-refused (a .r) (checking (a .self) (a .figures .now) (a .settings .now)) _ (o .open-case .ensures) (a .text .now) _ (t .tested .given .1) _ (c .refused .ensures (a .figures .now) (a .settings .now))
+    line-refused (a .r) (checking (a .self) (a .figures .now) (a .settings .now)) _ (o .open-case .ensures)
+    (a .text .now) _ (t .tested .given .1) _ (c .refused .ensures (a .figures .now) (a .settings .now))
 
 returns-2 : tie.Need-returns-2
 returns-2 c =
@@ -23,7 +26,8 @@ returns-2 c =
     let e = n .before .before .before .before .before in
     let o = e .before .before in
     let a = o .before .before .before .before .before .before .args in
-    line-so (a .r) (checking (a .self) (a .figures .now) (a .settings .now)) (a .text .now) (o .open-case .ensures) (e .enum-told .given .1) _ (n .take-line .ensures)
+    line-so (a .r) (checking (a .self) (a .figures .now) (a .settings .now)) (a .text .now) (o .open-case .ensures)
+    (e .enum-told .given .1) _ (n .take-line .ensures)
 
 pub take-spec : {M : Type 1} → statement M
 take-spec =

@@ -7,7 +7,10 @@ use Rattle.checker.proofs.Checker.take_line.Statement.{statement}
 use Rattle.checker.proofs.Checker.take_line.Tie as tie
 
 enter-requires : tie.Need-enter-requires
-enter-requires c κs = let l = c .before .before in let s = l .before .before .before .before in some-small (s .pre) (s .args .text .now) _ (l .read-line .ensures)
+enter-requires c κs =
+    let l = c .before .before in
+    let s = l .before .before .before .before in
+    some-small (s .pre) (s .args .text .now) _ (l .read-line .ensures)
 
 returns : tie.Need-returns
 returns c =
@@ -15,7 +18,8 @@ returns c =
     let n = c .before .before .before .before in
     let l = n .before .before .before in
     let a = l .before .before .before .before .args in
-    line-taken r (checking (a .self) (a .figures .now) (a .settings .now)) (a .text .now) _ _ fine (l .read-line .ensures r h) (n .enter .ensures)
+    line-taken r (checking (a .self) (a .figures .now) (a .settings .now)) (a .text .now) _ _ fine
+    (l .read-line .ensures r h) (n .enter .ensures)
 
 pub take-line-spec : {M : Type 1} → statement M
 take-line-spec =

@@ -36,7 +36,12 @@ line : (i : tie.In-loop Inv-loop μ-loop) → LineAt (now (start (i .before) .ar
 line i = line-at (now (start (i .before) .args .text)) (i .before .loop .at) (i .loop-test .taken)
 
 loop-holds : tie.Need-loop-holds Inv-loop μ-loop
-loop-holds c = let a = c .before .before .before .args in (refl, refl, λ r h fine. fronting-start r (now (a .text)) (checking (a .self) (a .figures .now) (a .settings .now)) fine)
+loop-holds c =
+    let a = c .before .before .before .args in (
+      refl,
+      refl,
+      λ r h fine. fronting-start r (now (a .text)) (checking (a .self) (a .figures .now) (a .settings .now)) fine,
+    )
 
 enter-requires : tie.Need-enter-requires Inv-loop μ-loop
 enter-requires c κs =
@@ -46,10 +51,16 @@ enter-requires c κs =
     some-small (s .pre) (firstOf (drop (l .loop .at) (now (s .args .text)))) _ (λ r h. n .read-at .ensures r h .line)
 
 same-length : tie.Need-same-length Inv-loop μ-loop
-same-length c = let t = c .before .before .before .before .before .before .before in t .enter .kept .1 .1 .0 ∙ t .before .before .before .before .before .loop .inv .0
+same-length c =
+    let t = c .before .before .before .before .before .before .before in
+    let loop = t .before .before .before .before .before in
+    t .enter .kept .1 .1 .0 ∙ loop .loop .inv .0
 
 same-length-2 : tie.Need-same-length-2 Inv-loop μ-loop
-same-length-2 c = let t = c .before .before .before .before .before .before .before in t .enter .kept .1 .1 .1 .0 ∙ t .before .before .before .before .before .loop .inv .1
+same-length-2 c =
+    let t = c .before .before .before .before .before .before .before in
+    let loop = t .before .before .before .before .before in
+    t .enter .kept .1 .1 .1 .0 ∙ loop .loop .inv .1
 
 returns : tie.Need-returns Inv-loop μ-loop
 returns c =
@@ -60,7 +71,8 @@ returns c =
     let text = now (start l .args .text) in
     let k = checking (l .loop .checker) (l .loop .figures) (l .loop .settings) in
     let f = l .loop .inv .2 r h fine in
-    let w = line-taken r k (firstOf (drop (l .loop .at) text)) _ _ (f .fine) (n .read-at .ensures r h .line) (t .enter .ensures) in
+    let w = line-taken r k (firstOf (drop (l .loop .at) text)) _ _ (f .fine) (n .read-at .ensures r h .line)
+    (t .enter .ensures) in
     fronting-stop r text _ (l .loop .at) k f (line (n .before)) _ w _ (c .enum-told .given .1)
 
 loop-less : tie.Need-loop-less Inv-loop μ-loop
@@ -71,7 +83,13 @@ loop-less c =
     let s = start l in
     let k = checking (l .loop .checker) (l .loop .figures) (l .loop .settings) in
     let here = line (n .before) in
-    omega (arith, taken-end (n .read-at .ensures (s .pre .railway) (s .pre .compiled)) k _ _ (t .enter .ensures) (c .enum-told2 .given .1), here .some, here .within)
+    omega (
+      arith,
+      taken-end (n .read-at .ensures (s .pre .railway) (s .pre .compiled)) k _ _ (t .enter .ensures)
+          (c .enum-told2 .given .1),
+      here .some,
+      here .within,
+    )
 
 loop-again : tie.Need-loop-again Inv-loop μ-loop
 loop-again c =

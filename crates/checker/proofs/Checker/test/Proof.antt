@@ -12,8 +12,10 @@ returns c =
     let t = c .before .before in
     let o = t .before .before in
     let a = o .before .before .before .args in
-    test-handed (a .r) (a .self) (a .figures .now) (a .settings .now) _ _ _ (c .tested2 .ensures .0) (c .tested2 .ensures .1)
-    (test-refused (a .r) (checking (a .self) (a .figures .now) (a .settings .now)) _ (o .open-case .ensures) _ (t .tested .given .1))
+    test-handed (a .r) (a .self) (a .figures .now) (a .settings .now) _ _ _ (c .tested2 .ensures .0)
+    (c .tested2 .ensures .1)
+    (test-refused (a .r) (checking (a .self) (a .figures .now) (a .settings .now)) _ (o .open-case .ensures) _
+    (t .tested .given .1))
 
 returns-2 : tie.Need-returns-2
 returns-2 c =
@@ -23,8 +25,10 @@ returns-2 c =
     let o = e .before .before in
     let a = o .before .before .before .args in
     let k = checking (a .self) (a .figures .now) (a .settings .now) in
-    test-handed (a .r) (a .self) (a .figures .now) (a .settings .now) _ _ _ (c .tested3 .ensures .0) (c .tested3 .ensures .1)
-    (test-judged (a .r) k _ (o .open-case .ensures) (e .enum-told .given .1) _ (v .verdict .ensures (a .r) (a .self) (opened-table (o .open-case .ensures) (e .enum-told .given .1)) (w .case-ways .ensures)))
+    test-handed (a .r) (a .self) (a .figures .now) (a .settings .now) _ _ _ (c .tested3 .ensures .0)
+    (c .tested3 .ensures .1)
+    (test-judged (a .r) k _ (o .open-case .ensures) (e .enum-told .given .1) _ (v .verdict .ensures (a .r) (a .self)
+    (opened-table (o .open-case .ensures) (e .enum-told .given .1)) (w .case-ways .ensures)))
 
 pub test-spec : {M : Type 1} → statement M
 test-spec =

@@ -12,7 +12,8 @@ returns c =
     let a = t .before .before in
     let k = a .before in
     let g = k .before .before .before .before .args in
-    change-not-read (g .r) (g .text .now) (g .figures .now) (g .settings .now) (g .self) _ (k .compile .ensures) _ (a .read-case .ensures) _ (t .answer .given .1) _ (s .sooner .ensures) _
+    change-not-read (g .r) (g .text .now) (g .figures .now) (g .settings .now) (g .self) _ (k .compile .ensures) _
+    (a .read-case .ensures) _ (t .answer .given .1) _ (s .sooner .ensures) _
     (c .unchanged .ensures)
 
 returns-2 : tie.Need-returns-2
@@ -22,7 +23,8 @@ returns-2 c =
     let a = t .before .before in
     let k = a .before in
     let g = k .before .before .before .before .args in
-    change-not-left (g .r) (g .text .now) (g .figures .now) (g .settings .now) (g .self) _ (k .compile .ensures) _ (a .read-case .ensures) (t .enum-told .given .1) _ (u .tested .given .1) _
+    change-not-left (g .r) (g .text .now) (g .figures .now) (g .settings .now) (g .self) _ (k .compile .ensures) _
+    (a .read-case .ensures) (t .enum-told .given .1) _ (u .tested .given .1) _
     (c .unchanged2 .ensures)
 
 returns-3 : tie.Need-returns-3
@@ -32,7 +34,8 @@ returns-3 c =
     let a = t .before .before in
     let k = a .before in
     let g = k .before .before .before .before .args in
-    change-over (g .r) (g .text .now) (g .figures .now) (g .settings .now) (g .self) _ (k .compile .ensures) _ (a .read-case .ensures) (t .enum-told .given .1) (u .enum-told2 .given .1) _
+    change-over (g .r) (g .text .now) (g .figures .now) (g .settings .now) (g .self) _ (k .compile .ensures) _
+    (a .read-case .ensures) (t .enum-told .given .1) (u .enum-told2 .given .1) _
     (c .go-over .ensures)
 
 pub change-spec : {M : Type 1} → statement M
