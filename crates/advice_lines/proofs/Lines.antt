@@ -20,14 +20,15 @@ use Rattle.casefile.specs.Given.{ReaderPost}
 use Rattle.reader.proofs.Answers.{by-refused, by-accepted}
 use Rattle.answerlines.specs.Lines.{refusalLine, PutPost, Puts}
 use Rattle.answerlines.proofs.Made.{refusal-short}
+use Rattle.answerlines.proofs.Puts.{puts-map, puts-refusal}
 use Rattle.advice.specs.declared.Advice.{Advice}
 use Rattle.advice.specs.declared.Advice.the-variants.{NotNeeded, Signal, NoneHelps, Refused}
 use Rattle.advice.specs.Advice.{AdvicePost}
 use Rattle.advice_lines.specs.Lines.{endLine, adviceLine, blank, RailwayAdvice, CaseAdvice, adviceBytes}
 
 -- A SECTION END, from the bytes put one behind the other
-pub end-made : {o o₁ o₂ : List ℕ} {a a₁ a₂ : ℕ} (n : SectionNo) (s : Side) (m b : ℕ) → m ≡ suc (n .0) → b ≡ sideByte s
-    → Appended o a (decimal m ++ (b ∷ [])) o₁ a₁ → Appended o₁ a₁ (lineEnd ∷ []) o₂ a₂
+pub end-made : {o o₁ o₂ : List ℕ} {a a₁ a₂ : ℕ} (n : SectionNo) (s : Side) (m b : ℕ) → m ≡ suc (n .0) → b ≡ sideByte s → Appended o a (decimal m ++ (b ∷ [])) o₁ a₁
+    → Appended o₁ a₁ (lineEnd ∷ []) o₂ a₂
     → Appended o a (endLine n s) o₂ a₂
 end-made n s m b em eb p q =
     let p′ : Appended _ _ (sectionField (suc (n .0)) s) _ _ = rw (em, eb) at p in
@@ -49,8 +50,7 @@ advice-short NoneHelps = omega arith
 advice-short (Refused f) = omega (arith, refusal-short f)
 
 -- A RAILWAY
-pub advised : (r : Railway) (a : Advice) (figs sets old new : List ℕ) (w : Written)
-    → AdvicePost r a blank blank figs sets → PutPost (adviceLine a) old w new
+pub advised : (r : Railway) (a : Advice) (figs sets old new : List ℕ) (w : Written) → AdvicePost r a blank blank figs sets → PutPost (adviceLine a) old w new
     → Puts (RailwayAdvice r) adviceBytes old w new
 advised r a figs sets old new w post p = record { text = adviceLine a; output = record { answer = a; figs = figs; sets = sets; advised = post; written = refl }; short = advice-short a; put = p }
 
@@ -62,18 +62,7 @@ line-for a x old new w e p = rw e p
 module _ (case : List ℕ) (a : CaseRead) (post : ReaderPost case a) (old new : List ℕ) (w : Written) where
   pub case-refused : (f : Refusal) → a .answer ≡ Refuses f → PutPost (refusalLine f) old w new → Puts (CaseAdvice case) adviceBytes old w new
   case-refused f e p =
-      record {
-        text = refusalLine f;
-        output = by-refused (λ g. refusalLine f ≡ refusalLine g) (λ r. RailwayAdvice r (refusalLine f)) case a post f e refl;
-        short = omega (arith, refusal-short f);
-        put = p;
-      }
+      puts-refusal f (omega arith) (by-refused (λ g. refusalLine f ≡ refusalLine g) (λ r. RailwayAdvice r (refusalLine f)) case a post f e refl) p
 
   pub case-accepted : a .answer ≡ Accepted → Puts (RailwayAdvice (a .railway)) adviceBytes old w new → Puts (CaseAdvice case) adviceBytes old w new
-  case-accepted e p =
-      record {
-        text = p .text;
-        output = by-accepted (λ g. p .text ≡ refusalLine g) (λ r. RailwayAdvice r (p .text)) case a post e (p .output);
-        short = p .short;
-        put = p .put;
-      }
+  case-accepted e p = puts-map (λ t o. by-accepted (λ g. t ≡ refusalLine g) (λ r. RailwayAdvice r t) case a post e o) p

@@ -1,8 +1,8 @@
 -- What program `advise` writes for a case text, refused or not (document 02, Q-10). Assumes nothing.
 use mathlib.Core.Path.{_≡_}
 use mathlib.Core.List.{List, [], _∷_}
-use Prim.Native.Nat.{ℕ, suc, _≤_, _<_}
-use lib.ListN.{length, take, replicate}
+use Prim.Native.Nat.{ℕ, suc, _<_}
+use lib.ListN.{take, replicate}
 use Rattle.text.specs.Text.{line, bytes}
 use Rattle.railway.specs.declared.Side.{Side}
 use Rattle.railway.specs.declared.SectionNo.{SectionNo}
@@ -12,6 +12,7 @@ use Rattle.casefile.specs.Form.{sectionField}
 use Rattle.casefile.specs.Rows.{mostBytes}
 use Rattle.reader.specs.Answers.{ByCase}
 use Rattle.answerlines.specs.Lines.{refusalLine}
+use Rattle.answerlines.specs.Input.{WrittenFor}
 use Rattle.advice.specs.declared.Advice.{Advice}
 use Rattle.advice.specs.declared.Advice.the-variants.{NotNeeded, Signal, NoneHelps, Refused}
 use Rattle.advice.specs.Advice.{AdvicePost}
@@ -51,11 +52,7 @@ adviceBytes = 24
 abbrev pub CutWrites : Type 0
 CutWrites = (case text : List ℕ) (n : ℕ) → mostBytes < n → CaseAdvice (take n case) text → CaseAdvice case text
 
--- What the program that reads standard input promises of how many bytes it writes: there is a case text, no longer than
--- is read, and so many bytes has its line. No definition can say which bytes come in, nor that any went out.
-pub record Advised (n : ℕ) : Type 0 where
-  pub case : List ℕ
-  pub short : length case ≤ suc mostBytes
-  pub text : List ℕ
-  pub output : CaseAdvice case text
-  pub count : n ≡ length text
+-- What the program that reads standard input promises of how many bytes it writes: there is a case text, no longer
+-- than is read, and so many bytes has its line. No definition can say which bytes come in, nor that any went out.
+abbrev pub Advised : ℕ → Type 0
+Advised n = WrittenFor CaseAdvice n

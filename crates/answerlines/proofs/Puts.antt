@@ -5,10 +5,10 @@ use mathlib.Core.Logic.{_⊎_, inl, inr}
 use mathlib.Core.Bool.{Bool}
 use mathlib.Core.List.{List, [], _∷_, _++_}
 use mathlib.Core.Option.{none, some}
-use Prim.Native.Nat.{ℕ, _≤_, _<_}
+use Prim.Native.Nat.{ℕ, suc, _≤_, _<_}
 use native.Mathlib.Omega.{arith}
-use lib.ListN.{length, drop, length-append}
-use lib.Seq.{take-append-seam}
+use lib.ListN.{length, take, drop, replicate, length-append, length-replicate}
+use lib.Seq.{take-append-seam, length-take-le}
 use borrow.Author.Tests.{lt-ltb, le-ltb}
 use Rattle.laws.proofs.Bools.{clash, lt?}
 use Rattle.text.specs.Text.{line, bytes}
@@ -20,11 +20,13 @@ use Rattle.railway.specs.Refusals.{row, first}
 use Rattle.casefile.specs.declared.Written.{Written}
 use Rattle.casefile.specs.declared.Written.the-variants as written
 use Rattle.casefile.specs.declared.Written.the-variants.{Bytes}
+use Rattle.casefile.specs.Rows.{mostBytes}
 use Rattle.casefile.specs.Writing.{writerAnswer, writerBuffer, writtenCount}
 use Rattle.plan.specs.Text.{isSome}
 use Rattle.plan.specs.declared.TestAnswer.{TestAnswer}
 use Rattle.plan.specs.declared.TestAnswer.the-variants.{Pass, Refused}
-use Rattle.answerlines.specs.Lines.{testLine, mostAnswerBytes, putRefusal, PutPost, Puts, FrontIs}
+use Rattle.answerlines.specs.Lines.{refusalLine, testLine, mostAnswerBytes, putRefusal, PutPost, Puts, FrontIs}
+use Rattle.answerlines.specs.Input.{WrittenFor}
 use Rattle.answerlines.proofs.Made.{refusal-short}
 
 -- THE REFUSAL, by the two lengths
@@ -84,6 +86,34 @@ module _ {Output : List ℕ → Type 0} {most : ℕ} {old new : List ℕ} {w : W
   puts-never h f e =
       let fits : length (p .text) ≤ length old = omega (arith, p .short, h) in
       clash (ap counts (put-fits (p .text) old (p .put) fits .0)) (ap counts e)
+
+-- the same text, for something else
+pub puts-map : {P Q : List ℕ → Type 0} {most : ℕ} {old new : List ℕ} {w : Written} → ((text : List ℕ) → P text → Q text) → Puts P most old w new → Puts Q most old w new
+puts-map f p = record { text = p .text; output = f (p .text) (p .output); short = p .short; put = p .put }
+
+-- the line of a refusal
+pub puts-refusal : {Output : List ℕ → Type 0} {most : ℕ} {old new : List ℕ} {w : Written} (f : Refusal) → mostAnswerBytes ≤ most → Output (refusalLine f)
+    → PutPost (refusalLine f) old w new → Puts Output most old w new
+puts-refusal f enough o p = record { text = refusalLine f; output = o; short = omega (arith, refusal-short f, enough); put = p }
+
+-- A BUFFER OF A CALL'S OWN has its length
+pub own-length : (own : List ℕ) (n : ℕ) → own ≡ replicate n 0 → length own ≡ n
+own-length own n blank = ap length blank ∙ length-replicate {A = ℕ} n 0
+
+pub own-room : (own : List ℕ) (n : ℕ) → own ≡ replicate n 0 → n ≤ length own
+own-room own n blank = omega (arith, own-length own n blank)
+
+-- what came into such a buffer is a case text, and what stands in front of another is written for it
+pub written-for : {Output : List ℕ → List ℕ → Type 0} (case text : List ℕ) (came n : ℕ) → length case ≡ suc mostBytes → came ≤ length case
+    → FrontIs (Output (take came case)) n text → WrittenFor Output n
+written-for case text came n most within w =
+    record {
+      case = take came case;
+      short = omega (arith, length-take-le came case within, most, within);
+      text = take n text;
+      output = w .output;
+      count = sym (length-take-le n text (w .within));
+    }
 
 pub test-short : (a : TestAnswer) → length (testLine a) ≤ mostAnswerBytes
 unfolding line bytes

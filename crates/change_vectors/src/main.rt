@@ -9,52 +9,24 @@ use railway::Railway;
 
 fn main() {
     let mut turns: u64 = 0;
-    while turns < 18446744073709551615 {
-        if one() {
-            turns += 1;
-        } else {
-            others();
-            return;
-        }
+    while turns < framed::MOST_TURNS && one() {
+        turns += 1;
     }
+    others();
 }
 
 // Three records; answers whether there were.
 fn one() -> bool {
-    let mut space = io::large_buffer();
-    let record = framed::next_record(&mut space);
-    let n = record.bytes;
-    let reading = record.reading;
-    if framed::is_whole(reading) {
-        return new_of(&space[..n]);
-    }
-    false
-}
-
-// The record of the new case behind the first one's.
-fn new_of(case: &[u8]) -> bool {
-    let mut space = io::large_buffer();
-    let record = framed::next_record(&mut space);
-    let n = record.bytes;
-    let reading = record.reading;
-    if framed::is_whole(reading) {
-        return script_of(case, &space[..n]);
-    }
-    io::write_all(STDOUT_FILENO, b"no new case\n");
-    false
-}
-
-// The record of the script behind both.
-fn script_of(case: &[u8], new: &[u8]) -> bool {
-    let mut space = io::large_buffer();
-    let record = framed::next_record(&mut space);
-    let n = record.bytes;
-    let reading = record.reading;
-    if framed::is_whole(reading) {
-        return run(case, new, &space[..n]);
-    }
-    io::write_all(STDOUT_FILENO, b"no script\n");
-    false
+    let mut case = io::large_buffer();
+    let mut new = io::large_buffer();
+    let mut script = io::large_buffer();
+    let first = framed::next_text(&mut case);
+    let second = framed::text_behind(first, &mut new, b"no new case\n");
+    let third = framed::text_behind(second, &mut script, b"no script\n");
+    let n = first.bytes;
+    let m = second.bytes;
+    let k = third.bytes;
+    third.there && run(&case[..n], &new[..m], &script[..k])
 }
 
 fn run(case: &[u8], new: &[u8], script: &[u8]) -> bool {

@@ -1,12 +1,11 @@
 -- What stands in the buffer is one of the texts that the program may write: by the reply to the call for the counts, by what the reader answered, and as it was read from standard input.
 -- Assumes nothing.
-use mathlib.Core.Path.{_≡_, refl, sym, _∙_, ap, subst}
+use mathlib.Core.Path.{_≡_, refl, sym, _∙_, subst}
 use mathlib.Core.List.{List}
 use mathlib.Core.Option.{none}
-use Prim.Native.Nat.{ℕ, suc, _≤_}
+use Prim.Native.Nat.{ℕ, _≤_}
 use native.Mathlib.Omega.{arith}
-use lib.ListN.{length, take, replicate, length-replicate}
-use lib.Seq.{length-take-le}
+use lib.ListN.{length, take}
 use Rattle.text.specs.Appending.{Appended}
 use Rattle.text.proofs.Appending.{front-fits, front-text}
 use Rattle.railway.specs.declared.Railway.{Railway}
@@ -16,7 +15,6 @@ use Rattle.railway.specs.Rows.{recordRefusal}
 use Rattle.casefile.specs.declared.CaseRead.{CaseRead}
 use Rattle.casefile.specs.declared.Written.{Written}
 use Rattle.casefile.specs.declared.Written.the-variants as written
-use Rattle.casefile.specs.Rows.{mostBytes}
 use Rattle.casefile.specs.Given.{ReaderPost}
 use Rattle.casefile.proofs.Cut.{cut-decides}
 use Rattle.casefile.proofs.Exactly.{refused-exactly, accepted-exactly}
@@ -37,7 +35,7 @@ use Rattle.counts.proofs.Claims.{claims}
 use Rattle.counter.proofs.Tallying.{stride-placements}
 use Rattle.count_lines.specs.Chart.{countsText, chartBytes}
 use Rattle.count_lines.proofs.Spelling.{counts-short}
-use Rattle.count_io.specs.Shown.{ToldCounts, Told, blank, RailwayShown, CaseShown, CutShows, Shown}
+use Rattle.count_io.specs.Shown.{ToldCounts, Told, blank, RailwayShown, CaseShown, CutShows}
 
 -- the same text, for something else
 front-map : {P Q : List ℕ → Type 0} {n : ℕ} {buffer : List ℕ} → ((text : List ℕ) → P text → Q text) → FrontIs P n buffer → FrontIs Q n buffer
@@ -61,7 +59,8 @@ told-counts figs counts m a t room kept p =
     record { within = front-fits p kept; output = record { progress = a; tells = t; written = front-text p (omega (arith, counts-short m a counts, room)) } }
 
 -- A RAILWAY, by the reply
-module _ (r : Railway) (a : SolverAnswer) (figs sets : List ℕ) (solved : SolverPost r a blank blank figs sets) (reply : CountReply) (counted : CountPost r figs reply) {buffer : List ℕ} {n : ℕ} where
+module _ (r : Railway) (a : SolverAnswer) (figs sets : List ℕ) (solved : SolverPost r a blank blank figs sets) (reply : CountReply)
+    (counted : CountPost r figs reply) {buffer : List ℕ} {n : ℕ} where
   shows : (answer : CountAnswer) → reply .answer ≡ answer → FrontIs (λ text. Told r figs (reply .counts) text answer) n buffer → FrontIs (RailwayShown r) n buffer
   shows answer e =
       front-map (λ text t.
@@ -78,7 +77,8 @@ module _ (r : Railway) (a : SolverAnswer) (figs sets : List ℕ) (solved : Solve
   pub railway-refused : (f : Refusal) → reply .answer ≡ Refused f → FrontIs (λ text. text ≡ refusalLine f) n buffer → FrontIs (RailwayShown r) n buffer
   railway-refused f e h = shows (Refused f) e h
 
-  pub railway-counted : (m : ℕ) → reply .answer ≡ Counted → m ≡ strideOf (r .sections) (r .trains) → FrontIs (ToldCounts figs m (reply .counts)) n buffer → FrontIs (RailwayShown r) n buffer
+  pub railway-counted : (m : ℕ) → reply .answer ≡ Counted → m ≡ strideOf (r .sections) (r .trains) → FrontIs (ToldCounts figs m (reply .counts)) n buffer
+      → FrontIs (RailwayShown r) n buffer
   railway-counted m e is h =
       let accepted : recordRefusal r ≡ none = claims r figs reply counted .counted .0 e .0 in
       shows Counted e (subst (λ (k : ℕ). FrontIs (ToldCounts figs k (reply .counts)) n buffer) (stride-placements r accepted m is) h)
@@ -90,23 +90,6 @@ module _ (text : List ℕ) (a : CaseRead) (post : ReaderPost text a) {buffer : L
 
   pub case-accepted : a .answer ≡ case.Accepted → FrontIs (RailwayShown (a .railway)) n buffer → FrontIs (CaseShown text) n buffer
   case-accepted e = front-map (λ t o. by-accepted (λ g. t ≡ refusalLine g) (λ r. RailwayShown r t) text a post e o)
-
--- FROM STANDARD INPUT
-pub shown : (old text out : List ℕ) (came n : ℕ) → length old ≡ suc mostBytes → length text ≡ length old → came ≤ length text → FrontIs (CaseShown (take came text)) n out → Shown n
-shown old text out came n most same within w =
-    record {
-      case = take came text;
-      short = omega (arith, length-take-le came text within, most, same, within);
-      text = take n out;
-      output = w .output;
-      count = sym (length-take-le n out (w .within));
-    }
-
-pub own-length : (own : List ℕ) (n : ℕ) → own ≡ replicate n 0 → length own ≡ n
-own-length own n zeros = ap length zeros ∙ length-replicate {A = ℕ} n 0
-
-pub own-room : (own : List ℕ) → own ≡ replicate chartBytes 0 → chartBytes ≤ length own
-own-room own zeros = omega (arith, own-length own chartBytes zeros)
 
 -- what is read decides
 pub cut-shows : CutShows

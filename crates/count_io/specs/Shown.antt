@@ -2,8 +2,8 @@
 -- Assumes nothing.
 use mathlib.Core.Path.{_≡_}
 use mathlib.Core.List.{List}
-use Prim.Native.Nat.{ℕ, suc, _≤_, _<_}
-use lib.ListN.{length, take, replicate}
+use Prim.Native.Nat.{ℕ, _<_}
+use lib.ListN.{take, replicate}
 use Rattle.railway.specs.declared.Railway.{Railway}
 use Rattle.casefile.specs.Rows.{mostBytes}
 use Rattle.reader.specs.Answers.{ByCase}
@@ -12,6 +12,7 @@ use Rattle.tables.specs.declared.SolverAnswer.{SolverAnswer}
 use Rattle.tables.specs.Lengths.{entries}
 use Rattle.tables.specs.Solver.{SolverPost}
 use Rattle.answerlines.specs.Lines.{refusalLine}
+use Rattle.answerlines.specs.Input.{WrittenFor}
 use Rattle.progress.specs.declared.Progress.{Progress}
 use Rattle.progress.specs.Progress.{Tells}
 use Rattle.counts.specs.declared.CountAnswer.{CountAnswer}
@@ -53,11 +54,6 @@ CaseShown case text = ByCase case (λ f. text ≡ refusalLine f) (λ r. RailwayS
 abbrev pub CutShows : Type 0
 CutShows = (case text : List ℕ) (n : ℕ) → mostBytes < n → CaseShown (take n case) text → CaseShown case text
 
--- WHAT CAN BE PROMISED of a call that takes the case text from standard input and writes on standard output: no definition can say which bytes come in, nor that any went out. There is a case
--- text, no longer than is read, and so many bytes are all that the program writes for it.
-pub record Shown (n : ℕ) : Type 0 where
-  pub case : List ℕ
-  pub short : length case ≤ suc mostBytes
-  pub text : List ℕ
-  pub output : CaseShown case text
-  pub count : n ≡ length text
+-- WHAT CAN BE PROMISED of the program: there is a case text, no longer than is read, and so many bytes are all that it writes for it.
+abbrev pub Shown : ℕ → Type 0
+Shown n = WrittenFor CaseShown n

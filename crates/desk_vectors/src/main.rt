@@ -4,38 +4,20 @@ use libc::STDOUT_FILENO;
 
 fn main() {
     let mut turns: u64 = 0;
-    while turns < 18446744073709551615 {
-        if one() {
-            turns += 1;
-        } else {
-            return;
-        }
+    while turns < framed::MOST_TURNS && one() {
+        turns += 1;
     }
 }
 
 // One pair of records; answers whether there was one.
 fn one() -> bool {
-    let mut space = io::large_buffer();
-    let record = framed::next_record(&mut space);
-    let n = record.bytes;
-    let reading = record.reading;
-    if framed::is_whole(reading) {
-        return script_of(&space[..n]);
-    }
-    false
-}
-
-// The record of the script behind the case's.
-fn script_of(case: &[u8]) -> bool {
-    let mut space = io::large_buffer();
-    let record = framed::next_record(&mut space);
-    let n = record.bytes;
-    let reading = record.reading;
-    if framed::is_whole(reading) {
-        return run(case, &space[..n]);
-    }
-    io::write_all(STDOUT_FILENO, b"no script\n");
-    false
+    let mut case = io::large_buffer();
+    let mut script = io::large_buffer();
+    let first = framed::next_text(&mut case);
+    let second = framed::text_behind(first, &mut script, b"no script\n");
+    let n = first.bytes;
+    let m = second.bytes;
+    second.there && run(&case[..n], &script[..m])
 }
 
 fn run(case: &[u8], script: &[u8]) -> bool {

@@ -28,7 +28,7 @@ use Rattle.plan.specs.Steps.{lineWritten, dueWritten, emitted}
 use Rattle.plan.specs.Promises.{EmitterPost}
 use Rattle.plan.proofs.Reading.{list-is}
 use Rattle.plan.proofs.Lengths.{lines-short}
-use Rattle.plan.proofs.Plan.{line-fits}
+use Rattle.plan.proofs.Listing.{line-fits}
 use Rattle.plan.proofs.Steps.{emit-steps}
 use Rattle.plan.proofs.Promises.{emits-so}
 use Rattle.compiled.specs.declared.Compilation.{Compilation}

@@ -10,6 +10,7 @@ use lib.ListN.{length, drop}
 use Rattle.framed.specs.declared.Reading.{Reading}
 use Rattle.framed.specs.declared.Reading.the-variants.{Whole, Ended, Broken}
 use Rattle.framed.specs.declared.Record.{Record}
+use Rattle.framed.specs.declared.Text.{Text}
 
 -- There is a record.
 abbrev pub isWhole : Reading → Bool
@@ -30,3 +31,12 @@ KeptBy Broken n old new = (n ≡ 0) × (length new ≡ length old)
 -- What a call leaves of the space, by the record that it answers.
 abbrev pub Kept : Record → List ℕ → List ℕ → Type 0
 Kept r old new = KeptBy (r .reading) (r .bytes) old new
+
+-- Past a text the space is as it was; where there is none, some bytes of a broken record may be left.
+abbrev pub KeptIf : Bool → ℕ → List ℕ → List ℕ → Type 0
+KeptIf true n old new = drop n new ≡ drop n old
+KeptIf false n old new = (n ≡ 0) × (length new ≡ length old)
+
+-- What is left of the space that was lent for a text.
+abbrev pub KeptText : Text → List ℕ → List ℕ → Type 0
+KeptText t old new = KeptIf (t .there) (t .bytes) old new

@@ -8,14 +8,8 @@ use libc::STDOUT_FILENO;
 use logs::Entry;
 use logs::LogAnswer;
 use railway::CaseAnswer;
-use railway::End;
-use railway::Leg;
-use railway::PointNo;
 use railway::Railway;
 use railway::Refusal;
-use railway::SectionNo;
-use railway::Side;
-use railway::Train;
 
 // One entry more than a log may have. Of a longer one those behind are left out, which no answer tells.
 const SPACE: usize = 257;
@@ -33,14 +27,10 @@ struct Log {
 
 fn main() {
     let mut turns: u64 = 0;
-    while turns < 18446744073709551615 {
-        if one() {
-            turns += 1;
-        } else {
-            own_records();
-            return;
-        }
+    while turns < framed::MOST_TURNS && one() {
+        turns += 1;
     }
+    own_records();
 }
 
 // A round of two points gets 13 and a weight of 0 gets 16, also with a log that is too long; with both it is 16. A record without a fault is answered by its logs.
@@ -61,33 +51,11 @@ fn own_records() {
 
 // One section, and a train on it with a weight; two points, if there are any, in a round.
 fn record_of(points: u8, weight: u8) -> Railway {
-    let mut r = Railway::empty();
-    r.sections = 1;
-    r.points = points;
-    r.trains = 1;
-    let train = Train {
-        heading: Side::Up,
-        start: SectionNo(0),
-        destination: SectionNo(0),
-        weight: weight,
-    };
-    let t = r.with_train(0, train);
+    let r = framed::one_train(1, points, 0, weight);
     if points == 0 {
-        return t;
+        return r;
     }
-    let legs = t.with_legs(PointNo(1), Side::Down);
-    let stems = legs.with_join(
-        End::Port(PointNo(0), Leg::Stem),
-        End::Port(PointNo(1), Leg::Stem),
-    );
-    let pluses = stems.with_join(
-        End::Port(PointNo(0), Leg::Plus),
-        End::Port(PointNo(1), Leg::Plus),
-    );
-    pluses.with_join(
-        End::Port(PointNo(0), Leg::Minus),
-        End::Port(PointNo(1), Leg::Minus),
-    )
+    framed::in_round(r)
 }
 
 // A log of so many entries, all the same.
@@ -105,44 +73,19 @@ fn many(n: usize) -> Log {
 
 // Three records; answers whether there were any.
 fn one() -> bool {
-    let mut space = io::large_buffer();
-    let record = framed::next_record(&mut space);
-    let n = record.bytes;
-    let reading = record.reading;
-    if framed::is_whole(reading) {
-        return panel_of(&space[..n]);
-    }
-    false
+    let mut case = io::large_buffer();
+    let mut panel = io::large_buffer();
+    let mut axles = io::large_buffer();
+    let first = framed::next_text(&mut case);
+    let second = framed::text_behind(first, &mut panel, b"no log of the panel\n");
+    let third = framed::text_behind(second, &mut axles, b"no log of the axle counters\n");
+    let n = first.bytes;
+    let m = second.bytes;
+    let k = third.bytes;
+    third.there && show(&case[..n], &panel[..m], &axles[..k])
 }
 
-// The panel's log behind the case.
-fn panel_of(case: &[u8]) -> bool {
-    let mut space = io::large_buffer();
-    let record = framed::next_record(&mut space);
-    let n = record.bytes;
-    let reading = record.reading;
-    if framed::is_whole(reading) {
-        return axles_of(case, &space[..n]);
-    }
-    io::write_all(STDOUT_FILENO, b"no log of the panel\n");
-    false
-}
-
-// The axle counters' log behind it.
-fn axles_of(case: &[u8], panel: &[u8]) -> bool {
-    let mut space = io::large_buffer();
-    let record = framed::next_record(&mut space);
-    let n = record.bytes;
-    let reading = record.reading;
-    if framed::is_whole(reading) {
-        show(case, panel, &space[..n]);
-        return true;
-    }
-    io::write_all(STDOUT_FILENO, b"no log of the axle counters\n");
-    false
-}
-
-fn show(case: &[u8], panel: &[u8], axles: &[u8]) {
+fn show(case: &[u8], panel: &[u8], axles: &[u8]) -> bool {
     let read = reader::read_case(case);
     let answer = read.answer;
     match answer {
@@ -153,6 +96,7 @@ fn show(case: &[u8], panel: &[u8], axles: &[u8]) {
             tell(read.railway, a, b);
         }
     }
+    true
 }
 
 // A log, byte by byte.

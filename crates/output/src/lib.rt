@@ -4,7 +4,7 @@ ghost use mathlib.Core.Path.{_≡_};
 ghost use lib.Dec.{leb};
 ghost use lib.ListN.{length};
 ghost use Rattle.answerlines.specs.Lines.{refusalLine, testLine, putInto};
-ghost use Rattle.output.specs.Front.{hasFront};
+ghost use Rattle.output.specs.Front.{hasFront, frontBytes};
 use casefile::Written;
 use libc::STDOUT_FILENO;
 use plan::TestAnswer;
@@ -36,6 +36,21 @@ pub fn front(out: &[u8], put: Written) -> bool
     match put {
         Written::Bytes(n) => write_first(out, n),
         Written::Refused(_) => false,
+    }
+}
+
+// The same, and how many bytes there are to be written: 0 where there is no such front.
+pub fn front_bytes(out: &[u8], put: Written) -> usize
+    ensures { λ n. ⌜ n ≡ frontBytes put (now (out .entry)) ⌝ }
+{
+    match put {
+        Written::Bytes(n) => {
+            if write_first(out, n) {
+                return n;
+            }
+            0
+        }
+        Written::Refused(_) => 0,
     }
 }
 

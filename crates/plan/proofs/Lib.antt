@@ -13,6 +13,7 @@ pub mod Forms
 pub mod Fresh
 pub mod Checks
 pub mod SeveralCalls
+pub mod Listing
 pub mod Plan
 pub mod ByTurns
 pub mod Demand

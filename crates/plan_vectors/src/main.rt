@@ -2,30 +2,20 @@
 
 fn main() {
     let mut turns: u64 = 0;
-    while turns < 18446744073709551615 {
-        if one() {
-            turns += 1;
-        } else {
-            return;
-        }
+    while turns < framed::MOST_TURNS && one() {
+        turns += 1;
     }
 }
 
 // One record; answers whether there was one.
 fn one() -> bool {
     let mut space = io::large_buffer();
-    let record = framed::next_record(&mut space);
-    let n = record.bytes;
-    let reading = record.reading;
-    if framed::is_whole(reading) {
-        write_for(&space[..n]);
-        return true;
+    let mut plan = [0u8; planwriter::TEXT];
+    let text = framed::next_text(&mut space);
+    let n = text.bytes;
+    if text.there {
+        let put = planwriter::case_text(&space[..n], &mut plan);
+        output::front(&plan, put);
     }
-    false
-}
-
-fn write_for(case: &[u8]) {
-    let mut text = [0u8; planwriter::TEXT];
-    let put = planwriter::case_text(case, &mut text);
-    output::front(&text, put);
+    text.there
 }

@@ -10,12 +10,13 @@ use Rattle.tables.specs.declared.SolverAnswer.the-variants.{Figure}
 use Rattle.tables.specs.Lengths.{entries}
 use Rattle.tables.specs.Solver.{SolverLeaves, SolverPost}
 use Rattle.tables.proofs.Refusals.{case-none}
+use Rattle.tables.proofs.Exists.{filled-most}
 use Rattle.tables.proofs.Promise.{solver-accepted}
 use Rattle.plan.proofs.Emits.{none-refused}
-use Rattle.planwriter.specs.Solved.{Solved}
+use Rattle.planwriter.specs.Listable.{Listable}
 use Rattle.planwriter.specs.Written.{blank}
 
-pub solved-by : (r : Railway) (n : ℕ) (figs sets : List ℕ) → SolverPost r (Figure n) blank blank figs sets → Solved r figs sets
+pub solved-by : (r : Railway) (n : ℕ) (figs sets : List ℕ) → SolverPost r (Figure n) blank blank figs sets → Listable r figs sets
 solved-by r n figs sets post =
     let fine = solver-accepted post refl in
     let k = case-none r blank blank .0 fine in
@@ -23,11 +24,11 @@ solved-by r n figs sets post =
     record {
       long = leaves .0 .kept-figs .as-long ∙ length-replicate {A = ℕ} entries 0;
       unrefused = none-refused r figs sets (k .0) (rw (leaves .0 .kept-figs .as-long) (k .1 .figures)) (rw (leaves .0 .kept-sets .as-long) (k .1 .settings));
-      filled = leaves .0 .filled;
+      bounded = filled-most r (k .0) figs sets (leaves .0 .filled);
       figure = n;
       start = sym (leaves .1);
     }
 
 -- the same of an answer that is known to be a figure
-pub figure-solved : (r : Railway) (a : SolverAnswer) (figs sets : List ℕ) (m : ℕ) → SolverPost r a blank blank figs sets → a ≡ Figure m → Solved r figs sets
+pub figure-solved : (r : Railway) (a : SolverAnswer) (figs sets : List ℕ) (m : ℕ) → SolverPost r a blank blank figs sets → a ≡ Figure m → Listable r figs sets
 figure-solved r a figs sets m post e = solved-by r m figs sets (subst (λ (x : SolverAnswer). SolverPost r x blank blank figs sets) e post)

@@ -20,8 +20,8 @@ use Rattle.tables.proofs.Refusals.{case-none}
 use Rattle.plan.specs.Lines.{PlacementLine, PlanLine, placementLine, spell, fits, mostLineBytes}
 use Rattle.plan.specs.Text.{hasFigure, lineFor, planLines, planTexts, planText}
 use Rattle.plan.proofs.Lengths.{lines-short}
-use Rattle.plan.proofs.Plan.{plan-fits}
-use Rattle.planwriter.specs.Solved.{Solved}
+use Rattle.plan.proofs.Listing.{lines-fit}
+use Rattle.planwriter.specs.Listable.{Listable}
 use Rattle.planwriter.specs.Written.{textBytes}
 
 -- A LINE has 45 bytes at most
@@ -43,12 +43,12 @@ sum-sized (l ∷ ls) e =
     rw (length-append l (flatten ls)) (omega (arith, leb-true (length l) mostLineBytes (h .0), sum-sized ls (h .1)))
 
 -- THE PLAN
-module _ (r : Railway) (figs sets : List ℕ) (s : Solved r figs sets) where
+module _ (r : Railway) (figs sets : List ℕ) (s : Listable r figs sets) where
   plan-sized : all sized (planTexts r figs sets) ≡ true
   unfolding planTexts
   plan-sized =
       let accepted = case-none r figs sets .0 (s .unrefused) .0 in
-      all-sized r accepted (planLines r figs sets) (plan-fits r accepted figs sets (s .filled) (s .figure) (s .start))
+      all-sized r accepted (planLines r figs sets) (lines-fit r accepted figs sets (s .bounded) (s .figure) (s .start))
 
   plan-count : length (planTexts r figs sets) ≤ suc (placements r)
   unfolding planTexts planLines

@@ -1,14 +1,14 @@
 -- The plan's text by one call, where the buffer has room for every text: the lent one, or one of the call's own. Assumes nothing.
-use mathlib.Core.Path.{_≡_, refl, sym, _∙_, ap}
+use mathlib.Core.Path.{_≡_, refl, sym, _∙_, ap, subst}
 use mathlib.Core.Bool.{false}
 use mathlib.Core.List.{List, _++_}
 use mathlib.Core.Option.{some}
 use Prim.Native.Nat.{ℕ, _≤_}
 use native.Mathlib.Omega.{arith}
-use lib.ListN.{length, take, drop, replicate, length-replicate}
+use lib.ListN.{length, take, drop}
 use Rattle.laws.proofs.Bools.{clash}
 use Rattle.text.specs.Appending.{bytesAfter, cursorAfter, Appended}
-use Rattle.text.proofs.Appending.{front-bytes, front-cursor}
+use Rattle.text.proofs.Appending.{front-bytes, front-cursor, front-text, front-fits}
 use Rattle.railway.specs.declared.Railway.{Railway}
 use Rattle.plan.specs.declared.PlanPlace.{PlanPlace}
 use Rattle.plan.specs.declared.PlanPlace.the-variants.{Top}
@@ -22,7 +22,7 @@ use Rattle.casefile.specs.declared.Written.{Written}
 use Rattle.casefile.specs.declared.Written.the-variants.{Bytes}
 use Rattle.answerlines.specs.Lines.{PutPost, FrontIs}
 use Rattle.answerlines.proofs.Puts.{put-written, front-whole}
-use Rattle.planwriter.specs.Solved.{Solved}
+use Rattle.planwriter.specs.Listable.{Listable}
 use Rattle.planwriter.specs.Written.{textBytes}
 use Rattle.planwriter.proofs.Sizes.{plan-short}
 
@@ -35,7 +35,8 @@ stands-so text old new n room stands count =
     let p : Appended old 0 text (bytesAfter old 0 text) (cursorAfter old 0 text) = record { bytes = refl; cursor = refl } in
     record { bytes = stands ∙ sym (front-bytes p room); cursor = count ∙ sym (front-cursor p room) }
 
-module _ (r : Railway) (figs sets old new : List ℕ) (a : Emitted) (s : Solved r figs sets) (room : textBytes ≤ length old) (post : EmitLinesPost r figs sets Top old a new) where
+module _ (r : Railway) (figs sets old new : List ℕ) (a : Emitted) (s : Listable r figs sets) (room : textBytes ≤ length old)
+    (post : EmitLinesPost r figs sets Top old a new) where
   enough : length (planText r figs sets) ≤ length old
   enough = omega (arith, plan-short r figs sets s, room)
 
@@ -45,25 +46,24 @@ module _ (r : Railway) (figs sets old new : List ℕ) (a : Emitted) (s : Solved 
   bytes-are : lineGiven a ≡ some (length (planText r figs sets))
   bytes-are = ap lineGiven (post .answer) ∙ whole .bytes
 
-  pub at-once : (n : ℕ) (next : PlanPlace) → a ≡ Line n next → FrontIs (λ text. text ≡ planText r figs sets) n new × Appended old 0 (planText r figs sets) new n
+  pub at-once : (n : ℕ) (next : PlanPlace) → a ≡ Line n next → Appended old 0 (planText r figs sets) new n
   at-once n next e =
-      let stands = post .buffer ∙ whole .text in
-      let count : n ≡ length (planText r figs sets) = same-some (sym (ap lineGiven e) ∙ bytes-are) in
-      (front-whole (planText r figs sets) _ stands count, stands-so (planText r figs sets) old new n enough stands count)
+      stands-so (planText r figs sets) old new n enough (post .buffer ∙ whole .text) (same-some (sym (ap lineGiven e) ∙ bytes-are))
 
   -- no other answer is given
   pub no-other : {A : Type 0} → isLine a ≡ false → A
   no-other e = clash (ap isSome bytes-are) e
 
--- IN A BUFFER OF THE CALL'S OWN there is room, and the text is put from there
-pub own-room : (own : List ℕ) → own ≡ replicate textBytes 0 → textBytes ≤ length own
-own-room own blank = let size = ap length blank ∙ length-replicate {A = ℕ} textBytes 0 in omega (arith, size)
-
-pub put-whole : {text own old new : List ℕ} {n : ℕ} {w : Written} → FrontIs (λ t. t ≡ text) n own → PutPost (take n own) old w new → PutPost text old w new
-put-whole h p = rw (h .output) at p
+-- FROM A BUFFER OF THE CALL'S OWN with room for every text it is put
+pub put-own : (r : Railway) (figs sets : List ℕ) → Listable r figs sets → (blank own old new : List ℕ) (n : ℕ) (w : Written) → textBytes ≤ length blank → length own ≡ length blank
+    → Appended blank 0 (planText r figs sets) own n → (n ≤ length own → PutPost (take n own) old w new) → PutPost (planText r figs sets) old w new
+put-own r figs sets s blank own old new n w room kept h p =
+    let text = planText r figs sets in
+    let fits : length text ≤ length blank = omega (arith, plan-short r figs sets s, room) in
+    subst (λ (t : List ℕ). PutPost t old w new) (front-text h fits) (p (front-fits h kept))
 
 -- WHERE IT IS TO STAND there is room, too
-pub put-in-place : (r : Railway) (figs sets : List ℕ) → Solved r figs sets → {old new : List ℕ} {n : ℕ} → textBytes ≤ length old → Appended old 0 (planText r figs sets) new n
+pub put-in-place : (r : Railway) (figs sets : List ℕ) → Listable r figs sets → {old new : List ℕ} {n : ℕ} → textBytes ≤ length old → Appended old 0 (planText r figs sets) new n
     → PutPost (planText r figs sets) old (Bytes n) new
 put-in-place r figs sets s {old} {new} {n} room h =
     let fits : length (planText r figs sets) ≤ length old = omega (arith, plan-short r figs sets s, room) in

@@ -1,19 +1,19 @@
 // All that program signalplan writes for a case text, put into a lent buffer: the plan's lines, or `none`, or the line of a refusal. It stands whole at the
 // front of the buffer, or finds no room and is refused for that, and the buffer is as it was.
-ghost use mathlib.Core.Path.{_≡_};
 ghost use Prim.Native.Nat.{_≤_};
-ghost use lib.ListN.{length};
+ghost use lib.ListN.{length, take};
 ghost use Rattle.text.specs.Appending.{Appended};
 ghost use Rattle.plan.specs.Text.{planText};
-ghost use Rattle.answerlines.specs.Lines.{PutPost, Puts, FrontIs};
+ghost use Rattle.answerlines.specs.Lines.{PutPost, Puts};
 ghost use Rattle.planwriter.specs.Written.{RailwayOutput, CaseOutput, textBytes};
-ghost use Rattle.planwriter.specs.Solved.{Solved};
+ghost use Rattle.planwriter.specs.Listable.{Listable};
 use casefile::Written;
 use plan::Emitted;
 use plan::PlanPlace;
 use planlines::MOST_LINE_BYTES;
 use railway::CaseAnswer;
 use railway::Railway;
+use railway::Refusal;
 use tables::ENTRIES;
 use tables::SolverAnswer;
 
@@ -45,10 +45,10 @@ fn railway_text(r: Railway, text: &mut [u8]) -> Written
     }
 }
 
-// The plan: written where it is to stand, if there is room for every text.
-fn plan_text(r: Railway, figures: &[u32], settings: &[u32], text: &mut [u8]) -> Written
-    requires { ⌜ Solved r (now figures) (now settings) ⌝ }
-    ensures { λ w. ⌜ PutPost (planText r (now (figures .entry)) (now (settings .entry))) (now (text .entry)) w (now (text .exit)) ⌝ }
+// The text of two tables that a plan can be written of, whoever filled them: written where it is to stand, if there is room for every text. Of other tables nothing is promised.
+pub fn plan_text(r: Railway, figures: &[u32], settings: &[u32], text: &mut [u8]) -> Written
+    ensures { λ w. ⌜ (Listable r (now (figures .entry)) (now (settings .entry))
+        → PutPost (planText r (now (figures .entry)) (now (settings .entry))) (now (text .entry)) w (now (text .exit))) ⌝ }
 {
     if text.len() < TEXT {
         return own_text(r, figures, settings, text);
@@ -57,22 +57,30 @@ fn plan_text(r: Railway, figures: &[u32], settings: &[u32], text: &mut [u8]) -> 
     Written::Bytes(n)
 }
 
-// The plan, made in a buffer of the call's own and put from there.
+// The text, made in a buffer of the call's own and put from there.
 fn own_text(r: Railway, figures: &[u32], settings: &[u32], text: &mut [u8]) -> Written
-    requires { ⌜ Solved r (now figures) (now settings) ⌝ }
-    ensures { λ w. ⌜ PutPost (planText r (now (figures .entry)) (now (settings .entry))) (now (text .entry)) w (now (text .exit)) ⌝ }
+    ensures { λ w. ⌜ (Listable r (now (figures .entry)) (now (settings .entry))
+        → PutPost (planText r (now (figures .entry)) (now (settings .entry))) (now (text .entry)) w (now (text .exit))) ⌝ }
 {
     let mut own = [0u8; TEXT];
     let n = plan_lines(r, figures, settings, &mut own);
+    put_first(&own, n, text)
+}
+
+// The first n bytes of a buffer that has so many.
+fn put_first(own: &[u8], n: usize, text: &mut [u8]) -> Written
+    ensures { λ w. ⌜ (n ≤ length (now (own .entry)) → PutPost (take n (now (own .entry))) (now (text .entry)) w (now (text .exit))) ⌝ }
+{
+    if own.len() < n {
+        return Written::Refused(Refusal::Space);
+    }
     answerlines::put(&own[..n], text)
 }
 
-// All its lines at once, in a buffer with room for as many as there can be.
+// All lines at once, in a buffer with room for as many as there can be.
 fn plan_lines(r: Railway, figures: &[u32], settings: &[u32], out: &mut [u8]) -> usize
-    requires { ⌜ Solved r (now figures) (now settings) ⌝ }
-    requires { ⌜ textBytes ≤ length (now out) ⌝ }
-    ensures { λ n. ⌜ FrontIs (λ text. text ≡ planText r (now (figures .entry)) (now (settings .entry))) n (now (out .exit)) ⌝ }
-    ensures { λ n. ⌜ Appended (now (out .entry)) 0 (planText r (now (figures .entry)) (now (settings .entry))) (now (out .exit)) n ⌝ }
+    ensures { λ n. ⌜ (Listable r (now (figures .entry)) (now (settings .entry)) → textBytes ≤ length (now (out .entry))
+        → Appended (now (out .entry)) 0 (planText r (now (figures .entry)) (now (settings .entry))) (now (out .exit)) n) ⌝ }
 {
     match emitter::emit_lines(r, figures, settings, PlanPlace::Top, out) {
         Emitted::Line(n, _) => n,

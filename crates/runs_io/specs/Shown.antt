@@ -1,16 +1,8 @@
--- What can be promised of a call that takes a case text from standard input and writes on standard output: no definition can say which bytes come in, nor
--- that any went out. Nothing of the documents rests on this. Assumes nothing.
-use mathlib.Core.Path.{_≡_}
-use mathlib.Core.List.{List}
-use Prim.Native.Nat.{ℕ, suc, _≤_}
-use lib.ListN.{length}
-use Rattle.casefile.specs.Rows.{mostBytes}
+-- What can be promised of program showruns. Nothing of the documents rests on this. Assumes nothing.
+use Prim.Native.Nat.{ℕ}
+use Rattle.answerlines.specs.Input.{WrittenFor}
 use Rattle.runwriter.specs.Written.{CaseRuns}
 
 -- There is a case text, no longer than is read, and so many bytes are all that program showruns writes for it.
-pub record Shown (n : ℕ) : Type 0 where
-  pub case : List ℕ
-  pub short : length case ≤ suc mostBytes
-  pub text : List ℕ
-  pub output : CaseRuns case text
-  pub count : n ≡ length text
+abbrev pub Shown : ℕ → Type 0
+Shown n = WrittenFor CaseRuns n

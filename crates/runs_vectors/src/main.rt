@@ -3,8 +3,6 @@
 use libc::STDOUT_FILENO;
 use railway::CaseAnswer;
 use railway::End;
-use railway::Leg;
-use railway::PointNo;
 use railway::Railway;
 use railway::SectionNo;
 use railway::Side;
@@ -19,30 +17,21 @@ const COLUMNS: usize = Railway::SECTIONS as usize;
 
 fn main() {
     let mut turns: u64 = 0;
-    while turns < 18446744073709551615 {
-        if one() {
-            turns += 1;
-        } else {
-            refused_records();
-            return;
-        }
+    while turns < framed::MOST_TURNS && one() {
+        turns += 1;
     }
+    refused_records();
 }
 
 // One record; answers whether there was one.
 fn one() -> bool {
     let mut space = io::large_buffer();
-    let record = framed::next_record(&mut space);
-    let n = record.bytes;
-    let reading = record.reading;
-    if framed::is_whole(reading) {
-        show(&space[..n]);
-        return true;
-    }
-    false
+    let text = framed::next_text(&mut space);
+    let n = text.bytes;
+    text.there && show(&space[..n])
 }
 
-fn show(text: &[u8]) {
+fn show(text: &[u8]) -> bool {
     let read = reader::read_case(text);
     let answer = read.answer;
     match answer {
@@ -55,6 +44,7 @@ fn show(text: &[u8]) {
             tables(read.railway);
         }
     }
+    true
 }
 
 // Both tables, the second made of what the first call handed back.
@@ -171,16 +161,9 @@ fn section(n: u8, side: Side) -> End {
     End::Section(SectionNo(n), side)
 }
 
-fn port(n: u8, leg: Leg) -> End {
-    End::Port(PointNo(n), leg)
-}
-
 // Two points whose ports are joined each to the other's.
 fn round() -> Railway {
-    let r = counted(1, 2).with_legs(PointNo(1), Side::Down);
-    let stems = r.with_join(port(0, Leg::Stem), port(1, Leg::Stem));
-    let plus = stems.with_join(port(0, Leg::Plus), port(1, Leg::Plus));
-    plus.with_join(port(0, Leg::Minus), port(1, Leg::Minus))
+    framed::in_round(counted(1, 2))
 }
 
 fn handed(what: &[u8], r: Railway) {

@@ -53,12 +53,14 @@ one-read r up down runs t v train l is run h =
     here : (i : ℕ) → i ≡ t → trainOf r i .start .0 < mostSections → trainOf r i .destination .0 < mostSections → getD (set runs t v) i 0 ≡ trainRun r up down i
     here i e a b = rw e (there ∙ (rw is at run) (rw e at a) (rw e at b))
 
-pub all-read : (r : Railway) (up down : List (List ℕ)) (runs : List ℕ) (t i : ℕ) → mostTrains ≤ t → i < mostTrains → trainOf r i .start .0 < mostSections → trainOf r i .destination .0 < mostSections
+pub all-read : (r : Railway) (up down : List (List ℕ)) (runs : List ℕ) (t i : ℕ) → mostTrains ≤ t → i < mostTrains → trainOf r i .start .0 < mostSections
+    → trainOf r i .destination .0 < mostSections
     → ReadTo r up down runs t → getD runs i 0 ≡ trainRun r up down i
 all-read r up down runs t i l m a b h = h .each i (omega arith) a b
 
 -- BY THE CALLS for both tables, in an accepted record
-pub trains-run : (r : Railway) (accepted : recordRefusal r ≡ none) (old₁ old₂ : List (List ℕ)) (a b : RunReply) (up down : List (List ℕ)) (runs : List ℕ) → RunPost r Up old₁ a → RunPost r Down old₂ b
+pub trains-run : (r : Railway) (accepted : recordRefusal r ≡ none) (old₁ old₂ : List (List ℕ)) (a b : RunReply) (up down : List (List ℕ)) (runs : List ℕ)
+    → RunPost r Up old₁ a → RunPost r Down old₂ b
     → up ≡ tableIn a → down ≡ tableIn b
     → ((t : ℕ) → t < mostTrains → trainOf r t .start .0 < mostSections → trainOf r t .destination .0 < mostSections → getD runs t 0 ≡ trainRun r up down t) → TrainsRun r runs
 trains-run r accepted old₁ old₂ a b up down runs p q e h each =

@@ -27,14 +27,16 @@ use Rattle.runwriter.proofs.Examples as Examples
 use Rattle.runwriter.specs.Written.{isNone, runField, runLine, lastLine, runsText, RailwayRuns, textBytes, TrainsRun}
 
 -- A TRAIN'S LINE, without a run and with one
-pub run-none : {o o₁ o₂ o₃ : List ℕ} {a a₁ a₂ a₃ : ℕ} (t m v : ℕ) → m ≡ t + 1 → v ≡ noRun → Appended o a (bytes "run" ++ (tab ∷ [])) o₁ a₁ → Appended o₁ a₁ (decimal m ++ (tab ∷ [])) o₂ a₂
+pub run-none : {o o₁ o₂ o₃ : List ℕ} {a a₁ a₂ a₃ : ℕ} (t m v : ℕ) → m ≡ t + 1 → v ≡ noRun → Appended o a (bytes "run" ++ (tab ∷ [])) o₁ a₁
+    → Appended o₁ a₁ (decimal m ++ (tab ∷ [])) o₂ a₂
     → Appended o₂ a₂ (bytes "none" ++ (lineEnd ∷ [])) o₃ a₃ → Appended o a (runLine t v) o₃ a₃
 run-none t m v is e word train run =
     let b : isNone v ≡ true = eq-eqb v noRun e in
     let n : suc t ≡ m = sym (add-one t) ∙ sym is in
     rw (b, n) (line-more (bytes "run") (decimal m) _ word (line-more (decimal m) (bytes "none") [] train (line-last (bytes "none") run)))
 
-pub run-some : {o o₁ o₂ o₃ : List ℕ} {a a₁ a₂ a₃ : ℕ} (t m v : ℕ) → m ≡ t + 1 → (v ≡ noRun → ⊥) → Appended o a (bytes "run" ++ (tab ∷ [])) o₁ a₁ → Appended o₁ a₁ (decimal m ++ (tab ∷ [])) o₂ a₂
+pub run-some : {o o₁ o₂ o₃ : List ℕ} {a a₁ a₂ a₃ : ℕ} (t m v : ℕ) → m ≡ t + 1 → (v ≡ noRun → ⊥) → Appended o a (bytes "run" ++ (tab ∷ [])) o₁ a₁
+    → Appended o₁ a₁ (decimal m ++ (tab ∷ [])) o₂ a₂
     → Appended o₂ a₂ (decimal v ++ (lineEnd ∷ [])) o₃ a₃ → Appended o a (runLine t v) o₃ a₃
 run-some t m v is e word train run =
     let b : isNone v ≡ false = ne-eqb v noRun e in
@@ -42,13 +44,13 @@ run-some t m v is e word train run =
     rw (b, n) (line-more (bytes "run") (decimal m) _ word (line-more (decimal m) (decimal v) [] train (line-last (decimal v) run)))
 
 -- ALL LINES, with the last
-module _ (f : ℕ → ℕ) (k : ℕ) {o o₁ o₂ : List ℕ} {a a₁ a₂ : ℕ}
-    (trains : Appended o a (gatherBelow (λ t. runLine t (f t)) k) o₁ a₁) (some-none : Bool)
+module _ (f : ℕ → ℕ) (k : ℕ) {o o₁ o₂ : List ℕ} {a a₁ a₂ : ℕ} (trains : Appended o a (gatherBelow (λ t. runLine t (f t)) k) o₁ a₁) (some-none : Bool)
     (is : some-none ≡ anyBelow (λ t. isNone (f t)) k) where
   pub text-none : some-none ≡ true → Appended o₁ a₁ (bytes "none" ++ (lineEnd ∷ [])) o₂ a₂ → Appended o a (runsText f k) o₂ a₂
   text-none e last = let b : anyBelow (λ t. isNone (f t)) k ≡ true = sym is ∙ e in rw b (append-then trains (line-last (bytes "none") last))
 
-  pub text-sum : {o₃ : List ℕ} {a₃ : ℕ} (n : ℕ) → some-none ≡ false → n ≡ sumBelow f k → Appended o₁ a₁ (bytes "least" ++ (tab ∷ [])) o₂ a₂ → Appended o₂ a₂ (decimal n ++ (lineEnd ∷ [])) o₃ a₃
+  pub text-sum : {o₃ : List ℕ} {a₃ : ℕ} (n : ℕ) → some-none ≡ false → n ≡ sumBelow f k → Appended o₁ a₁ (bytes "least" ++ (tab ∷ [])) o₂ a₂
+      → Appended o₂ a₂ (decimal n ++ (lineEnd ∷ [])) o₃ a₃
       → Appended o a (runsText f k) o₃ a₃
   text-sum n e sum word last =
       let b : anyBelow (λ t. isNone (f t)) k ≡ false = sym is ∙ e in

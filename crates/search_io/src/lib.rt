@@ -1,13 +1,7 @@
 // What program searchrun does: a case text on standard input; on standard output a line for each round of its search that brings figures, as soon as the
 // round is finished, and then all that program signalplan writes for the text. Where the case is refused, that alone.
-ghost use mathlib.Core.Path.{_≡_};
-ghost use Prim.Native.Nat.{suc};
-ghost use lib.ListN.{length};
-ghost use Rattle.casefile.specs.Rows.{mostBytes};
-ghost use Rattle.planwriter.specs.Written.{textBytes};
 ghost use Rattle.plan_io.specs.Planned.{Planned};
 use libc::STDIN_FILENO;
-use libc::STDOUT_FILENO;
 use marks::MARKS;
 use progress::Progress;
 use railway::CaseAnswer;
@@ -21,26 +15,17 @@ use tables::ENTRIES;
 // One byte more than a case text may have: so many bytes decide what is written (`CutWrites` in planwriter/specs/Written).
 const CASE: usize = casefile::MOST_BYTES + 1;
 
-// The answer is how many bytes there are to be written behind the lines of the rounds.
+// Reads, searches and writes, with a buffer for all bytes that decide and one for every text. The answer is how many bytes there are to be written behind the
+// lines of the rounds.
 pub fn write_search() -> usize
     ensures { λ n. ⌜ Planned n ⌝ }
 {
     let mut case = [0u8; CASE];
     let mut text = [0u8; planwriter::TEXT];
-    search_input(&mut case, &mut text)
-}
-
-// Reads, searches and writes, with a buffer for all bytes that decide and one for every text.
-fn search_input(case: &mut [u8], text: &mut [u8]) -> usize
-    requires { ⌜ length (now case) ≡ suc mostBytes ⌝ }
-    requires { ⌜ length (now text) ≡ textBytes ⌝ }
-    ensures { λ n. ⌜ Planned n ⌝ }
-{
-    let came = io::read_full(STDIN_FILENO, case);
+    let came = io::read_full(STDIN_FILENO, &mut case);
     write_rounds(&case[..came]);
-    let n = plan_io::whole_text(&case[..came], text);
-    io::write_all(STDOUT_FILENO, &text[..n]);
-    n
+    let put = planwriter::case_text(&case[..came], &mut text);
+    output::front_bytes(&text, put)
 }
 
 // The lines of a case text's rounds; none where it is refused.

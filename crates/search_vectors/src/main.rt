@@ -25,47 +25,29 @@ const NOWHERE: u8 = 255;
 
 fn main() {
     let mut turns: u64 = 0;
-    while turns < 18446744073709551615 {
-        if one() {
-            turns += 1;
-        } else {
-            return;
-        }
+    while turns < framed::MOST_TURNS && one() {
+        turns += 1;
     }
 }
 
 // One pair of records; answers whether there was one.
 fn one() -> bool {
-    let mut space = io::large_buffer();
-    let record = framed::next_record(&mut space);
-    let n = record.bytes;
-    let reading = record.reading;
-    if framed::is_whole(reading) {
-        return places_of(&space[..n]);
-    }
-    false
+    let mut case = io::large_buffer();
+    let mut places = io::large_buffer();
+    let first = framed::next_text(&mut case);
+    let second = framed::text_behind(first, &mut places, b"no placements\n");
+    let n = first.bytes;
+    let m = second.bytes;
+    second.there && show(&case[..n], &places[..m])
 }
 
-// The record of the placements behind the case's.
-fn places_of(case: &[u8]) -> bool {
-    let mut space = io::large_buffer();
-    let record = framed::next_record(&mut space);
-    let n = record.bytes;
-    let reading = record.reading;
-    if framed::is_whole(reading) {
-        show(case, &space[..n]);
-        return true;
-    }
-    io::write_all(STDOUT_FILENO, b"no placements\n");
-    false
-}
-
-fn show(case: &[u8], places: &[u8]) {
+fn show(case: &[u8], places: &[u8]) -> bool {
     let read = reader::read_case(case);
     let answer = read.answer;
     if let CaseAnswer::Accepted = answer {
         run(read.railway, places);
     }
+    true
 }
 
 // A search with tables and marks of its own.

@@ -20,30 +20,24 @@ const TURNS: u32 = 1024;
 
 fn main() {
     let mut turns: u64 = 0;
-    while turns < 18446744073709551615 {
-        if one() {
-            turns += 1;
-        } else {
-            return;
-        }
+    while turns < framed::MOST_TURNS && one() {
+        turns += 1;
     }
 }
 
 // One record; answers whether there was one.
 fn one() -> bool {
     let mut space = io::large_buffer();
-    let record = framed::next_record(&mut space);
-    let n = record.bytes;
-    let reading = record.reading;
-    if framed::is_whole(reading) {
+    let text = framed::next_text(&mut space);
+    let n = text.bytes;
+    if text.there {
+        exported(&space[..n]);
         show(&space[..n]);
-        return true;
     }
-    false
+    text.there
 }
 
 fn show(text: &[u8]) {
-    exported(text);
     let read = reader::read_case(text);
     let answer = read.answer;
     match answer {

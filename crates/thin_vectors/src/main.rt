@@ -10,43 +10,24 @@ use thin::ThinAnswer;
 
 fn main() {
     let mut turns: u64 = 0;
-    while turns < 18446744073709551615 {
-        if one() {
-            turns += 1;
-        } else {
-            own_calls();
-            return;
-        }
+    while turns < framed::MOST_TURNS && one() {
+        turns += 1;
     }
+    own_calls();
 }
 
 // One pair of records; answers whether there was one.
 fn one() -> bool {
-    let mut space = io::large_buffer();
-    let record = framed::next_record(&mut space);
-    let n = record.bytes;
-    let reading = record.reading;
-    if framed::is_whole(reading) {
-        return plan_of(&space[..n]);
-    }
-    false
+    let mut case = io::large_buffer();
+    let mut plan = io::large_buffer();
+    let first = framed::next_text(&mut case);
+    let second = framed::text_behind(first, &mut plan, b"no plan\n");
+    let n = first.bytes;
+    let m = second.bytes;
+    second.there && show(&case[..n], &plan[..m])
 }
 
-// The plan's record behind the case's.
-fn plan_of(case: &[u8]) -> bool {
-    let mut space = io::large_buffer();
-    let record = framed::next_record(&mut space);
-    let n = record.bytes;
-    let reading = record.reading;
-    if framed::is_whole(reading) {
-        show(case, &space[..n]);
-        return true;
-    }
-    io::write_all(STDOUT_FILENO, b"no plan\n");
-    false
-}
-
-fn show(case: &[u8], plan: &[u8]) {
+fn show(case: &[u8], plan: &[u8]) -> bool {
     let read = reader::read_case(case);
     let answer = read.answer;
     match answer {
@@ -56,6 +37,7 @@ fn show(case: &[u8], plan: &[u8]) {
         }
         CaseAnswer::Accepted => own_tables(read.railway, plan),
     }
+    true
 }
 
 // The plan is entered into tables of the call's own.

@@ -3,7 +3,7 @@
 use mathlib.Core.Path.{_≡_, refl, sym, _∙_, ap, subst}
 use mathlib.Core.List.{List, [], _∷_}
 use mathlib.Core.Option.{Option, none, some}
-use Prim.Native.Nat.{ℕ, _≤_, _<_}
+use Prim.Native.Nat.{ℕ, _≤_}
 use native.Mathlib.Omega.{arith}
 use lib.ListN.{length, drop, replicate, length-replicate}
 use Rattle.railway.specs.declared.Railway.{Railway}
@@ -14,27 +14,25 @@ use Rattle.tables.specs.Tables.{caseRefusal}
 use Rattle.tables.proofs.Refusals.{case-none}
 use Rattle.plan.specs.declared.TestAnswer.{TestAnswer}
 use Rattle.plan.specs.declared.TestAnswer.the-variants.{Pass, Refused as TestRefused}
-use Rattle.plan.specs.Text.{planText, planTexts}
+use Rattle.plan.specs.Text.{planText}
 use Rattle.plan.specs.Checker.{Checking, testPlan}
 use Rattle.plan.specs.Several.{linesOf}
 use Rattle.plan.specs.Checked.{Passing}
 use Rattle.plan.proofs.Promises.{tests-so}
 use Rattle.plan.proofs.SeveralCalls.{plan-lines}
-use Rattle.answerlines.specs.Lines.{refusalLine, testLine}
-use Rattle.verdict.specs.Verdict.{PlanPost}
+use Rattle.answerlines.specs.Lines.{testLine}
 use Rattle.verdict.specs.Pieces.{formRefused, EndPost}
 use Rattle.verdict.proofs.Passing.{verdict-holds}
 use Rattle.verdict.proofs.Pieces.{ends-left, ends-tested, one-piece}
 use Rattle.thin.specs.declared.ThinAnswer.{ThinAnswer}
-use Rattle.thin.specs.declared.ThinAnswer.the-variants.{Thinned, Refused}
+use Rattle.thin.specs.declared.ThinAnswer.the-variants.{Thinned}
 use Rattle.thin.specs.Claims.{ThinClaims}
 use Rattle.thin.proofs.Claims.{Passed, passed, thins-hold}
-use Rattle.thinwriter.specs.Lean.{leanText, ThinnedOutput, LeftOutput, EndOutput, PlanOutput}
-use Rattle.thinwriter.specs.Listable.{Listable}
+use Rattle.thinwriter.specs.Lean.{leanText, ThinnedOutput, LeftOutput, EndOutput}
+use Rattle.planwriter.specs.Listable.{Listable}
 use Rattle.thinwriter.specs.Claims.{LeanSays, LeanPasses}
-use Rattle.thinwriter.proofs.Sizes.{plan-fits}
 use Rattle.thinwriter.proofs.Outputs.{thinned-listable, to-the-end}
-use Rattle.thinwriter.proofs.Listing.{text-passes}
+use Rattle.plan.proofs.Listing.{lines-fit, text-passes}
 
 -- a refusal is no pass
 not-pass : {A : Type 0} (o : Option Refusal) → formRefused o ≡ Pass → A
@@ -68,9 +66,11 @@ module _ (r : Railway) (c : Checking) (text : List ℕ) (o : ThinnedOutput r c t
       let y : o .answer ≡ Thinned = w .passed .1 (sym same ∙ e) in
       let s : Listable r (o .left .figs) (o .left .sets) = thinned-listable r c (o .answer) (o .left) (o .thinned) y (o .sized) (o .words) in
       let k : Passed r (o .left) = passed r (o .left) (w .thinned y .passes) in
-      let t : text ≡ planText r (o .left .figs) (o .left .sets) = o .written ∙ ap (λ (x : ThinAnswer). leanText r x (o .left)) y in
-      subst (Passing r) (sym (ap linesOf t ∙ plan-lines r (o .left .figs) (o .left .sets)))
-      (text-passes r (k .accepted) (o .left .figs) (o .left .sets) (k .figure) (k .test) (plan-fits r (o .left .figs) (o .left .sets) s))
+      let figs = o .left .figs in
+      let sets = o .left .sets in
+      let t : text ≡ planText r figs sets = o .written ∙ ap (λ (x : ThinAnswer). leanText r x (o .left)) y in
+      let fit = lines-fit r (k .accepted) figs sets (s .bounded) (s .figure) (s .start) in
+      subst (Passing r) (sym (ap linesOf t ∙ plan-lines r figs sets)) (text-passes r (k .accepted) figs sets (k .figure) (k .test) fit)
 
   pub thinned-says : LeanSays r text verdict
   thinned-says =
@@ -90,7 +90,8 @@ lean-passes r plan text o verdict post = go (drop (o .bytes) plan) refl (o .ends
     ends : (a : TestAnswer) → EndPost r (o .end) (drop (o .bytes) plan) a → verdict ≡ a
     ends a e =
         post .answer
-        ∙ sym (one-piece r (replicate entries 0) (replicate entries 0) (o .made) (o .start) (length-replicate {A = ℕ} entries 0) (length-replicate {A = ℕ} entries 0) (o .fresh) plan (o .bytes) (o .stopped) (o .end) (o .lines) a
+        ∙ sym (one-piece r (replicate entries 0) (replicate entries 0) (o .made) (o .start)
+        (length-replicate {A = ℕ} entries 0) (length-replicate {A = ℕ} entries 0) (o .fresh) plan (o .bytes) (o .stopped) (o .end) (o .lines) a
         (subst (λ (xs : List ℕ). EndPost r (o .end) xs a) (sym (to-the-end plan (o .bytes))) e) .answer)
 
     go : (rest : List ℕ) → drop (o .bytes) plan ≡ rest → EndOutput r (o .end) rest text → LeanSays r text verdict

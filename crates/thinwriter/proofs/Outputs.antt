@@ -1,9 +1,8 @@
 -- What is put at the end: the line of a refusal, or the text of the lean plan; and what the tables are that such a text is written of. Assumes nothing.
-use mathlib.Core.Path.{_≡_, refl, sym, _∙_, ap, subst}
+use mathlib.Core.Path.{_≡_, refl, sym, ap, subst}
 use mathlib.Core.List.{List, [], _∷_}
 use mathlib.Core.Bool.{Bool}
-use mathlib.Core.Option.{none, some}
-use Prim.Native.Nat.{ℕ, suc, _-_, _≤_, _<_}
+use Prim.Native.Nat.{ℕ, _-_, _≤_, _<_}
 use native.Mathlib.Omega.{arith}
 use lib.ListN.{length, getD, take, drop, replicate, length-drop}
 use lib.Seq.{take-all}
@@ -12,7 +11,6 @@ use Rattle.railway.specs.declared.Railway.{Railway}
 use Rattle.railway.specs.declared.CaseAnswer.{CaseAnswer}
 use Rattle.railway.specs.declared.Refusal.{Refusal}
 use Rattle.railway.specs.declared.CaseAnswer.the-variants.{Accepted, Refused as CaseRefused}
-use Rattle.game.specs.Placement.{placements}
 use Rattle.tables.specs.Lengths.{entries}
 use Rattle.tables.specs.Tables.{noFigure}
 use Rattle.tables.proofs.Refusals.{case-none}
@@ -26,7 +24,7 @@ use Rattle.plan.specs.Checker.{Checking}
 use Rattle.plan.specs.Promises.{FreshPost}
 use Rattle.answerlines.specs.Lines.{refusalLine, testLine, PutPost, Puts}
 use Rattle.answerlines.proofs.Made.{refusal-short}
-use Rattle.answerlines.proofs.Puts.{test-short}
+use Rattle.answerlines.proofs.Puts.{test-short, puts-map, puts-refusal}
 use Rattle.planwriter.specs.Written.{textBytes}
 use Rattle.verdict.specs.Pieces.{PiecePost, EndPost}
 use Rattle.thin.specs.declared.ThinAnswer.{ThinAnswer}
@@ -34,11 +32,12 @@ use Rattle.thin.specs.declared.ThinAnswer.the-variants.{Thinned, Refused}
 use Rattle.thin.specs.Thinning.{ThinPost}
 use Rattle.thin.proofs.Claims.{Passed, passed, thins-hold}
 use Rattle.thinwriter.specs.Lean.{leanText, EndOutput, PlanOutput, LeanOutput}
-use Rattle.thinwriter.specs.Listable.{Listable}
-use Rattle.thinwriter.proofs.Sizes.{plan-short}
+use Rattle.planwriter.specs.Listable.{Listable}
+use Rattle.planwriter.proofs.Sizes.{plan-short}
 
 -- THE TABLES that thinning leaves: long enough, their figures within bounds, as numbers of 32 bits are
-module _ (r : Railway) (c : Checking) (a : ThinAnswer) (c′ : Checking) (post : ThinPost r c a c′) (e : a ≡ Thinned) (long : length (c′ .figs) ≡ entries) (fit : (i : ℕ) → getD (c′ .figs) i 0 < 4294967296) where
+module _ (r : Railway) (c : Checking) (a : ThinAnswer) (c′ : Checking) (post : ThinPost r c a c′) (e : a ≡ Thinned) (long : length (c′ .figs) ≡ entries)
+    (fit : (i : ℕ) → getD (c′ .figs) i 0 < 4294967296) where
   pub thinned-listable : Listable r (c′ .figs) (c′ .sets)
   thinned-listable =
       let w : Passed r c′ = passed r c′ (thins-hold r c a c′ post .thinned e .passes) in
@@ -65,7 +64,8 @@ module _ (r : Railway) (c : Checking) (old new : List ℕ) (w : Written) where
   none-left [] l = refl
   none-left (b ∷ bs) l = absurd (omega arith)
 
-  pub thin-put-refused : (rest : List ℕ) → length rest ≤ 0 → (a : ThinAnswer) (c′ : Checking) → ThinPost r c a c′ → length (c′ .figs) ≡ entries → ((i : ℕ) → getD (c′ .figs) i 0 < 4294967296) → (f : Refusal) → a ≡ Refused f → PutPost (refusalLine f) old w new
+  pub thin-put-refused : (rest : List ℕ) → length rest ≤ 0 → (a : ThinAnswer) (c′ : Checking) → ThinPost r c a c′ → length (c′ .figs) ≡ entries
+      → ((i : ℕ) → getD (c′ .figs) i 0 < 4294967296) → (f : Refusal) → a ≡ Refused f → PutPost (refusalLine f) old w new
       → Puts (EndOutput r c rest) textBytes old w new
   thin-put-refused rest l a c′ post sized words f e p =
       subst (λ (xs : List ℕ). Puts (EndOutput r c xs) textBytes old w new) (sym (none-left rest l))
@@ -76,7 +76,8 @@ module _ (r : Railway) (c : Checking) (old new : List ℕ) (w : Written) where
         put = p;
       })
 
-  pub thin-put : (rest : List ℕ) → length rest ≤ 0 → (a : ThinAnswer) (c′ : Checking) → ThinPost r c a c′ → length (c′ .figs) ≡ entries → ((i : ℕ) → getD (c′ .figs) i 0 < 4294967296) → a ≡ Thinned → Listable r (c′ .figs) (c′ .sets)
+  pub thin-put : (rest : List ℕ) → length rest ≤ 0 → (a : ThinAnswer) (c′ : Checking) → ThinPost r c a c′ → length (c′ .figs) ≡ entries
+      → ((i : ℕ) → getD (c′ .figs) i 0 < 4294967296) → a ≡ Thinned → Listable r (c′ .figs) (c′ .sets)
       → PutPost (planText r (c′ .figs) (c′ .sets)) old w new → Puts (EndOutput r c rest) textBytes old w new
   thin-put rest l a c′ post sized words e s p =
       subst (λ (xs : List ℕ). Puts (EndOutput r c xs) textBytes old w new) (sym (none-left rest l))
@@ -89,7 +90,8 @@ module _ (r : Railway) (c : Checking) (old new : List ℕ) (w : Written) where
 
 -- A RAILWAY: the lines in front, and the end
 pub plan-put : (r : Railway) (plan rest old new : List ℕ) (w : Written) (made : CaseAnswer) (start : Checking) → FreshPost r (replicate entries 0) (replicate entries 0) made start
-    → (n : ℕ) (stopped : Bool) (c : Checking) → PiecePost r start plan n stopped c → rest ≡ drop n plan → Puts (EndOutput r c rest) textBytes old w new → Puts (PlanOutput r plan) textBytes old w new
+    → (n : ℕ) (stopped : Bool) (c : Checking) → PiecePost r start plan n stopped c → rest ≡ drop n plan → Puts (EndOutput r c rest) textBytes old w new
+    → Puts (PlanOutput r plan) textBytes old w new
 plan-put r plan rest old new w made start fresh n stopped c piece is p =
     record {
       text = p .text;
@@ -102,21 +104,10 @@ plan-put r plan rest old new w made start fresh n stopped c piece is p =
 module _ (case plan : List ℕ) (a : CaseRead) (post : ReaderPost case a) (old new : List ℕ) (w : Written) where
   pub case-refused : (f : Refusal) → a .answer ≡ CaseRefused f → PutPost (refusalLine f) old w new → Puts (LeanOutput case plan) textBytes old w new
   case-refused f e p =
-      record {
-        text = refusalLine f;
-        output = by-refused (λ g. refusalLine f ≡ refusalLine g) (λ r. PlanOutput r plan (refusalLine f)) case a post f e refl;
-        short = omega (arith, refusal-short f);
-        put = p;
-      }
+      puts-refusal f (omega arith) (by-refused (λ g. refusalLine f ≡ refusalLine g) (λ r. PlanOutput r plan (refusalLine f)) case a post f e refl) p
 
   pub case-accepted : a .answer ≡ Accepted → Puts (PlanOutput (a .railway) plan) textBytes old w new → Puts (LeanOutput case plan) textBytes old w new
-  case-accepted e p =
-      record {
-        text = p .text;
-        output = by-accepted (λ g. p .text ≡ refusalLine g) (λ r. PlanOutput r plan (p .text)) case a post e (p .output);
-        short = p .short;
-        put = p .put;
-      }
+  case-accepted e p = puts-map (λ t o. by-accepted (λ g. t ≡ refusalLine g) (λ r. PlanOutput r plan t) case a post e o) p
 
 -- what is left of a text, from a place to its end
 pub to-the-end : (plan : List ℕ) (n : ℕ) → take (length plan - n) (drop n plan) ≡ drop n plan

@@ -1,3 +1,2 @@
 pub mod Lean
-pub mod Listable
 pub mod Claims

@@ -1,20 +1,14 @@
 // All that program thinplan writes for a case text and a plan's, put into a lent buffer: the text of the lean plan, or the line of a refusal. It stands whole at the front of the buffer, or
 // finds no room and is refused for that, and the buffer is as it was.
 ghost use mathlib.Core.Path.{_≡_};
-ghost use Prim.Native.Nat.{_≤_};
 ghost use lib.ListN.{length};
 ghost use Rattle.tables.specs.Lengths.{entries};
-ghost use Rattle.plan.specs.Text.{planText};
 ghost use Rattle.checker.specs.Answers.{checking};
-ghost use Rattle.answerlines.specs.Lines.{PutPost, Puts, FrontIs};
+ghost use Rattle.answerlines.specs.Lines.{Puts};
 ghost use Rattle.planwriter.specs.Written.{textBytes};
 ghost use Rattle.thinwriter.specs.Lean.{EndOutput, PlanOutput, LeanOutput};
-ghost use Rattle.thinwriter.specs.Listable.{Listable};
 use casefile::Written;
 use checker::Checker;
-use plan::Emitted;
-use plan::PlanPlace;
-use planwriter::TEXT;
 use railway::CaseAnswer;
 use railway::Railway;
 use tables::ENTRIES;
@@ -64,30 +58,6 @@ fn end_text(
     let answer = reply.answer;
     match answer {
         ThinAnswer::Refused(f) => answerlines::refusal_line(f, text),
-        ThinAnswer::Thinned => plan_text(r, figures, settings, text),
-    }
-}
-
-// The lean plan, made in a buffer of the call's own and put from there.
-fn plan_text(r: Railway, figures: &[u32], settings: &[u32], text: &mut [u8]) -> Written
-    requires { ⌜ Listable r (now figures) (now settings) ⌝ }
-    ensures { λ w. ⌜ PutPost (planText r (now (figures .entry)) (now (settings .entry))) (now (text .entry)) w (now (text .exit)) ⌝ }
-{
-    let mut own = [0u8; TEXT];
-    let n = plan_lines(r, figures, settings, &mut own);
-    answerlines::put(&own[..n], text)
-}
-
-// All its lines at once, in a buffer with room for as many as there can be.
-fn plan_lines(r: Railway, figures: &[u32], settings: &[u32], out: &mut [u8]) -> usize
-    requires { ⌜ Listable r (now figures) (now settings) ⌝ }
-    requires { ⌜ textBytes ≤ length (now out) ⌝ }
-    ensures { λ n. ⌜ FrontIs (λ text. text ≡ planText r (now (figures .entry)) (now (settings .entry))) n (now (out .exit)) ⌝ }
-{
-    match emitter::emit_lines(r, figures, settings, PlanPlace::Top, out) {
-        Emitted::Line(n, _) => n,
-        Emitted::End => 0,
-        Emitted::NoPlan => 0,
-        Emitted::Refused(_) => 0,
+        ThinAnswer::Thinned => planwriter::plan_text(r, figures, settings, text),
     }
 }

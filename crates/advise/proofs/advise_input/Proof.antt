@@ -1,36 +1,21 @@
--- `advise::advise_input` meets its contract: what came in is a case text, and all that is written for it stands in the buffer that is written out.
+-- `advise::advise_input` meets its contract: what came in is a case text, and all that is written for it stands in the buffer that is written out, which has room for it.
 -- Assumes nothing.
-use denote.Ref.{now}
-use native.Mathlib.Omega.{arith}
-use lib.ListN.{length-take}
-use Rattle.advise.proofs.Advised.{came-in}
+use mathlib.Core.Path.{refl, _∙_}
+use Rattle.answerlines.proofs.Puts.{own-length, own-room, written-for}
+use Rattle.output.proofs.Whole.{stands-whole}
 use borrow.Author.Needs.{needs}
 use Rattle.advise.proofs.advise_input.Statement.{statement}
 use Rattle.advise.proofs.advise_input.Tie as tie
 
-slice-reshare-prefix-write-all : tie.Need-slice-reshare-prefix-write-all
-slice-reshare-prefix-write-all c =
-    let t = c .before .before in
-    let st = t .before .before .before .before .before .before .before .before .before in
-    t .whole-line .ensures (omega (arith, st .pre .1)) .within
-
-slice-aggregate-write-all : tie.Need-slice-aggregate-write-all
-slice-aggregate-write-all c =
-    let t = c .before .before .before in
-    let st = t .before .before .before .before .before .before .before .before .before in
-    let h = t .whole-line .ensures (omega (arith, st .pre .1)) .within in
-    simp length-take (omega (arith, h))
-
 returns : tie.Need-returns
 returns c =
-    let t = c .before .before .before .before in
-    let r = t .before .before .before .before .before in
-    let st = r .before .before .before .before in
-    came-in (now (st .args .case)) _ _ _ _ (st .pre .0) (r .read-full .kept .1 .0) (r .read-full .ensures .0) (t .whole-line .ensures (omega (arith, st .pre .1)))
+    let t = c .before .before .before in
+    let r = t .before .before .before .before in
+    written-for _ _ _ _ (r .read-full .kept .1 .0 ∙ own-length _ _ refl) (r .read-full .ensures .0)
+    (stands-whole (t .case-advice .ensures) (own-room _ _ refl) _ (c .front-bytes .ensures))
 
 pub advise-input-spec : {M : Type 1} → statement M
 advise-input-spec =
     tie.close (tie.spec
-    (λ c κs. search needs) (λ c. search needs) (λ c. search needs) (λ c κs. search needs)
-    slice-reshare-prefix-write-all slice-aggregate-write-all (λ c κs. search needs) (λ c. search needs)
-    (λ c. search needs) returns)
+    (λ c. search needs) (λ c κs. search needs) (λ c. search needs) (λ c. search needs) (λ c. search needs)
+    (λ c κs. search needs) (λ c. search needs) (λ c κs. search needs) returns)

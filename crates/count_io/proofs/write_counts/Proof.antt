@@ -1,13 +1,13 @@
 -- `count_io::write_counts` meets its contract: its two buffers are as long as they have to be.
 -- Assumes nothing.
 use mathlib.Core.Path.{refl}
-use Rattle.count_io.proofs.Showing.{own-length, own-room}
+use Rattle.answerlines.proofs.Puts.{own-length, own-room}
 use borrow.Author.Needs.{needs}
 use Rattle.count_io.proofs.write_counts.Statement.{statement}
 use Rattle.count_io.proofs.write_counts.Tie as tie
 
 counts-input-requires : tie.Need-counts-input-requires
-counts-input-requires c κs = (own-length _ _ refl, own-room _ refl)
+counts-input-requires c κs = (own-length _ _ refl, own-room _ _ refl)
 
 pub write-counts-spec : {M : Type 1} → statement M
 write-counts-spec =

@@ -1,15 +1,21 @@
--- `plan_io::write_plan` meets its contract: its two buffers are as long as they have to be.
+-- `plan_io::write_plan` meets its contract: what came in is a case text, and all that is written for it stands in the buffer that is written out, which has room for it.
 -- Assumes nothing.
-use mathlib.Core.Path.{refl}
-use Rattle.plan_io.proofs.Planned.{own-length}
+use mathlib.Core.Path.{refl, _∙_}
+use Rattle.answerlines.proofs.Puts.{own-length, own-room, written-for}
+use Rattle.output.proofs.Whole.{stands-whole}
 use borrow.Author.Needs.{needs}
 use Rattle.plan_io.proofs.write_plan.Statement.{statement}
 use Rattle.plan_io.proofs.write_plan.Tie as tie
 
-plan-input-requires : tie.Need-plan-input-requires
-plan-input-requires c κs = (own-length _ _ refl, own-length _ _ refl)
+returns : tie.Need-returns
+returns c =
+    let t = c .before .before .before in
+    let r = t .before .before .before .before in
+    written-for _ _ _ _ (r .read-full .kept .1 .0 ∙ own-length _ _ refl) (r .read-full .ensures .0)
+    (stands-whole (t .case-text .ensures) (own-room _ _ refl) _ (c .front-bytes .ensures))
 
 pub write-plan-spec : {M : Type 1} → statement M
 write-plan-spec =
     tie.close (tie.spec
-    (λ c. search needs) (λ c. search needs) plan-input-requires (λ c. search needs))
+    (λ c. search needs) (λ c κs. search needs) (λ c. search needs) (λ c. search needs) (λ c. search needs)
+    (λ c κs. search needs) (λ c. search needs) (λ c κs. search needs) returns)

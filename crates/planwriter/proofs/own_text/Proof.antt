@@ -1,26 +1,29 @@
 -- `planwriter::own_text` meets its contract: the plan stands whole in the call's own buffer, which has room for every text.
 -- Assumes nothing.
 use mathlib.Core.Path.{refl}
-use native.Mathlib.Omega.{arith}
-use lib.ListN.{length-take}
-use Rattle.planwriter.proofs.Whole.{own-room, put-whole}
+use denote.Ref.{now}
+use Rattle.answerlines.proofs.Puts.{own-room}
+use Rattle.planwriter.proofs.Whole.{put-own}
 use borrow.Author.Needs.{needs}
 use Rattle.planwriter.proofs.own_text.Statement.{statement}
 use Rattle.planwriter.proofs.own_text.Tie as tie
 
-plan-lines-requires : tie.Need-plan-lines-requires
-plan-lines-requires c κs = (c .before .before .before .before .pre, own-room _ refl)
+-- the call for the lines, and what was lent
+abbrev lines : tie.After-put-first → tie.After-plan-lines
+lines p = p .before .before .before .before
 
-slice-aggregate-put : tie.Need-slice-aggregate-put
-slice-aggregate-put c = let h = c .before .before .plan-lines .ensures .0 .within in simp length-take (omega (arith, h))
+abbrev start : tie.After-plan-lines → tie.Start
+start l = l .before .before .before .before .before
 
 returns : tie.Need-returns
-returns c =
+returns c s =
     let p = c .before .before in
-    put-whole (p .before .before .before .before .plan-lines .ensures .0) (p .put .ensures)
+    let l = lines p in
+    let a = start l .args in
+    put-own (a .r) (now (a .figures)) (now (a .settings)) s _ _ _ _ _ _ (own-room _ _ refl) (l .plan-lines .kept .1 .1 .1 .0)
+    (l .plan-lines .ensures s (own-room _ _ refl)) (p .put-first .ensures)
 
 pub own-text-spec : {M : Type 1} → statement M
 own-text-spec =
     tie.close (tie.spec
-    (λ c. search needs) plan-lines-requires (λ c. search needs) slice-aggregate-put (λ c κs. search needs)
-    (λ c. search needs) returns)
+    (λ c. search needs) (λ c κs. search needs) (λ c. search needs) (λ c κs. search needs) (λ c. search needs) returns)

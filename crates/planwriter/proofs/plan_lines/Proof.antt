@@ -2,8 +2,12 @@
 -- Assumes nothing.
 use mathlib.Core.Path.{_≡_, ap}
 use mathlib.Core.Bool.{false}
+use Prim.Native.Nat.{_≤_}
 use denote.Ref.{now}
+use lib.ListN.{length}
 use Rattle.plan.specs.Emitter.{isLine}
+use Rattle.planwriter.specs.Listable.{Listable}
+use Rattle.planwriter.specs.Written.{textBytes}
 use Rattle.planwriter.proofs.Whole.{at-once, no-other}
 use borrow.Author.Needs.{needs}
 use Rattle.planwriter.proofs.plan_lines.Statement.{statement}
@@ -17,28 +21,27 @@ abbrev start : tie.After-emit-lines → tie.Start
 start e = e .before .before .before .before .before
 
 -- the answer is a line
-other : (c : tie.After-slice-known2) → isLine (emitted c .emit-lines .result) ≡ false → {A : Type 0} → A
-other c no-line =
+other : (c : tie.After-slice-known2) → isLine (emitted c .emit-lines .result) ≡ false → {A : Type 0} → let a = start (emitted c) .args in
+    Listable (a .r) (now (a .figures)) (now (a .settings)) → textBytes ≤ length (now (a .out)) → A
+other c no-line s room =
     let e = emitted c in
-    let st = start e in
-    let a = st .args in
-    no-other (a .r) (now (a .figures)) (now (a .settings)) (now (a .out)) _ _ (st .pre .0) (st .pre .1) (e .emit-lines .ensures) no-line
+    let a = start e .args in
+    no-other (a .r) (now (a .figures)) (now (a .settings)) (now (a .out)) _ _ s room (e .emit-lines .ensures) no-line
 
 returns : tie.Need-returns
-returns c =
+returns c s room =
     let e = emitted (c .before .before .before) in
-    let st = start e in
-    let a = st .args in
-    at-once (a .r) (now (a .figures)) (now (a .settings)) (now (a .out)) _ _ (st .pre .0) (st .pre .1) (e .emit-lines .ensures) _ _ (c .before .n .given .1)
+    let a = start e .args in
+    at-once (a .r) (now (a .figures)) (now (a .settings)) (now (a .out)) _ _ s room (e .emit-lines .ensures) _ _ (c .before .n .given .1)
 
 returns-2 : tie.Need-returns-2
-returns-2 c = other (c .before .before) (ap isLine (c .enum-told .given .1))
+returns-2 c s room = other (c .before .before) (ap isLine (c .enum-told .given .1)) s room
 
 returns-3 : tie.Need-returns-3
-returns-3 c = other (c .before .before) (ap isLine (c .enum-told2 .given .1))
+returns-3 c s room = other (c .before .before) (ap isLine (c .enum-told2 .given .1)) s room
 
 returns-4 : tie.Need-returns-4
-returns-4 c = other (c .before .before) (ap isLine (c .enum-told3 .given .1))
+returns-4 c s room = other (c .before .before) (ap isLine (c .enum-told3 .given .1)) s room
 
 pub plan-lines-spec : {M : Type 1} → statement M
 plan-lines-spec =

@@ -6,11 +6,11 @@ use Rattle.planwriter.proofs.plan_text.Statement.{statement}
 use Rattle.planwriter.proofs.plan_text.Tie as tie
 
 returns-2 : tie.Need-returns-2
-returns-2 c =
+returns-2 c s =
     let p = c .before .before in
     let e = p .before .before in
-    let s = e .before .before .before .before in
-    put-in-place (s .args .r) (s .args .figures .now) (s .args .settings .now) (s .pre) (e .if1 .left) (p .plan-lines .ensures .1)
+    let a = e .before .before .before .before .args in
+    put-in-place (a .r) (a .figures .now) (a .settings .now) s (e .if1 .left) (p .plan-lines .ensures s (e .if1 .left))
 
 pub plan-text-spec : {M : Type 1} → statement M
 plan-text-spec =

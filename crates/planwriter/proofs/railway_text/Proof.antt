@@ -10,9 +10,6 @@ use Rattle.planwriter.proofs.railway_text.Tie as tie
 abbrev solved : tie.After-settings2 → tie.After-solve
 solved c = c .before .before
 
-plan-text-requires : tie.Need-plan-text-requires
-plan-text-requires c κs = let m = c .before .before .before in figure-solved _ _ _ _ _ (solved (m .before .before) .solve .ensures) (m .enum-told2 .given .1)
-
 returns : tie.Need-returns
 returns c =
     let t = c .before .before in
@@ -29,11 +26,13 @@ returns-3 : tie.Need-returns-3
 returns-3 c =
     let t = c .before .before in
     let m = t .before .before .before .before in
-    answered _ _ _ _ _ _ _ (solved (m .before .before) .solve .ensures) _ (m .enum-told2 .given .1) (t .plan-text .ensures)
+    let p = solved (m .before .before) .solve .ensures in
+    let e = m .enum-told2 .given .1 in
+    answered _ _ _ _ _ _ _ p _ e (t .plan-text .ensures (figure-solved _ _ _ _ _ p e))
 
 pub railway-text-spec : {M : Type 1} → statement M
 railway-text-spec =
     tie.close (tie.spec
     (λ c. search needs) (λ c. search needs) (λ c κs. search needs) (λ c. search needs) (λ c κs. search needs)
     (λ c. search needs) (λ c κs. search needs) (λ c. search needs) (λ c. search needs) (λ c. search needs)
-    plan-text-requires (λ c. search needs) returns (λ c. search needs) returns-2 (λ c. search needs) returns-3)
+    (λ c κs. search needs) (λ c. search needs) returns (λ c. search needs) returns-2 (λ c. search needs) returns-3)

@@ -12,8 +12,7 @@ returns c =
     let first = second .before in
     let st = first .before in
     trains-run (st .args .r) (st .pre) _ _ (first .run-table .result) (second .run-table2 .result) _ _ _
-    (first .run-table .ensures) (second .run-table2 .ensures) (up .table-in .ensures) (down .table-in2 .ensures)
-    (c .read-runs .ensures)
+    (first .run-table .ensures) (second .run-table2 .ensures) (up .table-in .ensures) (down .table-in2 .ensures) (c .read-runs .ensures)
 
 pub runs-of-spec : {M : Type 1} → statement M
 runs-of-spec =

@@ -9,7 +9,8 @@ use Rattle.search_vectors.proofs.rounds.Statement.{statement}
 use Rattle.search_vectors.proofs.rounds.Tie as tie
 
 abbrev Inv-loop : tie.InvT-loop
-Inv-loop r figures₀ settings₀ marks₀ m places search₀ over₀ turns₀ figures settings marks search over turns = (length figures ≡ length figures₀) × (length settings ≡ length settings₀)
+Inv-loop r figures₀ settings₀ marks₀ m places search₀ over₀ turns₀ figures settings marks search over turns =
+    (length figures ≡ length figures₀) × (length settings ≡ length settings₀)
 
 abbrev μ-loop : tie.MeasureT-loop
 μ-loop r figures₀ settings₀ marks₀ m places search₀ over₀ turns₀ figures settings marks search over turns = 1353646082 - turns

@@ -1,4 +1,5 @@
--- Two tables of which a plan's text can be written. Nothing of document 02 rests on this file: what the call that thins leaves is such tables. Assumes nothing.
+-- Two tables of which a plan's text can be written. Nothing of the documents rests on this file: such tables are what a solver leaves that answered a figure, and what the call that thins
+-- leaves. Assumes nothing.
 use mathlib.Core.Path.{_≡_}
 use mathlib.Core.List.{List}
 use mathlib.Core.Option.{none, some}

@@ -1,5 +1,5 @@
--- The text that is written of two tables, whatever else they hold: if what they list passes the test, so do the lines of the text, for these list the same, placement by placement.
--- Assumes nothing.
+-- The text that is written of two tables, whatever else they hold: its lines fit the case where figures are within their bounds; and if what the tables list passes the test of a plan,
+-- so do the lines, for these list the same, placement by placement. Assumes nothing.
 use mathlib.Core.Path.{_≡_, refl, sym, _∙_, ap, subst}
 use mathlib.Core.Logic.{_⊎_, inl, inr}
 use mathlib.Core.Bool.{Bool, true, false, cond, not, _&&_}
@@ -14,26 +14,33 @@ use Rattle.laws.specs.Below.{whichBelow, orElse}
 use Rattle.laws.specs.Bits.{bit}
 use Rattle.laws.specs.Lists.{all, rises}
 use Rattle.laws.proofs.Bools.{lt?, eq?, clash, and-true, and-both}
-use Rattle.laws.proofs.Below.{list-get}
+use Rattle.laws.proofs.Below.{list-length, list-get}
 use Rattle.laws.proofs.Which.{which-map, all-which}
 use Rattle.railway.specs.declared.Railway.{Railway}
 use Rattle.railway.specs.Rows.{recordRefusal}
-use Rattle.game.specs.Placement.{sectionsOf, placements, startCode, atHome, shared}
-use Rattle.game.specs.Setting.{Setting}
+use Rattle.game.specs.Claim.{Keeps}
+use Rattle.game.specs.Moves.{gameOf}
+use Rattle.game.specs.Placement.{sectionsOf, placements, startCode}
 use Rattle.game.proofs.Accepted.{Facts, facts}
-use Rattle.game.proofs.Codes.{code-sections}
+use Rattle.game.proofs.Codes.{AllBelow, sections-length, sections-below, code-sections}
 use Rattle.game.proofs.Moves.{start-below}
 use Rattle.tables.specs.Entries.{opensIn, settingFrom}
 use Rattle.tables.specs.Tables.{noFigure, figureEntry, figureIn}
-use Rattle.tables.proofs.Certify.{entry-is}
+use Rattle.tables.proofs.Certify.{entry-is, figure-small}
 use Rattle.plan.specs.Lines.{PlacementLine, placementLine, fits, lineCode}
 use Rattle.plan.specs.Text.{isSome, hasFigure, lineFor, planLines, planTexts}
 use Rattle.plan.specs.Test.{Listing, listedSetting, Test, lineOn, figureOn, opensOn, plusOn, byLines, byTables}
 use Rattle.plan.specs.Checked.{Form, Passing}
 use Rattle.plan.proofs.Tested.{SameListing, test-same}
 use Rattle.plan.proofs.Forms.{codeAfter, rises-snoc, code-after-snoc}
-use Rattle.game.specs.Claim.{Keeps}
-use Rattle.game.specs.Moves.{gameOf}
+
+-- FIGURES AS ENTRIES
+entry-below : (x n : ℕ) → x ≤ noFigure → figureEntry x ≡ some n → x < noFigure
+entry-below x n l e = omega (arith, entry-is x n e, figure-small x n l e)
+
+some-is : (o : Option ℕ) → isSome o ≡ true → (n : ℕ) × (o ≡ some n)
+some-is none e = clash e refl
+some-is (some n) e = (n, refl)
 
 -- THE CODES of the placements that pass a test rise
 record Rises (k : ℕ) (xs : List ℕ) : Type 0 where
@@ -46,7 +53,12 @@ which-rises f zero = record { rising = refl; next = omega arith }
 which-rises f (suc k) = go (f k) (which-rises f k)
   where
     go : (b : Bool) → Rises k (whichBelow f k) → Rises (suc k) (whichBelow f k ++ cond b (k ∷ []) [])
-    go true h = record { rising = rises-snoc 0 (whichBelow f k) k ∙ and-both (rises 0 (whichBelow f k)) (leb (codeAfter 0 (whichBelow f k)) k) (h .rising) (le-leb (codeAfter 0 (whichBelow f k)) k (h .next)); next = rw (code-after-snoc 0 (whichBelow f k) k) (omega arith) }
+    go true h =
+        let xs : List ℕ = whichBelow f k in
+        record {
+          rising = rises-snoc 0 xs k ∙ and-both (rises 0 xs) (leb (codeAfter 0 xs) k) (h .rising) (le-leb (codeAfter 0 xs) k (h .next));
+          next = rw (code-after-snoc 0 xs k) (omega arith);
+        }
     go false h = rw (append-nil (whichBelow f k)) (record { rising = h .rising; next = omega (arith, h .next) })
 
 map-itself : (xs : List ℕ) → map (λ x. x) xs ≡ xs
@@ -57,6 +69,12 @@ map-twice : {A B : Type 0} (f : A → B) (g : ℕ → A) (xs : List ℕ) → map
 map-twice f g [] = refl
 map-twice f g (x ∷ xs) = ap (λ (l : List _). f (g x) ∷ l) (map-twice f g xs)
 
+all-within : (s : ℕ) (xs : List ℕ) → AllBelow s xs → all (λ x. ltb x s) xs ≡ true
+unfolding all
+all-within s [] h = refl
+all-within s (x ∷ xs) h =
+    and-both (ltb x s) (all (λ x. ltb x s) xs) (lt-ltb x s (h 0 (omega arith))) (all-within s xs (λ i l. h (suc i) (omega arith)))
+
 module _ (r : Railway) (accepted : recordRefusal r ≡ none) (figs sets : List ℕ) where
   abbrev ok : Facts r
   ok = facts r accepted
@@ -65,6 +83,19 @@ module _ (r : Railway) (accepted : recordRefusal r ≡ none) (figs sets : List �
   line-code : (p : ℕ) → p < placements r → lineCode r (lineFor r figs sets p) ≡ p
   unfolding lineFor
   line-code p l = code-sections (r .sections) (r .trains) p (ok .one-section) l
+
+  -- that line fits the case where there is a figure
+  pub line-fits : (p : ℕ) → getD figs p noFigure ≤ noFigure → hasFigure figs p ≡ true → fits r (placementLine (lineFor r figs sets p)) ≡ true
+  unfolding fits lineFor
+  line-fits p l e =
+      let f = some-is (figureIn figs p) e in
+      let xs : List ℕ = sectionsOf r p in
+      let a : eqb (length xs) (r .trains) ≡ true = eq-eqb _ _ (sections-length (r .sections) (r .trains) p) in
+      let b : all (λ x. ltb x (r .sections)) xs ≡ true = all-within (r .sections) xs (sections-below (r .sections) (r .trains) p (ok .one-section)) in
+      let c : ltb (getD figs p noFigure) noFigure ≡ true = lt-ltb _ _ (entry-below (getD figs p noFigure) (f .0) l (f .1)) in
+      let d : eqb (length (lineFor r figs sets p .opens)) (r .trains) ≡ true = eq-eqb _ _ (list-length _ (r .trains)) in
+      let g : eqb (length (lineFor r figs sets p .plus)) (r .points) ≡ true = eq-eqb _ _ (list-length _ (r .points)) in
+      rw (a, b, c, d, g)
 
   abbrev listedCodes : ℕ → List ℕ
   listedCodes k = whichBelow (hasFigure figs) k
@@ -80,6 +111,16 @@ module _ (r : Railway) (accepted : recordRefusal r ≡ none) (figs sets : List �
       map-twice (lineCode r) (lineFor r figs sets) (listedCodes (placements r))
       ∙ which-map (hasFigure figs) (hasFigure figs) (λ p. lineCode r (lineFor r figs sets p)) (λ p. p) (placements r) (λ p l. refl) line-code
       ∙ map-itself (listedCodes (placements r))
+
+  -- ALL LINES FIT, if no figure is over its bounds and the start has one
+  pub lines-fit : ((p : ℕ) → p < placements r → getD figs p noFigure ≤ noFigure) → (n : ℕ) → figureIn figs (startCode r) ≡ some n → all (fits r) (planLines r figs sets) ≡ true
+  unfolding planLines all fits
+  lines-fit bounded n start =
+      let s : ℕ = getD figs (startCode r) noFigure in
+      let below : s < noFigure = entry-below s n (bounded (startCode r) (start-below r ok)) start in
+      and-both (ltb s noFigure) (all (fits r) (map placementLine planPlacements)) (lt-ltb s noFigure below)
+      (ap (all (fits r)) (map-twice placementLine (lineFor r figs sets) (listedCodes (placements r)))
+      ∙ all-which (fits r) (λ p. placementLine (lineFor r figs sets p)) (hasFigure figs) (placements r) (λ p l. line-fits p (bounded p l)))
 
   -- THE LINE FOR A PLACEMENT is there exactly if it has a figure
   line-append : (ds es : List PlacementLine) (p : ℕ) → lineOn r (ds ++ es) p ≡ orElse (lineOn r ds p) (lineOn r es p)
@@ -141,7 +182,12 @@ module _ (r : Railway) (accepted : recordRefusal r ≡ none) (figs sets : List �
   listedIf (some n) f = f
 
   abbrev listing : Listing
-  listing = record { figure = figureIn figs; opens = λ p. listedIf (figureIn figs p) (opensIn (getD sets p 0)); plus = λ p. listedIf (figureIn figs p) (bit (getD sets p 0)) }
+  listing =
+      record {
+        figure = figureIn figs;
+        opens = λ p. listedIf (figureIn figs p) (opensIn (getD sets p 0));
+        plus = λ p. listedIf (figureIn figs p) (bit (getD sets p 0));
+      }
 
   listing-passes : (m : ℕ) → Test r m (byTables figs sets) → Test r m listing
   unfolding listedSetting
@@ -150,7 +196,10 @@ module _ (r : Railway) (accepted : recordRefusal r ≡ none) (figs sets : List �
         start = h .start;
         apart = h .apart;
         signalled = λ p n t l e k o. h .signalled p n t l e k (ap (λ (f : Option ℕ). listedIf f (opensIn (getD sets p 0)) t) (sym e) ∙ o);
-        kept = λ p n l e away. subst (λ (f : Option ℕ). Keeps (gameOf r) (figureIn figs) p (settingFrom r p (listedIf f (bit (getD sets p 0))) (listedIf f (opensIn (getD sets p 0)))) n) (sym e) (h .kept p n l e away);
+        kept = λ p n l e away.
+            let v : ℕ = getD sets p 0 in
+            subst (λ (f : Option ℕ). Keeps (gameOf r) (figureIn figs) p (settingFrom r p (listedIf f (bit v)) (listedIf f (opensIn v))) n) (sym e)
+            (h .kept p n l e away);
       }
 
   -- THE LINES LIST that
