@@ -32,7 +32,7 @@ use Rattle.railway.proofs.Ends.{end-index, section-below}
 use Rattle.railway.proofs.Refusals.{first-same}
 use Rattle.game.specs.Placement.{startCode}
 use Rattle.game.proofs.Accepted.{facts}
-use Rattle.advice.specs.Advice.{There, signalled, StillAccepted}
+use Rattle.advice.specs.Advising.{There, signalled, StillAccepted}
 -- (Examples is named so that it is checked before: a wrong definition then shows at a computed value.)
 use Rattle.advice.proofs.Examples as Examples
 

@@ -22,14 +22,14 @@ use Rattle.railway.proofs.Ends.{index-one}
 use Rattle.railway.proofs.Refusals.{number-one}
 use Rattle.game.specs.Placement.{placements}
 use Rattle.game.proofs.Accepted.{facts}
-use Rattle.tables.specs.Tables.{caseRefusal, Filled}
-use Rattle.tables.specs.Solver.{Kept, SolverTables}
-use Rattle.tables.proofs.Refusals.{case-none}
+use Rattle.game_tables.specs.Tables.{caseRefusal, Filled}
+use Rattle.game_tables.specs.Solver.{Kept, SolverTables}
+use Rattle.game_tables.proofs.Refusals.{case-none}
 use Rattle.advice.specs.declared.Advice.{Advice}
 use Rattle.advice.specs.declared.Advice.the-variants.{NotNeeded, Signal, NoneHelps, Refused}
-use Rattle.advice.specs.Advice.{HasFigure, HasNone, endsOf, tries, withOne, NoneBefore, FirstHelp, lastTried}
-use Rattle.advice.specs.Advice.{caseOf, numberSaid, Said, lastCase, AdvicePost, Bare, signalled, AdviceClaims}
-use Rattle.advice.specs.Advice.{StillAccepted}
+use Rattle.advice.specs.Advising.{HasFigure, HasNone, endsOf, tries, withOne, NoneBefore, FirstHelp, lastTried}
+use Rattle.advice.specs.Advising.{caseOf, numberSaid, Said, lastCase, AdvicePost, Bare, signalled, AdviceClaims}
+use Rattle.advice.specs.Advising.{StillAccepted}
 use Rattle.advice.proofs.Accepting.{still-accepted}
 use Rattle.advice.proofs.Naming.{named-of, below-there, helping, helps-first, none-named, last-is, none-tried, one-is, tried-bare}
 

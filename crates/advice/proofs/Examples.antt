@@ -12,7 +12,7 @@ use Rattle.railway.specs.Ends.{endIndex, endAt}
 use Rattle.railway.specs.Record.{withJoin, withSignal, withClosed, withLegs, withTrain}
 use Rattle.railway.specs.Yards.{yardA, headOn, lineP, lineG, lineX, lineT, lineJ, yardH, sec, port}
 use Rattle.advice.specs.declared.Advice.the-variants.{NotNeeded, Signal, NoneHelps, Refused}
-use Rattle.advice.specs.Advice.{endsOf, tries, lastTried, lastCase, numberSaid}
+use Rattle.advice.specs.Advising.{endsOf, tries, lastTried, lastCase, numberSaid}
 
 -- Three sections in a row; train 1 follows train 2, from 1 to 2 and from 2 to 3, and nothing holds it.
 abbrev pub following : Railway

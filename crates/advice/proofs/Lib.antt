@@ -3,6 +3,6 @@ pub mod Accepting
 pub mod Naming
 pub mod NeverWorse
 pub mod Claims
-pub mod Answered
+pub mod Advising
 pub mod Yards
 pub mod Uses

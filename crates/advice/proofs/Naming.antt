@@ -17,7 +17,7 @@ use Rattle.railway.specs.Ends.{sideIndex, endIndex, sideAt, endAt}
 use Rattle.railway.specs.Record.{flagAt, hasSignal}
 use Rattle.railway.proofs.Ends.{side-small, end-index, section-below, numbered-of, end-section, index-end}
 use Rattle.railway.proofs.Lookups.{signal-there}
-use Rattle.advice.specs.Advice.{HasNone, endsOf, tries, withOne, NoneBefore, FirstHelp, lastTried, There, Bare, Earlier, signalled, FirstHelping, LastBare}
+use Rattle.advice.specs.Advising.{HasNone, endsOf, tries, withOne, NoneBefore, FirstHelp, lastTried, There, Bare, Earlier, signalled, FirstHelping, LastBare}
 -- (Examples is named so that it is checked before: a wrong definition then shows at a computed value.)
 use Rattle.advice.proofs.Examples as Examples
 

@@ -28,7 +28,7 @@ use Rattle.railway.specs.Record.{flagAt, joined, isClosed, hasSignal, trainOf, 
 use Rattle.railway.specs.Passing.{Passage, through, mostMet, meeting, pastPoint, pastJoin, follow, passes, inUse, entered}
 use Rattle.railway.specs.Rows.{known, recordRefusal}
 use Rattle.railway.proofs.Ends.{end-index, section-below}
-use Rattle.game.specs.Game.{may, home, play, spent, Choice, following, HomeWithin, Forced, IsFigure}
+use Rattle.game.specs.Game.{may, home, play, spent, Adversary, following, HomeWithin, Forced, IsFigure}
 use Rattle.game.specs.Claim.{Keeps}
 use Rattle.game.specs.Local.{Solved}
 use Rattle.game.specs.Placement.{standsOn, placements, startCode, arrived, atHome, shared}
@@ -38,11 +38,11 @@ use Rattle.game.proofs.Accepted.{facts}
 use Rattle.game.proofs.Figures.{figure-one, figures-solved}
 use Rattle.game.proofs.Homing.{not-lost, comes-home}
 use Rattle.game.proofs.Moves.{inside, costs, start-below}
-use Rattle.game.proofs.Turns.{not-over}
-use Rattle.tables.specs.Entries.{settingAt}
-use Rattle.tables.specs.Tables.{IsPlanEntry}
-use Rattle.tables.proofs.Exists.{solution}
-use Rattle.advice.specs.Advice.{HasFigure, Bare, signalled, NoWorse}
+use Rattle.game.proofs.Local.{not-over}
+use Rattle.game_tables.specs.Entries.{settingAt}
+use Rattle.game_tables.specs.Tables.{IsPlanEntry}
+use Rattle.game_tables.proofs.Exists.{solution}
+use Rattle.advice.specs.Advising.{HasFigure, Bare, signalled, NoWorse}
 use Rattle.advice.proofs.Accepting.{flagged, one-more, still-accepted}
 
 -- WITH OTHER SIGNALS the same moves end in the same way, and cost the same
@@ -186,7 +186,7 @@ module _ (r : Railway) (k : ℕ) (bare : flagAt r k ≡ false) where
     kept : (p n : ℕ) → p < placements more → F p ≡ some n → home (gameOf more) p ≡ false → Keeps (gameOf more) F p (opened k (own p)) n
     kept p n l e h = keeps-more F p (own p) n (solved .kept p n l e (sym (home-kept r (set (r .signals) k true) p) ∙ h))
 
-    works : (p n : ℕ) → p < placements more → F p ≡ some n → (c : Choice Setting) → HomeWithin (gameOf more) (following (λ x. opened k (own x))) c p n
+    works : (p n : ℕ) → p < placements more → F p ≡ some n → (c : Adversary Setting) → HomeWithin (gameOf more) (following (λ x. opened k (own x))) c p n
     unfolding play spent
     works p n l e c = elim (bool? (home (gameOf more) p)) [
       | inl h ↦ (0, omega arith, h)

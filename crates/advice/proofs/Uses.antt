@@ -21,20 +21,20 @@ use Rattle.railway.specs.Refusals.{first}
 use Rattle.railway.specs.Record.{isClosed, joinedBy, joined, hasSignal, legsOf, trainOf, weightOf, withJoin, withSignal, withClosed, withLegs, withTrain}
 use Rattle.railway.specs.Rows.{weightRow, unknownRow, joinRow, looseRow, longer, chainRow, placeRow, recordRefusal}
 use Rattle.railway.specs.Yards.{yardA}
-use Rattle.game.specs.Game.{Way, Choice, HomeWithin, IsFigure}
+use Rattle.game.specs.Game.{Strategy, Adversary, HomeWithin, IsFigure}
 use Rattle.game.specs.Placement.{placements, startCode, codeOf}
 use Rattle.game.specs.Setting.{Setting}
 use Rattle.game.specs.Moves.{gameOf}
-use Rattle.tables.specs.Tables.{figureIn, tablesShort, caseRefusal, Filled}
-use Rattle.tables.proofs.Refusals.{case-none}
-use Rattle.tables.proofs.KnownYards.{figsA, setsA, yardA-accepted, yardA-filled}
-use Rattle.tables.proofs.Unique.{figure-same}
+use Rattle.game_tables.specs.Tables.{figureIn, tablesShort, caseRefusal, Filled}
+use Rattle.game_tables.proofs.Refusals.{case-none}
+use Rattle.game_tables.proofs.KnownYards.{figsA, setsA, yardA-accepted, yardA-filled}
+use Rattle.game_tables.proofs.Unique.{figure-same}
 use Rattle.advice.specs.declared.Advice.{Advice}
 use Rattle.advice.specs.declared.Advice.the-variants.{NotNeeded, Signal, NoneHelps, Refused}
-use Rattle.advice.specs.Advice.{HasFigure, HasNone, numberSaid, AdvicePost, There, Bare, Earlier, signalled, FirstHelping, LastBare, AdviceClaims, AdviceHolds}
+use Rattle.advice.specs.Advising.{HasFigure, HasNone, numberSaid, AdvicePost, There, Bare, Earlier, signalled, FirstHelping, LastBare, AdviceClaims, AdviceHolds}
 use Rattle.advice.proofs.Examples.{following, passingLoop, closedRing, allHeld}
 use Rattle.advice.proofs.Claims.{apart}
-use Rattle.advice.proofs.Answered.{advice-holds}
+use Rattle.advice.proofs.Advising.{advice-holds}
 use Rattle.advice.proofs.Yards.{Solution, one, two, three, following-alone, following-1d, following-1u}
 use Rattle.advice.proofs.Yards.{ring-alone, ring-1d, ring-1u, ring-2d, ring-2u, all-held, loop-alone, loop-1d}
 use Rattle.advice.proofs.Yards.{loop-2d, loop-3d}
@@ -201,7 +201,7 @@ module _ (a : Advice) (figs sets figs′ sets′ : List ℕ) (said : AdviceClaim
   one-helps e = apart with-1u-figure (said .none-helps .0 e .1 one Up (first-1u .bare))
 
   -- with a signal there home is forced, by some way of working against every choice of trains
-  pub forced : (w : Way Setting) × ((c : Choice Setting) → (n : ℕ) × HomeWithin (gameOf (signalled following one Up)) w c (startCode (signalled following one Up)) n)
+  pub forced : (w : Strategy Setting) × ((c : Adversary Setting) → (n : ℕ) × HomeWithin (gameOf (signalled following one Up)) w c (startCode (signalled following one Up)) n)
   forced = let h = said .named one Up .0 names-1u .1 .helps in (h .figure .0 .0, λ c. (h .total, h .figure .0 .1 c))
 
   -- it stood at no end that has a signal, and with one at 1d home is not forced

@@ -1,5 +1,6 @@
--- Five yards, with the tables of every case that is tried in them, by computation: they pass the test of tables/Certify. In Yard A no signal is needed. In `following` the first end that helps is 1u.
--- In `passingLoop` 2d is, and 3d helps too.
+-- Five yards, with the tables of every case that is tried in them, by computation: they pass the test of
+-- game_tables/Certify. In Yard A no signal is needed. In `following` the first end that helps is 1u. In `passingLoop`
+-- 2d is, and 3d helps too.
 -- In `closedRing` none helps, and the last end without a signal is 2u, on the closed section: with a signal there other figures stand in the table. In `allHeld` every end has one. Assumes nothing.
 use mathlib.Core.Path.{_≡_, refl}
 use mathlib.Core.Bool.{true}
@@ -20,11 +21,11 @@ use Rattle.game.specs.Local.{keepsTest}
 use Rattle.game.specs.Placement.{codeOf, sectionsIn, standsOn, startCode, atHome, shared}
 use Rattle.game.specs.Setting.{headsFor, held, mayMove, free, signalOpen}
 use Rattle.game.specs.Moves.{occupied, moveOf}
-use Rattle.tables.specs.Entries.{settingAt, entryFrom}
-use Rattle.tables.specs.Tables.{noFigure, Filled}
-use Rattle.tables.specs.Find.{tryOpen, firstFound, find}
-use Rattle.tables.proofs.Certify.{certified, certify}
-use Rattle.advice.specs.Advice.{signalled}
+use Rattle.game_tables.specs.Entries.{settingAt, entryFrom}
+use Rattle.game_tables.specs.Tables.{noFigure, Filled}
+use Rattle.game_tables.specs.Find.{tryOpen, firstFound, find}
+use Rattle.game_tables.proofs.Certify.{certified, certify}
+use Rattle.advice.specs.Advising.{signalled}
 use Rattle.advice.proofs.Examples.{following, passingLoop, closedRing, allHeld}
 
 -- sections by the document's numbers

@@ -1,4 +1,4 @@
-// Which signal would help: what a planner is told of a case. specs/ has the definitions and the statement, proofs/ that it follows from what the call promises. The call is in crate adviser.
+// Which signal would help: what a planner is told of a case. specs/ has the definitions and the statement, proofs/ that it follows from what the call promises. The call is in crate advice_call.
 use railway::Refusal;
 use railway::SectionNo;
 use railway::Side;

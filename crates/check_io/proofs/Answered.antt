@@ -6,14 +6,14 @@ use Prim.Native.Nat.{ℕ, suc, _≤_}
 use native.Mathlib.Omega.{arith}
 use lib.ListN.{length, take}
 use lib.Seq.{length-take-le}
-use Rattle.casefile.specs.declared.Written.{Written}
-use Rattle.casefile.specs.declared.Written.the-variants.{Bytes, Refused}
-use Rattle.casefile.specs.Rows.{mostBytes}
-use Rattle.casefile.specs.Writing.{writtenCount}
-use Rattle.answerlines.specs.Lines.{mostAnswerBytes}
-use Rattle.answerlines.proofs.Puts.{puts-whole, puts-never}
-use Rattle.verdict.specs.Claims.{readBytes}
-use Rattle.filecheck.specs.Hearing.{HeardPost}
+use Rattle.case_file.specs.declared.Written.{Written}
+use Rattle.case_file.specs.declared.Written.the-variants.{Bytes, Refused}
+use Rattle.case_file.specs.Rows.{mostBytes}
+use Rattle.case_file.specs.Writing.{writtenCount}
+use Rattle.answer_lines.specs.Lines.{mostAnswerBytes}
+use Rattle.answer_lines.proofs.Puts.{puts-whole, puts-never}
+use Rattle.check_text.specs.Claims.{readBytes}
+use Rattle.check_files.specs.Hearing.{HeardPost}
 use Rattle.check_io.specs.Answered.{Answered}
 
 module _ (case plan line : List ℕ) (n m : ℕ) (line′ : List ℕ) (some-case : length case ≡ suc mostBytes) (some-plan : length plan ≡ readBytes) (room : mostAnswerBytes ≤ length line) where

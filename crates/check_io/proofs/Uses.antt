@@ -5,8 +5,8 @@ use mathlib.Core.List.{List, []}
 use Prim.Native.Nat.{ℕ, _≤_}
 use lib.ListN.{length}
 use Rattle.text.specs.Text.{digits, bytes}
-use Rattle.verdict.specs.Verdict.{CheckOutput}
-use Rattle.verdict.proofs.Uses.{writes-form}
+use Rattle.check_text.specs.Verdict.{CheckOutput}
+use Rattle.check_text.proofs.Uses.{writes-form}
 use Rattle.check_io.specs.Answered.{Answered}
 
 few-judged : (n : ℕ) (a : Answered n) → (length (a .case) ≤ 4097) × (length (a .plan) ≤ 368686)

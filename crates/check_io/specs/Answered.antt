@@ -4,9 +4,9 @@ use mathlib.Core.Path.{_≡_}
 use mathlib.Core.List.{List}
 use Prim.Native.Nat.{ℕ, suc, _≤_}
 use lib.ListN.{length}
-use Rattle.casefile.specs.Rows.{mostBytes}
-use Rattle.verdict.specs.Verdict.{CheckOutput}
-use Rattle.verdict.specs.Claims.{readBytes}
+use Rattle.case_file.specs.Rows.{mostBytes}
+use Rattle.check_text.specs.Verdict.{CheckOutput}
+use Rattle.check_text.specs.Claims.{readBytes}
 
 -- There are a case text and a plan, no longer than is read, and so many bytes are all that the program writes for them.
 pub record Answered (n : ℕ) : Type 0 where

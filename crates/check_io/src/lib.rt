@@ -4,20 +4,20 @@ ghost use mathlib.Core.Path.{_≡_};
 ghost use mathlib.Core.Option.{Option·getD};
 ghost use Prim.Native.Nat.{suc, _≤_};
 ghost use lib.ListN.{length};
-ghost use Rattle.casefile.specs.Rows.{mostBytes};
-ghost use Rattle.casefile.specs.Writing.{writtenCount};
-ghost use Rattle.answerlines.specs.Lines.{mostAnswerBytes};
-ghost use Rattle.verdict.specs.Claims.{readBytes};
+ghost use Rattle.case_file.specs.Rows.{mostBytes};
+ghost use Rattle.case_file.specs.Writing.{writtenCount};
+ghost use Rattle.answer_lines.specs.Lines.{mostAnswerBytes};
+ghost use Rattle.check_text.specs.Claims.{readBytes};
 ghost use Rattle.check_io.specs.Answered.{Answered};
-use casefile::Written;
+use case_file::Written;
 use libc::STDIN_FILENO;
 
-// One byte more than a case text may have: so many bytes decide what is answered (`CutDecides` in casefile/specs/Claims).
-const CASE: usize = casefile::MOST_BYTES + 1;
+// One byte more than a case text may have: so many bytes decide what is answered (`CutDecides` in case_file/specs/Claims).
+const CASE: usize = case_file::MOST_BYTES + 1;
 
 // One byte more than a plan can have, a first line and one for each entry: so many bytes decide what any text is answered
-// (`CutDecides` in verdict/specs/Claims).
-const PLAN: usize = (verdict::ENTRIES + 1) * planlines::MOST_LINE_BYTES + 1;
+// (`CutDecides` in check_text/specs/Claims).
+const PLAN: usize = (check_text::ENTRIES + 1) * plan_lines::MOST_LINE_BYTES + 1;
 
 // The answer is how many bytes there are to be written.
 pub fn write_verdict() -> usize
@@ -25,7 +25,7 @@ pub fn write_verdict() -> usize
 {
     let mut case = [0u8; CASE];
     let mut plan = [0u8; PLAN];
-    let mut line = [0u8; answerlines::LINE];
+    let mut line = [0u8; answer_lines::LINE];
     check_input(&mut case, &mut plan, &mut line)
 }
 
@@ -35,9 +35,9 @@ fn check_input(case: &mut [u8], plan: &mut [u8], line: &mut [u8]) -> usize
     ensures { λ n. ⌜ Answered n ⌝ }
 {
     let file = os::open_read(b"case.txt");
-    let heard = filecheck::check_files(file, STDIN_FILENO, case, plan, line);
+    let heard = check_files::check_files(file, STDIN_FILENO, case, plan, line);
     let put = heard.line;
-    output::front(line, put);
+    answer_output::front(line, put);
     bytes_put(put)
 }
 

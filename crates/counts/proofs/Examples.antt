@@ -12,9 +12,9 @@ use Rattle.railway.specs.Refusals.{number, Row}
 use Rattle.railway.specs.Record.{withJoin, withSignal, withLegs, withTrain}
 use Rattle.railway.specs.Yards.{yardA}
 use Rattle.game.specs.Placement.{sectionsIn, standsOn, shared}
-use Rattle.tables.specs.Tables.{noFigure}
-use Rattle.tables.proofs.Examples.{weighed, figsW}
-use Rattle.tables.proofs.KnownYards.{figsA}
+use Rattle.game_tables.specs.Tables.{noFigure}
+use Rattle.game_tables.proofs.Examples.{weighed, figsW}
+use Rattle.game_tables.proofs.KnownYards.{figsA}
 use Rattle.counts.specs.Counts.{classOf, inClass, countOf, tableShort, countRows}
 
 abbrev N : ℕ

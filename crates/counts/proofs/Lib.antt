@@ -1,5 +1,5 @@
 pub mod Examples
 pub mod Adding
 pub mod Spreading
-pub mod Claims
+pub mod Counts
 pub mod Uses

@@ -13,7 +13,7 @@ use borrow.Author.Tests.{eq-eqb, eqb-true, ltb-true, ltb-false, lt-ltb, le-ltb}
 use Rattle.laws.specs.Below.{countBelow, sumBelow, listBelow}
 use Rattle.laws.proofs.Bools.{bool?, same-bool, some-none, some-one}
 use Rattle.laws.proofs.Below.{sum-same, list-get, list-length}
-use Rattle.tables.specs.Tables.{figureIn}
+use Rattle.game_tables.specs.Tables.{figureIn}
 use Rattle.counts.specs.Counts.{classes, classOf, inClass, NumberOf, Spread}
 use Rattle.counts.proofs.Adding.{by-class}
 -- (Examples is named so that it is checked before: a wrong definition then shows at a computed value.)

@@ -22,19 +22,19 @@ use Rattle.game.specs.Game.{IsFigure}
 use Rattle.game.specs.Placement.{placements}
 use Rattle.game.specs.Moves.{gameOf}
 use Rattle.game.proofs.Figures.{figure-one}
-use Rattle.tables.specs.declared.SolverAnswer.{SolverAnswer}
-use Rattle.tables.specs.Tables.{noFigure, figureIn}
-use Rattle.tables.specs.Solver.{SolverPost}
-use Rattle.tables.proofs.Examples.{weighed, figsW}
-use Rattle.tables.proofs.WeighedYards.{weighed-accepted, weighed-filled}
-use Rattle.tables.proofs.KnownYards.{figsA, yardA-accepted, yardA-filled}
-use Rattle.tables.proofs.Promise.{Promised, promised}
+use Rattle.game_tables.specs.declared.SolverAnswer.{SolverAnswer}
+use Rattle.game_tables.specs.Tables.{noFigure, figureIn}
+use Rattle.game_tables.specs.Solver.{SolverPost}
+use Rattle.game_tables.proofs.Examples.{weighed, figsW}
+use Rattle.game_tables.proofs.WeighedYards.{weighed-accepted, weighed-filled}
+use Rattle.game_tables.proofs.KnownYards.{figsA, yardA-accepted, yardA-filled}
+use Rattle.game_tables.proofs.Solver.{Promised, promised}
 use Rattle.counts.specs.declared.CountAnswer.the-variants.{Counted, Refused}
 use Rattle.counts.specs.declared.CountReply.{CountReply}
 use Rattle.counts.specs.Counts.{inClass, countRefusal, replyBy, countNumber, CountPost, NumberOf, Spread, CountsHold}
 use Rattle.counts.proofs.Examples.{lost-ones, yard-a, high, figsHigh}
 use Rattle.counts.proofs.Spreading.{number-each, number-greater, number-none}
-use Rattle.counts.proofs.Claims.{too-short, counts-hold}
+use Rattle.counts.proofs.Counts.{too-short, counts-hold}
 
 pub nine : placements yardA ≡ 9
 unfolding withJoin withSignal withLegs withTrain

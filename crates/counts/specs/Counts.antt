@@ -17,9 +17,9 @@ use Rattle.railway.specs.Rows.{recordRows, recordRefusal}
 use Rattle.game.specs.Game.{IsFigure}
 use Rattle.game.specs.Placement.{placements, shared}
 use Rattle.game.specs.Moves.{gameOf}
-use Rattle.tables.specs.declared.SolverAnswer.{SolverAnswer}
-use Rattle.tables.specs.Tables.{noFigure, figureIn}
-use Rattle.tables.specs.Solver.{SolverPost}
+use Rattle.game_tables.specs.declared.SolverAnswer.{SolverAnswer}
+use Rattle.game_tables.specs.Tables.{noFigure, figureIn}
+use Rattle.game_tables.specs.Solver.{SolverPost}
 use Rattle.counts.specs.declared.CountAnswer.{CountAnswer}
 use Rattle.counts.specs.declared.CountAnswer.the-variants.{Counted, Refused}
 use Rattle.counts.specs.declared.CountReply.{CountReply}

@@ -12,7 +12,7 @@ use Rattle.laws.proofs.Bools.{bool?, or-false, or-none, not-is}
 use Rattle.laws.proofs.Below.{upto, all-at, all-of, count-le}
 use Rattle.railway.specs.declared.Railway.{Railway}
 use Rattle.game.specs.Placement.{arrived, atHome}
-use Rattle.placement.specs.declared.Placement.{Placement}
+use Rattle.game_placement.specs.declared.Placement.{Placement}
 use Rattle.desk.specs.Desk.{Desk, deskCode, misplaced, arrivals, miscarries, deskRow, deskOn}
 use Rattle.desk.specs.Following.{Carries}
 -- (Examples is named so that it is checked before: a wrong definition then shows at a computed value.)

@@ -10,8 +10,8 @@ use Rattle.laws.specs.Below.{countBelow, listBelow}
 use Rattle.laws.proofs.Bools.{not-false}
 use Rattle.railway.specs.Record.{trainOf, withJoin, withSignal, withLegs, withTrain}
 use Rattle.game.specs.Placement.{sectionsIn, standsOn, atHome}
-use Rattle.tables.proofs.Examples.{weighed, figsW, setsW}
-use Rattle.placement.specs.ByValue.{sectionIn}
+use Rattle.game_tables.proofs.Examples.{weighed, figsW, setsW}
+use Rattle.game_placement.specs.ByValue.{sectionIn}
 use Rattle.desk.specs.declared.OpenAnswer.the-variants.{Opened}
 use Rattle.desk.specs.declared.SettingAnswer.{SettingAnswer}
 use Rattle.desk.specs.Desk.{Desk, deskCode, arrivals, deskRow, Opening, Reply, numberSetting, numberReported, OpenPost, SettingPost, ReportPost}

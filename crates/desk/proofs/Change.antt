@@ -19,17 +19,17 @@ use Rattle.railway.specs.Bounds.{mostTrains}
 use Rattle.railway.specs.Refusals.{first}
 use Rattle.railway.specs.Record.{trainOf}
 use Rattle.railway.specs.Rows.{recordRows, recordRefusal}
-use Rattle.casefile.specs.Given.{AcceptedWith}
-use Rattle.casefile.proofs.Exactly.{accepted-one, accepted-exactly}
+use Rattle.case_file.specs.Given.{AcceptedWith}
+use Rattle.case_file.proofs.Given.{accepted-one, accepted-exactly}
 use Rattle.game.specs.Game.{IsFigure}
 use Rattle.game.specs.Placement.{placements, startCode, standsOn, arrived}
 use Rattle.game.specs.Moves.{gameOf}
 use Rattle.game.proofs.Accepted.{facts}
 use Rattle.game.proofs.Figures.{figure-one}
-use Rattle.tables.specs.declared.SolverAnswer.{SolverAnswer}
-use Rattle.tables.specs.Tables.{figureIn, tablesShort, caseRows, caseRefusal, Filled}
-use Rattle.tables.specs.Solver.{figureGiven, SolverTables, SolverPost}
-use Rattle.tables.proofs.Refusals.{Enough, case-none}
+use Rattle.game_tables.specs.declared.SolverAnswer.{SolverAnswer}
+use Rattle.game_tables.specs.Tables.{figureIn, tablesShort, caseRows, caseRefusal, Filled}
+use Rattle.game_tables.specs.Solver.{figureGiven, SolverTables, SolverPost}
+use Rattle.game_tables.proofs.Refusals.{Enough, case-none}
 use Rattle.desk.specs.declared.OpenAnswer.{OpenAnswer}
 use Rattle.desk.specs.declared.OpenAnswer.the-variants.{Opened}
 use Rattle.desk.specs.declared.ReportAnswer.{ReportAnswer}
@@ -44,7 +44,7 @@ use Rattle.desk.specs.Change.{ChangeSolved, ChangeHolds}
 use Rattle.desk.proofs.Carrying.{made-right}
 use Rattle.desk.proofs.Placing.{Placed, placed-so, so-placed, code-there, start-placed, start-is}
 use Rattle.desk.proofs.Sooner.{table-rises, sooner-first}
-use Rattle.desk.proofs.AnyDesk.{any-desk}
+use Rattle.desk.proofs.Desk.{any-desk}
 use Rattle.desk.proofs.Following.{filled-followable, desk-holds}
 use Rattle.desk.proofs.ChangeRows.{shape-of, of-shape, apart-same, enough, number-refused, judged, read-accepted, made, can-change, can-so, stays, carries}
 use Rattle.desk.proofs.ChangeNumbers.{old-record, fourteen, nine, twelve, fifteen}

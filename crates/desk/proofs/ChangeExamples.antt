@@ -20,10 +20,10 @@ use Rattle.railway.specs.Yards.{yardA, yardH, lineJ, lineT, lineX, sec}
 use Rattle.game.specs.Placement.{codeOf, sectionsIn, standsOn, namesNone, atHome, shared}
 use Rattle.game.specs.Setting.{headsFor, held, free, signalOpen, mayMove}
 use Rattle.game.specs.Moves.{occupied}
-use Rattle.tables.specs.Entries.{settingAt}
-use Rattle.tables.specs.Tables.{noFigure, tablesShort}
-use Rattle.tables.proofs.Examples.{weighed}
-use Rattle.tables.proofs.KnownYards.{figsA, setsA}
+use Rattle.game_tables.specs.Entries.{settingAt}
+use Rattle.game_tables.specs.Tables.{noFigure, tablesShort}
+use Rattle.game_tables.proofs.Examples.{weighed}
+use Rattle.game_tables.proofs.KnownYards.{figsA, setsA}
 use Rattle.desk.specs.declared.ReportAnswer.the-variants.{Counted}
 use Rattle.desk.specs.declared.ChangeAnswer.{ChangeAnswer}
 use Rattle.desk.specs.declared.ChangeAnswer.the-variants.{Changed, Refused}

@@ -10,10 +10,10 @@ use Rattle.railway.specs.declared.Refusal.{Refusal}
 use Rattle.railway.specs.Refusals.{number, numberGiven}
 use Rattle.railway.specs.Rows.{recordRefusal}
 use Rattle.railway.proofs.Refusals.{number-one}
-use Rattle.casefile.specs.declared.CaseRead.{CaseRead}
-use Rattle.casefile.specs.Given.{accepted, refused, RefusedWith, AcceptedWith}
-use Rattle.casefile.specs.Reading.{caseAnswer}
-use Rattle.casefile.proofs.Exactly.{accepted-one, refused-exactly, accepted-exactly, always-answered}
+use Rattle.case_file.specs.declared.CaseRead.{CaseRead}
+use Rattle.case_file.specs.Given.{accepted, refused, RefusedWith, AcceptedWith}
+use Rattle.case_file.specs.Reading.{caseAnswer}
+use Rattle.case_file.proofs.Given.{accepted-one, refused-exactly, accepted-exactly, always-answered}
 use Rattle.desk.specs.declared.ChangeAnswer.the-variants.{Refused}
 use Rattle.desk.specs.Desk.{Desk}
 use Rattle.desk.specs.Change.{sooner, Changing, changeTo, ChangePost}

@@ -15,12 +15,12 @@ use Rattle.railway.specs.declared.Refusal.the-variants.{Mismatch, Space, Report
 use Rattle.railway.specs.Ends.{sideIndex}
 use Rattle.railway.specs.Record.{trainOf, withJoin, withSignal, withClosed, withLegs, withTrain}
 use Rattle.railway.specs.Yards.{yardA}
-use Rattle.casefile.specs.Given.{AcceptedWith}
-use Rattle.casefile.proofs.Exactly.{accepted-one, accepted-exactly}
+use Rattle.case_file.specs.Given.{AcceptedWith}
+use Rattle.case_file.proofs.Given.{accepted-one, accepted-exactly}
 use Rattle.game.specs.Placement.{codeOf, sectionsIn, standsOn, namesNone, placements, shared}
-use Rattle.tables.specs.Tables.{figureIn}
-use Rattle.tables.proofs.Examples.{weighed}
-use Rattle.tables.proofs.WeighedYards.{weighed-accepted}
+use Rattle.game_tables.specs.Tables.{figureIn}
+use Rattle.game_tables.proofs.Examples.{weighed}
+use Rattle.game_tables.proofs.WeighedYards.{weighed-accepted}
 use Rattle.desk.specs.declared.ChangeAnswer.the-variants.{Changed, Refused}
 use Rattle.desk.specs.Desk.{Desk, deskCode, misplaced, deskRow}
 use Rattle.desk.specs.Change.{Changing, numberChanged, ChangePost, SameShape, SameBound, ChangeHolds}

@@ -18,9 +18,9 @@ use Rattle.railway.specs.declared.Refusal.the-variants.{Mismatch, Space, Report
 use Rattle.railway.specs.Refusals.{number, rank, row, refuseIf, first}
 use Rattle.railway.specs.Rows.{recordRows, recordRefusal}
 use Rattle.railway.proofs.Refusals.{first-append, first-is}
-use Rattle.casefile.specs.Given.{caseTable, AcceptedWith}
+use Rattle.case_file.specs.Given.{caseTable, AcceptedWith}
 use Rattle.game.specs.Placement.{placements}
-use Rattle.tables.specs.Tables.{figureIn, tablesShort}
+use Rattle.game_tables.specs.Tables.{figureIn, tablesShort}
 use Rattle.desk.specs.declared.ChangeAnswer.the-variants.{Refused}
 use Rattle.desk.specs.Desk.{Desk, deskCode, deskRow}
 use Rattle.desk.specs.Change.{mismatch, isNone, stranded, changeRows, sooner, Changing, changeBy, changeTo, numberChanged, ChangePost, SameShape, BothAccepted, Fitting, Furnished}

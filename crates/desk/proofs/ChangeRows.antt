@@ -19,12 +19,12 @@ use Rattle.railway.specs.Ends.{sideIndex}
 use Rattle.railway.specs.Refusals.{number, refuseIf, first}
 use Rattle.railway.specs.Rows.{recordRows, recordRefusal}
 use Rattle.railway.proofs.Refusals.{first-append, refuse-none, number-one}
-use Rattle.casefile.specs.Given.{RefusedWith, AcceptedWith}
-use Rattle.casefile.proofs.Exactly.{refused-exactly, accepted-exactly, always-answered}
-use Rattle.casefile.proofs.Again.{accepted-again}
-use Rattle.tables.specs.Tables.{figureIn, tablesShort}
-use Rattle.tables.proofs.Refusals.{Enough, case-none, case-accepted}
-use Rattle.placement.specs.declared.Placement.{Placement}
+use Rattle.case_file.specs.Given.{RefusedWith, AcceptedWith}
+use Rattle.case_file.proofs.Given.{refused-exactly, accepted-exactly, always-answered}
+use Rattle.case_file.proofs.Again.{accepted-again}
+use Rattle.game_tables.specs.Tables.{figureIn, tablesShort}
+use Rattle.game_tables.proofs.Refusals.{Enough, case-none, case-accepted}
+use Rattle.game_placement.specs.declared.Placement.{Placement}
 use Rattle.desk.specs.declared.ChangeAnswer.{ChangeAnswer}
 use Rattle.desk.specs.declared.ChangeAnswer.the-variants.{Changed, Refused}
 use Rattle.desk.specs.Desk.{Desk, deskCode, deskRow, deskOn}

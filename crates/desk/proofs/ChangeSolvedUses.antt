@@ -12,18 +12,18 @@ use Rattle.railway.specs.declared.Railway.{Railway}
 use Rattle.railway.specs.declared.Refusal.the-variants.{Stranded}
 use Rattle.railway.specs.Bounds.{mostTrains}
 use Rattle.railway.specs.Record.{withJoin, withSignal, withClosed, withLegs, withTrain}
-use Rattle.casefile.specs.Given.{AcceptedWith}
+use Rattle.case_file.specs.Given.{AcceptedWith}
 use Rattle.game.specs.Game.{IsFigure}
 use Rattle.game.specs.Placement.{codeOf, placements}
 use Rattle.game.specs.Moves.{gameOf}
 use Rattle.game.proofs.Figures.{figure-one}
-use Rattle.tables.specs.declared.SolverAnswer.{SolverAnswer}
-use Rattle.tables.specs.Tables.{figureIn, Filled}
-use Rattle.tables.specs.Solver.{SolverPost}
-use Rattle.tables.proofs.Examples.{weighed}
-use Rattle.tables.proofs.Certify.{certify}
-use Rattle.tables.proofs.KnownYards.{figsA, setsA}
-use Rattle.tables.proofs.WeighedYards.{weighed-accepted}
+use Rattle.game_tables.specs.declared.SolverAnswer.{SolverAnswer}
+use Rattle.game_tables.specs.Tables.{figureIn, Filled}
+use Rattle.game_tables.specs.Solver.{SolverPost}
+use Rattle.game_tables.proofs.Examples.{weighed}
+use Rattle.game_tables.proofs.Certify.{certify}
+use Rattle.game_tables.proofs.KnownYards.{figsA, setsA}
+use Rattle.game_tables.proofs.WeighedYards.{weighed-accepted}
 use Rattle.desk.specs.declared.ChangeAnswer.the-variants.{Changed, Refused}
 use Rattle.desk.specs.Desk.{Desk, deskCode}
 use Rattle.desk.specs.Change.{Changing, numberChanged, ChangePost, workingOn, beginningWith, Works, ChangeSolved, ChangeHolds}

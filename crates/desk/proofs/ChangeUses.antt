@@ -26,25 +26,25 @@ use Rattle.railway.specs.Record.{isClosed, joinedBy, joined, hasSignal, legsOf,
 use Rattle.railway.specs.Passing.{follow, passes, entered}
 use Rattle.railway.specs.Rows.{weightRow, unknownRow, joinRow, looseRow, longer, chainRow, placeRow, recordRows, recordRefusal}
 use Rattle.railway.specs.Yards.{yardA, lineT}
-use Rattle.casefile.specs.Rows.{joinEnds}
-use Rattle.casefile.specs.Rows as D
-use Rattle.casefile.specs.Recording.{partner, railwayOf}
-use Rattle.casefile.specs.Given.{accepted, Applies, caseTable, RefusedWith, AcceptedWith}
-use Rattle.casefile.specs.Reading.{counted, while, sideFieldAt, legFieldAt, endFieldAt, headerAt, pointLineAt}
-use Rattle.casefile.specs.Reading.{joinLineAt, signalLineAt, closedLineAt, weightFieldAt, trainLineAt, walk, read}
-use Rattle.casefile.specs.Reading.{caseAnswer}
-use Rattle.casefile.proofs.Exactly.{accepted-one, accepted-exactly}
+use Rattle.case_file.specs.Rows.{joinEnds}
+use Rattle.case_file.specs.Rows as D
+use Rattle.case_file.specs.Recording.{partner, railwayOf}
+use Rattle.case_file.specs.Given.{accepted, Applies, caseTable, RefusedWith, AcceptedWith}
+use Rattle.case_file.specs.Reading.{counted, while, sideFieldAt, legFieldAt, endFieldAt, headerAt, pointLineAt}
+use Rattle.case_file.specs.Reading.{joinLineAt, signalLineAt, closedLineAt, weightFieldAt, trainLineAt, walk, read}
+use Rattle.case_file.specs.Reading.{caseAnswer}
+use Rattle.case_file.proofs.Given.{accepted-one, accepted-exactly}
 use Rattle.game.specs.Local.{keepsTest}
 use Rattle.game.specs.Placement.{codeOf, sectionsIn, standsOn, namesNone, placements, atHome, shared}
 use Rattle.game.specs.Setting.{headsFor, held, free, signalOpen, mayMove}
 use Rattle.game.specs.Moves.{occupied, moveOf}
-use Rattle.tables.specs.Entries.{settingAt, entryFrom}
-use Rattle.tables.specs.Tables.{figureIn, tablesShort}
-use Rattle.tables.specs.Find.{tryOpen, firstFound, find}
-use Rattle.tables.proofs.Examples.{weighed, figsW, setsW}
-use Rattle.tables.proofs.Certify.{certified, certify}
-use Rattle.tables.proofs.KnownYards.{figsA, setsA}
-use Rattle.tables.proofs.WeighedYards.{weighed-accepted, weighed-filled}
+use Rattle.game_tables.specs.Entries.{settingAt, entryFrom}
+use Rattle.game_tables.specs.Tables.{figureIn, tablesShort}
+use Rattle.game_tables.specs.Find.{tryOpen, firstFound, find}
+use Rattle.game_tables.proofs.Examples.{weighed, figsW, setsW}
+use Rattle.game_tables.proofs.Certify.{certified, certify}
+use Rattle.game_tables.proofs.KnownYards.{figsA, setsA}
+use Rattle.game_tables.proofs.WeighedYards.{weighed-accepted, weighed-filled}
 use Rattle.desk.specs.declared.OpenAnswer.the-variants.{Opened}
 use Rattle.desk.specs.declared.ReportAnswer.{ReportAnswer}
 use Rattle.desk.specs.declared.ReportAnswer.the-variants.{Counted, Refused as ReportRefused}

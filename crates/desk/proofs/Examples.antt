@@ -20,10 +20,10 @@ use Rattle.railway.specs.Yards.{yardH, lineP, lineJ, lineG, lineT, sec, port, y
 use Rattle.game.specs.Placement.{codeOf, sectionsIn, standsOn, namesNone, startCode, atHome, shared}
 use Rattle.game.specs.Setting.{headsFor, held, free, signalOpen, mayMove}
 use Rattle.game.specs.Moves.{occupied}
-use Rattle.game.proofs.Plays.{shutLine}
-use Rattle.tables.specs.Entries.{settingAt}
-use Rattle.tables.specs.Tables.{noFigure, tablesShort}
-use Rattle.tables.proofs.Examples.{weighed, figsW, setsW}
+use Rattle.game.proofs.Examples.{shutLine}
+use Rattle.game_tables.specs.Entries.{settingAt}
+use Rattle.game_tables.specs.Tables.{noFigure, tablesShort}
+use Rattle.game_tables.proofs.Examples.{weighed, figsW, setsW}
 use Rattle.desk.specs.declared.OpenAnswer.{OpenAnswer}
 use Rattle.desk.specs.declared.OpenAnswer.the-variants.{Opened, NoFigure, Refused as OpenRefused}
 use Rattle.desk.specs.declared.SettingAnswer.the-variants.{Given, Refused as SettingRefused}

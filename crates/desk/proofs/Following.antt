@@ -17,20 +17,20 @@ use Rattle.railway.specs.declared.Refusal.the-variants.{Report}
 use Rattle.railway.specs.Record.{trainOf, weightOf, isClosed}
 use Rattle.railway.specs.Passing.{passes, inUse, entered}
 use Rattle.railway.specs.Rows.{recordRefusal}
-use Rattle.game.specs.Game.{at, Turn, Choice, following, Position, standing, may, over, step, play, spent, IsFigure}
+use Rattle.game.specs.Game.{at, Turn, Adversary, following, Position, standing, may, over, step, play, spent, IsFigure}
 use Rattle.game.specs.Claim.{Within, figureOf, Keeps}
 use Rattle.game.specs.Placement.{placements, startCode, atHome, shared}
 use Rattle.game.specs.Setting.{Setting, headsFor}
 use Rattle.game.specs.Moves.{occupied, enters, moveOf, gameOf}
 use Rattle.game.proofs.Accepted.{Facts, facts}
 use Rattle.game.proofs.Moves.{costs, start-below}
-use Rattle.game.proofs.Turns.{may-train, no-keeps-zero, spent-grown}
+use Rattle.game.proofs.Local.{may-train, no-keeps-zero, spent-grown}
 use Rattle.game.proofs.Figures.{figure-one}
-use Rattle.tables.specs.Tables.{figureIn, settingIn, caseRefusal, Filled}
-use Rattle.tables.specs.Solver.{figureGiven, SolverTables}
-use Rattle.tables.proofs.Refusals.{case-none}
-use Rattle.tables.proofs.Plays.{filled-solved}
-use Rattle.placement.specs.ByValue.{sectionIn}
+use Rattle.game_tables.specs.Tables.{figureIn, settingIn, caseRefusal, Filled}
+use Rattle.game_tables.specs.Solver.{figureGiven, SolverTables}
+use Rattle.game_tables.proofs.Refusals.{case-none}
+use Rattle.game_tables.proofs.Plays.{filled-solved}
+use Rattle.game_placement.specs.ByValue.{sectionIn}
 use Rattle.desk.specs.declared.OpenAnswer.{OpenAnswer}
 use Rattle.desk.specs.declared.OpenAnswer.the-variants.{Opened, NoFigure, Refused as OpenRefused}
 use Rattle.desk.specs.declared.ReportAnswer.the-variants.{Counted, Refused}
@@ -38,9 +38,9 @@ use Rattle.desk.specs.Desk.{Desk, deskCode, deskRow, startDesk, Opening,
 use Rattle.desk.specs.Following.{movedBy, Reporting, begun, call, refused, total, Movers, Played, MoveCounts, AfterReports, RunsFrom, Followable, DescentHolds, DeskRuns, DeskHolds}
 use Rattle.desk.proofs.Carrying.{lamp-home}
 use Rattle.desk.proofs.Placing.{Placed, placed-so, so-placed, none-together, code-there, start-on, start-placed, start-is}
-use Rattle.desk.proofs.AnyDesk.{refused-leaves, none-may, setting-is, open-is, reply-counts, reply-refused}
-use Rattle.desk.proofs.AnyDesk.{not-stopped, Named, named, row-off, home-refused, section-there, move-is}
-use Rattle.desk.proofs.AnyDesk.{next-placed, any-desk}
+use Rattle.desk.proofs.Desk.{refused-leaves, none-may, setting-is, open-is, reply-counts, reply-refused}
+use Rattle.desk.proofs.Desk.{not-stopped, Named, named, row-off, home-refused, section-there, move-is}
+use Rattle.desk.proofs.Desk.{next-placed, any-desk}
 
 -- a figure within n is there
 within-has : (n w : ℕ) (o : Option ℕ) → Within n w o → (j : ℕ) × (o ≡ some j) × (j + w ≤ n)
@@ -70,7 +70,7 @@ length-snoc : {A : Type 0} (xs : List A) (x : A) → length (xs ++ (x ∷ [])) �
 length-snoc xs x = length-append xs (x ∷ []) ∙ add-one (length xs)
 
 -- THE PLAY. A choice of trains by the number of turns played so far; it names these trains, whatever it names behind them.
-abbrev byTurns : (ℕ → ℕ) → Choice Setting
+abbrev byTurns : (ℕ → ℕ) → Adversary Setting
 byTurns c h p s = c (length h)
 
 module _ (r : Railway) (sets : List ℕ) where

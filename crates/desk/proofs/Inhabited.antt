@@ -19,9 +19,9 @@ use Rattle.game.specs.Placement.{placements, startCode, atHome}
 use Rattle.game.specs.Moves.{gameOf}
 use Rattle.game.proofs.Accepted.{facts}
 use Rattle.game.proofs.Moves.{costs}
-use Rattle.game.proofs.Turns.{may-train}
-use Rattle.tables.specs.Tables.{figureIn, caseRows}
-use Rattle.tables.proofs.Exists.{Made, tables-exist}
+use Rattle.game.proofs.Local.{may-train}
+use Rattle.game_tables.specs.Tables.{figureIn, caseRows}
+use Rattle.game_tables.proofs.Exists.{Made, tables-exist}
 use Rattle.desk.specs.declared.ReportAnswer.{ReportAnswer}
 use Rattle.desk.specs.Desk.{Desk, deskCode, present, Opening, openBy, openDesk, settingRows, settingBy}
 use Rattle.desk.specs.Desk.{giveSetting, reportRows, Reply, reportBy, report, numberOpening, numberSetting}

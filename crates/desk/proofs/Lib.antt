@@ -1,7 +1,7 @@
 pub mod Examples
 pub mod Carrying
 pub mod Placing
-pub mod AnyDesk
+pub mod Desk
 pub mod Following
 pub mod Inhabited
 pub mod Uses

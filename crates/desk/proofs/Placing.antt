@@ -18,13 +18,13 @@ use Rattle.railway.specs.declared.Railway.{Railway}
 use Rattle.railway.specs.Bounds.{mostTrains}
 use Rattle.railway.specs.Record.{trainOf}
 use Rattle.railway.specs.Rows.{recordRefusal}
-use Rattle.railway.proofs.Accepted.{accepted-facts}
+use Rattle.railway.proofs.Rows.{accepted-facts}
 use Rattle.game.specs.Placement.{codeOf, placements, sectionsOf, standsOn, codeOn, namesNone, startCode, standsWith, sharesLower, shared}
 use Rattle.game.specs.Moves.{otherOn, occupied, codeWith}
 use Rattle.game.proofs.Accepted.{Facts, facts}
 use Rattle.game.proofs.Naming.{none-named, all-named, code-named, sections-named, stands-named}
-use Rattle.placement.specs.declared.Placement.{Placement}
-use Rattle.placement.specs.ByValue.{sectionIn}
+use Rattle.game_placement.specs.declared.Placement.{Placement}
+use Rattle.game_placement.specs.ByValue.{sectionIn}
 use Rattle.desk.specs.Desk.{Desk, deskCode, misplaced, deskRow, startDesk, movedDesk}
 use Rattle.desk.specs.Following.{Carries, Apart}
 -- (Examples is named so that it is checked before: a wrong definition then shows at a computed value.)

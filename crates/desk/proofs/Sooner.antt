@@ -17,7 +17,7 @@ use Rattle.railway.specs.declared.Refusal.{Refusal}
 use Rattle.railway.specs.Refusals.{rank, Row, row, Applying, FirstOf, FirstRow}
 use Rattle.railway.specs.Rows.{recordRows, recordRefusal}
 use Rattle.railway.proofs.Refusals.{first-is, first-none}
-use Rattle.casefile.specs.Given.{Applies, caseTable, RefusedWith}
+use Rattle.case_file.specs.Given.{Applies, caseTable, RefusedWith}
 use Rattle.desk.specs.Change.{sooner, rowRank, AppliesToEither}
 -- (ChangeExamples is named so that it is checked before: a wrong definition then shows at a computed value.)
 use Rattle.desk.proofs.ChangeExamples as ChangeExamples

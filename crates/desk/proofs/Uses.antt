@@ -24,24 +24,24 @@ use Rattle.railway.specs.Record.{isClosed, joinedBy, joined, hasSignal, legsOf,
 use Rattle.railway.specs.Passing.{follow, passes, entered}
 use Rattle.railway.specs.Rows.{weightRow, unknownRow, joinRow, looseRow, longer, chainRow, placeRow}
 use Rattle.railway.specs.Yards.{yardOne, headOn}
-use Rattle.game.specs.Game.{Outcome, lost, at, Game, Turn, Way, Choice, Position, lostByMove, standing, following, may, mover, over, play, spent, IsFigure}
+use Rattle.game.specs.Game.{Outcome, lost, at, Game, Turn, Strategy, Adversary, Position, lostByMove, standing, following, may, mover, over, play, spent, IsFigure}
 use Rattle.game.specs.Claim.{Keeps}
 use Rattle.game.specs.Local.{keepsTest}
 use Rattle.game.specs.Placement.{codeOf, sectionsIn, standsOn, namesNone, placements, startCode, arrived, atHome, shared}
 use Rattle.game.specs.Setting.{Setting, headsFor, held, free, signalOpen, mayMove}
 use Rattle.game.specs.Moves.{occupied, moveOf, gameOf}
-use Rattle.game.proofs.Turns.{may-train, mover-cases, test-keeps}
+use Rattle.game.proofs.Local.{may-train, mover-cases, test-keeps}
 use Rattle.game.proofs.Figures.{figure-one}
-use Rattle.tables.specs.declared.SolverAnswer.{SolverAnswer}
-use Rattle.tables.specs.Entries.{settingAt}
-use Rattle.tables.specs.Tables.{noFigure, figureIn, settingIn, caseRefusal, tablesShort}
-use Rattle.tables.specs.Solver.{SolverPost}
-use Rattle.tables.proofs.Refusals.{case-none}
-use Rattle.tables.proofs.Examples.{weighed, figsW, setsW}
-use Rattle.tables.proofs.WeighedYards.{weighed-accepted, weighed-filled}
-use Rattle.tables.proofs.KnownYards.{one-filled, headOn-filled}
-use Rattle.placement.specs.declared.Placement.{Placement}
-use Rattle.placement.specs.ByValue.{sectionIn}
+use Rattle.game_tables.specs.declared.SolverAnswer.{SolverAnswer}
+use Rattle.game_tables.specs.Entries.{settingAt}
+use Rattle.game_tables.specs.Tables.{noFigure, figureIn, settingIn, caseRefusal, tablesShort}
+use Rattle.game_tables.specs.Solver.{SolverPost}
+use Rattle.game_tables.proofs.Refusals.{case-none}
+use Rattle.game_tables.proofs.Examples.{weighed, figsW, setsW}
+use Rattle.game_tables.proofs.WeighedYards.{weighed-accepted, weighed-filled}
+use Rattle.game_tables.proofs.KnownYards.{one-filled, headOn-filled}
+use Rattle.game_placement.specs.declared.Placement.{Placement}
+use Rattle.game_placement.specs.ByValue.{sectionIn}
 use Rattle.desk.specs.declared.OpenAnswer.{OpenAnswer}
 use Rattle.desk.specs.declared.OpenAnswer.the-variants.{Opened, NoFigure, Refused as OpenRefused}
 use Rattle.desk.specs.declared.SettingAnswer.{SettingAnswer}
@@ -152,7 +152,7 @@ abbrev moved-in : List (Turn Setting) → ℕ → Option ℕ
 moved-in h i = getD (map (λ (x : Turn Setting). x .moved) h) i none
 
 -- A PLAY. From (2, 3) train 2 alone may move, so whoever chooses, one turn ends in (2, 1).
-one-turn : (g : Game Setting) (w : Way Setting) (c : Choice Setting) (p t q : ℕ) → over g p ≡ false → ((u : ℕ) → may g p (w [] p) u ≡ true → u ≡ t) → may g p (w [] p) t ≡ true
+one-turn : (g : Game Setting) (w : Strategy Setting) (c : Adversary Setting) (p t q : ℕ) → over g p ≡ false → ((u : ℕ) → may g p (w [] p) u ≡ true → u ≡ t) → may g p (w [] p) t ≡ true
     → g .next p (w [] p) t ≡ at q → stand (play g w c p 1) ≡ q
 unfolding play
 one-turn g w c p t q o only here e = elim (mover-cases g p (w [] p) (c [] p (w [] p))) [

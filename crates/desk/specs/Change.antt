@@ -18,14 +18,14 @@ use Rattle.railway.specs.Ends.{sideIndex}
 use Rattle.railway.specs.Refusals.{number, rank, Row, row, first, FirstOf}
 use Rattle.railway.specs.Record.{linkAt, flagAt, isClosed, closedAt, legsOf, trainOf, weightOf}
 use Rattle.railway.specs.Rows.{recordRows, recordRefusal}
-use Rattle.casefile.specs.Given.{Applies, caseTable, RefusedWith, AcceptedWith}
+use Rattle.case_file.specs.Given.{Applies, caseTable, RefusedWith, AcceptedWith}
 use Rattle.game.specs.Game.{may, IsFigure}
 use Rattle.game.specs.Placement.{placements}
 use Rattle.game.specs.Moves.{gameOf}
-use Rattle.tables.specs.declared.SolverAnswer.{SolverAnswer}
-use Rattle.tables.specs.Tables.{figureIn, tablesShort}
-use Rattle.tables.specs.Solver.{SolverPost}
-use Rattle.placement.specs.ByValue.{sectionIn}
+use Rattle.game_tables.specs.declared.SolverAnswer.{SolverAnswer}
+use Rattle.game_tables.specs.Tables.{figureIn, tablesShort}
+use Rattle.game_tables.specs.Solver.{SolverPost}
+use Rattle.game_placement.specs.ByValue.{sectionIn}
 use Rattle.desk.specs.declared.OpenAnswer.the-variants.{Opened}
 use Rattle.desk.specs.declared.ReportAnswer.the-variants.{Refused as ReportRefused}
 use Rattle.desk.specs.declared.ChangeAnswer.{ChangeAnswer}

@@ -19,9 +19,9 @@ use Rattle.game.specs.Game.{may}
 use Rattle.game.specs.Placement.{codeOn, namesNone, startCode, arrived, atHome, shared}
 use Rattle.game.specs.Setting.{Setting, headsFor}
 use Rattle.game.specs.Moves.{occupied, gameOf}
-use Rattle.tables.specs.Tables.{figureIn, settingIn, caseRows}
-use Rattle.placement.specs.declared.Placement.{Placement}
-use Rattle.placement.specs.ByValue.{sectionIn}
+use Rattle.game_tables.specs.Tables.{figureIn, settingIn, caseRows}
+use Rattle.game_placement.specs.declared.Placement.{Placement}
+use Rattle.game_placement.specs.ByValue.{sectionIn}
 use Rattle.desk.specs.declared.OpenAnswer.{OpenAnswer}
 use Rattle.desk.specs.declared.OpenAnswer.the-variants.{Opened, NoFigure, Refused as OpenRefused}
 use Rattle.desk.specs.declared.SettingAnswer.{SettingAnswer}

@@ -13,16 +13,16 @@ use Rattle.railway.specs.declared.Refusal.the-variants.{Report}
 use Rattle.railway.specs.Bounds.{mostTrains}
 use Rattle.railway.specs.Record.{trainOf, weightOf}
 use Rattle.railway.specs.Rows.{recordRefusal}
-use Rattle.game.specs.Game.{at, Turn, Choice, following, standing, may, play, spent, IsFigure}
+use Rattle.game.specs.Game.{at, Turn, Adversary, following, standing, may, play, spent, IsFigure}
 use Rattle.game.specs.Claim.{Keeps}
 use Rattle.game.specs.Placement.{placements, startCode, atHome}
 use Rattle.game.specs.Setting.{Setting}
 use Rattle.game.specs.Moves.{moveOf, gameOf}
-use Rattle.tables.specs.declared.SolverAnswer.{SolverAnswer}
-use Rattle.tables.specs.Tables.{figureIn, settingIn, caseRefusal}
-use Rattle.tables.specs.Solver.{SolverPost}
-use Rattle.placement.specs.declared.Placement.{Placement}
-use Rattle.placement.specs.ByValue.{sectionIn}
+use Rattle.game_tables.specs.declared.SolverAnswer.{SolverAnswer}
+use Rattle.game_tables.specs.Tables.{figureIn, settingIn, caseRefusal}
+use Rattle.game_tables.specs.Solver.{SolverPost}
+use Rattle.game_placement.specs.declared.Placement.{Placement}
+use Rattle.game_placement.specs.ByValue.{sectionIn}
 use Rattle.desk.specs.declared.OpenAnswer.the-variants.{Opened, NoFigure}
 use Rattle.desk.specs.declared.SettingAnswer.{SettingAnswer}
 use Rattle.desk.specs.declared.SettingAnswer.the-variants.{Refused as SettingRefused}
@@ -57,7 +57,7 @@ Movers (x ∷ h) (t ∷ ts) = (x .moved ≡ some t) × Movers h ts
 
 -- These trains, in this order, make a play from placement p to placement q in which the setting table is followed, a turn each.
 pub record Played (r : Railway) (sets : List ℕ) (p : ℕ) (ts : List ℕ) (q : ℕ) : Type 0 where
-  pub choice : Choice Setting
+  pub choice : Adversary Setting
   pub turns : List (Turn Setting)
   pub plays : play (gameOf r) (following (settingIn r sets)) choice p (length ts) ≡ standing turns q
   pub moved : Movers turns ts

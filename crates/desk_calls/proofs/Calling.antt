@@ -17,17 +17,17 @@ use Rattle.railway.specs.Bounds.{mostTrains}
 use Rattle.railway.specs.Record.{isClosed}
 use Rattle.railway.specs.Refusals.{row, refuseIf, first, numberOf}
 use Rattle.game.specs.Placement.{startCode}
-use Rattle.tables.specs.Tables.{noFigure, figureIn, caseRows, caseRefusal}
-use Rattle.tables.proofs.Refusals.{case-then}
-use Rattle.routes.specs.Routes.{Laid}
-use Rattle.compiled.specs.declared.Compilation.{Compilation}
-use Rattle.compiled.specs.Table.{Compiled}
-use Rattle.placement.specs.declared.Placement.{Placement}
-use Rattle.placement.specs.ByValue.{sectionIn}
-use Rattle.moves.specs.Steps.{On, putIn}
-use Rattle.moves.proofs.Placing.{table-facts}
-use Rattle.cases.specs.Cases.{CasePost}
-use Rattle.cases.proofs.Opened.{opened-refused, opened-none, opened-table}
+use Rattle.game_tables.specs.Tables.{noFigure, figureIn, caseRows, caseRefusal}
+use Rattle.game_tables.proofs.Refusals.{case-then}
+use Rattle.railway_routes.specs.Routes.{Laid}
+use Rattle.railway_compiled.specs.declared.Compilation.{Compilation}
+use Rattle.railway_compiled.specs.Table.{Compiled}
+use Rattle.game_placement.specs.declared.Placement.{Placement}
+use Rattle.game_placement.specs.ByValue.{sectionIn}
+use Rattle.game_moves.specs.Steps.{On, putIn}
+use Rattle.game_moves.proofs.Placing.{table-facts}
+use Rattle.game_case.specs.Cases.{CasePost}
+use Rattle.game_case.proofs.Cases.{opened-refused, opened-none, opened-table}
 use Rattle.desk.specs.declared.OpenAnswer.the-variants.{Opened, NoFigure, Refused as OpenRefused}
 use Rattle.desk.specs.declared.SettingAnswer.{SettingAnswer}
 use Rattle.desk.specs.declared.SettingAnswer.the-variants.{Given, Refused as SettingRefused}

@@ -18,19 +18,19 @@ use Rattle.railway.specs.declared.CaseAnswer.the-variants.{Accepted, Refused as
 use Rattle.railway.specs.Refusals.{number, Row, row, refuseIf, first}
 use Rattle.railway.specs.Rows.{recordRows, recordRefusal}
 use Rattle.railway.proofs.Refusals.{first-append, refuse-none}
-use Rattle.acceptance.specs.Answers.{Judged}
-use Rattle.acceptance.proofs.Answers.{judged-refused, judged-accepted}
-use Rattle.casefile.specs.declared.CaseRead.{CaseRead}
-use Rattle.casefile.specs.Given.{ReaderPost}
-use Rattle.reader.specs.Answers.{ByCase}
-use Rattle.reader.proofs.Answers.{by-refused, by-accepted}
-use Rattle.reader.proofs.Consequences.{reader-gives}
-use Rattle.tables.specs.Tables.{noFigure, figureEntry, tablesShort}
-use Rattle.tables.proofs.Refusals.{case-accepted}
-use Rattle.compiled.specs.declared.Compilation.{Compilation}
-use Rattle.compiled.specs.Table.{Compiled, CompilePost}
-use Rattle.cases.specs.Cases.{CasePost}
-use Rattle.cases.proofs.Opened.{opened-refused, opened-none}
+use Rattle.railway_acceptance.specs.Answers.{Judged}
+use Rattle.railway_acceptance.proofs.Answers.{judged-refused, judged-accepted}
+use Rattle.case_file.specs.declared.CaseRead.{CaseRead}
+use Rattle.case_file.specs.Given.{ReaderPost}
+use Rattle.case_reader.specs.Answers.{ByCase}
+use Rattle.case_reader.proofs.Answers.{by-refused, by-accepted}
+use Rattle.case_reader.proofs.Claims.{reader-gives}
+use Rattle.game_tables.specs.Tables.{noFigure, figureEntry, tablesShort}
+use Rattle.game_tables.proofs.Refusals.{case-accepted}
+use Rattle.railway_compiled.specs.declared.Compilation.{Compilation}
+use Rattle.railway_compiled.specs.Table.{Compiled, CompilePost}
+use Rattle.game_case.specs.Cases.{CasePost}
+use Rattle.game_case.proofs.Cases.{opened-refused, opened-none}
 use Rattle.desk.specs.declared.ChangeAnswer.the-variants.{Changed, Refused}
 use Rattle.desk.specs.Desk.{Desk as DeskAt, deskCode, deskRow, deskOn}
 use Rattle.desk.specs.Change.{mismatch, isNone, stranded, changeRows, sooner, Changing, changeBy, changeTo}

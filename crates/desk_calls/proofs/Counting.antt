@@ -21,8 +21,8 @@ use Rattle.game.specs.Setting.{headsFor, mayMove}
 use Rattle.game.specs.Moves.{occupied, gameOf}
 use Rattle.game.proofs.Accepted.{Facts}
 use Rattle.game.proofs.Moves.{entered-below}
-use Rattle.tables.specs.Entries.{settingAt}
-use Rattle.routes.specs.Routes.{noSection, sectionByte}
+use Rattle.game_tables.specs.Entries.{settingAt}
+use Rattle.railway_routes.specs.Routes.{noSection, sectionByte}
 use Rattle.desk.specs.Desk.{Desk, deskCode, deskRow, present, comesTo, allows, reportRow}
 use Rattle.desk_calls.specs.Steps.{countsAt}
 

@@ -24,11 +24,11 @@ use Rattle.railway.proofs.Lookups.{roster-none}
 use Rattle.game.specs.Placement.{standsOn, codeOn, namesNone, startCode, arrived, shared}
 use Rattle.game.proofs.Accepted.{Facts}
 use Rattle.game.proofs.Naming.{none-named, stands-named}
-use Rattle.placement.specs.declared.Placement.{Placement}
-use Rattle.placement.specs.ByValue.{sectionIn}
-use Rattle.placement.proofs.Places.{placement-length}
-use Rattle.moves.specs.Steps.{On, putIn}
-use Rattle.moves.proofs.Placing.{table-facts, past-trains, put-section}
+use Rattle.game_placement.specs.declared.Placement.{Placement}
+use Rattle.game_placement.specs.ByValue.{sectionIn}
+use Rattle.game_placement.proofs.ByValue.{placement-length}
+use Rattle.game_moves.specs.Steps.{On, putIn}
+use Rattle.game_moves.proofs.Placing.{table-facts, past-trains, put-section}
 use Rattle.desk.specs.Desk.{Desk as DeskAt, deskCode, misplaced, arrivals, miscarries, deskRow, deskOn}
 use Rattle.desk_calls.specs.declared.Desk.{Desk}
 use Rattle.desk_calls.specs.Answers.{deskAt}

@@ -11,7 +11,7 @@ use Rattle.game.specs.Game.{may}
 use Rattle.game.specs.Placement.{atHome}
 use Rattle.game.specs.Setting.{headsFor}
 use Rattle.game.specs.Moves.{occupied, gameOf}
-use Rattle.tables.specs.Entries.{settingAt}
+use Rattle.game_tables.specs.Entries.{settingAt}
 use Rattle.desk.specs.Desk.{comesTo}
 use Rattle.desk.specs.Change.{sooner}
 

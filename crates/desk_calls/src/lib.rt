@@ -8,27 +8,27 @@ ghost use Rattle.railway.specs.declared.Railway.{Railway};
 ghost use mathlib.Core.Option.{none};
 ghost use Rattle.railway.specs.Record.{isClosed};
 ghost use Rattle.railway.specs.Rows.{recordRefusal};
-ghost use Rattle.routes.specs.Routes.{Laid};
-ghost use Rattle.compiled.specs.Table.{Compiled};
-ghost use Rattle.moves.specs.Steps.{On};
+ghost use Rattle.railway_routes.specs.Routes.{Laid};
+ghost use Rattle.railway_compiled.specs.Table.{Compiled};
+ghost use Rattle.game_moves.specs.Steps.{On};
 ghost use Rattle.desk.specs.declared.ReportAnswer.the-variants.{Refused};
 ghost use Rattle.desk.specs.declared.ChangeAnswer.the-variants.{Refused as Unchanged};
 ghost use Rattle.desk.specs.Change.{mismatch, changeTo, ChangePost};
 ghost use Rattle.desk.specs.Desk.{arrivals, deskOn, deskRow, noDesk, OpenPost, SettingPost, ReportPost};
 ghost use Rattle.desk_calls.specs.Answers.{deskAt, opening, replied, changing};
 ghost use Rattle.desk_calls.specs.Steps.{countsAt, soonerOf};
-use compiled::Table;
 use desk::ChangeAnswer;
 use desk::OpenAnswer;
 use desk::ReportAnswer;
 use desk::SettingAnswer;
-use placement::Placement;
+use game_placement::Placement;
+use game_tables::NO_FIGURE;
 use railway::CaseAnswer;
 use railway::Railway;
 use railway::Refusal;
-use routes::NO_SECTION;
-use routes::Ways;
-use tables::NO_FIGURE;
+use railway_compiled::Table;
+use railway_routes::NO_SECTION;
+use railway_routes::Ways;
 
 // Where the trains stand, the code of that placement, and how many of them stand on their destinations: a lamp reads both off the desk. What is there for trains that the case does
 // not have is not looked at.
@@ -61,7 +61,7 @@ impl Desk {
     pub fn open(r: Railway, figures: &[u32], settings: &[u32]) -> OpenReply
         ensures { λ x. ⌜ OpenPost r (now (figures .entry)) (now (settings .entry)) (opening x) ⌝ }
     {
-        let c = cases::open_case(r, figures, settings);
+        let c = game_case::open_case(r, figures, settings);
         let tested = c.tested;
         if let CaseAnswer::Refused(f) = tested {
             return OpenReply {
@@ -70,8 +70,8 @@ impl Desk {
             };
         }
         let table = c.table;
-        let p = moves::start_code(&table);
-        if tables::entry_at(figures, p, NO_FIGURE) == NO_FIGURE {
+        let p = game_moves::start_code(&table);
+        if game_tables::entry_at(figures, p, NO_FIGURE) == NO_FIGURE {
             return OpenReply {
                 answer: OpenAnswer::NoFigure,
                 desk: nowhere(),
@@ -79,7 +79,7 @@ impl Desk {
         }
         OpenReply {
             answer: OpenAnswer::Opened,
-            desk: desk_on(&table, moves::placement_of(&table, p)),
+            desk: desk_on(&table, game_moves::placement_of(&table, p)),
         }
     }
 
@@ -87,7 +87,7 @@ impl Desk {
     pub fn setting(self, r: Railway, figures: &[u32], settings: &[u32]) -> SettingAnswer
         ensures { λ a. ⌜ SettingPost r (deskAt self) (now (figures .entry)) (now (settings .entry)) a ⌝ }
     {
-        let c = cases::open_case(r, figures, settings);
+        let c = game_case::open_case(r, figures, settings);
         let tested = c.tested;
         if let CaseAnswer::Refused(f) = tested {
             return SettingAnswer::Refused(f);
@@ -96,14 +96,14 @@ impl Desk {
         if self.stopped(&table) {
             return SettingAnswer::Refused(Refusal::Report);
         }
-        SettingAnswer::Given(tables::entry_at(settings, self.code, 0))
+        SettingAnswer::Given(game_tables::entry_at(settings, self.code, 0))
     }
 
     // A REPORT: train t has come to section x. The next desk has it there, if the setting allows that move.
     pub fn report(self, r: Railway, figures: &[u32], settings: &[u32], t: u8, x: u8) -> ReportReply
         ensures { λ y. ⌜ ReportPost r (deskAt self) (now (figures .entry)) (now (settings .entry)) t x (replied y) ⌝ }
     {
-        let c = cases::open_case(r, figures, settings);
+        let c = game_case::open_case(r, figures, settings);
         let tested = c.tested;
         if let CaseAnswer::Refused(f) = tested {
             return self.refused(f);
@@ -113,12 +113,12 @@ impl Desk {
             return self.refused(Refusal::Report);
         }
         let p = self.code;
-        let v = tables::entry_at(settings, p, 0);
-        let ways = cases::case_ways(r);
-        if counts(&table, &ways, moves::placement_of(&table, p), v, t, x) {
+        let v = game_tables::entry_at(settings, p, 0);
+        let ways = game_case::case_ways(r);
+        if counts(&table, &ways, game_moves::placement_of(&table, p), v, t, x) {
             return ReportReply {
                 answer: ReportAnswer::Counted,
-                desk: desk_on(&table, moves::put_on(self.at, t, x)),
+                desk: desk_on(&table, game_moves::put_on(self.at, t, x)),
             };
         }
         self.refused(Refusal::Report)
@@ -129,9 +129,9 @@ impl Desk {
     pub fn change(self, r: Railway, text: &[u8], figures: &[u32], settings: &[u32]) -> ChangeReply
         ensures { λ y. ⌜ ChangePost r (now (text .entry)) (deskAt self) (now (figures .entry)) (now (settings .entry)) (changing y) ⌝ }
     {
-        let old = compiled::compile(r);
+        let old = railway_compiled::compile(r);
         let tested = old.tested;
-        let read = reader::read_case(text);
+        let read = case_reader::read_case(text);
         let answer = read.answer;
         match answer {
             CaseAnswer::Refused(g) => self.unchanged(sooner(tested, g)),
@@ -150,12 +150,12 @@ impl Desk {
     fn go_over(self, table: &Table, s: Railway, figures: &[u32], settings: &[u32]) -> ChangeReply
         ensures { λ y. ⌜ ((r : Railway) → Compiled r (now (table .entry)) → recordRefusal s ≡ none → changing y ≡ changeTo r s (deskAt self) (now (figures .entry)) (now (settings .entry))) ⌝ }
     {
-        let c = compiled::compile(s);
+        let c = railway_compiled::compile(s);
         let next = c.table;
         if mismatched(table, &next) {
             return self.unchanged(Refusal::Mismatch);
         }
-        let lent = cases::open_case(s, figures, settings);
+        let lent = game_case::open_case(s, figures, settings);
         let tested = lent.tested;
         if let CaseAnswer::Refused(f) = tested {
             return self.unchanged(f);
@@ -164,8 +164,8 @@ impl Desk {
             return self.unchanged(Refusal::Report);
         }
         let at = self.at;
-        let p = moves::code_of(&next, at);
-        if tables::entry_at(figures, p, NO_FIGURE) == NO_FIGURE {
+        let p = game_moves::code_of(&next, at);
+        if game_tables::entry_at(figures, p, NO_FIGURE) == NO_FIGURE {
             return self.unchanged(Refusal::Stranded);
         }
         ChangeReply {
@@ -189,15 +189,15 @@ impl Desk {
         ensures { λ b. ⌜ ((r : Railway) → Compiled r (now (table .entry)) → b ≡ deskRow r (deskAt self)) ⌝ }
     {
         let at = self.at;
-        if moves::names_none(table, at) {
+        if game_moves::names_none(table, at) {
             return true;
         }
-        let p = moves::code_of(table, at);
+        let p = game_moves::code_of(table, at);
         if self.code != p {
             return true;
         }
-        let q = moves::placement_of(table, p);
-        if moves::lost_in(table, q) {
+        let q = game_moves::placement_of(table, p);
+        if game_moves::lost_in(table, q) {
             return true;
         }
         self.arrived != arrivals(table, q)
@@ -231,11 +231,11 @@ fn nowhere() -> Desk
 fn desk_on(table: &Table, at: Placement) -> Desk
     ensures { λ d. ⌜ ((r : Railway) → Compiled r (now (table .entry)) → deskAt d ≡ deskOn r at) ⌝ }
 {
-    let p = moves::code_of(table, at);
+    let p = game_moves::code_of(table, at);
     Desk {
         at: at,
         code: p,
-        arrived: arrivals(table, moves::placement_of(table, p)),
+        arrived: arrivals(table, game_moves::placement_of(table, p)),
     }
 }
 
@@ -243,11 +243,11 @@ fn desk_on(table: &Table, at: Placement) -> Desk
 fn arrivals(table: &Table, q: Placement) -> u8
     ensures { λ n. ⌜ ((r : Railway) (p : ℕ) → On r p (now (table .entry)) q → n ≡ arrivals r p) ⌝ }
 {
-    let k = compiled::trains_in(table);
+    let k = railway_compiled::trains_in(table);
     let mut n: u8 = 0;
     let mut t: u8 = 0;
     while t < k {
-        if placement::section_at(q, t) == compiled::destination_in(table, t) {
+        if game_placement::section_at(q, t) == railway_compiled::destination_in(table, t) {
             n += 1;
         }
         t += 1;
@@ -260,17 +260,17 @@ fn arrivals(table: &Table, q: Placement) -> u8
 fn counts(table: &Table, ways: &Ways, q: Placement, v: u32, t: u8, x: u8) -> bool
     ensures { λ b. ⌜ ((r : Railway) (p : ℕ) → On r p (now (table .entry)) q → Laid r (isClosed r) (now (ways .entry)) → b ≡ countsAt r p v t x) ⌝ }
 {
-    if moves::home_in(table, q) {
+    if game_moves::home_in(table, q) {
         return false;
     }
     if x == NO_SECTION {
         return false;
     }
-    if moves::other_in(q, t, x, compiled::trains_in(table)) {
+    if game_moves::other_in(q, t, x, railway_compiled::trains_in(table)) {
         return false;
     }
-    if moves::may_in(table, q, v, t) {
-        return moves::leads_to(table, ways, q, v, t) == x;
+    if game_moves::may_in(table, q, v, t) {
+        return game_moves::leads_to(table, ways, q, v, t) == x;
     }
     false
 }
@@ -294,17 +294,17 @@ fn sooner(tested: CaseAnswer, g: Refusal) -> Refusal
 fn mismatched(old: &Table, new: &Table) -> bool
     ensures { λ b. ⌜ ((r s : Railway) → Compiled r (now (old .entry)) → Compiled s (now (new .entry)) → b ≡ mismatch r s) ⌝ }
 {
-    if compiled::sections_in(old) != compiled::sections_in(new) {
+    if railway_compiled::sections_in(old) != railway_compiled::sections_in(new) {
         return true;
     }
-    let k = compiled::trains_in(old);
-    if k != compiled::trains_in(new) {
+    let k = railway_compiled::trains_in(old);
+    if k != railway_compiled::trains_in(new) {
         return true;
     }
     let mut t: u8 = 0;
     while t < k {
-        let a = railway::side_index(compiled::heading_in(old, t));
-        let b = railway::side_index(compiled::heading_in(new, t));
+        let a = railway::side_index(railway_compiled::heading_in(old, t));
+        let b = railway::side_index(railway_compiled::heading_in(new, t));
         if a != b {
             return true;
         }

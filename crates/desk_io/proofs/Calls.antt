@@ -14,12 +14,12 @@ use Rattle.railway.specs.declared.CaseAnswer.{CaseAnswer}
 use Rattle.railway.specs.declared.CaseAnswer.the-variants.{Accepted, Refused as CaseRefused}
 use Rattle.railway.specs.Refusals.{numberGiven}
 use Rattle.railway.specs.Rows.{recordRefusal}
-use Rattle.casefile.specs.Given.{railwayGiven, AcceptedWith}
+use Rattle.case_file.specs.Given.{railwayGiven, AcceptedWith}
 use Rattle.game.specs.Placement.{startCode}
-use Rattle.tables.specs.declared.SolverAnswer.{SolverAnswer}
-use Rattle.tables.specs.Tables.{figureIn, tablesShort, caseRefusal}
-use Rattle.tables.specs.Solver.{figureGiven, SolverTables, SolverPost}
-use Rattle.tables.proofs.Refusals.{case-accepted}
+use Rattle.game_tables.specs.declared.SolverAnswer.{SolverAnswer}
+use Rattle.game_tables.specs.Tables.{figureIn, tablesShort, caseRefusal}
+use Rattle.game_tables.specs.Solver.{figureGiven, SolverTables, SolverPost}
+use Rattle.game_tables.proofs.Refusals.{case-accepted}
 use Rattle.desk.specs.declared.SettingAnswer.{SettingAnswer}
 use Rattle.desk.specs.declared.SettingAnswer.the-variants.{Given, Refused as SettingRefused}
 use Rattle.desk.specs.declared.ReportAnswer.{ReportAnswer}
@@ -35,7 +35,7 @@ use Rattle.desk.proofs.ChangeRows.{made, read-accepted}
 use Rattle.desk.proofs.ChangeInhabited.{read-made, refused-made}
 use Rattle.desk_lines.specs.Reports.{Told, reportIn, placeOf}
 use Rattle.desk_lines.specs.Changes.{isChange}
-use Rattle.desk_texts.specs.Said.{givenSaid, settingSaid, repliedSaid, toldSaid}
+use Rattle.desk_text.specs.Said.{givenSaid, settingSaid, repliedSaid, toldSaid}
 use Rattle.desk_io.specs.Session.{Panel, panelOf, Input, changeRead, changedHeard, heardFor, panelBehind}
 use Rattle.desk_io.specs.Followed.{blank, FileRead, Came, ByCalls}
 

@@ -18,19 +18,19 @@ use Rattle.railway.specs.declared.CaseAnswer.the-variants.{Accepted, Refused as
 use Rattle.railway.specs.Refusals.{number, numberGiven}
 use Rattle.railway.specs.Rows.{recordRefusal}
 use Rattle.railway.proofs.Refusals.{number-one}
-use Rattle.casefile.specs.declared.CaseRead.{CaseRead}
-use Rattle.casefile.specs.Rows.{mostBytes}
-use Rattle.casefile.specs.Given.{refused, railwayGiven, ReaderPost}
-use Rattle.tables.specs.declared.SolverAnswer.{SolverAnswer}
-use Rattle.tables.specs.Solver.{SolverPost}
-use Rattle.answerlines.specs.Lines.{refusalLine}
-use Rattle.answerlines.proofs.Made.{refusal-short}
+use Rattle.case_file.specs.declared.CaseRead.{CaseRead}
+use Rattle.case_file.specs.Rows.{mostBytes}
+use Rattle.case_file.specs.Given.{refused, railwayGiven, ReaderPost}
+use Rattle.game_tables.specs.declared.SolverAnswer.{SolverAnswer}
+use Rattle.game_tables.specs.Solver.{SolverPost}
+use Rattle.answer_lines.specs.Lines.{refusalLine}
+use Rattle.answer_lines.proofs.Lines.{refusal-short}
 use Rattle.desk.specs.declared.ChangeAnswer.{ChangeAnswer}
 use Rattle.desk.specs.declared.ChangeAnswer.the-variants.{Changed, Refused}
 use Rattle.desk.specs.Desk.{Desk}
 use Rattle.desk.specs.Change.{sooner, Changing, numberChanged, ChangePost}
 use Rattle.desk_lines.specs.Changes.{isChange}
-use Rattle.desk_texts.specs.Said.{stateSaid, lineSaid}
+use Rattle.desk_text.specs.Said.{stateSaid, lineSaid}
 use Rattle.desk_io.specs.Session.{Panel, panelOf, heardAt, Input, changeRead, changedHeard}
 use Rattle.desk_io.specs.Followed.{Wrote, blank, NewCase, Turned, heard}
 

@@ -1,5 +1,5 @@
 pub mod Saying
 pub mod Changing
-pub mod Following
+pub mod Followed
 pub mod Calls
 pub mod Uses

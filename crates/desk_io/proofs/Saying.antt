@@ -8,14 +8,14 @@ use native.Mathlib.Omega.{arith}
 use lib.ListN.{length}
 use Rattle.railway.specs.declared.Railway.{Railway}
 use Rattle.railway.specs.declared.Refusal.{Refusal}
-use Rattle.casefile.specs.declared.Written.{Written}
-use Rattle.casefile.specs.Writing.{writtenCount}
-use Rattle.answerlines.specs.Lines.{refusalLine, PutPost}
-use Rattle.answerlines.proofs.Made.{refusal-short}
-use Rattle.answerlines.proofs.Puts.{put-fits}
+use Rattle.case_file.specs.declared.Written.{Written}
+use Rattle.case_file.specs.Writing.{writtenCount}
+use Rattle.answer_lines.specs.Lines.{refusalLine, PutPost}
+use Rattle.answer_lines.proofs.Lines.{refusal-short}
+use Rattle.answer_lines.proofs.Puts.{put-fits}
 use Rattle.desk.specs.Desk.{Desk}
 use Rattle.desk_lines.specs.Panel.{mostStateBytes}
-use Rattle.desk_texts.specs.Said.{Said, SaidPost}
+use Rattle.desk_text.specs.Said.{Said, SaidPost}
 use Rattle.desk_io.specs.Session.{panelOf, heardAt}
 use Rattle.desk_io.specs.Followed.{Wrote}
 

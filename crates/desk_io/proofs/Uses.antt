@@ -22,20 +22,20 @@ use Rattle.railway.specs.Record.{isClosed, joinedBy, joined, hasSignal, legsOf,
 use Rattle.railway.specs.Passing.{follow, passes}
 use Rattle.railway.specs.Rows.{weightRow, unknownRow, joinRow, looseRow, longer, chainRow, placeRow, recordRefusal}
 use Rattle.railway.specs.Yards.{yardA}
-use Rattle.casefile.specs.declared.CaseRead.{CaseRead}
-use Rattle.casefile.specs.Given.{accepted, refused, RefusedWith}
-use Rattle.casefile.specs.Reading.{counted, while, headerAt, walk, read, caseAnswer}
-use Rattle.casefile.proofs.Exactly.{reader-answers}
+use Rattle.case_file.specs.declared.CaseRead.{CaseRead}
+use Rattle.case_file.specs.Given.{accepted, refused, RefusedWith}
+use Rattle.case_file.specs.Reading.{counted, while, headerAt, walk, read, caseAnswer}
+use Rattle.case_file.proofs.Given.{reader-answers}
 use Rattle.game.specs.Placement.{codeOf, sectionsIn, standsOn, namesNone, placements, startCode, atHome, shared}
 use Rattle.game.specs.Setting.{headsFor, held, free, signalOpen, mayMove}
 use Rattle.game.specs.Moves.{occupied, gameOf}
 use Rattle.game.proofs.Figures.{figure-one}
-use Rattle.tables.specs.Entries.{settingAt}
-use Rattle.tables.specs.Tables.{figureIn, tablesShort, caseRefusal, Filled}
-use Rattle.tables.specs.Solver.{figureGiven, SolverTables, SolverPost}
-use Rattle.tables.proofs.Refusals.{Enough, case-none}
-use Rattle.tables.proofs.Certify.{certify}
-use Rattle.tables.proofs.KnownYards.{figsA, setsA}
+use Rattle.game_tables.specs.Entries.{settingAt}
+use Rattle.game_tables.specs.Tables.{figureIn, tablesShort, caseRefusal, Filled}
+use Rattle.game_tables.specs.Solver.{figureGiven, SolverTables, SolverPost}
+use Rattle.game_tables.proofs.Refusals.{Enough, case-none}
+use Rattle.game_tables.proofs.Certify.{certify}
+use Rattle.game_tables.proofs.KnownYards.{figsA, setsA}
 use Rattle.desk.specs.Desk.{Desk, misplaced, arrivals, miscarries, openDesk, giveSetting, allows, reportRow, report}
 use Rattle.desk.specs.Change.{mismatch, stranded, changeTo, Working, beginningWith, Beginning, AtWork}
 use Rattle.desk.proofs.ChangeExamples.{shut}
@@ -43,12 +43,12 @@ use Rattle.desk.proofs.Change.{change-holds}
 use Rattle.desk.proofs.ChangeUses.{yards}
 use Rattle.desk_lines.specs.Reports.{reportAt}
 use Rattle.desk_lines.specs.Changes.{startsWith, isChange}
-use Rattle.desk_lines.proofs.Reading.{cut-reads}
-use Rattle.desk_lines.proofs.Changing.{cut-changes}
-use Rattle.desk_texts.specs.Said.{toldSaid, lineSaid}
+use Rattle.desk_lines.proofs.Reports.{cut-reads}
+use Rattle.desk_lines.proofs.Changes.{cut-changes}
+use Rattle.desk_text.specs.Said.{toldSaid, lineSaid}
 use Rattle.desk_io.specs.Session.{Panel, panelOf, Input, answers, panelBehind, panelText}
 use Rattle.desk_io.specs.Followed.{blank, FileRead, Came, Ran, CaseFollowed, Followed}
-use Rattle.desk_io.proofs.Following.{cut-follows}
+use Rattle.desk_io.proofs.Followed.{cut-follows}
 use Rattle.desk_io.proofs.Calls.{by-calls}
 
 -- a line, and one that names a file which is read so

@@ -6,14 +6,14 @@ use Prim.Native.Nat.{ℕ, suc, _≤_, _<_}
 use lib.ListN.{length, take, replicate}
 use Rattle.laws.specs.Lists.{Every}
 use Rattle.railway.specs.declared.Railway.{Railway}
-use Rattle.casefile.specs.declared.CaseRead.{CaseRead}
-use Rattle.casefile.specs.Rows.{mostBytes}
-use Rattle.casefile.specs.Given.{ReaderPost}
-use Rattle.reader.specs.Answers.{ByCase}
-use Rattle.tables.specs.declared.SolverAnswer.{SolverAnswer}
-use Rattle.tables.specs.Lengths.{entries}
-use Rattle.tables.specs.Solver.{SolverPost}
-use Rattle.answerlines.specs.Lines.{refusalLine}
+use Rattle.case_file.specs.declared.CaseRead.{CaseRead}
+use Rattle.case_file.specs.Rows.{mostBytes}
+use Rattle.case_file.specs.Given.{ReaderPost}
+use Rattle.case_reader.specs.Answers.{ByCase}
+use Rattle.game_tables.specs.declared.SolverAnswer.{SolverAnswer}
+use Rattle.game_tables.specs.Lengths.{entries}
+use Rattle.game_tables.specs.Solver.{SolverPost}
+use Rattle.answer_lines.specs.Lines.{refusalLine}
 use Rattle.desk.specs.Desk.{Desk}
 use Rattle.desk.specs.Change.{Working, beginningWith, Works}
 use Rattle.desk_lines.specs.Panel.{mostStateBytes}

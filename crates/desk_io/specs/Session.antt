@@ -1,5 +1,5 @@
 -- All that program `deskrun` writes: line after line, at a panel that has a case, its tables and a desk; a change of case (document 02, Q-11) may put another case there. What is written for
--- the opening and for a report is in desk_texts/Said. Assumes nothing.
+-- the opening and for a report is in desk_text/Said. Assumes nothing.
 use mathlib.Core.Bool.{Bool, true, cond}
 use mathlib.Core.List.{List, [], _∷_, _++_}
 use Prim.Native.Nat.{ℕ}
@@ -7,13 +7,13 @@ use Rattle.railway.specs.declared.Railway.{Railway}
 use Rattle.railway.specs.declared.CaseAnswer.{CaseAnswer}
 use Rattle.railway.specs.declared.CaseAnswer.the-variants.{Accepted, Refused as CaseRefused}
 use Rattle.railway.specs.Rows.{recordRefusal}
-use Rattle.casefile.specs.declared.CaseRead.{CaseRead}
+use Rattle.case_file.specs.declared.CaseRead.{CaseRead}
 use Rattle.desk.specs.declared.ChangeAnswer.{ChangeAnswer}
 use Rattle.desk.specs.declared.ChangeAnswer.the-variants.{Changed, Refused}
 use Rattle.desk.specs.Desk.{Desk}
 use Rattle.desk.specs.Change.{sooner, Changing, changeTo}
 use Rattle.desk_lines.specs.Changes.{isChange}
-use Rattle.desk_texts.specs.Said.{Said, refusedSaid, stateSaid, openingSaid, lineSaid}
+use Rattle.desk_text.specs.Said.{Said, refusedSaid, stateSaid, openingSaid, lineSaid}
 
 -- THE PANEL: the case that is followed, the tables that are lent with it, and the desk.
 pub record Panel : Type 0 where

@@ -9,32 +9,32 @@ ghost use mathlib.Core.Option.{Option·getD};
 ghost use Prim.Native.Nat.{suc, _≤_};
 ghost use lib.ListN.{length};
 ghost use Rattle.io.specs.Counts.{Counts};
-ghost use Rattle.casefile.specs.Rows.{mostBytes};
-ghost use Rattle.casefile.specs.Writing.{writtenCount};
-ghost use Rattle.tables.specs.Lengths.{entries};
-ghost use Rattle.answerlines.specs.Lines.{refusalLine};
+ghost use Rattle.case_file.specs.Rows.{mostBytes};
+ghost use Rattle.case_file.specs.Writing.{writtenCount};
+ghost use Rattle.game_tables.specs.Lengths.{entries};
+ghost use Rattle.answer_lines.specs.Lines.{refusalLine};
 ghost use Rattle.desk_calls.specs.Answers.{deskAt};
-ghost use Rattle.desk_texts.specs.Said.{stateSaid, openingSaid, lineSaid};
+ghost use Rattle.desk_text.specs.Said.{stateSaid, openingSaid, lineSaid};
 ghost use Rattle.desk_lines.specs.Changes.{isChange};
 ghost use Rattle.desk_io.specs.Session.{panelOf, heardAt};
 ghost use Rattle.desk_io.specs.Followed.{Wrote, NewCase, Turned, Ran, Solved, CaseFollowed, Followed};
-use casefile::Written;
+use case_file::Written;
 use desk::ChangeAnswer;
 use desk_calls::Desk;
 use desk_lines::INPUT;
 use desk_lines::LINE;
 use desk_lines::NAME;
-use desk_texts::Step;
+use desk_text::Step;
+use game_tables::ENTRIES;
 use libc::STDIN_FILENO;
 use railway::CaseAnswer;
 use railway::Railway;
 use railway::Refusal;
-use tables::ENTRIES;
 use text::LINE_END;
 use text::append;
 
 // One byte more than a case text may have: so many bytes decide what is written (`CutFollows` in specs/Followed).
-const CASE: usize = casefile::MOST_BYTES + 1;
+const CASE: usize = case_file::MOST_BYTES + 1;
 
 // More lines than can come; what is written for so many is counted in 64 bits.
 const TURNS: usize = 72057594037927936;
@@ -81,7 +81,7 @@ fn follow_file(case: &mut [u8]) -> usize
 fn follow_case(case: &[u8]) -> usize
     ensures { λ n. ⌜ CaseFollowed (now (case .entry)) n ⌝ }
 {
-    let read = reader::read_case(case);
+    let read = case_reader::read_case(case);
     let answer = read.answer;
     match answer {
         CaseAnswer::Refused(f) => write_refusal(f),
@@ -93,8 +93,8 @@ fn write_refusal(f: Refusal) -> usize
     ensures { λ n. ⌜ n ≡ length (refusalLine f) ⌝ }
 {
     let mut out = [0u8; LINE];
-    let put = answerlines::refusal_line(f, &mut out);
-    output::front(&out, put);
+    let put = answer_lines::refusal_line(f, &mut out);
+    answer_output::front(&out, put);
     bytes_put(put)
 }
 
@@ -140,7 +140,7 @@ fn open(r: Railway, figures: &[u32], settings: &[u32]) -> Stand
         (panelOf r (now (figures .entry)) (now (settings .entry)) (deskAt (t .desk))) (t .bytes) (t .going) ⌝ }
 {
     let mut out = [0u8; LINE];
-    let step = desk_texts::open_text(r, figures, settings, &mut out);
+    let step = desk_text::open_text(r, figures, settings, &mut out);
     write(r, step, &out)
 }
 
@@ -184,7 +184,7 @@ fn answer(desk: Desk, line: &[u8], r: Railway, figures: &[u32], settings: &[u32]
         (t .bytes) (t .going) ⌝ }
 {
     let mut out = [0u8; LINE];
-    let step = desk_texts::line_text(desk, line, r, figures, settings, &mut out);
+    let step = desk_text::line_text(desk, line, r, figures, settings, &mut out);
     write(r, step, &out)
 }
 
@@ -196,7 +196,7 @@ fn tell(desk: Desk, r: Railway, figures: &[u32], settings: &[u32]) -> Stand
         (t .bytes) (t .going) ⌝ }
 {
     let mut out = [0u8; LINE];
-    let step = desk_texts::state_text(desk, r, figures, settings, &mut out);
+    let step = desk_text::state_text(desk, r, figures, settings, &mut out);
     write(r, step, &out)
 }
 
@@ -206,7 +206,7 @@ fn write(r: Railway, step: Step, out: &[u8]) -> Stand
 {
     let desk = step.desk;
     let put = step.put;
-    output::front(out, put);
+    answer_output::front(out, put);
     Stand {
         railway: r,
         desk: desk,
@@ -270,7 +270,7 @@ fn change_text(
 {
     let mut next_figures = [0u32; ENTRIES];
     let mut next_settings = [0u32; ENTRIES];
-    let read = reader::read_case(text);
+    let read = case_reader::read_case(text);
     let s = read.railway;
     solver::solve(s, &mut next_figures, &mut next_settings);
     let reply = desk.change(r, text, &next_figures, &next_settings);

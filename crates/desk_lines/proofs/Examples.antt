@@ -8,7 +8,7 @@ use Prim.Native.String.{String}
 use Rattle.laws.specs.Below.{gatherBelow}
 use Rattle.text.specs.Text.{digits, line, bytes}
 use Rattle.text.specs.Reading.{isDigit, byteAt, digitsAt, numberAt}
-use Rattle.placement.specs.declared.Placement.{Placement}
+use Rattle.game_placement.specs.declared.Placement.{Placement}
 use Rattle.desk_lines.specs.Panel.{stateLine, homeLine}
 use Rattle.desk_lines.specs.Reports.{reportAt, reportIn, placeOf}
 use Rattle.desk_lines.specs.Changes.{startsWith, isChange}

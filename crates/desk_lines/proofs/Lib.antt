@@ -1,4 +1,4 @@
 pub mod Examples
-pub mod Spelling
-pub mod Reading
-pub mod Changing
+pub mod Panel
+pub mod Reports
+pub mod Changes

@@ -6,10 +6,10 @@ use lib.Dec.{eqb}
 use Rattle.laws.specs.Below.{gatherBelow}
 use Rattle.laws.specs.Bits.{bit}
 use Rattle.text.specs.Text.{decimal, lineEnd, line, bytes}
-use Rattle.tables.specs.Entries.{opensIn}
-use Rattle.placement.specs.declared.Placement.{Placement}
-use Rattle.placement.specs.ByValue.{sectionIn}
-use Rattle.planlines.specs.Spelling.{pointPiece}
+use Rattle.game_tables.specs.Entries.{opensIn}
+use Rattle.game_placement.specs.declared.Placement.{Placement}
+use Rattle.game_placement.specs.ByValue.{sectionIn}
+use Rattle.plan_lines.specs.Spelling.{pointPiece}
 
 -- A number, and a space behind it.
 abbrev pub spaced : ℕ → List ℕ

@@ -3,13 +3,13 @@
 ghost use mathlib.Core.Path.{_≡_};
 ghost use Rattle.laws.specs.Below.{gatherBelow};
 ghost use Rattle.text.specs.Appending.{Appended};
-ghost use Rattle.answerlines.specs.Lines.{PutPost};
+ghost use Rattle.answer_lines.specs.Lines.{PutPost};
 ghost use Rattle.desk_lines.specs.Panel.{trainPiece, pointsPart, stateLine, homeLine};
 ghost use Rattle.desk_lines.specs.Reports.{placeOf, reportIn, reportRead};
 ghost use Rattle.desk_lines.specs.Changes.{startsWith, isChange};
-use casefile::Written;
-use placement::Placement;
-use placement::TRAIN_BITS;
+use case_file::Written;
+use game_placement::Placement;
+use game_placement::TRAIN_BITS;
 use text::Byte;
 use text::Cursor;
 use text::LINE_END;
@@ -52,7 +52,7 @@ pub fn state_line(out: &mut [u8], at: usize, k: u8, m: u8, q: Placement, n: u32,
 pub fn home_line(out: &mut [u8]) -> Written
     ensures { λ w. ⌜ PutPost homeLine (now (out .entry)) w (now (out .exit)) ⌝ }
 {
-    answerlines::put(b"home\n", out)
+    answer_lines::put(b"home\n", out)
 }
 
 fn put_trains(out: &mut [u8], at: usize, k: u8, q: Placement, v: u32) -> usize
@@ -74,8 +74,8 @@ fn put_train(out: &mut [u8], at: usize, q: Placement, v: u32, t: u8) -> usize
     let a = append::bytes(out, at, b"train ");
     let b = append::number(out, a, t as u32 + 1, b' ');
     let c = append::bytes(out, b, b"at ");
-    let d = append::number(out, c, placement::section_at(q, t) as u32 + 1, b' ');
-    if placement::bit_at(v, TRAIN_BITS + (t as u32)) {
+    let d = append::number(out, c, game_placement::section_at(q, t) as u32 + 1, b' ');
+    if game_placement::bit_at(v, TRAIN_BITS + (t as u32)) {
         return append::bytes(out, d, b"open | ");
     }
     append::bytes(out, d, b"| ")
@@ -88,7 +88,7 @@ fn put_points(out: &mut [u8], at: usize, m: u8, v: u32) -> usize
     if m == 0 {
         return append::bytes(out, at, b"none");
     }
-    planlines::put_signs(out, at, m, v)
+    plan_lines::put_signs(out, at, m, v)
 }
 
 // A report: two numbers and a tab between them, and nothing behind. The line is handed in without its end.

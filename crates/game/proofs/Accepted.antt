@@ -20,9 +20,9 @@ use Rattle.railway.specs.Ends.{endIndex, endAt}
 use Rattle.railway.specs.Refusals.{first, refuseIf}
 use Rattle.railway.specs.Record.{linkAt, joined, trainOf, weightOf}
 use Rattle.railway.specs.Rows.{countRow, wrongWeightAt, weightRow, known, unknownLink, unknownLinkAt, unknownSignalAt, unknownClosedAt, unknownTrainAt, unknownRow, recordRefusal}
-use Rattle.railway.proofs.Accepted.{right-weight}
--- (Plays is named so that it is checked before: a wrong definition then shows at a computed value.)
-use Rattle.game.proofs.Plays as Plays
+use Rattle.railway.proofs.Rows.{right-weight}
+-- (Examples is named so that it is checked before: a wrong definition then shows at a computed value.)
+use Rattle.game.proofs.Examples as Examples
 
 -- an end that something is joined to is there
 abbrev pub Known : Railway → Joined → Type 0

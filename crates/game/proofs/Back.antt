@@ -18,7 +18,7 @@ use Rattle.railway.specs.declared.Railway.{Railway}
 use Rattle.railway.specs.Ends.{opposite}
 use Rattle.railway.specs.Record.{joined, legsOf, sideOf}
 use Rattle.railway.specs.Passing.{through, nowhere, pastPoint, pastJoin, follow}
-use Rattle.railway.proofs.Accepted.{Accepted, joined-right, joined-back}
+use Rattle.railway.proofs.Rows.{Accepted, joined-right, joined-back}
 use Rattle.railway.proofs.Runs.{other-side, twice, through-back, through-sides}
 
 module _ (r : Railway) (plus : ℕ → Bool) where

@@ -10,12 +10,12 @@ use Prim.Native.Nat.{ℕ, zero, suc, _+_, _≤_, _<_}
 use native.Mathlib.Omega.{arith}
 use lib.ListN.{length, length-append}
 use Rattle.laws.proofs.Bools.{bool?, clash}
-use Rattle.game.specs.Game.{Outcome, lost, at, Game, Turn, Way, Choice, Position, lostByMove, standing, mover}
+use Rattle.game.specs.Game.{Outcome, lost, at, Game, Turn, Strategy, Adversary, Position, lostByMove, standing, mover}
 use Rattle.game.specs.Game.{over, grown, standAfter, turn, step, play, cost, spent, spentAt, homeAt, HomeWithin}
 use Rattle.game.specs.Game.{Forced, IsFigure}
 use Rattle.game.specs.Claim.{Within, figureOf, Keeps}
 use Rattle.game.specs.ByTurns.{HomeInTurns, ForcedInTurns, IsTurns, Smaller, KeepsInTurns, AllOne, AsBefore, OneAsBefore}
-use Rattle.game.proofs.Turns.{may-train, mover-cases, spent-grown}
+use Rattle.game.proofs.Local.{may-train, mover-cases, spent-grown}
 
 module _ {S : Type 0} (g : Game S) (one : AllOne g) where
   -- TURNS COST 1 EACH
@@ -61,7 +61,7 @@ module _ {S : Type 0} (g : Game S) (one : AllOne g) where
       go none a b = (a, b)
       go (some t) a b = stands (suc m) (grown g h p s (some t)) (g .next p s t) a b
 
-  module _ (w : Way S) (c : Choice S) where
+  module _ (w : Strategy S) (c : Adversary S) where
     -- one more turn where the play goes on
     goes : (m : ℕ) (h : List (Turn S)) (q : ℕ) → Behind m h q → over g q ≡ false → Just (suc m) (step g w c (standing h q))
     goes m h q b o = rw o (turned m h q (w h q) (mover g q (w h q) (c h q (w h q))) (costs-one q (w h q) (c h q (w h q))) (b .goes-on o) (b .each ∙ b .goes-on o))

@@ -8,12 +8,12 @@ use mathlib.Core.Option.{Option, none, some}
 use Prim.Native.Nat.{ℕ, zero, suc, _+_, _≤_, _<_}
 use native.Mathlib.Omega.{arith}
 use Rattle.laws.proofs.Bools.{bool?, option?, clash}
-use Rattle.game.specs.Game.{Outcome, lost, at, Game, Turn, Way, Choice, Position, lostByMove, standing, mover}
+use Rattle.game.specs.Game.{Outcome, lost, at, Game, Turn, Strategy, Adversary, Position, lostByMove, standing, mover}
 use Rattle.game.specs.Game.{home, over, grown, standAfter, turn, step, play, cost, spent, spentAt, homeAt}
 use Rattle.game.specs.Game.{HomeWithin, Forced, IsFigure}
 use Rattle.game.specs.Claim.{Keeps}
 use Rattle.game.specs.Local.{Costs, Inside, Solved}
-use Rattle.game.proofs.Turns.{lost-not-home, may-train, mover-cases, spent-grown, keeps-map}
+use Rattle.game.proofs.Local.{lost-not-home, may-train, mover-cases, spent-grown, keeps-map}
 use Rattle.game.proofs.Homing.{comes-home}
 
 -- a placement has one figure
@@ -28,7 +28,7 @@ pub keeps-same : {S : Type 0} (g : Game S) (F G : ℕ → Option ℕ) → Inside
 keeps-same g F G inside same p s n l k = keeps-map g F G p s n n (λ t q j a e h b. (same q (inside p s t q l a e) ∙ h, b)) k
 
 -- s in the first turn, f afterwards
-abbrev firstly : {S : Type 0} → S → (ℕ → S) → Way S
+abbrev firstly : {S : Type 0} → S → (ℕ → S) → Strategy S
 firstly s f [] q = s
 firstly s f (x ∷ h) q = f q
 
@@ -38,7 +38,7 @@ firstly-later g s f (y ∷ h) p o m q = refl
 
 module _ {S : Type 0} (g : Game S) where
   -- a play that starts where it has ended stays there
-  pub ended : (w : Way S) (c : Choice S) (p : ℕ) → over g p ≡ true → (m : ℕ) → play g w c p m ≡ standing [] p
+  pub ended : (w : Strategy S) (c : Adversary S) (p : ℕ) → over g p ≡ true → (m : ℕ) → play g w c p m ≡ standing [] p
   unfolding play
   ended w c p o zero = refl
   ended w c p o (suc m) = let e : play g w c p m ≡ standing [] p = ended w c p o m in rw (e, o)
@@ -56,7 +56,7 @@ module _ {S : Type 0} (g : Game S) where
   Begun p lostByMove = Unit {0}
   Begun p (standing h q) = (q ≡ p) ⊎ (1 ≤ spent g h)
 
-  module _ (costs : Costs g) (w : Way S) (c : Choice S) (p : ℕ) where
+  module _ (costs : Costs g) (w : Strategy S) (c : Adversary S) (p : ℕ) where
     begun-after : (h : List (Turn S)) (q : ℕ) (s : S) (m : Option ℕ) (o : Outcome) → 1 ≤ cost g m → Begun p (standAfter g (grown g h q s m) o)
     begun-after h q s m (lost x) l = tt
     begun-after h q s m (at y) l = inr (omega (arith, spent-grown g h q s m))

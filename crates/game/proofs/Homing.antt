@@ -8,12 +8,12 @@ use mathlib.Core.Option.{Option, none, some}
 use Prim.Native.Nat.{ℕ, zero, suc, _+_, _≤_, _<_}
 use native.Mathlib.Omega.{arith}
 use Rattle.laws.proofs.Bools.{bool?, option?, clash, some-none}
-use Rattle.game.specs.Game.{Outcome, lost, at, Game, Turn, Way, Choice, Position, lostByMove, standing, may}
+use Rattle.game.specs.Game.{Outcome, lost, at, Game, Turn, Strategy, Adversary, Position, lostByMove, standing, may}
 use Rattle.game.specs.Game.{mover, home, over, grown, standAfter, turn, step, play, homeAt, spent, spentAt}
 use Rattle.game.specs.Game.{HomeWithin}
 use Rattle.game.specs.Claim.{Within, figureOf, Keeps}
 use Rattle.game.specs.Local.{Costs, Inside}
-use Rattle.game.proofs.Turns.{home-over, not-over, may-train, spent-grown, no-keeps-zero, mover-cases}
+use Rattle.game.proofs.Local.{home-over, not-over, may-train, spent-grown, no-keeps-zero, mover-cases}
 
 module _ {S : Type 0} (g : Game S) (F : ℕ → Option ℕ) (f : ℕ → S) (costs : Costs g) (inside : Inside g)
     (lost-none : (p : ℕ) → p < g .placements → g .isLost p ≡ true → F p ≡ none)
@@ -21,7 +21,7 @@ module _ {S : Type 0} (g : Game S) (F : ℕ → Option ℕ) (f : ℕ → S) (cos
   pub not-lost : (p n : ℕ) → p < g .placements → F p ≡ some n → g .isLost p ≡ false
   not-lost p n h e = elim (bool? (g .isLost p)) [ inl l ↦ some-none e (lost-none p h l) | inr l ↦ l ]
 
-  module _ (w : Way S) (later : (h : List (Turn S)) (p : ℕ) (s : S) (m : Option ℕ) (q : ℕ) → w (grown g h p s m) q ≡ f q) where
+  module _ (w : Strategy S) (later : (h : List (Turn S)) (p : ℕ) (s : S) (m : Option ℕ) (q : ℕ) → w (grown g h p s m) q ≡ f q) where
     -- with a total of n: at home without more spent, or with a figure that the rest of it covers, each of m turns having cost 1 at least
     record Covered (n m q spent : ℕ) : Type 0 where
       figure : ℕ
@@ -56,7 +56,7 @@ module _ {S : Type 0} (g : Game S) (F : ℕ → Option ℕ) (f : ℕ → S) (cos
       | inr u ↦ clash (k .one-may .1) (u .1 (k .one-may .0))
     ]
 
-    steps : (n m : ℕ) (c : Choice S) (x : Position S) → Ahead n m x → Ahead n (suc m) (step g w c x)
+    steps : (n m : ℕ) (c : Adversary S) (x : Position S) → Ahead n m x → Ahead n (suc m) (step g w c x)
     steps n m c lostByMove a = a
     steps n m c (standing h q) a = elim (bool? (home g q)) [
       | inl e ↦ rw (home-over (g .isLost q) (g .isHome q) e) (a .0, a .1, inl (e, within (a .2)))
@@ -88,7 +88,7 @@ module _ {S : Type 0} (g : Game S) (F : ℕ → Option ℕ) (f : ℕ → S) (cos
       )
     ]
 
-    module _ (p n : ℕ) (hp : p < g .placements) (going : over g p ≡ false) (k : Keeps g F p (w [] p) n) (c : Choice S) where
+    module _ (p n : ℕ) (hp : p < g .placements) (going : over g p ≡ false) (k : Keeps g F p (w [] p) n) (c : Adversary S) where
       ahead : (m : ℕ) → Ahead n (suc m) (play g w c p (suc m))
       unfolding play spent
       ahead zero = rw going (turns n 0 [] p (w [] p) _ n hp k (omega arith) (omega arith))

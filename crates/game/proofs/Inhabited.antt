@@ -22,8 +22,8 @@ use Rattle.game.specs.Setting.{Setting, SameSetting}
 use Rattle.game.specs.Moves.{gameOf}
 use Rattle.game.specs.ByTurns.{AllOne}
 use Rattle.railway.specs.Yards.{yardA}
-use Rattle.game.proofs.Turns.{may-allowed, keeps-test, test-keeps}
-use Rattle.game.proofs.Whole.{whole}
+use Rattle.game.proofs.Local.{may-allowed, keeps-test, test-keeps}
+use Rattle.game.proofs.Claim.{whole}
 use Rattle.game.proofs.Settle.{Searches, AtMostWeight, figures, table, settle, rounds-solved}
 use Rattle.game.proofs.Accepted.{Facts, facts}
 

@@ -25,7 +25,7 @@ use Rattle.game.specs.Local.{Costs, Inside}
 use Rattle.game.specs.Placement.{sectionsIn, sectionsOf, standsOn, placements, startCode}
 use Rattle.game.specs.Setting.{Setting, headsFor}
 use Rattle.game.specs.Moves.{occupied, codeWith, enters, moveOf, gameOf, ClosedLose}
-use Rattle.game.proofs.Codes.{AllBelow, code-below, sections-code, sections-length, sections-below, set-below}
+use Rattle.game.proofs.Placement.{AllBelow, code-below, sections-code, sections-length, sections-below, set-below}
 use Rattle.game.proofs.Accepted.{Known, Facts}
 
 module _ (r : Railway) (ok : Facts r) where

@@ -13,7 +13,7 @@ use Rattle.laws.proofs.Bools.{eq?, bool?, clash, not-is}
 use Rattle.laws.proofs.Below.{any-at, any-of, any-false, list-length, list-get}
 use Rattle.railway.specs.declared.Railway.{Railway}
 use Rattle.game.specs.Placement.{sectionsIn, placements, sectionsOf, standsOn, codeOn, namesNone}
-use Rattle.game.proofs.Codes.{AllBelow, code-below, sections-code}
+use Rattle.game.proofs.Placement.{AllBelow, code-below, sections-code}
 
 module _ (r : Railway) (section : ℕ → ℕ) where
   pub some-named : (t : ℕ) → t < r .trains → r .sections ≤ section t → namesNone r section ≡ true

@@ -15,7 +15,7 @@ use Rattle.laws.proofs.Below.{lowest-cases, count-le, count-more}
 use Rattle.game.specs.Game.{Game, home, over}
 use Rattle.game.specs.Claim.{Keeps}
 use Rattle.game.specs.Local.{Costs, Solved}
-use Rattle.game.proofs.Turns.{may-train, no-keeps-zero, keeps-map}
+use Rattle.game.proofs.Local.{may-train, no-keeps-zero, keeps-map}
 
 abbrev pub isSome : Option ℕ → Bool
 isSome none = false

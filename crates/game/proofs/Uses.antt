@@ -18,7 +18,7 @@ use Rattle.railway.specs.Record.{isClosed, withClosed, joinedBy, joined, hasSig
 use Rattle.railway.specs.Passing.{follow, passes, entered}
 use Rattle.railway.specs.Rows.{recordRefusal}
 use Rattle.railway.specs.Yards.{yardA}
-use Rattle.game.specs.Game.{derailment, lost, at, Way, Choice, following, positional, Turn, standing, may, grown, play, homeAt, spentAt, HomeWithin, ComesHome}
+use Rattle.game.specs.Game.{derailment, lost, at, Strategy, Adversary, following, positional, Turn, standing, may, grown, play, homeAt, spentAt, HomeWithin, ComesHome}
 use Rattle.game.specs.Claim.{Keeps, Whole}
 use Rattle.game.specs.Placement.{codeOf, sectionsIn, standsOn}
 use Rattle.game.specs.Setting.{Setting, SameSetting, headsFor, held, mayMove, free, signalOpen}
@@ -26,9 +26,9 @@ use Rattle.game.specs.Moves.{occupied, moveOf, gameOf, ClosedSections}
 use Rattle.game.specs.Local.{keepsTest}
 use Rattle.game.proofs.Figures.{figure-one, ended}
 use Rattle.game.proofs.Settle.{table, settle}
-use Rattle.game.proofs.Agreeing.{agreeing-alike}
+use Rattle.game.proofs.Setting.{agreeing-alike}
 use Rattle.game.proofs.Moves.{closed-lose}
-use Rattle.game.proofs.Plays.{shutLine}
+use Rattle.game.proofs.Examples.{shutLine}
 use Rattle.game.proofs.Inhabited.{small, small-whole, everywhere}
 
 module _ (F : ℕ → Option ℕ) (f : ℕ → Bool) (claims : Whole small F f) where
@@ -53,11 +53,11 @@ module _ (F : ℕ → Option ℕ) (f : ℕ → Bool) (claims : Whole small F f) 
       stands e zero = ([], refl)
       stands e (suc m) = let r = stands e m in (grown small (r .0) 1 false none, rw (r .1, e) refl)
 
-  in-time : (c : Choice Bool) → (m : ℕ) × (spentAt small (play small (following f) c 1 m) ≤ 3) × (homeAt small (play small (following f) c 1 m) ≡ true)
+  in-time : (c : Adversary Bool) → (m : ℕ) × (spentAt small (play small (following f) c 1 m) ≤ 3) × (homeAt small (play small (following f) c 1 m) ≡ true)
   in-time c = claims .follow 1 3 (omega arith) (has-figures .1) c
 
   -- no way is home within a total of 2
-  not-at-once : (w : Way Bool) → (c : Choice Bool) × ¬ (HomeWithin small w c 1 2)
+  not-at-once : (w : Strategy Bool) → (c : Adversary Bool) × ¬ (HomeWithin small w c 1 2)
   not-at-once w = let x = claims .not-sooner w 1 3 (omega arith) (has-figures .1) in (x .0, x .1 2 (omega arith))
 
   -- what decides the figure is the weight of the move: behind it is home, with 0
@@ -68,21 +68,21 @@ module _ (F : ℕ → Option ℕ) (f : ℕ → Bool) (claims : Whole small F f) 
   lost-none : F 2 ≡ none
   lost-none = claims .none-exactly 2 (omega arith) .1 (λ w home. clash (home (λ h p s. 0) .1) (stays w (home (λ h p s. 0) .0)))
     where
-      stays : (w : Way Bool) (m : ℕ) → homeAt small (play small w (λ h p s. 0) 2 m) ≡ false
+      stays : (w : Strategy Bool) (m : ℕ) → homeAt small (play small w (λ h p s. 0) 2 m) ≡ false
       stays w m = let e = ended small w (λ h p s. 0) 2 refl m in rw e
 
-  none-home : (w : Way Bool) → ¬ ((c : Choice Bool) → ComesHome small w c 2)
+  none-home : (w : Strategy Bool) → ¬ ((c : Adversary Bool) → ComesHome small w c 2)
   none-home w = claims .none-exactly 2 (omega arith) .0 lost-none w
 
   -- the one choice names the only train, also where it may not move, and one that may; under it no way comes home where there is no figure
-  names-there : claims .one-choice .named 1 false ≡ 0
-  names-there = omega (arith, claims .one-choice .there 1 false (omega arith))
+  names-there : claims .one-adversary .named 1 false ≡ 0
+  names-there = omega (arith, claims .one-adversary .there 1 false (omega arith))
 
-  names-mover : may small 1 true (claims .one-choice .named 1 true) ≡ true
-  names-mover = claims .one-choice .moves 1 true 0 refl
+  names-mover : may small 1 true (claims .one-adversary .named 1 true) ≡ true
+  names-mover = claims .one-adversary .moves 1 true 0 refl
 
-  never-home : (w : Way Bool) (m : ℕ) → homeAt small (play small w (positional (claims .one-choice .named)) 2 m) ≡ false
-  never-home w = claims .one-choice .beats w 2 (omega arith) lost-none
+  never-home : (w : Strategy Bool) (m : ℕ) → homeAt small (play small w (positional (claims .one-adversary .named)) 2 m) ≡ false
+  never-home w = claims .one-adversary .beats w 2 (omega arith) lost-none
 
 -- SETTINGS THAT AGREE. Whatever else it says, a setting that has Yard A's point at plus and its signals open lets train 1 go at (2, 3), and from (1, 2)
 -- takes it to (3, 2).

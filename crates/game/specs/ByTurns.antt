@@ -8,17 +8,17 @@ use mathlib.Core.Logic.{_↔_}
 use mathlib.Core.Option.{Option, none, some}
 use Prim.Native.Nat.{ℕ, _≤_, _<_}
 use lib.ListN.{length}
-use Rattle.game.specs.Game.{Game, Turn, Way, Choice, standing, may, play, spent, homeAt, HomeWithin, IsFigure}
+use Rattle.game.specs.Game.{Game, Turn, Strategy, Adversary, standing, may, play, spent, homeAt, HomeWithin, IsFigure}
 use Rattle.game.specs.Claim.{figureOf, Keeps}
 
 module _ {S : Type 0} (g : Game S) where
   -- Home within n turns: when so many have been played, or fewer, the trains are home.
-  abbrev pub HomeInTurns : Way S → Choice S → ℕ → ℕ → Type 0
+  abbrev pub HomeInTurns : Strategy S → Adversary S → ℕ → ℕ → Type 0
   HomeInTurns w c p n = (m : ℕ) × (m ≤ n) × (homeAt g (play g w c p m) ≡ true)
 
   -- Forced within n turns: there is a way of working that is home within n, however the trains choose.
   abbrev pub ForcedInTurns : ℕ → ℕ → Type 0
-  ForcedInTurns p n = (w : Way S) × ((c : Choice S) → HomeInTurns w c p n)
+  ForcedInTurns p n = (w : Strategy S) × ((c : Adversary S) → HomeInTurns w c p n)
 
   -- The figure of a placement, in turns: home is forced within it, and within nothing smaller; none: it is forced within no number.
   abbrev pub IsTurns : ℕ → Option ℕ → Type 0
@@ -42,9 +42,9 @@ AllOne g = (t : ℕ) → t < g .trains → g .weight t ≡ 1
 -- As before.
 pub record AsBefore {S : Type 0} (g : Game S) : Type 0 where
   -- what the turns of a play have cost is how many they are
-  pub totals : (w : Way S) (c : Choice S) (p m : ℕ) (h : List (Turn S)) (q : ℕ) → play g w c p m ≡ standing h q → spent g h ≡ length h
+  pub totals : (w : Strategy S) (c : Adversary S) (p m : ℕ) (h : List (Turn S)) (q : ℕ) → play g w c p m ≡ standing h q → spent g h ≡ length h
   -- home within a total of n is home within n turns
-  pub within : (w : Way S) (c : Choice S) (p n : ℕ) → HomeWithin g w c p n ↔ HomeInTurns g w c p n
+  pub within : (w : Strategy S) (c : Adversary S) (p n : ℕ) → HomeWithin g w c p n ↔ HomeInTurns g w c p n
   -- the figure of a placement is that in turns
   pub figures : (p : ℕ) (f : Option ℕ) → IsFigure g p f ↔ IsTurns g p f
   -- and the same settings keep it

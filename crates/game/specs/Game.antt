@@ -38,19 +38,19 @@ pub record Turn (S : Type 0) : Type 0 where
   pub moved : Option ℕ
 
 -- A way of working: a setting for the turns played so far, oldest first, and the present placement.
-abbrev pub Way : Type 0 → Type 0
-Way S = List (Turn S) → ℕ → S
+abbrev pub Strategy : Type 0 → Type 0
+Strategy S = List (Turn S) → ℕ → S
 
 -- A choice of trains: it names a train, knowing the history, the placement and the setting that the way has picked.
-abbrev pub Choice : Type 0 → Type 0
-Choice S = List (Turn S) → ℕ → S → ℕ
+abbrev pub Adversary : Type 0 → Type 0
+Adversary S = List (Turn S) → ℕ → S → ℕ
 
 -- To follow a table of settings: whatever was played, what the table has for the placement reached.
-abbrev pub following : {S : Type 0} → (ℕ → S) → Way S
+abbrev pub following : {S : Type 0} → (ℕ → S) → Strategy S
 following f h p = f p
 
 -- A choice of trains without memory: it looks at where the trains stand and at the setting picked, not at what was played before.
-abbrev pub positional : {S : Type 0} → (ℕ → S → ℕ) → Choice S
+abbrev pub positional : {S : Type 0} → (ℕ → S → ℕ) → Adversary S
 positional C h p s = C p s
 
 -- Where a play stands: lost by a move, or in a placement with these turns behind it.
@@ -90,16 +90,16 @@ module _ {S : Type 0} (g : Game S) where
   turn h p s (some t) = standAfter (grown h p s (some t)) (g .next p s t)
 
   -- The turn by the setting picked: way and choice are both handed the history.
-  abbrev pub turnBy : Choice S → List (Turn S) → ℕ → S → Position S
+  abbrev pub turnBy : Adversary S → List (Turn S) → ℕ → S → Position S
   turnBy c h p s = turn h p s (mover p s (c h p s))
 
   -- One more turn of a way against a choice, unless the play has ended.
-  abbrev pub step : Way S → Choice S → Position S → Position S
+  abbrev pub step : Strategy S → Adversary S → Position S → Position S
   step w c lostByMove = lostByMove
   step w c (standing h p) = cond (over p) (standing h p) (turnBy c h p (w h p))
 
   -- The play from placement p after n turns; one that has ended stays as it is.
-  unfoldable pub play : Way S → Choice S → ℕ → ℕ → Position S
+  unfoldable pub play : Strategy S → Adversary S → ℕ → ℕ → Position S
   play w c p zero = standing [] p
   play w c p (suc n) = step w c (play w c p n)
 
@@ -124,20 +124,20 @@ module _ {S : Type 0} (g : Game S) where
   homeAt (standing h p) = home p
 
   -- HOME WITHIN a total of n: after some turns, or at the start, the trains are home, and the turns have cost n at most.
-  abbrev pub HomeWithin : Way S → Choice S → ℕ → ℕ → Type 0
+  abbrev pub HomeWithin : Strategy S → Adversary S → ℕ → ℕ → Type 0
   HomeWithin w c p n = (m : ℕ) × (spentAt (play w c p m) ≤ n) × (homeAt (play w c p m) ≡ true)
 
   -- The play comes home.
-  abbrev pub ComesHome : Way S → Choice S → ℕ → Type 0
+  abbrev pub ComesHome : Strategy S → Adversary S → ℕ → Type 0
   ComesHome w c p = (m : ℕ) × (homeAt (play w c p m) ≡ true)
 
   -- The choice beats the way from placement p: at no time of their play are the trains home.
-  abbrev pub Beats : Choice S → Way S → ℕ → Type 0
+  abbrev pub Beats : Adversary S → Strategy S → ℕ → Type 0
   Beats c w p = (m : ℕ) → homeAt (play w c p m) ≡ false
 
   -- Forced within a total of n: there is a way of working that is home within n, however the trains choose.
   abbrev pub Forced : ℕ → ℕ → Type 0
-  Forced p n = (w : Way S) × ((c : Choice S) → HomeWithin w c p n)
+  Forced p n = (w : Strategy S) × ((c : Adversary S) → HomeWithin w c p n)
 
   -- The figure of a placement: home is forced within it, and within nothing smaller; none: it is forced within no number.
   abbrev pub IsFigure : ℕ → Option ℕ → Type 0

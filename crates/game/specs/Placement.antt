@@ -13,7 +13,7 @@ use Rattle.railway.specs.Record.{trainOf}
 unfoldable pub codeOf : ℕ → List ℕ → ℕ
 codeOf s xs = sumBelow (λ t. getD xs t 0 * s ^ t) (length xs)
 
--- The placement that a code stands for: the sections of k trains, the first train's first. (Codes, in proofs/: nothing is lost either way.)
+-- The placement that a code stands for: the sections of k trains, the first train's first. (Placement, in proofs/: nothing is lost either way.)
 unfoldable pub sectionsIn : ℕ → ℕ → ℕ → List ℕ
 sectionsIn s zero p = []
 sectionsIn s (suc k) p = (p % s) ∷ sectionsIn s k (p / s)

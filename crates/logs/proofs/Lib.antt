@@ -1,5 +1,5 @@
 pub mod Examples
-pub mod Comparing
+pub mod Computed
 pub mod Swapping
-pub mod Claims
+pub mod Logs
 pub mod Uses

@@ -24,7 +24,7 @@ use Rattle.logs.specs.declared.LogAnswer.the-variants.{Agree, Differ, Re
 use Rattle.logs.specs.Logs.{sectionsFor, SameFor, Agreeing, LowestDiffering, Swaps, done, swap, faulty, Taken, numberSaid, LogPost, AtFault}
 use Rattle.logs.proofs.Examples.{entered, panel, axles, crossed, many}
 use Rattle.logs.proofs.Swapping.{agreeing}
-use Rattle.logs.proofs.Claims.{logs-hold}
+use Rattle.logs.proofs.Logs.{logs-hold}
 
 -- THE LOGS: the panel's and the axle counters', one swap apart; the panel's without train 2
 abbrev alone : List Entry

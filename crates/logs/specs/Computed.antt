@@ -1,5 +1,5 @@
 -- The comparison of two logs as a computation, which is what code is held to. Nothing of document 02 rests on this file: it is tied to logs/Logs by `compare-keeps` in
--- logs/proofs/Comparing. Assumes nothing.
+-- logs/proofs/Computed. Assumes nothing.
 use mathlib.Core.Bool.{Bool, true, false, not, _&&_}
 use mathlib.Core.List.{List, [], _∷_}
 use mathlib.Core.Option.{Option, none, some}

@@ -1,5 +1,5 @@
 // Two logs of movements compared, that of the panel and that of the axle counters: an entry of a log, and what a comparison answers. specs/ has the definitions and the statement,
-// proofs/ that it follows from what a comparison promises. The call is in crate log_judge.
+// proofs/ that it follows from what a comparison promises. The call is in crate logs_judge.
 use railway::Refusal;
 
 // An entry of a log: a train, and the section that it entered. Both count from 0, as in the record.

@@ -7,7 +7,7 @@ use Prim.Native.Nat.{ℕ, _<_}
 use Rattle.laws.proofs.Bools.{clash, not-true}
 use Rattle.railway.specs.declared.Railway.{Railway}
 use Rattle.game.specs.Placement.{placements, arrived}
-use Rattle.game.proofs.Agreeing.{parked-neither}
+use Rattle.game.proofs.Setting.{parked-neither}
 use Rattle.plan.specs.Test.{Listing, Test}
 
 pub parked-closed : (r : Railway) (m : ℕ) (L : Listing) → Test r m L → (p n t : ℕ) → p < placements r → L .figure p ≡ some n → t < r .trains → arrived r p t ≡ true → L .opens p t ≡ false

@@ -7,11 +7,11 @@ use Rattle.game.specs.Setting.{Setting}
 use Rattle.game.specs.Moves.{gameOf}
 use Rattle.game.specs.ByTurns.{AsBefore}
 use Rattle.game.proofs.ByTurns.{one-as-before}
-use Rattle.tables.specs.ByTurns.{WeightsOne}
-use Rattle.tables.proofs.ByTurns.{tables-as-before}
+use Rattle.game_tables.specs.ByTurns.{WeightsOne}
+use Rattle.game_tables.proofs.ByTurns.{tables-as-before}
 use Rattle.plan.specs.Test.{Listing, listedSetting, Test}
 use Rattle.plan.specs.ByTurns.{TestInTurns, PlansAsBefore}
-use Rattle.plan.proofs.Plan.{texts-one}
+use Rattle.plan.proofs.Text.{texts-one}
 
 module _ (r : Railway) (one : WeightsOne r) (m : ℕ) (L : Listing) where
   abbrev same : AsBefore (gameOf r)

@@ -10,7 +10,7 @@ use Rattle.laws.proofs.Bools.{clash}
 use Rattle.railway.specs.declared.Railway.{Railway}
 use Rattle.railway.specs.declared.Refusal.{Refusal}
 use Rattle.railway.specs.Refusals.{numberOf}
-use Rattle.tables.specs.Tables.{caseRefusal}
+use Rattle.game_tables.specs.Tables.{caseRefusal}
 use Rattle.plan.specs.declared.PlanPlace.{PlanPlace}
 use Rattle.plan.specs.declared.Emitted.{Emitted}
 use Rattle.plan.specs.declared.Emitted.the-variants.{Line, End, NoPlan, Refused}

@@ -27,10 +27,10 @@ use Rattle.game.specs.Placement.{codeOf, sectionsIn, standsOn, startCode, atHom
 use Rattle.game.specs.Setting.{headsFor, held, mayMove, free, signalOpen}
 use Rattle.game.specs.Moves.{occupied, moveOf}
 use Rattle.railway.specs.Yards.{yardH, lineX, lineJ, lineG, lineT, sec, yardA, yardOne, yardTwo}
-use Rattle.tables.specs.Entries.{entryFrom}
-use Rattle.tables.specs.Tables.{tablesShort, caseRefusal}
-use Rattle.tables.proofs.KnownYards.{figsA, setsA}
-use Rattle.tables.proofs.Examples.{ladder, weighed}
+use Rattle.game_tables.specs.Entries.{entryFrom}
+use Rattle.game_tables.specs.Tables.{tablesShort, caseRefusal}
+use Rattle.game_tables.proofs.KnownYards.{figsA, setsA}
+use Rattle.game_tables.proofs.Examples.{ladder, weighed}
 use Rattle.plan.specs.declared.PlanPlace.{PlanPlace}
 use Rattle.plan.specs.declared.PlanPlace.the-variants.{Top, From}
 use Rattle.plan.specs.declared.Emitted.the-variants.{Line, End, NoPlan, Refused}

@@ -12,7 +12,7 @@ use Rattle.laws.proofs.Bools.{and-true, and-both}
 use Rattle.laws.proofs.Lists.{all-append}
 use Rattle.laws.proofs.Snoc.{Snoc, empty, snoc, snoc?, snoc-not-empty, snoc-same, all-parts}
 use Rattle.railway.specs.declared.Railway.{Railway}
-use Rattle.tables.specs.Tables.{noFigure}
+use Rattle.game_tables.specs.Tables.{noFigure}
 use Rattle.plan.specs.Lines.{PlacementLine, PlanLine, startLine, placementLine, spell, fits, lineCode, planOf}
 use Rattle.plan.specs.Checked.{Form, InForm}
 use Rattle.plan.proofs.Reading.{spells-one}

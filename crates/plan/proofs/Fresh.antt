@@ -10,11 +10,11 @@ use Rattle.railway.specs.declared.Railway.{Railway}
 use Rattle.railway.specs.declared.CaseAnswer.{CaseAnswer}
 use Rattle.railway.specs.Rows.{recordRefusal}
 use Rattle.game.specs.Placement.{placements}
-use Rattle.tables.specs.Tables.{noFigure}
+use Rattle.game_tables.specs.Tables.{noFigure}
 use Rattle.plan.specs.Checker.{Checking, freshChecking, freshTable, freshened}
 use Rattle.plan.specs.Checked.{FreshTables}
 use Rattle.plan.specs.Promises.{FreshPost}
-use Rattle.plan.proofs.Emits.{none-refused}
+use Rattle.plan.proofs.Emitter.{none-refused}
 
 module _ (r : Railway) where
   pub fresh-length : (v : ℕ) (table : List ℕ) → placements r ≤ length table → length (freshTable r v table) ≡ length table

@@ -28,11 +28,11 @@ use Rattle.game.specs.Placement.{codeOf, sectionsIn, placements, standsOn, star
 use Rattle.game.specs.Setting.{headsFor, held, mayMove, free, signalOpen}
 use Rattle.game.specs.Moves.{occupied, moveOf}
 use Rattle.railway.specs.Yards.{yardA}
-use Rattle.tables.specs.declared.SolverAnswer.the-variants.{Figure}
-use Rattle.tables.specs.Entries.{entryFrom}
-use Rattle.tables.specs.Tables.{noFigure, figureIn, tablesShort, caseRefusal}
-use Rattle.tables.specs.Solver.{Kept, SolverPost}
-use Rattle.tables.proofs.KnownYards.{figsA, setsA, yardA-accepted, yardA-filled}
+use Rattle.game_tables.specs.declared.SolverAnswer.the-variants.{Figure}
+use Rattle.game_tables.specs.Entries.{entryFrom}
+use Rattle.game_tables.specs.Tables.{noFigure, figureIn, tablesShort, caseRefusal}
+use Rattle.game_tables.specs.Solver.{Kept, SolverPost}
+use Rattle.game_tables.proofs.KnownYards.{figsA, setsA, yardA-accepted, yardA-filled}
 use Rattle.plan.specs.declared.PlanPlace.the-variants.{Top, From}
 use Rattle.plan.specs.declared.Emitted.the-variants.{Line, End}
 use Rattle.plan.specs.declared.CheckerState.the-variants.{Fresh}
@@ -48,15 +48,15 @@ use Rattle.plan.specs.Computed.{placementPasses, testHolds}
 use Rattle.plan.specs.Checker.{Checking, freshChecking, freshened, takeLine, testPlan, LineCalls, callLines, takenTexts}
 use Rattle.plan.specs.Checked.{Passing, Failing}
 use Rattle.plan.specs.Promises.{TestPost, FreshPost}
-use Rattle.plan.specs.Demand3.{Handed, ownTexts, othersRefused, HandedFront, frontText, ownBytes, endsLine, othersLeft, Demand3}
+use Rattle.plan.specs.EndToEnd.{Handed, ownTexts, othersRefused, HandedFront, frontText, ownBytes, endsLine, othersLeft, EndToEnd}
 use Rattle.plan.proofs.Promises.{tests-so}
 use Rattle.plan.proofs.Calls.{emission, emitting, taking, callFronts, fronts}
 use Rattle.plan.proofs.Several.{lines-so}
-use Rattle.plan.proofs.Emits.{none-refused, into-whole}
-use Rattle.plan.proofs.Checks.{checked-holds}
+use Rattle.plan.proofs.Emitter.{none-refused, into-whole}
+use Rattle.plan.proofs.Checked.{checked-holds}
 use Rattle.plan.proofs.Fresh.{fresh-all}
-use Rattle.plan.proofs.Plan.{plan-passes}
-use Rattle.plan.proofs.Demand.{demand3-holds}
+use Rattle.plan.proofs.Text.{plan-passes}
+use Rattle.plan.proofs.EndToEnd.{end-to-end-holds}
 
 -- tables of nine entries, lent to the solver
 abbrev pub lent : List ℕ
@@ -76,8 +76,8 @@ unfolding caseRefusal tablesShort first weightRow weightOf unknownRow joinRow lo
     sumBelow listBelow isClosed
 post = record { numbered = refl; leaves = (record { filled = yardA-filled; kept-figs = kept figsA refl; kept-sets = kept setsA refl }, refl) }
 
-pub demand : Demand3 yardA (Figure 2) figsA setsA
-demand = demand3-holds yardA (Figure 2) lent lent figsA setsA yardA-accepted (omega (arith, nine)) (omega (arith, nine)) post
+pub end-to-end : EndToEnd yardA (Figure 2) figsA setsA
+end-to-end = end-to-end-holds yardA (Figure 2) lent lent figsA setsA yardA-accepted (omega (arith, nine)) (omega (arith, nine)) post
 
 -- What is computed: the plan's lines, with refused lines among those handed in; the plan's text; buffers that are long enough for it; the start has a
 -- figure; the first line alone fails the test; each line fits into a buffer of the most bytes; and for several lines a call: the whole text, texts that have

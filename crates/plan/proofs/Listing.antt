@@ -22,16 +22,16 @@ use Rattle.game.specs.Claim.{Keeps}
 use Rattle.game.specs.Moves.{gameOf}
 use Rattle.game.specs.Placement.{sectionsOf, placements, startCode}
 use Rattle.game.proofs.Accepted.{Facts, facts}
-use Rattle.game.proofs.Codes.{AllBelow, sections-length, sections-below, code-sections}
+use Rattle.game.proofs.Placement.{AllBelow, sections-length, sections-below, code-sections}
 use Rattle.game.proofs.Moves.{start-below}
-use Rattle.tables.specs.Entries.{opensIn, settingFrom}
-use Rattle.tables.specs.Tables.{noFigure, figureEntry, figureIn}
-use Rattle.tables.proofs.Certify.{entry-is, figure-small}
+use Rattle.game_tables.specs.Entries.{opensIn, settingFrom}
+use Rattle.game_tables.specs.Tables.{noFigure, figureEntry, figureIn}
+use Rattle.game_tables.proofs.Certify.{entry-is, figure-small}
 use Rattle.plan.specs.Lines.{PlacementLine, placementLine, fits, lineCode}
 use Rattle.plan.specs.Text.{isSome, hasFigure, lineFor, planLines, planTexts}
 use Rattle.plan.specs.Test.{Listing, listedSetting, Test, lineOn, figureOn, opensOn, plusOn, byLines, byTables}
 use Rattle.plan.specs.Checked.{Form, Passing}
-use Rattle.plan.proofs.Tested.{SameListing, test-same}
+use Rattle.plan.proofs.Test.{SameListing, test-same}
 use Rattle.plan.proofs.Forms.{codeAfter, rises-snoc, code-after-snoc}
 
 -- FIGURES AS ENTRIES

@@ -7,7 +7,7 @@ use Rattle.railway.specs.declared.Railway.{Railway}
 use Rattle.railway.specs.declared.Refusal.{Refusal}
 use Rattle.railway.specs.Refusals.{first, numberOf}
 use Rattle.game.specs.Placement.{startCode}
-use Rattle.tables.specs.Tables.{figureIn}
+use Rattle.game_tables.specs.Tables.{figureIn}
 use Rattle.plan.specs.declared.PlanPlace.{PlanPlace}
 use Rattle.plan.specs.Emitter.{numberGiven, Due, due, emitterLeaves, emitterRows, emitLine}
 use Rattle.plan.specs.Reading.{readLine}

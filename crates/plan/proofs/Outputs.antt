@@ -12,13 +12,13 @@ use Rattle.railway.specs.Record.{trainOf, withJoin, withSignal, withLegs, withT
 use Rattle.railway.specs.Rows.{recordRefusal}
 use Rattle.game.specs.Placement.{codeOf, sectionsIn, startCode}
 use Rattle.railway.specs.Yards.{yardA, yardALess, yardOne, yardOneDown}
-use Rattle.tables.specs.Tables.{Filled}
-use Rattle.tables.specs.KnownYards.{planA, planOne}
-use Rattle.tables.proofs.KnownYards.{figsA, setsA, zeros, yardA-accepted, yardA-filled, yardALess-filled, one-filled, one-down-filled, known-figures}
+use Rattle.game_tables.specs.Tables.{Filled}
+use Rattle.game_tables.specs.KnownYards.{planA, planOne}
+use Rattle.game_tables.proofs.KnownYards.{figsA, setsA, zeros, yardA-accepted, yardA-filled, yardALess-filled, one-filled, one-down-filled, known-figures}
 use Rattle.plan.specs.Lines.{spell}
 use Rattle.plan.specs.Text.{lineFor, planLines, planTexts, planText}
 use Rattle.plan.specs.Outputs.{Writes, KnownYardsHold}
-use Rattle.plan.proofs.Plan.{texts-one}
+use Rattle.plan.proofs.Text.{texts-one}
 
 -- a text that one pair of filled tables makes
 writes : (r : Railway) (s : String) (figs sets : List ℕ) → recordRefusal r ≡ none → Filled r figs sets → planText r figs sets ≡ bytes s → Writes r (some s)

@@ -7,7 +7,7 @@ use mathlib.Core.Option.{some}
 use Prim.Native.Nat.{ℕ}
 use Rattle.railway.specs.declared.Railway.{Railway}
 use Rattle.railway.specs.declared.Refusal.{Refusal}
-use Rattle.tables.specs.Tables.{caseRefusal}
+use Rattle.game_tables.specs.Tables.{caseRefusal}
 use Rattle.plan.specs.declared.PlanPlace.{PlanPlace}
 use Rattle.plan.specs.declared.LineAnswer.{LineAnswer}
 use Rattle.plan.specs.declared.LineAnswer.the-variants.{Refused as LineRefused}

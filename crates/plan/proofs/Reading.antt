@@ -22,7 +22,7 @@ use Rattle.text.specs.Reading.{isDigit, isPlain, fields, valueOf, sameText}
 use Rattle.text.proofs.Decimal.{digit-is, digits-are, decimal-plain, value-decimal}
 use Rattle.text.proofs.Lines.{same-is, same-self, cut-line}
 use Rattle.railway.specs.declared.Railway.{Railway}
-use Rattle.tables.specs.Tables.{noFigure}
+use Rattle.game_tables.specs.Tables.{noFigure}
 use Rattle.plan.specs.Lines.{PlacementLine, PlanLine, startLine, placementLine, orByte, trainDigit, openField, sign, pointField, sectionField, planWord, lineFields, spell, fits, Spells}
 use Rattle.plan.specs.Reading.{guessPlacement, guess, readIf, readLine}
 use Rattle.plan.specs.Checked.{ReadsLine}

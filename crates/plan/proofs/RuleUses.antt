@@ -27,17 +27,17 @@ use Rattle.railway.specs.Record.{isClosed, joinedBy, joined, hasSignal, legsOf,
 use Rattle.railway.specs.Passing.{follow, passes, entered}
 use Rattle.railway.specs.Rows.{weightRow, unknownRow, joinRow, looseRow, longer, chainRow, placeRow}
 use Rattle.railway.specs.Yards.{yardA}
-use Rattle.game.specs.Game.{Choice, following, HomeWithin}
+use Rattle.game.specs.Game.{Adversary, following, HomeWithin}
 use Rattle.game.specs.Local.{keepsTest}
 use Rattle.game.specs.Placement.{codeOf, sectionsIn, placements, standsOn, startCode, atHome, shared}
 use Rattle.game.specs.Setting.{Setting, headsFor, held, mayMove, free, signalOpen}
 use Rattle.game.specs.Moves.{occupied, moveOf, gameOf}
 use Rattle.game.proofs.Inhabited.{yard-ones}
-use Rattle.tables.specs.Entries.{entryFrom}
-use Rattle.tables.specs.Tables.{noFigure, tablesShort, caseRefusal}
-use Rattle.tables.proofs.Refusals.{case-accepted}
-use Rattle.tables.specs.ByTurns.{FilledInTurns}
-use Rattle.tables.proofs.KnownYards.{figsA, setsA, yardA-accepted, yardA-filled}
+use Rattle.game_tables.specs.Entries.{entryFrom}
+use Rattle.game_tables.specs.Tables.{noFigure, tablesShort, caseRefusal}
+use Rattle.game_tables.proofs.Refusals.{case-accepted}
+use Rattle.game_tables.specs.ByTurns.{FilledInTurns}
+use Rattle.game_tables.proofs.KnownYards.{figsA, setsA, yardA-accepted, yardA-filled}
 use Rattle.plan.specs.declared.PlanPlace.{PlanPlace}
 use Rattle.plan.specs.declared.PlanPlace.the-variants.{Top, From}
 use Rattle.plan.specs.declared.Emitted.{Emitted}
@@ -62,8 +62,8 @@ use Rattle.plan.specs.ByTurns.{TestInTurns, PlanAsBefore}
 use Rattle.plan.proofs.Reading.{reads-line}
 use Rattle.plan.proofs.Forms.{Last, only, more, form-last, form-one}
 use Rattle.plan.proofs.Rules.{differ, emit-rule, check-rule}
-use Rattle.plan.proofs.Tested.{tested, plan-works}
-use Rattle.plan.proofs.Emits.{none-refused}
+use Rattle.plan.proofs.Test.{tested, plan-works}
+use Rattle.plan.proofs.Emitter.{none-refused}
 use Rattle.plan.proofs.Inhabited.{nine, linesA, computed}
 use Rattle.plan.proofs.ByTurns.{plans-as-before}
 
@@ -318,7 +318,7 @@ module _ (answers : List LineAnswer) (taken : List (List ℕ)) (end : Checking) 
   half-not = not-true (isTaken (takeLine yardA end (bytes "2\t3") .answer)) (λ e. no-line taken (form-last yardA taken (bytes "2\t3") (k .more (bytes "2\t3") .0 e)))
 
 -- A PLAN THAT PASSES CAN BE FOLLOWED: home within 2 from the start of Yard A, whatever is listed, against every choice of trains.
-followed : (L : Listing) → Test yardA 2 L → (c : Choice Setting) → HomeWithin (gameOf yardA) (following (listedSetting yardA L)) c 7 2
+followed : (L : Listing) → Test yardA 2 L → (c : Adversary Setting) → HomeWithin (gameOf yardA) (following (listedSetting yardA L)) c 7 2
 unfolding startCode codeOf sumBelow listBelow trainOf withJoin withSignal withLegs withTrain
 followed L t c = plan-works yardA yardA-accepted 2 L t c
 

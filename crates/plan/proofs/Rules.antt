@@ -19,9 +19,9 @@ use Rattle.railway.specs.Refusals.{number}
 use Rattle.railway.specs.Rows.{recordRefusal}
 use Rattle.game.specs.Placement.{placements, startCode}
 use Rattle.game.proofs.Accepted.{facts}
-use Rattle.tables.specs.Tables.{figureIn, caseRefusal}
-use Rattle.tables.specs.Solver.{Kept}
-use Rattle.tables.proofs.Refusals.{Enough, case-none}
+use Rattle.game_tables.specs.Tables.{figureIn, caseRefusal}
+use Rattle.game_tables.specs.Solver.{Kept}
+use Rattle.game_tables.proofs.Refusals.{Enough, case-none}
 use Rattle.plan.specs.declared.PlanPlace.{PlanPlace}
 use Rattle.plan.specs.declared.Emitted.{Emitted}
 use Rattle.plan.specs.declared.Emitted.the-variants.{Line, End, NoPlan, Refused as EmitRefused}
@@ -43,7 +43,7 @@ use Rattle.plan.specs.Rules.{TooShort, EmitRule, EmitRuleHolds, LineChan
 use Rattle.plan.proofs.Steps.{emit-steps, line-steps, test-steps}
 use Rattle.plan.proofs.Promises.{line-refused, test-refused}
 use Rattle.plan.proofs.Reading.{reads-line}
-use Rattle.plan.proofs.Checks.{code-in}
+use Rattle.plan.proofs.Checked.{code-in}
 
 -- things that differ, told apart by a number
 abbrev emittedKind : Emitted → ℕ

@@ -16,7 +16,7 @@ use Rattle.laws.proofs.Bools.{bool?, lt?, clash, and-true, and-both}
 use Rattle.text.specs.Text.{lineEnd, line}
 use Rattle.railway.specs.declared.Railway.{Railway}
 use Rattle.railway.specs.declared.Refusal.the-variants.{Space}
-use Rattle.tables.specs.Tables.{noFigure, figureIn, caseRefusal}
+use Rattle.game_tables.specs.Tables.{noFigure, figureIn, caseRefusal}
 use Rattle.game.specs.Placement.{startCode}
 use Rattle.plan.specs.declared.PlanPlace.{PlanPlace}
 use Rattle.plan.specs.declared.PlanPlace.the-variants.{Top, From}
@@ -29,7 +29,7 @@ use Rattle.plan.specs.Several.{Run, noRun, runBehind, runBy, runFrom, ru
 use Rattle.plan.specs.Steps.{lineWritten, dueWritten, emitted, PutAt, putSo, putAt, Planned, Underway, ranWhole}
 use Rattle.plan.proofs.Steps.{emit-steps}
 use Rattle.plan.proofs.Numbers.{emit-numbered}
-use Rattle.plan.proofs.Emits.{textsFrom, Call, ends, writes, call, from-top}
+use Rattle.plan.proofs.Emitter.{textsFrom, Call, ends, writes, call, from-top}
 
 -- A run and the number of the first call
 same-number : (b : List ℕ) (run : Run) (a : Emitted) → numberGiven (runWrote b run a .answer) ≡ numberGiven a

@@ -20,7 +20,7 @@ use Rattle.text.specs.Reading.{isPlain}
 use Rattle.railway.specs.declared.Railway.{Railway}
 use Rattle.railway.specs.declared.CaseAnswer.{CaseAnswer}
 use Rattle.railway.specs.Rows.{recordRefusal}
-use Rattle.tables.specs.Tables.{figureIn, caseRefusal}
+use Rattle.game_tables.specs.Tables.{figureIn, caseRefusal}
 use Rattle.game.specs.Placement.{placements, startCode}
 use Rattle.plan.specs.declared.PlanPlace.{PlanPlace}
 use Rattle.plan.specs.declared.PlanPlace.the-variants.{Top}
@@ -39,14 +39,14 @@ use Rattle.plan.specs.Checker.{Checking, Left, left, takeLine}
 use Rattle.plan.specs.Checked.{InForm, Passing}
 use Rattle.plan.specs.Promises.{TestPost, FreshPost}
 use Rattle.plan.specs.Calls.{Writing, EmittingLines, wrote, stopped, FrontCalls, TakingFronts, no-more, one-more}
-use Rattle.plan.specs.Demand3.{HandedFront, frontText, ownBytes, endsLine, bytesTaken, othersLeft, PassedFronts}
+use Rattle.plan.specs.EndToEnd.{HandedFront, frontText, ownBytes, endsLine, bytesTaken, othersLeft, PassedFronts}
 use Rattle.plan.proofs.Reading.{fields-plain}
-use Rattle.plan.proofs.Emits.{Call, ends, writes, call, from-top}
+use Rattle.plan.proofs.Emitter.{Call, ends, writes, call, from-top}
 use Rattle.plan.proofs.Several.{from, run-none, stepped, Stepped, lines-none, lines-some, flatten-first, flatten-none, same-bytes, same-next, filled, lines-all, lines-filled}
 use Rattle.plan.proofs.Forms.{form-front}
 use Rattle.plan.proofs.Fresh.{fresh-made}
-use Rattle.plan.proofs.Checks as C
-use Rattle.plan.proofs.Checks.{Holds}
+use Rattle.plan.proofs.Checked as C
+use Rattle.plan.proofs.Checked.{Holds}
 
 -- THE EMITTER
 module _ (r : Railway) (figs sets : List ℕ) (unrefused : caseRefusal r figs sets ≡ none) (n : ℕ) (start : figureIn figs (startCode r) ≡ some n) where

@@ -17,8 +17,8 @@ use Rattle.railway.specs.Refusals.{row, refuseIf, first}
 use Rattle.railway.specs.Rows.{recordRows, recordRefusal}
 use Rattle.railway.proofs.Refusals.{first-append}
 use Rattle.game.specs.Placement.{startCode}
-use Rattle.tables.specs.Tables.{figureIn, tablesShort, caseRefusal}
-use Rattle.tables.proofs.Refusals.{case-rows, case-then}
+use Rattle.game_tables.specs.Tables.{figureIn, tablesShort, caseRefusal}
+use Rattle.game_tables.proofs.Refusals.{case-rows, case-then}
 use Rattle.plan.specs.declared.PlanPlace.{PlanPlace}
 use Rattle.plan.specs.declared.CheckerState.{CheckerState}
 use Rattle.plan.specs.declared.CheckerState.the-variants.{Fresh, Begun}

@@ -19,22 +19,22 @@ use Rattle.railway.specs.Refusals.{first}
 use Rattle.railway.specs.Record.{isClosed, joinedBy, joined, hasSignal, legsOf, trainOf, weightOf, withJoin, withSignal, withLegs, withTrain}
 use Rattle.railway.specs.Rows.{weightRow, unknownRow, joinRow, looseRow, longer, chainRow, placeRow}
 use Rattle.railway.specs.Yards.{yardA, headOn}
-use Rattle.game.specs.Game.{Game, Way, Choice, lostByMove, standing, following, positional, may, home, over, step, play, homeAt, HomeWithin, ComesHome, Position}
+use Rattle.game.specs.Game.{Game, Strategy, Adversary, lostByMove, standing, following, positional, may, home, over, step, play, homeAt, HomeWithin, ComesHome, Position}
 use Rattle.game.specs.Placement.{codeOf, sectionsIn, standsOn, startCode, atHome, shared}
 use Rattle.game.specs.Setting.{Setting, SameSetting, headsFor, held, mayMove, free, signalOpen}
 use Rattle.game.specs.Moves.{gameOf}
 use Rattle.game.specs.ByTurns.{HomeInTurns}
-use Rattle.game.proofs.Turns.{home-over, may-train}
+use Rattle.game.proofs.Local.{home-over, may-train}
 use Rattle.game.proofs.Figures.{figure-one, ended}
-use Rattle.game.proofs.Agreeing.{agreeing-alike}
+use Rattle.game.proofs.Setting.{agreeing-alike}
 use Rattle.game.proofs.ByTurns.{one-as-before}
 use Rattle.game.proofs.Inhabited.{yard-ones}
-use Rattle.tables.specs.declared.SolverAnswer.{SolverAnswer}
-use Rattle.tables.specs.declared.SolverAnswer.the-variants.{Refused, Unsolvable, Figure}
-use Rattle.tables.specs.Tables.{figureIn, settingIn, tablesShort, Filled}
-use Rattle.tables.specs.Solver.{numberGiven, figureGiven}
-use Rattle.tables.proofs.Unique.{sets-one}
-use Rattle.tables.proofs.KnownYards.{figsA, setsA, yardA-accepted, yardA-filled, headOn-filled}
+use Rattle.game_tables.specs.declared.SolverAnswer.{SolverAnswer}
+use Rattle.game_tables.specs.declared.SolverAnswer.the-variants.{Refused, Unsolvable, Figure}
+use Rattle.game_tables.specs.Tables.{figureIn, settingIn, tablesShort, Filled}
+use Rattle.game_tables.specs.Solver.{numberGiven, figureGiven}
+use Rattle.game_tables.proofs.Unique.{sets-one}
+use Rattle.game_tables.proofs.KnownYards.{figsA, setsA, yardA-accepted, yardA-filled, headOn-filled}
 use Rattle.plan.specs.declared.PlanPlace.{PlanPlace}
 use Rattle.plan.specs.declared.PlanPlace.the-variants.{Top}
 use Rattle.plan.specs.declared.Emitted.{Emitted}
@@ -50,13 +50,13 @@ use Rattle.plan.specs.Checker.{Checking, takeLine, LineCalls, callLines,
 use Rattle.plan.specs.Promises.{EmitterPost, TestPost, FreshPost}
 use Rattle.plan.specs.Several.{EmitLinesPost}
 use Rattle.plan.specs.Calls.{Emission, Emitting, EmittingInto, longEnough, Taking, Writing, EmittingLines, FrontCalls, TakingFronts}
-use Rattle.plan.specs.Demand3.{Handed, ownTexts, othersRefused, frontText, ownBytes, othersLeft, Demand3}
+use Rattle.plan.specs.EndToEnd.{Handed, ownTexts, othersRefused, frontText, ownBytes, othersLeft, EndToEnd}
 use Rattle.plan.proofs.Calls.{taking-one, callFronts, fronts-one}
-use Rattle.plan.proofs.Plan.{texts-one}
+use Rattle.plan.proofs.Text.{texts-one}
 use Rattle.plan.proofs.Inhabited.{nine, lent, buffers, widest, linesA, textA, handed, handedFronts, wider, madeFresh, made-fresh, computed}
 
 -- a play that is home stays there
-home-stays : {S : Type 0} (g : Game S) (w : Way S) (c : Choice S) (x : Position S) → homeAt g x ≡ true → homeAt g (step g w c x) ≡ true
+home-stays : {S : Type 0} (g : Game S) (w : Strategy S) (c : Adversary S) (x : Position S) → homeAt g x ≡ true → homeAt g (step g w c x) ≡ true
 home-stays g w c lostByMove e = clash e refl
 home-stays g w c (standing h p) e = let o : over g p ≡ true = home-over (g .isLost p) (g .isHome p) e in rw o e
 
@@ -99,7 +99,7 @@ unfolding bytes takeLine tablesShort first weightRow weightOf unknownRow joinRow
 empty-out = refl
 
 -- YARD A
-module _ (a : SolverAnswer) (figs sets : List ℕ) (d : Demand3 yardA a figs sets) where
+module _ (a : SolverAnswer) (figs sets : List ℕ) (d : EndToEnd yardA a figs sets) where
   -- `plays .figures`: 2 at (2, 3), none at (1, 3)
   same-figure : (p : ℕ) → p < 9 → figureIn figs p ≡ figureIn figsA p
   same-figure p l = figure-one (gameOf yardA) p (figureIn figs p) (figureIn figsA p) (d .plays .figures p (omega (arith, nine))) (yardA-filled .figures p (omega (arith, nine)))
@@ -126,7 +126,7 @@ module _ (a : SolverAnswer) (figs sets : List ℕ) (d : Demand3 yardA a figs set
   entry-one = sets-one yardA yardA-accepted figs sets figsA setsA filled yardA-filled 7 (omega (arith, nine))
 
   -- `plays .follow`: who follows the setting table from (2, 3) is home behind the second turn, whatever the choice of trains
-  home-in-two : (c : Choice Setting) → homeAt (gameOf yardA) (play (gameOf yardA) (following (settingIn yardA sets)) c 7 2) ≡ true
+  home-in-two : (c : Adversary Setting) → homeAt (gameOf yardA) (play (gameOf yardA) (following (settingIn yardA sets)) c 7 2) ≡ true
   unfolding play atHome shared standsOn sectionsIn allBelow anyBelow trainOf withJoin withSignal withLegs withTrain
   home-in-two c =
       let h : HomeInTurns (gameOf yardA) (following (settingIn yardA sets)) c 7 2 =
@@ -141,37 +141,37 @@ module _ (a : SolverAnswer) (figs sets : List ℕ) (d : Demand3 yardA a figs set
       go (suc (suc (suc m))) l e = absurd (omega arith)
 
   -- `plays .not-sooner`: no way is home within 1 against every choice
-  not-in-one : (w : Way Setting) → ¬ ((c : Choice Setting) → HomeWithin (gameOf yardA) w c 7 1)
+  not-in-one : (w : Strategy Setting) → ¬ ((c : Adversary Setting) → HomeWithin (gameOf yardA) w c 7 1)
   not-in-one w h = let x = d .plays .not-sooner w 7 2 (omega (arith, nine)) figure-two in x .1 1 (omega arith) (h (x .0))
 
   -- `plays .none-exactly`: no way comes home from (1, 3) against every choice; and (1, 1) has no figure, for a play that starts there has ended
-  none-home : (w : Way Setting) → ¬ ((c : Choice Setting) → ComesHome (gameOf yardA) w c 6)
+  none-home : (w : Strategy Setting) → ¬ ((c : Adversary Setting) → ComesHome (gameOf yardA) w c 6)
   none-home w = d .plays .none-exactly 6 (omega (arith, nine)) .0 figure-none w
 
   shared-none : figureIn figs 0 ≡ none
   unfolding atHome shared standsOn sectionsIn allBelow anyBelow trainOf withJoin withSignal withLegs withTrain
   shared-none = d .plays .none-exactly 0 (omega (arith, nine)) .1 (λ w home. clash (home (λ h p s. 0) .1) (let e = ended (gameOf yardA) w (λ h p s. 0) 0 refl (home (λ h p s. 0) .0) in rw e))
 
-  -- `plays .one-choice`: at (2, 3) with all signals closed it names train 2, the only one that may move; at (2, 1), where none may, one that is there; the
+  -- `plays .one-adversary`: at (2, 3) with all signals closed it names train 2, the only one that may move; at (2, 1), where none may, one that is there; the
   -- same under all settings that agree in the yard; and it wins from (1, 3) against every way
-  names-two : d .plays .one-choice .named 7 shut ≡ 1
+  names-two : d .plays .one-adversary .named 7 shut ≡ 1
   unfolding mayMove signalOpen free held headsFor standsOn sectionsIn trainOf hasSignal withJoin withSignal withLegs withTrain
-  names-two = go (d .plays .one-choice .named 7 shut) (d .plays .one-choice .moves 7 shut 1 refl)
+  names-two = go (d .plays .one-adversary .named 7 shut) (d .plays .one-adversary .moves 7 shut 1 refl)
     where
       go : (t : ℕ) → may (gameOf yardA) 7 shut t ≡ true → t ≡ 1
       go zero e = clash e refl
       go (suc zero) e = refl
       go (suc (suc t)) e = absurd (omega (arith, may-train (gameOf yardA) 7 shut (suc (suc t)) e))
 
-  names-there : d .plays .one-choice .named 1 shut < 2
+  names-there : d .plays .one-adversary .named 1 shut < 2
   unfolding withJoin withSignal withLegs withTrain
-  names-there = d .plays .one-choice .there 1 shut (omega arith)
+  names-there = d .plays .one-adversary .there 1 shut (omega arith)
 
-  names-alike : (s : Setting) → SameSetting yardA shut s → d .plays .one-choice .named 7 s ≡ 1
-  names-alike s same = sym (d .plays .one-choice .alike 7 shut s (agreeing-alike yardA yardA-accepted shut s same 7)) ∙ names-two
+  names-alike : (s : Setting) → SameSetting yardA shut s → d .plays .one-adversary .named 7 s ≡ 1
+  names-alike s same = sym (d .plays .one-adversary .alike 7 shut s (agreeing-alike yardA yardA-accepted shut s same 7)) ∙ names-two
 
-  never-home : (w : Way Setting) (m : ℕ) → homeAt (gameOf yardA) (play (gameOf yardA) w (positional (d .plays .one-choice .named)) 6 m) ≡ false
-  never-home w = d .plays .one-choice .beats w 6 (omega (arith, nine)) figure-none
+  never-home : (w : Strategy Setting) (m : ℕ) → homeAt (gameOf yardA) (play (gameOf yardA) w (positional (d .plays .one-adversary .named)) 6 m) ≡ false
+  never-home w = d .plays .one-adversary .beats w 6 (omega (arith, nine)) figure-none
 
   -- THE EMITTER. Its plan has the four lines written out.
   lines-are : planTexts yardA figs sets ≡ linesA
@@ -266,7 +266,7 @@ module _ (a : SolverAnswer) (figs sets : List ℕ) (d : Demand3 yardA a figs set
           (x .0, x .1 .taken ∙ ap (λ (t : List ℕ). Took (length t) ∷ []) text-given, x .1 .passes)
 
 -- WITHOUT A PLAN: in the yard with trains head on
-module _ (a : SolverAnswer) (figs sets : List ℕ) (d : Demand3 headOn a figs sets) where
+module _ (a : SolverAnswer) (figs sets : List ℕ) (d : EndToEnd headOn a figs sets) where
   no-figure : figureIn figs (startCode headOn) ≡ none
   unfolding startCode codeOf sumBelow listBelow trainOf withJoin withSignal withLegs withTrain
   no-figure = figure-one (gameOf headOn) 2 (figureIn figs 2) none (d .plays .figures 2 (omega arith)) (headOn-filled .1 .figures 2 (omega arith))

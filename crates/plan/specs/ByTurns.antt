@@ -1,6 +1,6 @@
 -- WHERE NO TRAIN IS DEARER THAN 1 PLANS ARE THOSE IN TURNS (document 02, Q-12, on weights of 1). Here stands the test of a plan (document 01) with figures in turns, and
 -- the statement that a plan then passes exactly if it passes that test, and that the plan made is the one made from tables with figures in turns
--- (tables/ByTurns). Assumes nothing.
+-- (game_tables/ByTurns). Assumes nothing.
 use mathlib.Core.Path.{_≡_}
 use mathlib.Core.Logic.{_↔_}
 use mathlib.Core.Bool.{true, false}
@@ -13,8 +13,8 @@ use Rattle.game.specs.Placement.{placements, startCode, atHome, shared}
 use Rattle.game.specs.Setting.{held}
 use Rattle.game.specs.Moves.{gameOf}
 use Rattle.game.specs.ByTurns.{KeepsInTurns}
-use Rattle.tables.specs.Tables.{Filled}
-use Rattle.tables.specs.ByTurns.{WeightsOne, FilledInTurns}
+use Rattle.game_tables.specs.Tables.{Filled}
+use Rattle.game_tables.specs.ByTurns.{WeightsOne, FilledInTurns}
 use Rattle.plan.specs.Text.{planTexts}
 use Rattle.plan.specs.Test.{Listing, listedSetting, Test}
 

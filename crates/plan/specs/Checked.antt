@@ -12,10 +12,10 @@ use Rattle.railway.specs.declared.Railway.{Railway}
 use Rattle.railway.specs.declared.Refusal.the-variants.{PlanForm, PlanFault}
 use Rattle.railway.specs.Rows.{recordRefusal}
 use Rattle.game.specs.Placement.{placements, startCode}
-use Rattle.game.specs.Game.{Choice, following, HomeWithin}
+use Rattle.game.specs.Game.{Adversary, following, HomeWithin}
 use Rattle.game.specs.Setting.{Setting}
 use Rattle.game.specs.Moves.{gameOf}
-use Rattle.tables.specs.Tables.{noFigure}
+use Rattle.game_tables.specs.Tables.{noFigure}
 use Rattle.plan.specs.declared.CheckerState.the-variants.{Fresh}
 use Rattle.plan.specs.declared.LineAnswer.{LineAnswer}
 use Rattle.plan.specs.declared.LineAnswer.the-variants.{Taken, Refused as LineRefused}
@@ -93,4 +93,4 @@ CheckedHolds =
 abbrev pub PlanWorks : Type 0
 PlanWorks =
     (r : Railway) → recordRefusal r ≡ none → (m : ℕ) (L : Listing) → Test r m L
-    → (c : Choice Setting) → HomeWithin (gameOf r) (following (listedSetting r L)) c (startCode r) m
+    → (c : Adversary Setting) → HomeWithin (gameOf r) (following (listedSetting r L)) c (startCode r) m

@@ -12,8 +12,8 @@ use Rattle.railway.specs.declared.Refusal.{Refusal}
 use Rattle.railway.specs.declared.Refusal.the-variants.{PlanForm, PlanFault}
 use Rattle.railway.specs.Refusals.{number, Row, row, first}
 use Rattle.game.specs.Placement.{placements}
-use Rattle.tables.specs.Entries.{entryFrom}
-use Rattle.tables.specs.Tables.{noFigure, caseRows}
+use Rattle.game_tables.specs.Entries.{entryFrom}
+use Rattle.game_tables.specs.Tables.{noFigure, caseRows}
 use Rattle.plan.specs.declared.CheckerState.{CheckerState}
 use Rattle.plan.specs.declared.CheckerState.the-variants.{Fresh, Begun}
 use Rattle.plan.specs.declared.LineAnswer.{LineAnswer}

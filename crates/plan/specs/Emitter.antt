@@ -13,7 +13,7 @@ use Rattle.railway.specs.declared.Refusal.the-variants.{Space}
 use Rattle.railway.specs.Refusals.{number, Row, row, first}
 use Rattle.railway.specs.Rows.{recordRows}
 use Rattle.game.specs.Placement.{placements, startCode}
-use Rattle.tables.specs.Tables.{noFigure, figureIn, tablesShort}
+use Rattle.game_tables.specs.Tables.{noFigure, figureIn, tablesShort}
 use Rattle.plan.specs.declared.PlanPlace.{PlanPlace}
 use Rattle.plan.specs.declared.PlanPlace.the-variants.{Top, From}
 use Rattle.plan.specs.declared.Emitted.{Emitted}

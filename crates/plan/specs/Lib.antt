@@ -8,7 +8,7 @@ pub mod Promises
 pub mod Calls
 pub mod Rules
 pub mod Checked
-pub mod Demand3
+pub mod EndToEnd
 pub mod ByTurns
 pub mod Outputs
 pub mod Reading

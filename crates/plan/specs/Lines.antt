@@ -13,7 +13,7 @@ use Rattle.text.specs.Text.{byte, decimal, line, bytes}
 use Rattle.railway.specs.declared.Railway.{Railway}
 use Rattle.railway.specs.Rows.{recordRefusal}
 use Rattle.game.specs.Placement.{codeOf}
-use Rattle.tables.specs.Tables.{noFigure}
+use Rattle.game_tables.specs.Tables.{noFigure}
 
 -- What a line for a placement says: the section of each train, the figure, which trains are open, which points lie at plus.
 pub record PlacementLine : Type 0 where

@@ -1,4 +1,4 @@
--- What document 01, "Yards to try", says of its yards, with parking (document 02, Q-2), as one statement over one table (tables/KnownYards
+-- What document 01, "Yards to try", says of its yards, with parking (document 02, Q-2), as one statement over one table (game_tables/KnownYards
 -- `knownFigures`): the known figures, and the plan texts that are written out. Assumes nothing.
 use mathlib.Core.Path.{_≡_}
 use mathlib.Core.List.{List, [], _∷_}
@@ -7,8 +7,8 @@ use Prim.Native.Nat.{ℕ}
 use Prim.Native.String.{String}
 use Rattle.text.specs.Text.{bytes}
 use Rattle.railway.specs.declared.Railway.{Railway}
-use Rattle.tables.specs.Tables.{Filled}
-use Rattle.tables.specs.KnownYards.{KnownFigure, knownFigures, AllHold}
+use Rattle.game_tables.specs.Tables.{Filled}
+use Rattle.game_tables.specs.KnownYards.{KnownFigure, knownFigures, AllHold}
 use Rattle.plan.specs.Text.{planText}
 
 -- Where a yard's plan is written out, this is its text by any two tables that have every placement's figure and the plan's setting.

@@ -1,5 +1,5 @@
 -- What each call of emitter and checker promises: the answer and what is left, as Emitter and Checker define them, and its number, that of the
--- first row that applies, by the table of numbers (document 01). The contracts of the calls cite these records, and Demand3 speaks of any calls of
+-- first row that applies, by the table of numbers (document 01). The contracts of the calls cite these records, and EndToEnd speaks of any calls of
 -- which they hold: part of what is to be believed. Assumes nothing.
 use mathlib.Core.Path.{_≡_}
 use mathlib.Core.List.{List}
@@ -7,7 +7,7 @@ use Prim.Native.Nat.{ℕ}
 use Rattle.railway.specs.declared.Railway.{Railway}
 use Rattle.railway.specs.declared.CaseAnswer.{CaseAnswer}
 use Rattle.railway.specs.Refusals.{first, numberOf, numberGiven as caseNumber}
-use Rattle.tables.specs.Tables.{caseRefusal}
+use Rattle.game_tables.specs.Tables.{caseRefusal}
 use Rattle.plan.specs.declared.PlanPlace.{PlanPlace}
 use Rattle.plan.specs.declared.Emitted.{Emitted}
 use Rattle.plan.specs.declared.LineAnswer.{LineAnswer}

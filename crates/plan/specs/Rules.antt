@@ -12,8 +12,8 @@ use Rattle.railway.specs.declared.Railway.{Railway}
 use Rattle.railway.specs.declared.Refusal.{Refusal}
 use Rattle.railway.specs.declared.Refusal.the-variants.{Space, PlanForm, PlanFault}
 use Rattle.game.specs.Placement.{startCode}
-use Rattle.tables.specs.Tables.{caseRefusal}
-use Rattle.tables.specs.Solver.{Kept}
+use Rattle.game_tables.specs.Tables.{caseRefusal}
+use Rattle.game_tables.specs.Solver.{Kept}
 use Rattle.plan.specs.declared.PlanPlace.{PlanPlace}
 use Rattle.plan.specs.declared.Emitted.the-variants.{Line, Refused as EmitRefused}
 use Rattle.plan.specs.declared.CheckerState.the-variants.{Fresh}

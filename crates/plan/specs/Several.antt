@@ -13,7 +13,7 @@ use Rattle.railway.specs.declared.Railway.{Railway}
 use Rattle.railway.specs.declared.Refusal.{Refusal}
 use Rattle.railway.specs.Refusals.{number, first, numberOf}
 use Rattle.game.specs.Placement.{startCode}
-use Rattle.tables.specs.Tables.{figureIn, caseRefusal}
+use Rattle.game_tables.specs.Tables.{figureIn, caseRefusal}
 use Rattle.plan.specs.declared.PlanPlace.{PlanPlace}
 use Rattle.plan.specs.declared.PlanPlace.the-variants.{Top}
 use Rattle.plan.specs.declared.Emitted.{Emitted}

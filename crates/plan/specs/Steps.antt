@@ -11,7 +11,7 @@ use Rattle.railway.specs.declared.Railway.{Railway}
 use Rattle.railway.specs.declared.Refusal.{Refusal}
 use Rattle.railway.specs.declared.Refusal.the-variants.{Space, PlanForm, PlanFault}
 use Rattle.game.specs.Placement.{startCode}
-use Rattle.tables.specs.Tables.{figureIn, caseRefusal}
+use Rattle.game_tables.specs.Tables.{figureIn, caseRefusal}
 use Rattle.plan.specs.declared.PlanPlace.{PlanPlace}
 use Rattle.plan.specs.declared.Emitted.the-variants.{Line, End, NoPlan, Refused}
 use Rattle.plan.specs.declared.CheckerState.{CheckerState}

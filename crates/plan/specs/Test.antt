@@ -14,8 +14,8 @@ use Rattle.game.specs.Claim.{Keeps}
 use Rattle.game.specs.Placement.{placements, startCode, atHome, shared}
 use Rattle.game.specs.Setting.{Setting, held}
 use Rattle.game.specs.Moves.{gameOf}
-use Rattle.tables.specs.Entries.{opensIn, settingFrom}
-use Rattle.tables.specs.Tables.{figureIn}
+use Rattle.game_tables.specs.Entries.{opensIn, settingFrom}
+use Rattle.game_tables.specs.Tables.{figureIn}
 use Rattle.plan.specs.Lines.{PlacementLine, lineCode}
 
 -- What a plan lists at a placement: its figure (none: the placement is not listed), the open trains, the points at plus.

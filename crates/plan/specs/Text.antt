@@ -9,8 +9,8 @@ use Rattle.laws.specs.Below.{whichBelow, listBelow}
 use Rattle.laws.specs.Bits.{bit}
 use Rattle.railway.specs.declared.Railway.{Railway}
 use Rattle.game.specs.Placement.{placements, sectionsOf, startCode}
-use Rattle.tables.specs.Entries.{opensIn}
-use Rattle.tables.specs.Tables.{noFigure, figureIn}
+use Rattle.game_tables.specs.Entries.{opensIn}
+use Rattle.game_tables.specs.Tables.{noFigure, figureIn}
 use Rattle.plan.specs.Lines.{PlacementLine, PlanLine, spell, planOf}
 
 -- There is one.

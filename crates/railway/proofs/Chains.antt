@@ -33,7 +33,7 @@ use Rattle.railway.specs.Passing.{Passage, through, mostMet, follow, pas
 use Rattle.railway.specs.Rows.{longer, longerOver, mostBehind, chainedAt, chainRow}
 use Rattle.railway.specs.Chains.{portOut, portPast, onward, leftBy, LongWay, Round, ChainExactly}
 use Rattle.railway.specs.Chains.{AcceptedUnbroken}
-use Rattle.railway.proofs.Accepted.{Laid, Accepted, laid-facts, laid-known, accepted-facts, laid}
+use Rattle.railway.proofs.Rows.{Laid, Accepted, laid-facts, laid-known, accepted-facts, laid}
 use Rattle.railway.proofs.Runs.{Open, Led, Ended, beyond, passed-on, port-there, start, led-on, led-out}
 use Rattle.railway.proofs.Runs.{led-back, run-left, Run, pass, Once, met-again, once-more}
 

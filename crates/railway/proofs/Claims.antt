@@ -19,8 +19,8 @@ use Rattle.railway.specs.Claims.{RecordNumbers, EndBytes, JoinOf, Accept
 use Rattle.railway.proofs.Ends.{index-one, index-below, index-end, numbered-of}
 use Rattle.railway.proofs.Bytes.{byte-past, byte-back, byte-of}
 use Rattle.railway.proofs.Lookups.{joined-there}
-use Rattle.railway.proofs.Accepted.{Accepted, accepted-facts, known-numbered, joined-link, joined-known}
-use Rattle.railway.proofs.Accepted.{joined-back}
+use Rattle.railway.proofs.Rows.{Accepted, accepted-facts, known-numbered, joined-link, joined-known}
+use Rattle.railway.proofs.Rows.{joined-back}
 use Rattle.railway.proofs.Refusals.{given-exactly, first-none, none-first, number-one, number-tells, rank-place}
 
 pub record-numbers : RecordNumbers

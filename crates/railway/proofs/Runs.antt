@@ -34,9 +34,9 @@ use Rattle.railway.specs.Ends.{opposite, sameSide, portSide}
 use Rattle.railway.specs.Record.{joined, legsOf, sideOf}
 use Rattle.railway.specs.Passing.{through}
 use Rattle.railway.specs.Chains.{leftBy, Round}
-use Rattle.railway.proofs.Accepted.{Laid, laid-known, laid-right, laid-back}
--- (Passes is named so that it is checked before: a wrong definition then shows at a computed value.)
-use Rattle.railway.proofs.Passes as Passes
+use Rattle.railway.proofs.Rows.{Laid, laid-known, laid-right, laid-back}
+-- (PassingExamples is named so that it is checked before: a wrong definition then shows at a computed value.)
+use Rattle.railway.proofs.PassingExamples as PassingExamples
 
 -- SIDES
 pub other-side : (a b : Side) → sameSide a b ≡ false → b ≡ opposite a

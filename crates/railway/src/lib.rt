@@ -1,7 +1,7 @@
 // The railway record: sections, points, trains, joins, signals and closed sections in tables of fixed size. It goes by value, and is
 // small: what an end is joined to stands there as one byte. Every lookup and every update is total: what no railway can have is joined
 // to nothing, has no signal, is not closed, and changes nothing.
-// The test of a record, rows 3 to 8, 13 and 16 of the table of numbers, is the crate `acceptance`.
+// The test of a record, rows 3 to 8, 13 and 16 of the table of numbers, is the crate `railway_acceptance`.
 ghost use mathlib.Core.Path.{_≡_};
 ghost use lib.ListN.{getD};
 ghost use Rattle.railway.specs.declared.Railway.{Railway};
@@ -53,7 +53,8 @@ pub struct Train {
     pub weight: u8,
 }
 
-// Why a case, a record, a table, a plan or a report is refused, in the order in which they are given; `number` gives the documents' number.
+// Why a case, a record, a table, a plan or a report is refused, in the order in which they are given. Each variant is the word that the
+// table of numbers has for it in its second column (docs/FORMATS.md); `number` gives the number.
 pub enum Refusal {
     Length,
     Form,

@@ -20,16 +20,16 @@ use Rattle.railway.specs.declared.Railway.{Railway}
 use Rattle.railway.specs.Bounds.{mostSections}
 use Rattle.railway.specs.Record.{trainOf, weightOf}
 use Rattle.railway.specs.Passing.{entered}
-use Rattle.game.specs.Game.{Outcome, lost, at, collision, Turn, Way, Choice, Position, lostByMove, standing, mover}
+use Rattle.game.specs.Game.{Outcome, lost, at, collision, Turn, Strategy, Adversary, Position, lostByMove, standing, mover}
 use Rattle.game.specs.Game.{over, grown, standAfter, turn, step, play, spent, spentAt, homeAt, HomeWithin, Forced}
 use Rattle.game.specs.Game.{IsFigure}
 use Rattle.game.specs.Placement.{codeOf, sectionsIn, sectionsOf, standsOn, arrived, atHome, shared, startCode}
 use Rattle.game.specs.Setting.{Setting, headsFor}
 use Rattle.game.specs.Moves.{occupied, codeWith, enters, moveOf, gameOf}
 use Rattle.game.proofs.Accepted.{Facts}
-use Rattle.game.proofs.Codes.{AllBelow, sections-code, sections-length}
+use Rattle.game.proofs.Placement.{AllBelow, sections-code, sections-length}
 use Rattle.game.proofs.Moves.{section-below, entered-below, sections-with}
-use Rattle.game.proofs.Turns.{may-train, mover-cases, spent-grown}
+use Rattle.game.proofs.Local.{may-train, mover-cases, spent-grown}
 use Rattle.runs.specs.Runs.{Enters, Run, here, further, noRun, entryAt, RunTable, tableOf, trainRun, runsSum}
 -- (Says is named so that it is checked before.)
 use Rattle.runs.proofs.Says as Says
@@ -133,14 +133,14 @@ module _ (r : Railway) (ok : Facts r) where
     | inr a ↦ (let e : mover (gameOf r) q s c ≡ none = a .0 in rw e (dearer (omega (arith, spent-grown (gameOf r) h q s none)) w))
   ]
 
-  after-step : (w : Way Setting) (c : Choice Setting) (p : ℕ) (x : Position Setting) → Stands p x → Stands p (step (gameOf r) w c x)
+  after-step : (w : Strategy Setting) (c : Adversary Setting) (p : ℕ) (x : Position Setting) → Stands p x → Stands p (step (gameOf r) w c x)
   after-step w c p lostByMove a = tt
   after-step w c p (standing h q) a = elim (bool? (over (gameOf r) q)) [
     | inl e ↦ rw e a
     | inr e ↦ rw e (after-turn h (w h q) (c h q (w h q)) a)
   ]
 
-  plays : (w : Way Setting) (c : Choice Setting) (p m : ℕ) → Stands p (play (gameOf r) w c p m)
+  plays : (w : Strategy Setting) (c : Adversary Setting) (p m : ℕ) → Stands p (play (gameOf r) w c p m)
   unfolding play spent
   plays w c p zero = none-yet p
   plays w c p (suc m) = after-step w c p (play (gameOf r) w c p m) (plays w c p m)

@@ -16,7 +16,7 @@ use Rattle.railway.specs.Ends.{endAt}
 use Rattle.railway.specs.Record.{isClosed, joinedBy, joined, hasSignal, withJoin, withSignal, withClosed, withLegs, withTrain}
 use Rattle.railway.specs.Passing.{follow, passes, entered}
 use Rattle.railway.specs.Yards.{yardH, lineP, lineJ, lineX, lineT, sec, port, yardA}
-use Rattle.game.proofs.Plays.{shutLine}
+use Rattle.game.proofs.Examples.{shutLine}
 use Rattle.runs.specs.Runs.{Enters, Run, here, further}
 
 -- A way that divides and meets again: from 1 up over the point to 2 or 3, from these on to 4 over the second point. The other way about 4 leads to 2 and 3, too.

@@ -20,11 +20,11 @@ use Rattle.game.specs.Moves.{gameOf}
 use Rattle.game.proofs.Accepted.{Facts, facts}
 use Rattle.game.proofs.Moves.{start-below}
 use Rattle.game.proofs.Figures.{figure-one}
-use Rattle.tables.specs.declared.SolverAnswer.{SolverAnswer}
-use Rattle.tables.specs.declared.SolverAnswer.the-variants.{Refused, Unsolvable, Figure}
-use Rattle.tables.specs.Tables.{figureIn, caseRefusal}
-use Rattle.tables.specs.Solver.{numberGiven, figureGiven, SolverLeaves, SolverPost}
-use Rattle.tables.proofs.Refusals.{case-none}
+use Rattle.game_tables.specs.declared.SolverAnswer.{SolverAnswer}
+use Rattle.game_tables.specs.declared.SolverAnswer.the-variants.{Refused, Unsolvable, Figure}
+use Rattle.game_tables.specs.Tables.{figureIn, caseRefusal}
+use Rattle.game_tables.specs.Solver.{numberGiven, figureGiven, SolverLeaves, SolverPost}
+use Rattle.game_tables.proofs.Refusals.{case-none}
 use Rattle.runs.specs.declared.RunReply.{RunReply}
 use Rattle.runs.specs.Runs.{noRun, RunTable, tableIn, TableLeft, RunPost, trainRun, runsSum, Bounded, RunsHold}
 use Rattle.runs.proofs.Says.{says}

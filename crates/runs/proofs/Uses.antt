@@ -23,11 +23,11 @@ use Rattle.railway.specs.Yards.{lineT, yardA, yardALess}
 use Rattle.game.specs.Game.{IsFigure, Forced}
 use Rattle.game.specs.Placement.{codeOf, placements, startCode}
 use Rattle.game.specs.Moves.{gameOf}
-use Rattle.game.proofs.Plays.{shutLine}
-use Rattle.tables.specs.declared.SolverAnswer.{SolverAnswer}
-use Rattle.tables.specs.declared.SolverAnswer.the-variants.{Unsolvable, Figure}
-use Rattle.tables.specs.Solver.{SolverPost}
-use Rattle.tables.proofs.KnownYards.{yardA-accepted, yardA-filled}
+use Rattle.game.proofs.Examples.{shutLine}
+use Rattle.game_tables.specs.declared.SolverAnswer.{SolverAnswer}
+use Rattle.game_tables.specs.declared.SolverAnswer.the-variants.{Unsolvable, Figure}
+use Rattle.game_tables.specs.Solver.{SolverPost}
+use Rattle.game_tables.proofs.KnownYards.{yardA-accepted, yardA-filled}
 use Rattle.runs.specs.declared.RunReply.{RunReply}
 use Rattle.runs.specs.Runs.{Enters, Run, here, further, noRun, IsRun, entryAt, Square, RunTable, SameTrack, tableIn, RunPost, trainRun, runsSum, TableSays, Bounded, RunsSay}
 use Rattle.runs.proofs.Examples.{up-from-2, down-to-1}

@@ -21,9 +21,9 @@ use Rattle.railway.specs.Rows.{recordRefusal}
 use Rattle.game.specs.Game.{IsFigure}
 use Rattle.game.specs.Placement.{placements, startCode}
 use Rattle.game.specs.Moves.{gameOf}
-use Rattle.tables.specs.declared.SolverAnswer.{SolverAnswer}
-use Rattle.tables.specs.declared.SolverAnswer.the-variants.{Unsolvable}
-use Rattle.tables.specs.Solver.{figureGiven, SolverPost}
+use Rattle.game_tables.specs.declared.SolverAnswer.{SolverAnswer}
+use Rattle.game_tables.specs.declared.SolverAnswer.the-variants.{Unsolvable}
+use Rattle.game_tables.specs.Solver.{figureGiven, SolverPost}
 use Rattle.runs.specs.declared.RunRow.{RunRow}
 use Rattle.runs.specs.declared.RunReply.{RunReply}
 

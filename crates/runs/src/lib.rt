@@ -1,5 +1,5 @@
 // Shortest runs between sections, by heading: a row of a table, and what the call for a table answers. specs/ has what a run is, what a table of them says, what the call promises and what runs say
-// of figures; proofs/ that it follows from that promise. The call is in crate run_tables.
+// of figures; proofs/ that it follows from that promise. The call is in crate runs_tables.
 use railway::CaseAnswer;
 use railway::Railway;
 

@@ -6,7 +6,7 @@ use mathlib.Core.List.{List}
 use Prim.Native.Nat.{ℕ}
 use Rattle.railway.specs.declared.Refusal.the-variants.{Form}
 use Rattle.railway.specs.Yards.{yardA}
-use Rattle.casefile.specs.Given.{RefusedWith, AcceptedWith}
+use Rattle.case_file.specs.Given.{RefusedWith, AcceptedWith}
 use Rattle.runs.specs.Runs.{entryAt}
 use Rattle.runs.proofs.Uses.{one-up, one-down}
 use Rattle.runs_api.specs.Exported.{RailwayTables, TablesKept, TextTables}

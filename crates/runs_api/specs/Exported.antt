@@ -6,7 +6,7 @@ use Rattle.railway.specs.declared.Side.the-variants.{Up, Down}
 use Rattle.railway.specs.declared.Railway.{Railway}
 use Rattle.railway.specs.declared.Refusal.{Refusal}
 use Rattle.railway.specs.Refusals.{number}
-use Rattle.reader.specs.Answers.{ByCase}
+use Rattle.case_reader.specs.Answers.{ByCase}
 use Rattle.runs.specs.Runs.{RunTable}
 
 -- A railway: 0, and the tables of both headings.

@@ -8,14 +8,14 @@ ghost use Rattle.runs_api.specs.Exported.{RailwayTables, TextTables};
 use railway::CaseAnswer;
 use railway::Railway;
 use railway::Side;
-use run_tables::Runs;
+use runs_tables::Runs;
 
 // THE TABLES of both headings: rows by the section that runs begin on, in each a byte for every section; sections count from 0.
 #[no_mangle]
 pub extern "C" fn runs_case(text: &[u8], up: &mut Runs, down: &mut Runs) -> u8
     ensures { λ n. ⌜ TextTables (now (text .entry)) (now (up .entry)) (now (down .entry)) n (now (up .exit)) (now (down .exit)) ⌝ }
 {
-    let read = reader::read_case(text);
+    let read = case_reader::read_case(text);
     let answer = read.answer;
     match answer {
         CaseAnswer::Refused(f) => f.number(),
@@ -28,11 +28,11 @@ fn both_tables(r: Railway, up: &mut Runs, down: &mut Runs) -> u8
     ensures { λ n. ⌜ RailwayTables r n (now (up .exit)) (now (down .exit)) ⌝ }
 {
     let blank = [[0u8; Railway::SECTIONS as usize]; Railway::SECTIONS as usize];
-    let for_up = run_tables::run_table(r, Side::Up, blank);
-    let for_down = run_tables::run_table(r, Side::Down, blank);
+    let for_up = runs_tables::run_table(r, Side::Up, blank);
+    let for_down = runs_tables::run_table(r, Side::Down, blank);
     let up_rows = for_up.rows;
     let down_rows = for_down.rows;
-    *up = run_tables::table_in(up_rows);
-    *down = run_tables::table_in(down_rows);
+    *up = runs_tables::table_in(up_rows);
+    *down = runs_tables::table_in(down_rows);
     0
 }

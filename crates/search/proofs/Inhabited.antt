@@ -1,5 +1,5 @@
 -- The hypotheses of the statement can be met: in every accepted case, with tables that are long enough, a search can be opened, and each call for a round can be answered as promised, so that
--- there are lists of any number of calls. The tables are those of each round (tables/proofs/Rounds), and marks that all have the number of the round are right. Assumes nothing.
+-- there are lists of any number of calls. The tables are those of each round (game_tables/proofs/RoundTables), and marks that all have the number of the round are right. Assumes nothing.
 use mathlib.Core.Path.{_≡_, refl, sym, _∙_, ap, subst}
 use mathlib.Core.Logic.{inl, inr}
 use mathlib.Core.Bool.{Bool, true, false, cond, _&&_}
@@ -23,19 +23,19 @@ use Rattle.game.specs.Placement.{placements}
 use Rattle.game.specs.Moves.{gameOf}
 use Rattle.game.proofs.Accepted.{facts}
 use Rattle.game.proofs.Figures.{figure-one}
-use Rattle.tables.specs.Tables.{noFigure, caseRefusal}
-use Rattle.tables.specs.Solver.{Kept}
-use Rattle.tables.proofs.Steps.{accepted-go}
-use Rattle.tables.specs.Rounds.{RoundTables, HasFigure, AllBelow, mostFigure}
-use Rattle.tables.proofs.Refusals.{case-none}
-use Rattle.tables.proofs.Exists.{Solution, solution, few-placements}
-use Rattle.tables.proofs.Rounds.{of-up-to, round-written}
-use Rattle.marks.specs.Marks.{stretchOf, stretches, dueAt, mostAt, Room}
-use Rattle.rounds.specs.Visits.{passedBy, since, MarkedFor}
+use Rattle.game_tables.specs.Tables.{noFigure, caseRefusal}
+use Rattle.game_tables.specs.Solver.{Kept}
+use Rattle.game_tables.proofs.Rounds.{accepted-go}
+use Rattle.game_tables.specs.Rounds.{RoundTables, HasFigure, AllBelow, mostFigure}
+use Rattle.game_tables.proofs.Refusals.{case-none}
+use Rattle.game_tables.proofs.Exists.{Solution, solution, few-placements}
+use Rattle.game_tables.proofs.RoundTables.{of-up-to, round-written}
+use Rattle.solver_marks.specs.Marks.{stretchOf, stretches, dueAt, mostAt, Room}
+use Rattle.solver_rounds.specs.Visits.{passedBy, since, MarkedFor}
 use Rattle.search.specs.declared.SearchAnswer.{SearchAnswer}
 use Rattle.search.specs.declared.SearchAnswer.the-variants.{Going, Ended}
 use Rattle.search.proofs.Opening.{none-cleared}
-use Rattle.search.specs.Search.{State, numberGiven, goingOn, Coming, Standing, OpenLeaves, OpenPost, Rounded, RoundLeaves, SearchPost, Searching, begun, call}
+use Rattle.search.specs.Searching.{State, numberGiven, goingOn, Coming, Standing, OpenLeaves, OpenPost, Rounded, RoundLeaves, SearchPost, Searching, begun, call}
 -- (Searching is named so that it is checked before: a wrong definition then shows at what follows from it.)
 use Rattle.search.proofs.Searching as Searching
 

@@ -13,13 +13,13 @@ use Rattle.railway.specs.Rows.{recordRefusal}
 use Rattle.game.specs.Game.{IsFigure}
 use Rattle.game.specs.Placement.{placements}
 use Rattle.game.specs.Moves.{gameOf}
-use Rattle.tables.specs.Tables.{noFigure, figureIn}
-use Rattle.tables.specs.Rounds.{firstFigure, Cleared, RoundTables}
-use Rattle.tables.proofs.Exists.{solution}
-use Rattle.tables.proofs.Inhabited.{cleared-exists}
-use Rattle.tables.proofs.Rounds.{of-up-to}
-use Rattle.tables.proofs.Steps.{accepted-go}
-use Rattle.tables.proofs.Unique.{figure-entry-one}
+use Rattle.game_tables.specs.Tables.{noFigure, figureIn}
+use Rattle.game_tables.specs.Rounds.{firstFigure, Cleared, RoundTables}
+use Rattle.game_tables.proofs.Exists.{solution}
+use Rattle.game_tables.proofs.Inhabited.{cleared-exists}
+use Rattle.game_tables.proofs.RoundTables.{of-up-to}
+use Rattle.game_tables.proofs.Rounds.{accepted-go}
+use Rattle.game_tables.proofs.Unique.{figure-entry-one}
 
 module _ (r : Railway) (accepted : recordRefusal r ≡ none) (figs sets : List ℕ) (t : RoundTables r 0 figs sets) where
   -- the figures that placements have

@@ -19,22 +19,22 @@ use Rattle.game.specs.Placement.{codeOn, namesNone, placements}
 use Rattle.game.specs.Moves.{gameOf}
 use Rattle.game.proofs.Naming.{code-named}
 use Rattle.game.proofs.Accepted.{facts}
-use Rattle.tables.specs.Tables.{noFigure, figureEntry, figureIn, caseRefusal, IsPlanEntry, Filled}
-use Rattle.tables.specs.Solver.{Kept, SolverPost, SolverLeaves}
-use Rattle.tables.specs.Rounds.{upTo, AllBelow}
-use Rattle.tables.specs.declared.SolverAnswer.{SolverAnswer}
-use Rattle.tables.proofs.Refusals.{case-none}
-use Rattle.tables.proofs.Exists.{Solution, solution}
-use Rattle.tables.proofs.Carry.{Carries, entry-carry}
-use Rattle.tables.proofs.Plays.{figure-apart}
-use Rattle.tables.proofs.Unique.{entry-one, figs-one, sets-one}
-use Rattle.tables.proofs.Rounds.{up-to, of-up-to, round-filled}
-use Rattle.tables.proofs.Steps.{above}
+use Rattle.game_tables.specs.Tables.{noFigure, figureEntry, figureIn, caseRefusal, IsPlanEntry, Filled}
+use Rattle.game_tables.specs.Solver.{Kept, SolverPost, SolverLeaves}
+use Rattle.game_tables.specs.Rounds.{upTo, AllBelow}
+use Rattle.game_tables.specs.declared.SolverAnswer.{SolverAnswer}
+use Rattle.game_tables.proofs.Refusals.{case-none}
+use Rattle.game_tables.proofs.Exists.{Solution, solution}
+use Rattle.game_tables.proofs.Carry.{Carries, entry-carry}
+use Rattle.game_tables.proofs.Plays.{figure-apart}
+use Rattle.game_tables.proofs.Unique.{entry-one, figs-one, sets-one}
+use Rattle.game_tables.proofs.RoundTables.{up-to, of-up-to, round-filled}
+use Rattle.game_tables.proofs.Rounds.{above}
 use Rattle.search.specs.declared.SearchAnswer.{SearchAnswer}
 use Rattle.search.specs.declared.Shown.the-variants.{Figure, NotYet, NoFigure}
-use Rattle.search.specs.Search.{State, Standing, Opened, OpenPost, Rounded, SearchPost, shownBy, shown, lookedUp}
-use Rattle.search.specs.Search.{lookUp, figureShown, Searching, begun, call, refused, UpToRound, SearchAt}
-use Rattle.search.specs.Search.{SearchHolds}
+use Rattle.search.specs.Searching.{State, Standing, Opened, OpenPost, Rounded, SearchPost, shownBy, shown, lookedUp}
+use Rattle.search.specs.Searching.{lookUp, figureShown, Searching, begun, call, refused, UpToRound, SearchAt}
+use Rattle.search.specs.Searching.{SearchHolds}
 
 -- an entry of the figure table is its figure, or the number for none
 entry-some : (x j : ℕ) → figureEntry x ≡ some j → x ≡ j

@@ -26,21 +26,21 @@ use Rattle.game.specs.Game.{IsFigure}
 use Rattle.game.specs.Placement.{codeOf, codeOn, namesNone, placements, sectionsIn, standsOn, atHome, shared}
 use Rattle.game.specs.Moves.{gameOf}
 use Rattle.game.proofs.Figures.{figure-one}
-use Rattle.tables.specs.declared.SolverAnswer.{SolverAnswer}
-use Rattle.tables.specs.Tables.{noFigure, figureIn, tablesShort, caseRefusal}
-use Rattle.tables.specs.Solver.{SolverPost}
-use Rattle.tables.specs.Rounds.{HasFigure, AllBelow}
-use Rattle.tables.proofs.Examples.{weighed, figsW, setsW}
-use Rattle.tables.proofs.WeighedYards.{weighed-accepted, weighed-filled}
-use Rattle.marks.specs.Marks.{stretches, dueAt}
+use Rattle.game_tables.specs.declared.SolverAnswer.{SolverAnswer}
+use Rattle.game_tables.specs.Tables.{noFigure, figureIn, tablesShort, caseRefusal}
+use Rattle.game_tables.specs.Solver.{SolverPost}
+use Rattle.game_tables.specs.Rounds.{HasFigure, AllBelow}
+use Rattle.game_tables.proofs.Examples.{weighed, figsW, setsW}
+use Rattle.game_tables.proofs.WeighedYards.{weighed-accepted, weighed-filled}
+use Rattle.solver_marks.specs.Marks.{stretches, dueAt}
 use Rattle.search.specs.declared.Search.{Search}
 use Rattle.search.specs.declared.Shown.{Shown}
 use Rattle.search.specs.declared.SearchAnswer.{SearchAnswer}
 use Rattle.search.specs.declared.SearchAnswer.the-variants.{Going, Ended}
 use Rattle.search.specs.declared.Shown.the-variants.{Figure, NotYet, NoFigure, Refused as ShownRefused}
-use Rattle.search.specs.Search.{State, numberGiven, Standing, Opened, OpenPost, Rounded, SearchPost, lookedUp}
-use Rattle.search.specs.Search.{lookUp, Searching, begun, call, refused, SearchAt, SearchHolds, numberShown}
-use Rattle.search.specs.Search.{figureShown, LookPost}
+use Rattle.search.specs.Searching.{State, numberGiven, Standing, Opened, OpenPost, Rounded, SearchPost, lookedUp}
+use Rattle.search.specs.Searching.{lookUp, Searching, begun, call, refused, SearchAt, SearchHolds, numberShown}
+use Rattle.search.specs.Searching.{figureShown, LookPost}
 use Rattle.search.proofs.Searching.{search-holds}
 use Rattle.search.proofs.Inhabited.{Searched, search-exists}
 

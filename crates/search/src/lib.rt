@@ -1,7 +1,7 @@
 // A search that is looked into between its rounds: what it carries from call to call, and what its calls answer. specs/ has the definitions and the statement over whole lists
-// of calls, proofs/ that it follows from what a call promises. The calls are in crate searcher.
-use marks::MARKS;
+// of calls, proofs/ that it follows from what a call promises. The calls are in crate search_calls.
 use railway::Refusal;
+use solver_marks::MARKS;
 
 // What a search carries between calls, beside what it is lent: how many rounds are finished, whether it has ended, and the number of a round before which none brings figures:
 // the next that does, unless it is the very next; the largest number where none does any more.

@@ -19,25 +19,27 @@ use Rattle.railway.specs.Refusals.{number, numberOf, first}
 use Rattle.railway.specs.Record.{isClosed, joinedBy, joined, hasSignal, legsOf, trainOf, weightOf, withJoin, withSignal, withLegs, withTrain}
 use Rattle.railway.specs.Rows.{weightRow, unknownRow, joinRow, looseRow, longer, chainRow, placeRow}
 use Rattle.railway.specs.Yards.{yardA}
-use Rattle.casefile.specs.Given.{refused, AcceptedWith, RefusedWith}
-use Rattle.casefile.specs.Reading.{headerAt, walk, read, caseAnswer}
-use Rattle.casefile.specs.YardTexts.{yardTexts}
-use Rattle.casefile.proofs.Exactly.{refused-exactly}
-use Rattle.casefile.proofs.YardTexts.{yards-accepted}
+use Rattle.case_file.specs.Given.{refused, AcceptedWith, RefusedWith}
+use Rattle.case_file.specs.Reading.{headerAt, walk, read, caseAnswer}
+use Rattle.case_file.specs.YardTexts.{yardTexts}
+use Rattle.case_file.proofs.Given.{refused-exactly}
+use Rattle.case_file.proofs.YardTexts.{yards-accepted}
 use Rattle.game.specs.Placement.{codeOf, namesNone, placements}
-use Rattle.tables.specs.Tables.{noFigure, figureIn, tablesShort, caseRefusal}
-use Rattle.tables.specs.Rounds.{AllBelow}
-use Rattle.tables.proofs.Refusals.{case-none}
-use Rattle.tables.proofs.KnownYards.{figsA, setsA, yardA-accepted, yardA-filled}
-use Rattle.placement.specs.ByValue.{sectionIn}
+use Rattle.game_tables.specs.Tables.{noFigure, figureIn, tablesShort, caseRefusal}
+use Rattle.game_tables.specs.Rounds.{AllBelow}
+use Rattle.game_tables.proofs.Refusals.{case-none}
+use Rattle.game_tables.proofs.KnownYards.{figsA, setsA, yardA-accepted, yardA-filled}
+use Rattle.game_placement.specs.ByValue.{sectionIn}
 use Rattle.search.specs.declared.Search.{Search}
 use Rattle.search.specs.declared.SearchAnswer.{SearchAnswer}
 use Rattle.search.specs.declared.SearchAnswer.the-variants.{Going, Ended, Refused}
 use Rattle.search.specs.declared.Shown.{Shown}
 use Rattle.search.specs.declared.Shown.the-variants.{Figure, NotYet, NoFigure, Refused as ShownRefused}
-use Rattle.search.specs.Search.{State, numberGiven, goingOn, Standing, Opened, Rounded, SearchPost, lookedUp}
-use Rattle.search_api.specs.Exported.{searchOf, Lent, lent, stateOf, lentOf, leftWith, OpenedRailway, OpenedText, roundNumber, RoundedRailway, RoundedText, placementOf, shownNumber, figureLeft, LookedText}
-use Rattle.search_api.proofs.Answering.{stand-for-themselves, told-apart}
+use Rattle.search.specs.Searching.{State, numberGiven, goingOn, Standing, Opened, Rounded, SearchPost, lookedUp}
+use Rattle.search_api.specs.Exported.{searchOf, Lent, lent, stateOf, lentOf, leftWith, OpenedRailway, OpenedText}
+use Rattle.search_api.specs.Exported.{roundNumber, RoundedRailway, RoundedText, placementOf, shownNumber}
+use Rattle.search_api.specs.Exported.{figureLeft, LookedText}
+use Rattle.search_api.proofs.Exported.{stand-for-themselves, told-apart}
 
 abbrev N : ℕ
 N = noFigure
@@ -65,7 +67,8 @@ abbrev short : List ℕ
 short = replicate 8 5
 
 cases-so : (caseRefusal yardA fives (replicate 12 5) ≡ none) × (caseRefusal yardA short fives ≡ some Space)
-unfolding caseRefusal tablesShort first weightRow weightOf unknownRow joinRow looseRow chainRow longer placeRow endAt joinedBy joined hasSignal legsOf trainOf withJoin withSignal withLegs withTrain anyBelow listBelow any all isClosed
+unfolding caseRefusal tablesShort first weightRow weightOf unknownRow joinRow looseRow chainRow longer placeRow endAt
+    joinedBy joined hasSignal legsOf trainOf withJoin withSignal withLegs withTrain anyBelow listBelow any all isClosed
 cases-so = (refl, refl)
 
 nine : placements yardA ≡ 9
@@ -108,7 +111,8 @@ module _ (state marks : List ℕ) (n : ℕ) (new : Lent) where
   opens c =
       let w : OpenedRailway yardA (lent state fives (replicate 12 5) marks) n new = c .accepted yardA read-so in
       let o : Opened yardA fives (replicate 12 5) (w .answer) (w .state) = rw (cases-so .0) at (w .opened .leaves) in
-      let same : new ≡ lentOf (w .state) = w .leaves ∙ left-none (w .answer) (caseRefusal yardA fives (replicate 12 5)) (w .opened .numbered) (cases-so .0) (lent state fives (replicate 12 5) marks) (w .state) in (
+      let same : new ≡ lentOf (w .state) = w .leaves ∙ left-none (w .answer) (caseRefusal yardA fives (replicate 12 5))
+      (w .opened .numbered) (cases-so .0) (lent state fives (replicate 12 5) marks) (w .state) in (
         w .numbered ∙ ap (λ (x : Option ℕ). Option·getD x 0) (w .opened .numbered ∙ ap numberOf (cases-so .0)),
         record { state = w .state; same = same; stands = o .stands; long-figs = o .kept-figs .as-long; long-sets = o .kept-sets .as-long },
         ap (λ (x : Lent). getD (x .sets) 10 0) same ∙ o .kept-sets .past 10 (omega (arith, nine)),
@@ -131,7 +135,10 @@ one-more k b l x n new c =
     let w : RoundedRailway yardA l n new = c .accepted yardA read-so in
     let s : State = x .state in
     let post : SearchPost yardA s (w .answer) (w .state) = subst (λ (y : State). SearchPost yardA y (w .answer) (w .state)) (ap stateOf (x .same) ∙ same-state s) (w .rounded) in
-    let fine : caseRefusal yardA (s .figs) (s .sets) ≡ none = case-none yardA (s .figs) (s .sets) .1 (yardA-accepted, record { figures = omega (arith, nine, x .long-figs); settings = omega (arith, nine, x .long-sets) }) in
+    let fine : caseRefusal yardA (s .figs) (s .sets) ≡ none = case-none yardA (s .figs) (s .sets) .1 (
+      yardA-accepted,
+      record { figures = omega (arith, nine, x .long-figs); settings = omega (arith, nine, x .long-sets) },
+    ) in
     let done : Rounded yardA s (w .answer) (w .state) = rw fine at (post .leaves) in
     let stands : Standing yardA (suc k) (w .state) = done .one-more k (x .stands) (going k (omega (arith, b)) s (x .stands)) in (
       w .numbered ∙ ap roundNumber (done .told ∙ ap (λ (e : Bool). cond e Ended Going) (going (suc k) b (w .state) stands)),
@@ -145,7 +152,9 @@ one-more k b l x n new c =
     )
 
 -- so behind the opening two rounds bring (2, 3) its figure, and 2 rounds are counted; behind one it has none yet
-module _ (state marks : List ℕ) (n₀ n₁ n₂ : ℕ) (l₀ l₁ l₂ : Lent) (c₀ : OpenedText caseA (lent state fives (replicate 12 5) marks) n₀ l₀) (c₁ : RoundedText caseA l₀ n₁ l₁) (c₂ : RoundedText caseA l₁ n₂ l₂) where
+module _ (state marks : List ℕ) (n₀ n₁ n₂ : ℕ) (l₀ l₁ l₂ : Lent)
+    (c₀ : OpenedText caseA (lent state fives (replicate 12 5) marks) n₀ l₀) (c₁ : RoundedText caseA l₀ n₁ l₁)
+    (c₂ : RoundedText caseA l₁ n₂ l₂) where
   once : Stands 1 l₁
   once = one-more 0 (omega arith) l₀ (opens state marks n₀ l₀ c₀ .1) n₁ l₁ c₁ .1
 
@@ -201,7 +210,9 @@ shows-so : (at 2 3 (2 ∷ 0 ∷ 3 ∷ []) figsA setsA ≡ Figure 2)
     × (at 0 3 (1 ∷ 0 ∷ 2 ∷ []) empty setsA ≡ NoFigure)
     × (at 2 4 (1 ∷ 0 ∷ 2 ∷ []) empty setsA ≡ NoFigure)
     × (at 2 3 (2 ∷ 0 ∷ 3 ∷ []) short setsA ≡ ShownRefused Space)
-unfolding lookedUp namesNone codeOf sumBelow caseRefusal tablesShort first weightRow weightOf unknownRow joinRow looseRow chainRow longer placeRow endAt joinedBy joined hasSignal legsOf trainOf withJoin withSignal withLegs withTrain anyBelow listBelow any all isClosed
+unfolding lookedUp namesNone codeOf sumBelow caseRefusal tablesShort first weightRow weightOf unknownRow joinRow
+    looseRow chainRow longer placeRow endAt joinedBy joined hasSignal legsOf trainOf withJoin withSignal withLegs
+    withTrain anyBelow listBelow any all isClosed
 shows-so = (refl, refl, refl, refl, refl, refl)
 
 -- what is answered and left, by what is shown

@@ -9,15 +9,15 @@ use lib.ListN.{getD}
 use lib.Dec.{eqb}
 use Rattle.railway.specs.declared.Railway.{Railway}
 use Rattle.railway.specs.Refusals.{number}
-use Rattle.reader.specs.Answers.{ByCase}
-use Rattle.placement.specs.declared.Placement.{Placement}
-use Rattle.placement.specs.ByValue.{sectionIn}
+use Rattle.case_reader.specs.Answers.{ByCase}
+use Rattle.game_placement.specs.declared.Placement.{Placement}
+use Rattle.game_placement.specs.ByValue.{sectionIn}
 use Rattle.search.specs.declared.Search.{Search}
 use Rattle.search.specs.declared.SearchAnswer.{SearchAnswer}
 use Rattle.search.specs.declared.SearchAnswer.the-variants.{Going, Ended, Refused}
 use Rattle.search.specs.declared.Shown.{Shown}
 use Rattle.search.specs.declared.Shown.the-variants.{Figure, NotYet, NoFigure, Refused as ShownRefused}
-use Rattle.search.specs.Search.{State, numberGiven, OpenPost, SearchPost, lookedUp}
+use Rattle.search.specs.Searching.{State, numberGiven, OpenPost, SearchPost, lookedUp}
 
 -- THE SEARCH as three numbers: the rounds finished, 1 if it has ended and else 0, and what is coming.
 abbrev pub searchNumbers : Search → List ℕ

@@ -3,7 +3,7 @@
 ghost use mathlib.Core.Path.{_≡_};
 ghost use Rattle.search_api.specs.Exported.{searchNumbers, searchOf, lent, OpenedRailway, OpenedText, RoundedRailway, RoundedText};
 ghost use Rattle.search_api.specs.Exported.{sectionNamed, placementOf, LookedRailway, LookedText};
-use placement::Placement;
+use game_placement::Placement;
 use railway::CaseAnswer;
 use railway::Railway;
 use search::Marks;
@@ -36,9 +36,11 @@ pub extern "C" fn open_search(
     settings: &mut [u32],
     marks: &mut Marks,
 ) -> u8
-    ensures { λ n. ⌜ OpenedText (now (text .entry)) (lent (now (state .entry)) (now (figures .entry)) (now (settings .entry)) (now (marks .entry))) n (lent (now (state .exit)) (now (figures .exit)) (now (settings .exit)) (now (marks .exit))) ⌝ }
+    ensures { λ n. ⌜ OpenedText (now (text .entry))
+        (lent (now (state .entry)) (now (figures .entry)) (now (settings .entry)) (now (marks .entry))) n
+        (lent (now (state .exit)) (now (figures .exit)) (now (settings .exit)) (now (marks .exit))) ⌝ }
 {
-    let read = reader::read_case(text);
+    let read = case_reader::read_case(text);
     let answer = read.answer;
     match answer {
         CaseAnswer::Refused(f) => f.number(),
@@ -53,9 +55,11 @@ fn open_railway(
     settings: &mut [u32],
     marks: &mut Marks,
 ) -> u8
-    ensures { λ n. ⌜ OpenedRailway r (lent (now (state .entry)) (now (figures .entry)) (now (settings .entry)) (now (marks .entry))) n (lent (now (state .exit)) (now (figures .exit)) (now (settings .exit)) (now (marks .exit))) ⌝ }
+    ensures { λ n. ⌜ OpenedRailway r
+        (lent (now (state .entry)) (now (figures .entry)) (now (settings .entry)) (now (marks .entry))) n
+        (lent (now (state .exit)) (now (figures .exit)) (now (settings .exit)) (now (marks .exit))) ⌝ }
 {
-    let reply = searcher::open(r, figures, settings, marks);
+    let reply = search_calls::open(r, figures, settings, marks);
     let answer = reply.answer;
     match answer {
         SearchAnswer::Refused(f) => f.number(),
@@ -79,9 +83,11 @@ pub extern "C" fn search_round(
     settings: &mut [u32],
     marks: &mut Marks,
 ) -> u8
-    ensures { λ n. ⌜ RoundedText (now (text .entry)) (lent (now (state .entry)) (now (figures .entry)) (now (settings .entry)) (now (marks .entry))) n (lent (now (state .exit)) (now (figures .exit)) (now (settings .exit)) (now (marks .exit))) ⌝ }
+    ensures { λ n. ⌜ RoundedText (now (text .entry))
+        (lent (now (state .entry)) (now (figures .entry)) (now (settings .entry)) (now (marks .entry))) n
+        (lent (now (state .exit)) (now (figures .exit)) (now (settings .exit)) (now (marks .exit))) ⌝ }
 {
-    let read = reader::read_case(text);
+    let read = case_reader::read_case(text);
     let answer = read.answer;
     match answer {
         CaseAnswer::Refused(f) => f.number(),
@@ -96,10 +102,12 @@ fn round_railway(
     settings: &mut [u32],
     marks: &mut Marks,
 ) -> u8
-    ensures { λ n. ⌜ RoundedRailway r (lent (now (state .entry)) (now (figures .entry)) (now (settings .entry)) (now (marks .entry))) n (lent (now (state .exit)) (now (figures .exit)) (now (settings .exit)) (now (marks .exit))) ⌝ }
+    ensures { λ n. ⌜ RoundedRailway r
+        (lent (now (state .entry)) (now (figures .entry)) (now (settings .entry)) (now (marks .entry))) n
+        (lent (now (state .exit)) (now (figures .exit)) (now (settings .exit)) (now (marks .exit))) ⌝ }
 {
     let search = search_of(*state);
-    let reply = searcher::round(search, r, figures, settings, marks);
+    let reply = search_calls::round(search, r, figures, settings, marks);
     let answer = reply.answer;
     match answer {
         SearchAnswer::Refused(f) => f.number(),
@@ -127,7 +135,7 @@ pub extern "C" fn look_up(
 ) -> u8
     ensures { λ n. ⌜ LookedText (now (text .entry)) (now (state .entry)) (now (figures .entry)) (now (settings .entry)) (now (sections .entry)) (now (figure .entry)) n (now (figure .exit)) ⌝ }
 {
-    let read = reader::read_case(text);
+    let read = case_reader::read_case(text);
     let answer = read.answer;
     match answer {
         CaseAnswer::Refused(f) => f.number(),
@@ -149,7 +157,7 @@ fn look_railway(
 {
     let search = search_of(*state);
     let at = placement_of(*sections);
-    match searcher::look_up(search, r, figures, settings, at) {
+    match search_calls::look_up(search, r, figures, settings, at) {
         Shown::Figure(n) => {
             *figure = n;
             0

@@ -1,5 +1,5 @@
 // A case text on standard input; how many of its placements lead home, and with which figures, on standard output; or `refused`, a tab and the number.
 
 fn main() {
-    count_io::write_counts();
+    counts_io::write_counts();
 }

@@ -10,18 +10,18 @@ use Rattle.railway.specs.declared.Refusal.{Refusal}
 use Rattle.railway.specs.Refusals.{numberOf}
 use Rattle.railway.specs.declared.CaseAnswer.the-variants.{Accepted, Refused}
 use Rattle.game.specs.Placement.{placements, startCode}
-use Rattle.tables.specs.declared.SolverAnswer.{SolverAnswer}
-use Rattle.tables.specs.declared.SolverAnswer.the-variants.{Refused as Refuses}
-use Rattle.tables.specs.Tables.{noFigure, figureIn, caseRefusal}
-use Rattle.tables.specs.Solver.{numberGiven, figureGiven, SolverTables, SolverPost}
-use Rattle.tables.proofs.Exists.{few-placements}
-use Rattle.tables.proofs.Refusals.{case-none}
-use Rattle.marks.specs.Marks.{mostCodes}
-use Rattle.compiled.specs.declared.Compilation.{Compilation}
-use Rattle.compiled.specs.Table.{Compiled}
-use Rattle.cases.specs.Cases.{CasePost}
-use Rattle.cases.proofs.Opened.{opened-refused, opened-none, opened-table}
-use Rattle.rounds.proofs.Entries.{entry-some, entry-none}
+use Rattle.game_tables.specs.declared.SolverAnswer.{SolverAnswer}
+use Rattle.game_tables.specs.declared.SolverAnswer.the-variants.{Refused as Refuses}
+use Rattle.game_tables.specs.Tables.{noFigure, figureIn, caseRefusal}
+use Rattle.game_tables.specs.Solver.{numberGiven, figureGiven, SolverTables, SolverPost}
+use Rattle.game_tables.proofs.Exists.{few-placements}
+use Rattle.game_tables.proofs.Refusals.{case-none}
+use Rattle.solver_marks.specs.Marks.{mostCodes}
+use Rattle.railway_compiled.specs.declared.Compilation.{Compilation}
+use Rattle.railway_compiled.specs.Table.{Compiled}
+use Rattle.game_case.specs.Cases.{CasePost}
+use Rattle.game_case.proofs.Cases.{opened-refused, opened-none, opened-table}
+use Rattle.solver_rounds.proofs.Entries.{entry-some, entry-none}
 
 -- THE START'S FIGURE
 module _ (r : Railway) (figs : List ℕ) (at f : ℕ) (start : at ≡ startCode r) (entry : f ≡ getD figs at noFigure) where

@@ -9,16 +9,16 @@ use Rattle.railway.specs.declared.Railway.{Railway}
 use Rattle.railway.specs.Bounds.{mostWeight}
 use Rattle.railway.specs.Record.{isClosed}
 use Rattle.game.specs.Placement.{placements}
-use Rattle.tables.specs.Solver.{Kept, SolverTables}
-use Rattle.tables.specs.Rounds.{RoundTables, mostFigure}
-use Rattle.tables.proofs.Steps.{accepted-go}
-use Rattle.routes.specs.Routes.{Laid}
-use Rattle.compiled.specs.Table.{Compiled}
-use Rattle.predecessors.specs.Behind.{Behind}
-use Rattle.rounds.specs.Rounds.{After, RoundPost}
-use Rattle.rounds.specs.Visits.{MarkedFor}
-use Rattle.rounds.proofs.Beginning.{markCount, first-marked}
-use Rattle.rounds.proofs.Clearing.{kept-self, kept-on}
+use Rattle.game_tables.specs.Solver.{Kept, SolverTables}
+use Rattle.game_tables.specs.Rounds.{RoundTables, mostFigure}
+use Rattle.game_tables.proofs.Rounds.{accepted-go}
+use Rattle.railway_routes.specs.Routes.{Laid}
+use Rattle.railway_compiled.specs.Table.{Compiled}
+use Rattle.solver_predecessors.specs.Behind.{Behind}
+use Rattle.solver_rounds.specs.Rounds.{After, RoundPost}
+use Rattle.solver_rounds.specs.Visits.{MarkedFor}
+use Rattle.solver_rounds.proofs.Beginning.{markCount, first-marked}
+use Rattle.solver_rounds.proofs.Clearing.{kept-self, kept-on}
 
 -- round n is the next
 pub record Played (r : Railway) (n : ℕ) (figs₀ sets₀ figs sets marks : List ℕ) : Type 0 where

@@ -6,33 +6,33 @@ ghost use lib.ListN.{length};
 ghost use Rattle.railway.specs.declared.Railway.{Railway};
 ghost use Rattle.railway.specs.Record.{isClosed};
 ghost use Rattle.game.specs.Placement.{placements, startCode};
-ghost use Rattle.tables.specs.Tables.{figureIn};
-ghost use Rattle.tables.specs.Solver.{numberGiven, figureGiven, SolverTables, SolverPost};
-ghost use Rattle.routes.specs.Routes.{Laid};
-ghost use Rattle.compiled.specs.Table.{Compiled};
-ghost use Rattle.predecessors.specs.Behind.{Behind};
-ghost use Rattle.marks.specs.Marks.{mostCodes};
-use compiled::Table;
-use marks::MARKS;
+ghost use Rattle.game_tables.specs.Tables.{figureIn};
+ghost use Rattle.game_tables.specs.Solver.{numberGiven, figureGiven, SolverTables, SolverPost};
+ghost use Rattle.railway_routes.specs.Routes.{Laid};
+ghost use Rattle.railway_compiled.specs.Table.{Compiled};
+ghost use Rattle.solver_predecessors.specs.Behind.{Behind};
+ghost use Rattle.solver_marks.specs.Marks.{mostCodes};
+use game_tables::NO_FIGURE;
+use game_tables::SolverAnswer;
 use railway::CaseAnswer;
 use railway::Railway;
-use routes::Ways;
-use tables::NO_FIGURE;
-use tables::SolverAnswer;
+use railway_compiled::Table;
+use railway_routes::Ways;
+use solver_marks::MARKS;
 
 // THE SOLVER: both tables of a case and the start's figure, or a refusal and the tables as they were.
 pub fn solve(r: Railway, figures: &mut [u32], settings: &mut [u32]) -> SolverAnswer
     ensures { λ a. ⌜ SolverPost r a (now (figures .entry)) (now (settings .entry)) (now (figures .exit)) (now (settings .exit)) ⌝ }
 {
-    let c = cases::open_case(r, figures, settings);
+    let c = game_case::open_case(r, figures, settings);
     let tested = c.tested;
     let table = c.table;
     match tested {
         CaseAnswer::Refused(f) => SolverAnswer::Refused(f),
         CaseAnswer::Accepted => {
-            let m = moves::placements(&table);
-            let ways = cases::case_ways(r);
-            let behind = predecessors::ways_behind(r);
+            let m = game_moves::placements(&table);
+            let ways = game_case::case_ways(r);
+            let behind = solver_predecessors::ways_behind(r);
             fill(&table, &ways, &behind, figures, settings, m);
             start_answer(&table, figures)
         }
@@ -55,12 +55,12 @@ fn fill(
         → Behind r (now (behind .entry)) → m ≡ placements r → SolverTables r (now (figures .entry))
         (now (settings .entry)) (now (figures .exit)) (now (settings .exit))) ⌝ }
 {
-    rounds::begin(table, figures, settings);
+    solver_rounds::begin(table, figures, settings);
     let mut marks = [0u32; MARKS];
     let last = (Railway::MOST_WEIGHT as u32) * m;
     let mut n: u32 = 1;
     while n <= last {
-        n = rounds::round(table, ways, behind, figures, settings, &mut marks, n);
+        n = solver_rounds::round(table, ways, behind, figures, settings, &mut marks, n);
     }
 }
 
@@ -68,7 +68,7 @@ fn fill(
 fn start_answer(table: &Table, figures: &[u32]) -> SolverAnswer
     ensures { λ a. ⌜ ((r : Railway) → Compiled r (now (table .entry)) → (numberGiven a ≡ none) × (figureGiven a ≡ figureIn (now (figures .entry)) (startCode r))) ⌝ }
 {
-    let f = tables::entry_at(figures, moves::start_code(table), NO_FIGURE);
+    let f = game_tables::entry_at(figures, game_moves::start_code(table), NO_FIGURE);
     if f == NO_FIGURE {
         return SolverAnswer::Unsolvable;
     }

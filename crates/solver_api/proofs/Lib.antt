@@ -1,3 +1,3 @@
-pub mod Answering
+pub mod Exported
 pub mod Plans
 pub mod Uses

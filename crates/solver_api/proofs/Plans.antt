@@ -12,7 +12,7 @@ use Rattle.railway.specs.declared.CaseAnswer.the-variants.{Accepted, Refused as
 use Rattle.railway.specs.declared.Refusal.{Refusal}
 use Rattle.railway.specs.Refusals.{number, numberOf}
 use Rattle.railway.proofs.Refusals.{between}
-use Rattle.tables.specs.Tables.{caseRefusal}
+use Rattle.game_tables.specs.Tables.{caseRefusal}
 use Rattle.plan.specs.declared.PlanPlace.{PlanPlace}
 use Rattle.plan.specs.declared.Emitted.{Emitted}
 use Rattle.plan.specs.declared.Emitted.the-variants.{Line, End, NoPlan, Refused}
@@ -24,7 +24,9 @@ use Rattle.plan.specs.Checker.{Checking, freshened, testNumber, testPlan}
 use Rattle.plan.specs.Several.{EmitLinesPost, Front, frontLeaves, takeFront, FrontPost}
 use Rattle.plan.specs.Promises.{FreshPost, TestPost}
 use Rattle.plan.proofs.Promises.{tests-so}
-use Rattle.solver_api.specs.Plans.{placeNumber, placeAt, lineNumber, AllToldApart, writing, wroteTo, WrittenRailway, stateOf, stateNumbers, Lent, lent, checkingOf, BegunRailway, TakenRailway, TestedRailway}
+use Rattle.solver_api.specs.Plans.{placeNumber, placeAt, lineNumber, AllToldApart, writing, wroteTo}
+use Rattle.solver_api.specs.Plans.{WrittenRailway, stateOf, stateNumbers, Lent, lent, checkingOf, BegunRailway}
+use Rattle.solver_api.specs.Plans.{TakenRailway, TestedRailway}
 
 -- WHAT A NUMBER TELLS
 pub told-apart : AllToldApart

@@ -22,22 +22,22 @@ use Rattle.railway.specs.Refusals.{numberOf, numberGiven, first}
 use Rattle.railway.specs.Record.{isClosed, joinedBy, joined, hasSignal, legsOf, trainOf, weightOf, withJoin, withSignal, withLegs, withTrain}
 use Rattle.railway.specs.Rows.{weightRow, unknownRow, joinRow, looseRow, longer, chainRow, placeRow}
 use Rattle.railway.specs.Yards.{yardA, upTwoOne}
-use Rattle.casefile.specs.Given.{refused, AcceptedWith, RefusedWith}
-use Rattle.casefile.specs.Reading.{headerAt, walk, read, caseAnswer}
-use Rattle.casefile.specs.YardTexts.{yardTexts}
-use Rattle.casefile.proofs.Exactly.{refused-exactly}
-use Rattle.casefile.proofs.YardTexts.{yards-accepted}
+use Rattle.case_file.specs.Given.{refused, AcceptedWith, RefusedWith}
+use Rattle.case_file.specs.Reading.{headerAt, walk, read, caseAnswer}
+use Rattle.case_file.specs.YardTexts.{yardTexts}
+use Rattle.case_file.proofs.Given.{refused-exactly}
+use Rattle.case_file.proofs.YardTexts.{yards-accepted}
 use Rattle.game.specs.Local.{keepsTest}
 use Rattle.game.specs.Placement.{codeOf, sectionsIn, standsOn, startCode, atHome, shared}
 use Rattle.game.specs.Setting.{headsFor, held, mayMove, free, signalOpen}
 use Rattle.railway.specs.Passing.{entered, follow, passes}
 use Rattle.game.specs.Moves.{occupied, moveOf}
-use Rattle.tables.specs.KnownYards.{planA}
-use Rattle.tables.specs.Entries.{entryFrom}
-use Rattle.tables.specs.Tables.{noFigure, figureEntry, figureIn, tablesShort, caseRefusal}
-use Rattle.tables.specs.Solver.{SolverTables}
-use Rattle.tables.proofs.Unique.{figs-one, sets-one}
-use Rattle.tables.proofs.KnownYards.{figsA, setsA, yardA-accepted, yardA-filled}
+use Rattle.game_tables.specs.KnownYards.{planA}
+use Rattle.game_tables.specs.Entries.{entryFrom}
+use Rattle.game_tables.specs.Tables.{noFigure, figureEntry, figureIn, tablesShort, caseRefusal}
+use Rattle.game_tables.specs.Solver.{SolverTables}
+use Rattle.game_tables.proofs.Unique.{figs-one, sets-one}
+use Rattle.game_tables.proofs.KnownYards.{figsA, setsA, yardA-accepted, yardA-filled}
 use Rattle.plan.specs.declared.PlanPlace.the-variants.{Top, From}
 use Rattle.plan.specs.declared.Emitted.{Emitted}
 use Rattle.plan.specs.declared.Emitted.the-variants.{Line, End, NoPlan}
@@ -89,7 +89,10 @@ planned = bytes planA ++ (7 ∷ 7 ∷ 7 ∷ [])
 emits-so : (emitLines yardA figsA setsA Top forty ≡ record { answer = Line 37 (From 8); buffer = planned })
     × (emitLines yardA figsA setsA (From 8) forty ≡ record { answer = End; buffer = forty })
     × (emitLines upTwoOne (N ∷ N ∷ []) (0 ∷ 0 ∷ []) Top forty ≡ record { answer = NoPlan; buffer = forty })
-unfolding emitLines runFrom emitLine lineFor bytes caseRefusal tablesShort first weightRow weightOf unknownRow joinRow looseRow chainRow longer placeRow endAt joinedBy joined hasSignal legsOf trainOf withJoin withSignal withLegs withTrain lowest allBelow anyBelow sumBelow whichBelow listBelow any all spell line digits codeOf sectionsIn startCode isClosed
+unfolding emitLines runFrom emitLine lineFor bytes caseRefusal tablesShort first weightRow weightOf unknownRow joinRow
+    looseRow chainRow longer placeRow endAt joinedBy joined hasSignal legsOf trainOf withJoin withSignal withLegs
+    withTrain lowest allBelow anyBelow sumBelow whichBelow listBelow any all spell line digits codeOf
+    sectionsIn startCode isClosed
 emits-so = (refl, refl, refl)
 
 -- tables lent, longer than needed and too short; fresh ones; and what comes with Yard A's plan, and bytes behind it that are no line
@@ -112,7 +115,8 @@ abbrev handed : List ℕ
 handed = bytes planA ++ bytes "3\t3"
 
 cases-so : (caseRefusal yardA fives (replicate 12 5) ≡ none) × (caseRefusal yardA short fives ≡ some Space)
-unfolding caseRefusal tablesShort first weightRow weightOf unknownRow joinRow looseRow chainRow longer placeRow endAt joinedBy joined hasSignal legsOf trainOf withJoin withSignal withLegs withTrain anyBelow listBelow any all isClosed
+unfolding caseRefusal tablesShort first weightRow weightOf unknownRow joinRow looseRow chainRow longer placeRow endAt
+    joinedBy joined hasSignal legsOf trainOf withJoin withSignal withLegs withTrain anyBelow listBelow any all isClosed
 cases-so = (refl, refl)
 
 fresh-so : freshened yardA fives (replicate 12 5) none ≡ made
@@ -120,13 +124,19 @@ unfolding withJoin withSignal withLegs withTrain
 fresh-so = refl
 
 takes-so : takeFront yardA none-taken handed ≡ left (Took 37) all-taken
-unfolding takeFront frontOf linesOf takeLine bytes caseRefusal tablesShort first weightRow weightOf unknownRow joinRow looseRow chainRow longer placeRow endAt joinedBy joined hasSignal legsOf trainOf withJoin withSignal withLegs withTrain anyBelow sumBelow whichBelow listBelow fromBits any all readLine guess fields valueOf sameText spell line digits fits entryFrom codeOf isClosed
+unfolding takeFront frontOf linesOf takeLine bytes caseRefusal tablesShort first weightRow weightOf unknownRow joinRow
+    looseRow chainRow longer placeRow endAt joinedBy joined hasSignal legsOf trainOf withJoin withSignal withLegs
+    withTrain anyBelow sumBelow whichBelow listBelow fromBits any all readLine guess fields valueOf sameText spell line
+    digits fits entryFrom codeOf isClosed
 takes-so = refl
 
 tests-so : (testPlan yardA all-taken .answer ≡ Pass)
     × (testPlan yardA none-taken .answer ≡ Refused PlanForm)
     × (testPlan yardA (record { state = Begun 1 8; figs = figsA; sets = setsA }) .answer ≡ Refused PlanFault)
-unfolding testPlan caseRefusal tablesShort first weightRow weightOf unknownRow joinRow looseRow chainRow longer placeRow endAt joinedBy joined hasSignal legsOf trainOf withJoin withSignal withLegs withTrain allBelow anyBelow sumBelow whichBelow listBelow fromBits any all codeOf testHolds placementPasses listedSetting keepsTest sectionsIn standsOn startCode atHome shared headsFor mayMove free held signalOpen passes follow occupied moveOf entered isClosed
+unfolding testPlan caseRefusal tablesShort first weightRow weightOf unknownRow joinRow looseRow chainRow longer placeRow
+    endAt joinedBy joined hasSignal legsOf trainOf withJoin withSignal withLegs withTrain allBelow anyBelow sumBelow
+    whichBelow listBelow fromBits any all codeOf testHolds placementPasses listedSetting keepsTest sectionsIn standsOn
+    startCode atHome shared headsFor mayMove free held signalOpen passes follow occupied moveOf entered isClosed
 tests-so = (refl, refl, refl)
 
 -- THE SOLVER: in Yard A the start's figure is 2 and its entry lets train 2 over the point at plus, and what stands past the last code stays; a table that is
@@ -168,19 +178,25 @@ module _ (n : ℕ) (new : Writing) where
   whole : WrittenText caseA figsA setsA atTop n new → (n ≡ 0) × (new ≡ writing 9 planned 37)
   whole c =
       let w = c .accepted yardA (read-so .0) in
-      written yardA figsA setsA atTop n new w (record { answer = Line 37 (From 8); buffer = planned }) (w .emitted .answer ∙ ap (λ (x : Wrote). x .answer) (emits-so .0)) (w .emitted .buffer ∙ ap (λ (x : Wrote). x .buffer) (emits-so .0))
+      written yardA figsA setsA atTop n new w (record { answer = Line 37 (From 8); buffer = planned })
+      (w .emitted .answer ∙ ap (λ (x : Wrote). x .answer) (emits-so .0))
+      (w .emitted .buffer ∙ ap (λ (x : Wrote). x .buffer) (emits-so .0))
 
   -- nothing behind it
   ended : WrittenText caseA figsA setsA atEnd n new → (n ≡ 255) × (new ≡ atEnd)
   ended c =
       let w = c .accepted yardA (read-so .0) in
-      written yardA figsA setsA atEnd n new w (record { answer = End; buffer = forty }) (w .emitted .answer ∙ ap (λ (x : Wrote). x .answer) (emits-so .1)) (w .emitted .buffer ∙ ap (λ (x : Wrote). x .buffer) (emits-so .1))
+      written yardA figsA setsA atEnd n new w (record { answer = End; buffer = forty })
+      (w .emitted .answer ∙ ap (λ (x : Wrote). x .answer) (emits-so .1))
+      (w .emitted .buffer ∙ ap (λ (x : Wrote). x .buffer) (emits-so .1))
 
   -- no plan
   without : WrittenText caseWithout (N ∷ N ∷ []) (0 ∷ 0 ∷ []) atTop n new → (n ≡ 254) × (new ≡ atTop)
   without c =
       let w = c .accepted upTwoOne (read-so .1) in
-      written upTwoOne (N ∷ N ∷ []) (0 ∷ 0 ∷ []) atTop n new w (record { answer = NoPlan; buffer = forty }) (w .emitted .answer ∙ ap (λ (x : Wrote). x .answer) (emits-so .2)) (w .emitted .buffer ∙ ap (λ (x : Wrote). x .buffer) (emits-so .2))
+      written upTwoOne (N ∷ N ∷ []) (0 ∷ 0 ∷ []) atTop n new w (record { answer = NoPlan; buffer = forty })
+      (w .emitted .answer ∙ ap (λ (x : Wrote). x .answer) (emits-so .2))
+      (w .emitted .buffer ∙ ap (λ (x : Wrote). x .buffer) (emits-so .2))
 
   -- a text out of form
   not-written : WrittenText (bytes "H\n") figsA setsA atTop n new → (n ≡ 2) × (new ≡ atTop)
@@ -222,7 +238,8 @@ module _ (n : ℕ) (new : Lent) where
   unread c = c .refused Form form-refused
 
 -- LINES ARE TAKEN: all of Yard A's, from fresh tables, and not the bytes behind them
-front-number : (a : FrontAnswer) (o : Option Refusal) → frontNumber a ≡ numberOf o → (f : Refusal) → o ≡ some f → (bytes : ℕ) (old : Lent) (c : Checking) → (takenWith old a c ≡ old) × (bytesWith bytes a ≡ bytes)
+front-number : (a : FrontAnswer) (o : Option Refusal) → frontNumber a ≡ numberOf o → (f : Refusal) → o ≡ some f
+    → (bytes : ℕ) (old : Lent) (c : Checking) → (takenWith old a c ≡ old) × (bytesWith bytes a ≡ bytes)
 front-number (Took k) o e f g bytes old c = some-none (ap numberOf g) (sym e)
 front-number (FrontRefused h) o e f g bytes old c = (refl, refl)
 

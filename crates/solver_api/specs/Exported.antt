@@ -7,9 +7,9 @@ use Prim.Native.Nat.{ℕ}
 use Rattle.railway.specs.declared.Railway.{Railway}
 use Rattle.railway.specs.declared.Refusal.{Refusal}
 use Rattle.railway.specs.Refusals.{number, numberOf}
-use Rattle.reader.specs.Answers.{ByCase}
-use Rattle.tables.specs.Tables.{caseRefusal}
-use Rattle.tables.specs.Solver.{SolverTables}
+use Rattle.case_reader.specs.Answers.{ByCase}
+use Rattle.game_tables.specs.Tables.{caseRefusal}
+use Rattle.game_tables.specs.Solver.{SolverTables}
 
 -- What is left in the tables: what was there, or the case's figures and settings.
 abbrev pub Leaves : Railway → List ℕ → List ℕ → List ℕ → List ℕ → Option Refusal → Type 0

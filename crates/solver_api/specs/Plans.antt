@@ -11,8 +11,8 @@ use Rattle.railway.specs.declared.Railway.{Railway}
 use Rattle.railway.specs.declared.CaseAnswer.{CaseAnswer}
 use Rattle.railway.specs.declared.CaseAnswer.the-variants.{Accepted, Refused as CaseRefused}
 use Rattle.railway.specs.Refusals.{number, numberGiven}
-use Rattle.reader.specs.Answers.{ByCase}
-use Rattle.tables.specs.Tables.{noFigure}
+use Rattle.case_reader.specs.Answers.{ByCase}
+use Rattle.game_tables.specs.Tables.{noFigure}
 use Rattle.plan.specs.declared.PlanPlace.{PlanPlace}
 use Rattle.plan.specs.declared.PlanPlace.the-variants.{Top, From}
 use Rattle.plan.specs.declared.Emitted.{Emitted}

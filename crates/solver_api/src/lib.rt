@@ -5,15 +5,15 @@ ghost use mathlib.Core.Path.{_≡_};
 ghost use Rattle.solver_api.specs.Exported.{SolvedRailway, SolvedText};
 ghost use Rattle.solver_api.specs.Plans.{placeAt, placeNumber, writing, WrittenRailway, WrittenText};
 ghost use Rattle.solver_api.specs.Plans.{stateOf, stateNumbers, lent, BegunRailway, BegunText, TakenRailway, TakenText, TestedRailway, TestedText};
-use checker::Checker;
+use game_tables::SolverAnswer;
 use plan::CheckerState;
 use plan::Emitted;
 use plan::FrontAnswer;
 use plan::PlanPlace;
 use plan::TestAnswer;
+use plan_checker::Checker;
 use railway::CaseAnswer;
 use railway::Railway;
-use tables::SolverAnswer;
 
 // What the call for the plan's lines answers where no line is left, and where there is no plan. No refusal has such a number.
 pub const END: u8 = 255;
@@ -28,7 +28,7 @@ pub type Numbers = [u32; 3];
 pub extern "C" fn solve_case(text: &[u8], figures: &mut [u32], settings: &mut [u32]) -> u8
     ensures { λ n. ⌜ SolvedText (now (text .entry)) (now (figures .entry)) (now (settings .entry)) n (now (figures .exit)) (now (settings .exit)) ⌝ }
 {
-    let read = reader::read_case(text);
+    let read = case_reader::read_case(text);
     let answer = read.answer;
     match answer {
         CaseAnswer::Refused(f) => f.number(),
@@ -57,9 +57,11 @@ pub extern "C" fn write_plan_lines(
     out: &mut [u8],
     bytes: &mut usize,
 ) -> u8
-    ensures { λ n. ⌜ WrittenText (now (text .entry)) (now (figures .entry)) (now (settings .entry)) (writing (now (place .entry)) (now (out .entry)) (now (bytes .entry))) n (writing (now (place .exit)) (now (out .exit)) (now (bytes .exit))) ⌝ }
+    ensures { λ n. ⌜ WrittenText (now (text .entry)) (now (figures .entry)) (now (settings .entry))
+        (writing (now (place .entry)) (now (out .entry)) (now (bytes .entry))) n
+        (writing (now (place .exit)) (now (out .exit)) (now (bytes .exit))) ⌝ }
 {
-    let read = reader::read_case(text);
+    let read = case_reader::read_case(text);
     let answer = read.answer;
     match answer {
         CaseAnswer::Refused(f) => f.number(),
@@ -77,10 +79,12 @@ fn write_railway(
     out: &mut [u8],
     bytes: &mut usize,
 ) -> u8
-    ensures { λ n. ⌜ WrittenRailway r (now (figures .entry)) (now (settings .entry)) (writing (now (place .entry)) (now (out .entry)) (now (bytes .entry))) n (writing (now (place .exit)) (now (out .exit)) (now (bytes .exit))) ⌝ }
+    ensures { λ n. ⌜ WrittenRailway r (now (figures .entry)) (now (settings .entry))
+        (writing (now (place .entry)) (now (out .entry)) (now (bytes .entry))) n
+        (writing (now (place .exit)) (now (out .exit)) (now (bytes .exit))) ⌝ }
 {
     let from = place_at(*place);
-    match emitter::emit_lines(r, figures, settings, from, out) {
+    match plan_emitter::emit_lines(r, figures, settings, from, out) {
         Emitted::Line(n, next) => {
             *place = place_number(next);
             *bytes = n;
@@ -122,9 +126,11 @@ pub extern "C" fn begin_check(
     figures: &mut [u32],
     settings: &mut [u32],
 ) -> u8
-    ensures { λ n. ⌜ BegunText (now (text .entry)) (lent (now (state .entry)) (now (figures .entry)) (now (settings .entry))) n (lent (now (state .exit)) (now (figures .exit)) (now (settings .exit))) ⌝ }
+    ensures { λ n.
+        ⌜ BegunText (now (text .entry)) (lent (now (state .entry)) (now (figures .entry)) (now (settings .entry))) n
+        (lent (now (state .exit)) (now (figures .exit)) (now (settings .exit))) ⌝ }
 {
-    let read = reader::read_case(text);
+    let read = case_reader::read_case(text);
     let answer = read.answer;
     match answer {
         CaseAnswer::Refused(f) => f.number(),
@@ -157,9 +163,12 @@ pub extern "C" fn take_plan_lines(
     settings: &mut [u32],
     bytes: &mut usize,
 ) -> u8
-    ensures { λ n. ⌜ TakenText (now (text .entry)) (lent (now (state .entry)) (now (figures .entry)) (now (settings .entry))) (now (plan .entry)) (now (bytes .entry)) n (lent (now (state .exit)) (now (figures .exit)) (now (settings .exit))) (now (bytes .exit)) ⌝ }
+    ensures { λ n.
+        ⌜ TakenText (now (text .entry)) (lent (now (state .entry)) (now (figures .entry)) (now (settings .entry)))
+        (now (plan .entry)) (now (bytes .entry)) n
+        (lent (now (state .exit)) (now (figures .exit)) (now (settings .exit))) (now (bytes .exit)) ⌝ }
 {
-    let read = reader::read_case(text);
+    let read = case_reader::read_case(text);
     let answer = read.answer;
     match answer {
         CaseAnswer::Refused(f) => f.number(),
@@ -177,7 +186,9 @@ fn take_railway(
     settings: &mut [u32],
     bytes: &mut usize,
 ) -> u8
-    ensures { λ n. ⌜ TakenRailway r (lent (now (state .entry)) (now (figures .entry)) (now (settings .entry))) (now (plan .entry)) (now (bytes .entry)) n (lent (now (state .exit)) (now (figures .exit)) (now (settings .exit))) (now (bytes .exit)) ⌝ }
+    ensures { λ n. ⌜ TakenRailway r (lent (now (state .entry)) (now (figures .entry)) (now (settings .entry)))
+        (now (plan .entry)) (now (bytes .entry)) n
+        (lent (now (state .exit)) (now (figures .exit)) (now (settings .exit))) (now (bytes .exit)) ⌝ }
 {
     let checker = checker_of(*state);
     let taken = checker.take_front(r, plan, figures, settings);
@@ -197,7 +208,7 @@ fn take_railway(
 pub extern "C" fn test_plan(text: &[u8], state: &Numbers, figures: &[u32], settings: &[u32]) -> u8
     ensures { λ n. ⌜ TestedText (now (text .entry)) (lent (now (state .entry)) (now (figures .entry)) (now (settings .entry))) n ⌝ }
 {
-    let read = reader::read_case(text);
+    let read = case_reader::read_case(text);
     let answer = read.answer;
     match answer {
         CaseAnswer::Refused(f) => f.number(),

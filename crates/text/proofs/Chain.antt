@@ -11,7 +11,7 @@ use Rattle.text.specs.declared.Byte.{Byte}
 use Rattle.text.specs.declared.Byte.the-variants.{Other, Past}
 use Rattle.text.specs.Reading.{Got, bad, got, then, byteAt}
 use Rattle.text.specs.Answers.{byteGot, byteInside}
-use Rattle.text.proofs.Walking.{bad-got}
+use Rattle.text.proofs.Reading.{bad-got}
 use Rattle.text.proofs.Numbers.{byte-is}
 
 -- ANY STEP

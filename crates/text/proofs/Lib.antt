@@ -1,5 +1,5 @@
 pub mod Decimal
-pub mod Walking
+pub mod Reading
 pub mod Lines
 pub mod Appending
 pub mod Examples

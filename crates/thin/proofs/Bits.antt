@@ -9,7 +9,7 @@ use lib.Dec.{eqb}
 use Rattle.laws.specs.Bits.{bit}
 use Rattle.laws.proofs.Bits.{low-bit, high-bit, bit-none}
 use Rattle.laws.proofs.Bitwise.{bit-power}
-use Rattle.tables.specs.Entries.{trainBits, opensIn}
+use Rattle.game_tables.specs.Entries.{trainBits, opensIn}
 use Rattle.thin.specs.Thinning.{openBit, openOnly}
 use Rattle.thin.proofs.Examples as Examples
 

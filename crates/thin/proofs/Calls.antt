@@ -1,4 +1,4 @@
--- Thinning behind a whole list of calls: what the checker's tables hold then is what the lines taken say (plan/Checks), and a call that thins answers as the test does. A plan that is not
+-- Thinning behind a whole list of calls: what the checker's tables hold then is what the lines taken say (plan/Checked), and a call that thins answers as the test does. A plan that is not
 -- thinned is left as it was, so that the test behind answers as the test before. Assumes nothing.
 use mathlib.Core.Path.{_≡_, refl, sym, _∙_, ap, subst}
 use mathlib.Core.Logic.{_⊎_, _↔_, inl, inr}
@@ -12,12 +12,12 @@ use Rattle.railway.specs.declared.Railway.{Railway}
 use Rattle.railway.specs.declared.Refusal.{Refusal}
 use Rattle.railway.specs.declared.Refusal.the-variants.{PlanForm, PlanFault}
 use Rattle.railway.specs.Rows.{recordRefusal}
-use Rattle.game.specs.Game.{Choice, following, HomeWithin}
+use Rattle.game.specs.Game.{Adversary, following, HomeWithin}
 use Rattle.game.specs.Placement.{startCode}
 use Rattle.game.specs.Setting.{Setting}
 use Rattle.game.specs.Moves.{gameOf}
 use Rattle.game.proofs.Accepted.{facts}
-use Rattle.tables.specs.Tables.{noFigure, settingIn}
+use Rattle.game_tables.specs.Tables.{noFigure, settingIn}
 use Rattle.plan.specs.declared.CheckerState.{CheckerState}
 use Rattle.plan.specs.declared.CheckerState.the-variants.{Fresh, Begun}
 use Rattle.plan.specs.declared.LineAnswer.{LineAnswer}
@@ -26,7 +26,7 @@ use Rattle.plan.specs.declared.TestAnswer.the-variants.{Pass, Refused as TestRe
 use Rattle.plan.specs.Checker.{Checking, takeLine, testPlan, LineCalls, callLines, isTaken, takenTexts}
 use Rattle.plan.specs.Checked.{Checked, InForm, Passing, Failing}
 use Rattle.plan.proofs.Calls.{taking-one}
-use Rattle.plan.proofs.Checks.{Holds, unbegun, begun, ran, checked-holds, fresh-holds}
+use Rattle.plan.proofs.Checked.{Holds, unbegun, begun, ran, checked-holds, fresh-holds}
 use Rattle.plan.proofs.Forms.{form-one}
 use Rattle.plan.proofs.Fresh.{fresh-made}
 use Rattle.thin.specs.declared.ThinAnswer.{ThinAnswer}

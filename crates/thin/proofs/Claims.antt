@@ -18,14 +18,14 @@ use Rattle.railway.specs.declared.Refusal.{Refusal}
 use Rattle.railway.specs.declared.Refusal.the-variants.{PlanForm, PlanFault, Space}
 use Rattle.railway.specs.Refusals.{Row, row, first, numberOf}
 use Rattle.railway.specs.Rows.{recordRefusal, recordRows}
-use Rattle.game.specs.Game.{may, Choice, following, HomeWithin}
+use Rattle.game.specs.Game.{may, Adversary, following, HomeWithin}
 use Rattle.game.specs.Placement.{placements, startCode, atHome, shared}
 use Rattle.game.specs.Setting.{Setting, mayMove, signalOpen}
 use Rattle.game.specs.Moves.{gameOf}
 use Rattle.game.proofs.Accepted.{facts}
-use Rattle.tables.specs.Entries.{trainBits, opensIn, settingFrom, settingAt}
-use Rattle.tables.specs.Tables.{figureIn, settingIn, tablesShort, caseRefusal}
-use Rattle.tables.proofs.Refusals.{case-none}
+use Rattle.game_tables.specs.Entries.{trainBits, opensIn, settingFrom, settingAt}
+use Rattle.game_tables.specs.Tables.{figureIn, settingIn, tablesShort, caseRefusal}
+use Rattle.game_tables.proofs.Refusals.{case-none}
 use Rattle.plan.specs.declared.CheckerState.{CheckerState}
 use Rattle.plan.specs.declared.CheckerState.the-variants.{Fresh, Begun}
 use Rattle.plan.specs.declared.LineAnswer.{LineAnswer}
@@ -39,14 +39,14 @@ use Rattle.plan.specs.Computed.{testHolds}
 use Rattle.plan.specs.Checker.{Checking, Left, lineEntry, takeLine, testRows, testAnswer, testPlan, callLines}
 use Rattle.plan.specs.Steps.{takes, takesIf, tests}
 use Rattle.plan.proofs.Steps.{line-steps, test-steps}
-use Rattle.plan.proofs.Tested.{tested, plan-works}
+use Rattle.plan.proofs.Test.{tested, plan-works}
 use Rattle.thin.specs.declared.ThinAnswer.{ThinAnswer}
 use Rattle.thin.specs.declared.ThinAnswer.the-variants.{Thinned, Refused}
 use Rattle.thin.specs.Thinning.{someFree, stays, openOnly, thinnedEntry, thinnedTable, thinnedChecking, thinLeaves, thinPlan, ThinPost}
 use Rattle.thin.specs.Claims.{opened, LeanAt, Lean, ThinClaims, ThinsHold}
 use Rattle.thin.proofs.Bits.{isTrain, only-opens}
 use Rattle.thin.proofs.Placement.{lean, stays-none, stays-lowest, was-open}
-use Rattle.thin.proofs.Tables.{as-long, entry-below, entry-past, entry-none, entry-home, entry-lean, entry-points, passes-again, table-again}
+use Rattle.thin.proofs.Thinning.{as-long, entry-below, entry-past, entry-none, entry-home, entry-lean, entry-points, passes-again, table-again}
 
 -- THE ANSWER of the call and of the test, by one refusal
 pass-none : (o : Option Refusal) → testAnswer o ≡ Pass → o ≡ none
@@ -215,7 +215,7 @@ module _ (r : Railway) (c : Checking) (w : Passed r c) where
         post .checking ∙ ap (λ (o : Option Refusal). thinLeaves c′ (thinnedChecking r c′) o .checking) f ∙ k,
       )
 
-  follow : (m from : ℕ) → c .state ≡ Begun m from → (choice : Choice Setting) → HomeWithin (gameOf r) (following (settingIn r (c′ .sets))) choice (startCode r) m
+  follow : (m from : ℕ) → c .state ≡ Begun m from → (choice : Adversary Setting) → HomeWithin (gameOf r) (following (settingIn r (c′ .sets))) choice (startCode r) m
   unfolding listedSetting settingAt
   follow m from e choice =
       subst (λ (n : ℕ). HomeWithin (gameOf r) (following (settingIn r (c′ .sets))) choice (startCode r) n) (same-figure (sym (w .begun) ∙ e))

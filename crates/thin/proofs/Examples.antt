@@ -20,8 +20,8 @@ use Rattle.game.specs.Local.{keepsTest}
 use Rattle.game.specs.Placement.{codeOf, sectionsIn, standsOn, startCode, atHome, shared}
 use Rattle.game.specs.Setting.{headsFor, held, mayMove, free, signalOpen}
 use Rattle.game.specs.Moves.{occupied, moveOf}
-use Rattle.tables.specs.Entries.{settingAt}
-use Rattle.tables.specs.Tables.{noFigure, tablesShort}
+use Rattle.game_tables.specs.Entries.{settingAt}
+use Rattle.game_tables.specs.Tables.{noFigure, tablesShort}
 use Rattle.plan.specs.declared.CheckerState.{CheckerState}
 use Rattle.plan.specs.declared.CheckerState.the-variants.{Fresh, Begun}
 use Rattle.plan.specs.Checker.{Checking, left}

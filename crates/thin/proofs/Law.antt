@@ -16,9 +16,9 @@ use Rattle.game.specs.Game.{may}
 use Rattle.game.specs.Placement.{shared}
 use Rattle.game.specs.Setting.{headsFor, held, free, mayMove, signalOpen}
 use Rattle.game.specs.Moves.{moveOf, gameOf}
-use Rattle.game.proofs.Agreeing.{held-not-free}
-use Rattle.tables.specs.Entries.{opensEnd, settingFrom}
-use Rattle.tables.proofs.Entries.{own-end}
+use Rattle.game.proofs.Setting.{held-not-free}
+use Rattle.game_tables.specs.Entries.{opensEnd, settingFrom}
+use Rattle.game_tables.proofs.Entries.{own-end}
 use Rattle.thin.specs.Law.{moves, inEither, inBoth, MovesUnder, SharedSignal, SignalsShared, LawHolds}
 use Rattle.thin.proofs.Examples.{common-fails}
 

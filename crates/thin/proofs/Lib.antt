@@ -2,7 +2,7 @@ pub mod Examples
 pub mod Law
 pub mod Bits
 pub mod Placement
-pub mod Tables
+pub mod Thinning
 pub mod Claims
 pub mod Calls
 pub mod Uses

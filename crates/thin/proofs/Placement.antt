@@ -17,8 +17,8 @@ use Rattle.game.specs.Game.{may}
 use Rattle.game.specs.Placement.{shared}
 use Rattle.game.specs.Setting.{held, free, mayMove, signalOpen}
 use Rattle.game.specs.Moves.{gameOf}
-use Rattle.game.proofs.Turns.{may-train}
-use Rattle.tables.specs.Entries.{settingFrom}
+use Rattle.game.proofs.Local.{may-train}
+use Rattle.game_tables.specs.Entries.{settingFrom}
 use Rattle.thin.specs.Law.{moves, inEither, inBoth, MovesUnder}
 use Rattle.thin.specs.Thinning.{someFree, stays}
 use Rattle.thin.proofs.Bits.{isTrain}

@@ -23,14 +23,14 @@ use Rattle.railway.specs.Record.{isClosed, joinedBy, joined, hasSignal, legsOf,
 use Rattle.railway.specs.Passing.{follow, passes, entered}
 use Rattle.railway.specs.Rows.{weightRow, unknownRow, joinRow, looseRow, longer, chainRow, placeRow, recordRefusal}
 use Rattle.railway.specs.Yards.{yardA}
-use Rattle.game.specs.Game.{at, Choice, following, HomeWithin}
+use Rattle.game.specs.Game.{at, Adversary, following, HomeWithin}
 use Rattle.game.specs.Local.{keepsTest}
 use Rattle.game.specs.Placement.{codeOf, sectionsIn, standsOn, startCode, atHome, shared}
 use Rattle.game.specs.Setting.{Setting, headsFor, held, mayMove, free, signalOpen}
 use Rattle.game.specs.Moves.{occupied, moveOf, gameOf}
-use Rattle.tables.specs.Entries.{opensIn, settingFrom, settingAt, entryFrom}
-use Rattle.tables.specs.Tables.{settingIn, tablesShort}
-use Rattle.tables.proofs.KnownYards.{figsA, setsA}
+use Rattle.game_tables.specs.Entries.{opensIn, settingFrom, settingAt, entryFrom}
+use Rattle.game_tables.specs.Tables.{settingIn, tablesShort}
+use Rattle.game_tables.proofs.KnownYards.{figsA, setsA}
 use Rattle.plan.specs.declared.CheckerState.{CheckerState}
 use Rattle.plan.specs.declared.CheckerState.the-variants.{Fresh, Begun}
 use Rattle.plan.specs.declared.LineAnswer.{LineAnswer}
@@ -186,7 +186,7 @@ module _ (c′ : Checking) (h : Lean sidings rich c′) where
   unfolding startCode codeOf sumBelow listBelow trainOf withJoin withSignal withLegs withTrain
   at-start = refl
 
-  home-in-two : (choice : Choice Setting) → HomeWithin (gameOf sidings) (following (settingIn sidings (c′ .sets))) choice 8 2
+  home-in-two : (choice : Adversary Setting) → HomeWithin (gameOf sidings) (following (settingIn sidings (c′ .sets))) choice 8 2
   home-in-two choice = subst (λ (p : ℕ). HomeWithin (gameOf sidings) (following (settingIn sidings (c′ .sets))) choice p 2) at-start (h .follow 2 14 refl choice)
 
   -- train 2 was closed at (1, 4), and stays so; one train was open there, and there are no more
@@ -229,7 +229,7 @@ module _ (a : ThinAnswer) (c′ : Checking) (test : TestAnswer) where
     not-early : a ≡ Refused PlanForm → ⊥
     not-early e = cons-ne-nil _ _ (h .early .0 e)
 
-    followed : (choice : Choice Setting) → HomeWithin (gameOf yardA) (following (settingIn yardA (c′ .sets))) choice 7 (other-passes .start)
+    followed : (choice : Adversary Setting) → HomeWithin (gameOf yardA) (following (settingIn yardA (c′ .sets))) choice 7 (other-passes .start)
     unfolding startCode codeOf sumBelow listBelow trainOf withJoin withSignal withLegs withTrain
     followed choice = h .follow other-passes choice
 

@@ -11,11 +11,11 @@ use Rattle.railway.specs.declared.Railway.{Railway}
 use Rattle.railway.specs.declared.CaseAnswer.{CaseAnswer}
 use Rattle.railway.specs.declared.Refusal.the-variants.{PlanForm, PlanFault}
 use Rattle.railway.specs.Rows.{recordRefusal}
-use Rattle.game.specs.Game.{Choice, following, HomeWithin}
+use Rattle.game.specs.Game.{Adversary, following, HomeWithin}
 use Rattle.game.specs.Placement.{placements, startCode}
 use Rattle.game.specs.Setting.{Setting}
 use Rattle.game.specs.Moves.{gameOf}
-use Rattle.tables.specs.Tables.{settingIn}
+use Rattle.game_tables.specs.Tables.{settingIn}
 use Rattle.plan.specs.declared.TestAnswer.{TestAnswer}
 use Rattle.plan.specs.declared.TestAnswer.the-variants.{Pass}
 use Rattle.plan.specs.Checker.{Checking, takeLine, LineCalls, isTaken, takenTexts}
@@ -35,7 +35,7 @@ pub record PlanThinned (r : Railway) (taken : List (List ℕ)) (a : ThinAnswer) 
   -- the test behind it passes the plan exactly if it passed before
   pub passes : (test ≡ Pass) ↔ Passing r taken
   -- whoever follows the thinned plan is home within the figure of the first line that was taken, against every choice of trains
-  pub follow : (w : Passing r taken) (choice : Choice Setting) → HomeWithin (gameOf r) (following (settingIn r (c′ .sets))) choice (startCode r) (w .start)
+  pub follow : (w : Passing r taken) (choice : Adversary Setting) → HomeWithin (gameOf r) (following (settingIn r (c′ .sets))) choice (startCode r) (w .start)
   -- one more line is taken exactly if with it the lines taken are in form
   pub more : (text : List ℕ) → (isTaken (takeLine r c′ text .answer) ≡ true) ↔ InForm r (taken ++ (text ∷ []))
 

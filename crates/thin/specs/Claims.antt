@@ -12,12 +12,12 @@ use Rattle.laws.specs.Below.{countBelow, lowest}
 use Rattle.laws.specs.Bits.{bit}
 use Rattle.railway.specs.declared.Railway.{Railway}
 use Rattle.railway.specs.declared.Refusal.{Refusal}
-use Rattle.game.specs.Game.{may, Choice, following, HomeWithin}
+use Rattle.game.specs.Game.{may, Adversary, following, HomeWithin}
 use Rattle.game.specs.Placement.{placements, startCode, atHome}
 use Rattle.game.specs.Setting.{Setting}
 use Rattle.game.specs.Moves.{gameOf}
-use Rattle.tables.specs.Entries.{trainBits, opensIn}
-use Rattle.tables.specs.Tables.{figureIn, settingIn}
+use Rattle.game_tables.specs.Entries.{trainBits, opensIn}
+use Rattle.game_tables.specs.Tables.{figureIn, settingIn}
 use Rattle.plan.specs.declared.CheckerState.the-variants.{Begun}
 use Rattle.plan.specs.declared.TestAnswer.the-variants.{Pass, Refused as TestRefused}
 use Rattle.plan.specs.Checker.{Checking, testPlan, callLines}
@@ -44,7 +44,7 @@ pub record Lean (r : Railway) (c c′ : Checking) : Type 0 where
   -- thinned a second time it is as it is
   pub again : (a : ThinAnswer) (c″ : Checking) → ThinPost r c′ a c″ → (a ≡ Thinned) × (c″ ≡ c′)
   -- whoever follows it is home within the figure of its first line, against every choice of trains
-  pub follow : (m from : ℕ) → c .state ≡ Begun m from → (choice : Choice Setting) → HomeWithin (gameOf r) (following (settingIn r (c′ .sets))) choice (startCode r) m
+  pub follow : (m from : ℕ) → c .state ≡ Begun m from → (choice : Adversary Setting) → HomeWithin (gameOf r) (following (settingIn r (c′ .sets))) choice (startCode r) m
   -- nobody is open who was closed, and so never more trains than were
   pub never : (p t : ℕ) → opened c′ p t → opened c p t
   pub fewer : (p : ℕ) → countBelow (opensIn (getD (c′ .sets) p 0)) (r .trains) ≤ countBelow (opensIn (getD (c .sets) p 0)) (r .trains)

@@ -13,7 +13,7 @@ use Rattle.game.specs.Game.{may}
 use Rattle.game.specs.Placement.{shared}
 use Rattle.game.specs.Setting.{headsFor, held}
 use Rattle.game.specs.Moves.{moveOf, gameOf}
-use Rattle.tables.specs.Entries.{settingFrom}
+use Rattle.game_tables.specs.Entries.{settingFrom}
 
 -- Train t may move in placement p, with these points at plus and these trains open.
 abbrev pub moves : Railway → ℕ → (ℕ → Bool) → (ℕ → Bool) → ℕ → Bool

@@ -14,8 +14,8 @@ use Rattle.game.specs.Game.{may}
 use Rattle.game.specs.Placement.{placements, atHome}
 use Rattle.game.specs.Setting.{Setting, free}
 use Rattle.game.specs.Moves.{gameOf}
-use Rattle.tables.specs.Entries.{trainBits, settingAt}
-use Rattle.tables.specs.Tables.{figureIn}
+use Rattle.game_tables.specs.Entries.{trainBits, settingAt}
+use Rattle.game_tables.specs.Tables.{figureIn}
 use Rattle.plan.specs.Checker.{Checking, Left, left, testRows}
 use Rattle.thin.specs.declared.ThinAnswer.{ThinAnswer}
 use Rattle.thin.specs.declared.ThinAnswer.the-variants.{Thinned, Refused}

@@ -5,10 +5,10 @@ use Prim.Native.Nat.{ℕ, suc, _≤_}
 use native.Mathlib.Omega.{arith}
 use lib.ListN.{length, take}
 use lib.Seq.{length-take-le}
-use Rattle.casefile.specs.Rows.{mostBytes}
-use Rattle.answerlines.specs.Lines.{FrontIs}
-use Rattle.verdict.specs.Claims.{readBytes}
-use Rattle.thinwriter.specs.Lean.{LeanOutput}
+use Rattle.case_file.specs.Rows.{mostBytes}
+use Rattle.answer_lines.specs.Lines.{FrontIs}
+use Rattle.check_text.specs.Claims.{readBytes}
+use Rattle.thin_text.specs.Lean.{LeanOutput}
 use Rattle.thin_io.specs.Thinned.{ThinnedBytes}
 
 pub thinned : (case plan text : List ℕ) (n m k : ℕ) → length case ≡ suc mostBytes → n ≤ length case → length plan ≡ readBytes → m ≤ length plan

@@ -5,7 +5,7 @@ use Prim.Native.Nat.{ℕ, _≤_}
 use lib.ListN.{length}
 use Rattle.text.specs.Text.{digits, line, bytes}
 use Rattle.railway.specs.declared.Refusal.the-variants.{Form}
-use Rattle.casefile.specs.Given.{RefusedWith}
+use Rattle.case_file.specs.Given.{RefusedWith}
 use Rattle.thin_io.specs.Thinned.{ThinnedBytes}
 
 few-read : (n : ℕ) (a : ThinnedBytes n) → (length (a .case) ≤ 4097) × (length (a .plan) ≤ 368686)

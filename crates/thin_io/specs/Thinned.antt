@@ -4,9 +4,9 @@ use mathlib.Core.Path.{_≡_}
 use mathlib.Core.List.{List}
 use Prim.Native.Nat.{ℕ, suc, _≤_}
 use lib.ListN.{length}
-use Rattle.casefile.specs.Rows.{mostBytes}
-use Rattle.verdict.specs.Claims.{readBytes}
-use Rattle.thinwriter.specs.Lean.{LeanOutput}
+use Rattle.case_file.specs.Rows.{mostBytes}
+use Rattle.check_text.specs.Claims.{readBytes}
+use Rattle.thin_text.specs.Lean.{LeanOutput}
 
 -- There are a case text and a plan, no longer than is read, and so many bytes are all that the program writes for them.
 pub record ThinnedBytes (n : ℕ) : Type 0 where

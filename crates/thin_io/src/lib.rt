@@ -2,21 +2,21 @@
 ghost use mathlib.Core.Path.{_≡_};
 ghost use Prim.Native.Nat.{suc};
 ghost use lib.ListN.{length};
-ghost use Rattle.casefile.specs.Rows.{mostBytes};
-ghost use Rattle.planwriter.specs.Written.{textBytes};
-ghost use Rattle.verdict.specs.Claims.{readBytes};
-ghost use Rattle.answerlines.specs.Lines.{FrontIs};
-ghost use Rattle.thinwriter.specs.Lean.{LeanOutput};
+ghost use Rattle.case_file.specs.Rows.{mostBytes};
+ghost use Rattle.plan_text.specs.Written.{textBytes};
+ghost use Rattle.check_text.specs.Claims.{readBytes};
+ghost use Rattle.answer_lines.specs.Lines.{FrontIs};
+ghost use Rattle.thin_text.specs.Lean.{LeanOutput};
 ghost use Rattle.thin_io.specs.Thinned.{ThinnedBytes};
-use casefile::Written;
+use case_file::Written;
 use libc::STDIN_FILENO;
 use libc::STDOUT_FILENO;
 
 // One byte more than a case text may have.
-const CASE: usize = casefile::MOST_BYTES + 1;
+const CASE: usize = case_file::MOST_BYTES + 1;
 
 // One byte more than a plan can have, a first line and one for each entry: a longer text has a line among these bytes that is refused.
-const PLAN: usize = planwriter::TEXT + 1;
+const PLAN: usize = plan_text::TEXT + 1;
 
 // The answer is how many bytes there are to be written.
 pub fn write_lean() -> usize
@@ -24,7 +24,7 @@ pub fn write_lean() -> usize
 {
     let mut case = [0u8; CASE];
     let mut plan = [0u8; PLAN];
-    let mut text = [0u8; planwriter::TEXT];
+    let mut text = [0u8; plan_text::TEXT];
     lean_input(&mut case, &mut plan, &mut text)
 }
 
@@ -46,7 +46,7 @@ fn whole_text(case: &[u8], plan: &[u8], text: &mut [u8]) -> usize
     requires { ⌜ length (now text) ≡ textBytes ⌝ }
     ensures { λ n. ⌜ FrontIs (LeanOutput (now (case .entry)) (now (plan .entry))) n (now (text .exit)) ⌝ }
 {
-    match thinwriter::lean_text(case, plan, text) {
+    match thin_text::lean_text(case, plan, text) {
         Written::Bytes(n) => n,
         Written::Refused(_) => 0,
     }

@@ -9,8 +9,8 @@ use Prim.Native.Nat.{ℕ, _-_, _≤_}
 use Rattle.laws.specs.Below.{countBelow}
 use Rattle.railway.specs.declared.Railway.{Railway}
 use Rattle.game.specs.Placement.{arrived}
-use Rattle.moves.specs.Steps.{On}
-use Rattle.moves.proofs.Placing.{arrived-is}
+use Rattle.game_moves.specs.Steps.{On}
+use Rattle.game_moves.proofs.Placing.{arrived-is}
 use Rattle.desk_calls.proofs.Desks.{one-more, none-more, arrived-all}
 use Rattle.desk_calls.proofs.arrivals.Statement.{statement}
 use Rattle.desk_calls.proofs.arrivals.Tie as tie

@@ -1,8 +1,8 @@
 -- `desk_calls::counts` meets its contract, test by test.
 -- Assumes nothing.
 use borrow.Author.Needs.{needs}
-use Rattle.moves.proofs.Placing.{table-facts}
-use Rattle.moves.proofs.Moving.{other-on}
+use Rattle.game_moves.proofs.Placing.{table-facts}
+use Rattle.game_moves.proofs.Moving.{other-on}
 use Rattle.desk_calls.proofs.Counting.{counts-home, counts-nowhere, counts-taken, counts-held, counts-there}
 use Rattle.desk_calls.proofs.counts.Statement.{statement}
 use Rattle.desk_calls.proofs.counts.Tie as tie

@@ -8,7 +8,7 @@ use Prim.Native.Nat.{_-_, _≤_}
 use Rattle.laws.specs.Below.{anyBelow}
 use Rattle.laws.proofs.Below.{any-next}
 use Rattle.railway.specs.declared.Railway.{Railway}
-use Rattle.compiled.specs.Table.{Compiled}
+use Rattle.railway_compiled.specs.Table.{Compiled}
 use Rattle.desk.specs.Change.{headsOther}
 use Rattle.desk_calls.proofs.Shapes.{heads-other, heads-same, other-sections, other-trains, other-headings, same-shape}
 use Rattle.desk_calls.proofs.mismatched.Statement.{statement}

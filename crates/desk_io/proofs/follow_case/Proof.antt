@@ -1,7 +1,7 @@
 -- `desk_io::follow_case` meets its contract: refused by the reader, or what is written for the railway that was read.
 -- Assumes nothing.
 use borrow.Author.Needs.{needs}
-use Rattle.reader.proofs.Answers.{by-refused, by-accepted}
+use Rattle.case_reader.proofs.Answers.{by-refused, by-accepted}
 use Rattle.desk_io.proofs.follow_case.Statement.{statement}
 use Rattle.desk_io.proofs.follow_case.Tie as tie
 

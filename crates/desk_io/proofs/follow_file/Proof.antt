@@ -2,7 +2,7 @@
 -- Assumes nothing.
 use denote.Ref.{now}
 use borrow.Author.Needs.{needs}
-use Rattle.desk_io.proofs.Following.{followed-by}
+use Rattle.desk_io.proofs.Followed.{followed-by}
 use Rattle.desk_io.proofs.follow_file.Statement.{statement}
 use Rattle.desk_io.proofs.follow_file.Tie as tie
 

@@ -6,10 +6,10 @@ use mathlib.Core.Path.{_≡_, _∙_}
 use native.Mathlib.Omega.{arith}
 use Prim.Native.Nat.{_-_}
 use lib.ListN.{length}
-use Rattle.tables.specs.Lengths.{entries}
+use Rattle.game_tables.specs.Lengths.{entries}
 use Rattle.desk_calls.specs.Answers.{deskAt}
 use Rattle.desk_io.specs.Session.{panelOf}
-use Rattle.desk_io.proofs.Following.{Listened, listened-opening, listened-next, counted, listened-end}
+use Rattle.desk_io.proofs.Followed.{Listened, listened-opening, listened-next, counted, listened-end}
 use Rattle.desk_io.proofs.follow_plan.Statement.{statement}
 use Rattle.desk_io.proofs.follow_plan.Tie as tie
 

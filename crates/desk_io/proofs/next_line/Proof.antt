@@ -3,7 +3,7 @@
 use borrow.Author.Needs.{needs}
 use native.Mathlib.Omega.{arith}
 use Prim.Native.Nat.{_-_}
-use Rattle.desk_io.proofs.Following.{Kept, kept-none, kept-next, kept-counts}
+use Rattle.desk_io.proofs.Followed.{Kept, kept-none, kept-next, kept-counts}
 use Rattle.desk_io.proofs.next_line.Statement.{statement}
 use Rattle.desk_io.proofs.next_line.Tie as tie
 

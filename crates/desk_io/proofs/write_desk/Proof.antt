@@ -2,7 +2,7 @@
 -- Assumes nothing.
 use borrow.Author.Needs.{needs}
 use mathlib.Core.Path.{refl}
-use Rattle.desk_io.proofs.Following.{own-length}
+use Rattle.desk_io.proofs.Followed.{own-length}
 use Rattle.desk_io.proofs.write_desk.Statement.{statement}
 use Rattle.desk_io.proofs.write_desk.Tie as tie
 

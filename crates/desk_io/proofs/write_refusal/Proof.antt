@@ -1,7 +1,7 @@
 -- `desk_io::write_refusal` meets its contract: its buffer has room for the line.
 -- Assumes nothing.
 use mathlib.Core.Path.{refl}
-use Rattle.desk_io.proofs.Following.{own-length}
+use Rattle.desk_io.proofs.Followed.{own-length}
 use Rattle.desk_io.proofs.Saying.{refusal-count}
 use borrow.Author.Needs.{needs}
 use Rattle.desk_io.proofs.write_refusal.Statement.{statement}

@@ -3,7 +3,7 @@
 use borrow.Author.Needs.{needs}
 use native.Mathlib.Omega.{arith}
 use Rattle.text.specs.Text.{bytes}
-use Rattle.desk_lines.proofs.Changing.{change-long, change-short}
+use Rattle.desk_lines.proofs.Changes.{change-long, change-short}
 use Rattle.desk_lines.proofs.is_change.Statement.{statement}
 use Rattle.desk_lines.proofs.is_change.Tie as tie
 

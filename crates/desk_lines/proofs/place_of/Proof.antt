@@ -1,6 +1,6 @@
 -- `desk_lines::place_of` meets its contract, by the number.
 -- Assumes nothing.
-use Rattle.desk_lines.proofs.Reading.{place-none, place-beyond, place-there}
+use Rattle.desk_lines.proofs.Reports.{place-none, place-beyond, place-there}
 use borrow.Author.Needs.{needs}
 use Rattle.desk_lines.proofs.place_of.Statement.{statement}
 use Rattle.desk_lines.proofs.place_of.Tie as tie

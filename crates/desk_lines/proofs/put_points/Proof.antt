@@ -1,7 +1,7 @@
 -- `desk_lines::put_points` meets its contract, by whether there are points.
 -- Assumes nothing.
 use Rattle.text.specs.Text.{bytes}
-use Rattle.desk_lines.proofs.Spelling.{points-none, points-some}
+use Rattle.desk_lines.proofs.Panel.{points-none, points-some}
 use borrow.Author.Needs.{needs}
 use Rattle.desk_lines.proofs.put_points.Statement.{statement}
 use Rattle.desk_lines.proofs.put_points.Tie as tie

@@ -1,7 +1,7 @@
 -- `desk_lines::put_train` meets its contract: the words and the two numbers, and then what the bit says.
 -- Assumes nothing.
 use Rattle.text.specs.Text.{bytes}
-use Rattle.desk_lines.proofs.Spelling.{train-open, train-closed}
+use Rattle.desk_lines.proofs.Panel.{train-open, train-closed}
 use borrow.Author.Needs.{needs}
 use Rattle.desk_lines.proofs.put_train.Statement.{statement}
 use Rattle.desk_lines.proofs.put_train.Tie as tie

@@ -2,7 +2,7 @@
 -- Assumes nothing.
 use mathlib.Core.Path.{sym, _∙_, ap}
 use Rattle.text.specs.Answers.{numberGot}
-use Rattle.desk_lines.proofs.Reading.{no-train, no-tab, no-section, more-behind, a-report}
+use Rattle.desk_lines.proofs.Reports.{no-train, no-tab, no-section, more-behind, a-report}
 use borrow.Author.Needs.{needs}
 use Rattle.desk_lines.proofs.report_in.Statement.{statement}
 use Rattle.desk_lines.proofs.report_in.Tie as tie

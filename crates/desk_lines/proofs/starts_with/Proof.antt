@@ -3,7 +3,7 @@
 use native.Mathlib.Omega.{arith}
 use Prim.Native.Nat.{_-_}
 use lib.ListN.{length}
-use Rattle.desk_lines.proofs.Changing.{WordTo, word-start, word-short, word-other, word-next, word-end}
+use Rattle.desk_lines.proofs.Changes.{WordTo, word-start, word-short, word-other, word-next, word-end}
 use Rattle.desk_lines.proofs.starts_with.Statement.{statement}
 use Rattle.desk_lines.proofs.starts_with.Tie as tie
 

@@ -2,7 +2,7 @@
 -- Assumes nothing.
 use borrow.Author.Needs.{needs}
 use Rattle.text.specs.Text.{bytes}
-use Rattle.desk_lines.proofs.Spelling.{state-made}
+use Rattle.desk_lines.proofs.Panel.{state-made}
 use Rattle.desk_lines.proofs.state_line.Statement.{statement}
 use Rattle.desk_lines.proofs.state_line.Tie as tie
 

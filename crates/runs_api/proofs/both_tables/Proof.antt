@@ -1,6 +1,6 @@
 -- `runs_api::both_tables` meets its contract: two calls for a table, and the tables of their answers. Assumes nothing.
 use borrow.Author.Needs.{needs}
-use Rattle.runs_api.proofs.Tables.{both}
+use Rattle.runs_api.proofs.Exported.{both}
 use Rattle.runs_api.proofs.both_tables.Statement.{statement}
 use Rattle.runs_api.proofs.both_tables.Tie as tie
 

@@ -1,6 +1,6 @@
 -- `runs_api::runs_case` meets its contract: refused by the reader, or both tables of the railway that was read. Assumes nothing.
 use borrow.Author.Needs.{needs}
-use Rattle.runs_api.proofs.Tables.{read-accepted, text-refused, text-read}
+use Rattle.runs_api.proofs.Exported.{read-accepted, text-refused, text-read}
 use Rattle.runs_api.proofs.runs_case.Statement.{statement}
 use Rattle.runs_api.proofs.runs_case.Tie as tie
 

@@ -1,8 +1,8 @@
 -- `runs_io::write_runs` meets its contract: what came in is a case text, and all that is written for it stands in the buffer that is written out, which has room for it.
 -- Assumes nothing.
 use mathlib.Core.Path.{refl, _∙_}
-use Rattle.answerlines.proofs.Puts.{own-length, own-room, written-for}
-use Rattle.output.proofs.Whole.{stands-whole}
+use Rattle.answer_lines.proofs.Puts.{own-length, own-room, written-for}
+use Rattle.answer_output.proofs.Whole.{stands-whole}
 use borrow.Author.Needs.{needs}
 use Rattle.runs_io.proofs.write_runs.Statement.{statement}
 use Rattle.runs_io.proofs.write_runs.Tie as tie

@@ -4,7 +4,14 @@ use Rattle.search_api.proofs.placement_of.Statement.{statement}
 use Rattle.search_api.proofs.placement_of.Tie as tie
 
 returns : tie.Need-returns
-returns c = simp (c .before .before .before .section-named .ensures, c .before .before .section-named2 .ensures, c .before .section-named3 .ensures, c .section-named4 .ensures)
+returns c =
+    let section-named2 = c .before .before in
+    simp (
+      section-named2 .before .section-named .ensures,
+      section-named2 .section-named2 .ensures,
+      c .before .section-named3 .ensures,
+      c .section-named4 .ensures,
+    )
 
 pub placement-of-spec : {M : Type 1} → statement M
 placement-of-spec =

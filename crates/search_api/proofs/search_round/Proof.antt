@@ -1,6 +1,6 @@
 -- `search_api::search_round` meets its contract: refused by the reader, or what is answered for the railway that was read. Assumes nothing.
 use mathlib.Core.Path.{refl}
-use Rattle.reader.proofs.Answers.{by-refused, by-accepted}
+use Rattle.case_reader.proofs.Answers.{by-refused, by-accepted}
 use borrow.Author.Needs.{needs}
 use Rattle.search_api.proofs.search_round.Statement.{statement}
 use Rattle.search_api.proofs.search_round.Tie as tie

@@ -2,8 +2,8 @@
 -- for it.
 -- Assumes nothing.
 use mathlib.Core.Path.{refl, _∙_}
-use Rattle.answerlines.proofs.Puts.{own-length, own-room, written-for}
-use Rattle.output.proofs.Whole.{stands-whole}
+use Rattle.answer_lines.proofs.Puts.{own-length, own-room, written-for}
+use Rattle.answer_output.proofs.Whole.{stands-whole}
 use borrow.Author.Needs.{needs}
 use Rattle.search_io.proofs.write_search.Statement.{statement}
 use Rattle.search_io.proofs.write_search.Tie as tie

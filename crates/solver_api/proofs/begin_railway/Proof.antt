@@ -9,14 +9,16 @@ returns c =
     let m = c .before .before in
     let f = m .before .before .before .before .before .before in
     let a = f .before .before .before .before .before .args in
-    begun-refused (a .r) (a .state .now) (a .figures .now) (a .settings .now) _ _ _ _ (f .fresh .ensures) _ (m .answer .given .1) _ (c .number .ensures)
+    begun-refused (a .r) (a .state .now) (a .figures .now) (a .settings .now) _ _ _ _ (f .fresh .ensures) _
+    (m .answer .given .1) _ (c .number .ensures)
 
 returns-2 : tie.Need-returns-2
 returns-2 c =
     let m = c .before in
     let f = m .before .before .before .before .before .before in
     let a = f .before .before .before .before .before .args in
-    begun-railway (a .r) (a .state .now) (a .figures .now) (a .settings .now) _ _ _ _ (f .fresh .ensures) (m .enum-told .given .1) _ (c .state-numbers .ensures)
+    begun-railway (a .r) (a .state .now) (a .figures .now) (a .settings .now) _ _ _ _ (f .fresh .ensures)
+    (m .enum-told .given .1) _ (c .state-numbers .ensures)
 
 pub begin-railway-spec : {M : Type 1} → statement M
 begin-railway-spec =

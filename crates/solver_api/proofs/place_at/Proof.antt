@@ -1,5 +1,5 @@
 -- `solver_api::place_at` meets its contract: 0 is the top, and a number past every code stands for the last place. Assumes nothing.
-use Rattle.tables.specs.Tables.{noFigure}
+use Rattle.game_tables.specs.Tables.{noFigure}
 use borrow.Author.Tests.{eq-eqb, ne-eqb, lt-ltb, le-ltb}
 use borrow.Author.Needs.{needs}
 use Rattle.solver_api.proofs.place_at.Statement.{statement}

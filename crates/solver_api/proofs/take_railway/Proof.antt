@@ -10,7 +10,8 @@ returns c =
     let t = m .before .before .before .before .before .before in
     let k = t .before .before .before in
     let a = k .before .before .before .before .before .args in
-    taken-refused (a .r) (a .state .now) (a .figures .now) (a .settings .now) (a .plan .now) (a .bytes .now) _ (k .checker-of .ensures) _ _ _ _ (t .take-front .ensures) _ (m .answer .given .1) _ (c .number .ensures)
+    taken-refused (a .r) (a .state .now) (a .figures .now) (a .settings .now) (a .plan .now) (a .bytes .now) _
+    (k .checker-of .ensures) _ _ _ _ (t .take-front .ensures) _ (m .answer .given .1) _ (c .number .ensures)
 
 returns-2 : tie.Need-returns-2
 returns-2 c =
@@ -18,7 +19,8 @@ returns-2 c =
     let t = m .before .before .before .before .before .before in
     let k = t .before .before .before in
     let a = k .before .before .before .before .before .args in
-    taken-railway (a .r) (a .state .now) (a .figures .now) (a .settings .now) (a .plan .now) (a .bytes .now) _ (k .checker-of .ensures) _ _ _ _ (t .take-front .ensures) _ (m .answer2 .given .1) _ (c .state-numbers .ensures)
+    taken-railway (a .r) (a .state .now) (a .figures .now) (a .settings .now) (a .plan .now) (a .bytes .now) _
+    (k .checker-of .ensures) _ _ _ _ (t .take-front .ensures) _ (m .answer2 .given .1) _ (c .state-numbers .ensures)
 
 pub take-railway-spec : {M : Type 1} → statement M
 take-railway-spec =

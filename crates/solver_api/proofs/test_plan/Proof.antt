@@ -1,5 +1,5 @@
 -- `solver_api::test_plan` meets its contract: refused by the reader, or what the checker answers for the railway that was read. Assumes nothing.
-use Rattle.reader.proofs.Answers.{by-refused, by-accepted}
+use Rattle.case_reader.proofs.Answers.{by-refused, by-accepted}
 use borrow.Author.Needs.{needs}
 use Rattle.solver_api.proofs.test_plan.Statement.{statement}
 use Rattle.solver_api.proofs.test_plan.Tie as tie

@@ -11,14 +11,16 @@ returns c =
     let t = m .before .before in
     let k = t .before in
     let a = k .before .before .before .before .args in
-    tested-railway (a .r) (a .state .now) (a .figures .now) (a .settings .now) _ (k .checker-of .ensures) _ _ (t .test .ensures) _ (m .answer .given .1) _ (c .number .ensures)
+    tested-railway (a .r) (a .state .now) (a .figures .now) (a .settings .now) _ (k .checker-of .ensures) _ _
+    (t .test .ensures) _ (m .answer .given .1) _ (c .number .ensures)
 
 returns-2 : tie.Need-returns-2
 returns-2 c =
     let t = c .before .before in
     let k = t .before in
     let a = k .before .before .before .before .args in
-    tested-railway (a .r) (a .state .now) (a .figures .now) (a .settings .now) _ (k .checker-of .ensures) _ _ (t .test .ensures) _ (c .enum-told .given .1) _ refl
+    tested-railway (a .r) (a .state .now) (a .figures .now) (a .settings .now) _ (k .checker-of .ensures) _ _
+    (t .test .ensures) _ (c .enum-told .given .1) _ refl
 
 pub test-railway-spec : {M : Type 1} → statement M
 test-railway-spec =

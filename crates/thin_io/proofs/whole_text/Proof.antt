@@ -2,7 +2,7 @@
 -- Assumes nothing.
 use native.Mathlib.Omega.{arith}
 use borrow.Author.Needs.{needs}
-use Rattle.answerlines.proofs.Puts.{puts-whole, puts-never}
+use Rattle.answer_lines.proofs.Puts.{puts-whole, puts-never}
 use Rattle.thin_io.proofs.whole_text.Statement.{statement}
 use Rattle.thin_io.proofs.whole_text.Tie as tie
 

@@ -1,7 +1,7 @@
 -- `desk_calls::Desk::open` meets its contract: what is refused, then whether the start has a figure.
 -- Assumes nothing.
 use borrow.Author.Needs.{needs}
-use Rattle.placement.proofs.Places.{placement-length}
+use Rattle.game_placement.proofs.ByValue.{placement-length}
 use Rattle.desk_calls.proofs.Calling.{open-refused, open-none, open-stands}
 use Rattle.desk_calls.proofs.Desk.open.Statement.{statement}
 use Rattle.desk_calls.proofs.Desk.open.Tie as tie

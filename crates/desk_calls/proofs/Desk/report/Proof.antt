@@ -1,7 +1,7 @@
 -- `desk_calls::Desk::report` meets its contract: what is refused, then a desk that 12 stops, then whether the report
 -- counts. Assumes nothing.
 use borrow.Author.Needs.{needs}
-use Rattle.placement.proofs.Places.{placement-length}
+use Rattle.game_placement.proofs.ByValue.{placement-length}
 use Rattle.desk_calls.proofs.Desks.{desk-length}
 use Rattle.desk_calls.proofs.Calling.{Heard, report-refused, report-stopped, report-heard, report-counts}
 use Rattle.desk_calls.proofs.Calling.{report-not}

@@ -1,3 +1,0 @@
-pub mod Made
-pub mod Puts
-pub mod Uses

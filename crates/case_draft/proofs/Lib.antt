@@ -1,0 +1,13 @@
+pub mod Folding
+pub mod Stored
+pub mod Sized
+pub mod Known
+pub mod Weighing
+pub mod Built
+pub mod Joining
+pub mod Signalling
+pub mod Closing
+pub mod Record
+pub mod Answering
+pub mod Drafting
+pub mod Parts

@@ -1,0 +1,4 @@
+pub mod Parts
+pub mod Claims
+pub mod Answers
+pub mod Uses

@@ -1,0 +1,5 @@
+pub mod Parts
+pub mod Walking
+pub mod Held
+pub mod Thin
+pub mod Calls

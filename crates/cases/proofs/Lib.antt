@@ -1,3 +1,0 @@
-pub mod Opening
-pub mod Opened
-pub mod Uses

@@ -1,5 +1,0 @@
-pub mod Entering
-pub mod Calling
-pub mod Lines
-pub mod Fronts
-pub mod Freshening

@@ -1,0 +1,9 @@
+pub mod Entries
+pub mod Tables
+pub mod Solver
+pub mod OneAdversary
+pub mod ByTurns
+pub mod KnownYards
+pub mod Find
+pub mod Rounds
+pub mod Lengths

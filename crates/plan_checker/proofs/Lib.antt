@@ -1,0 +1,5 @@
+pub mod Steps
+pub mod Calling
+pub mod Lines
+pub mod Fronts
+pub mod Freshening

@@ -1,0 +1,6 @@
+pub mod Chain
+pub mod Fields
+pub mod Taking
+pub mod Sound
+pub mod Complete
+pub mod Answers

@@ -1,4 +1,0 @@
-pub mod Parts
-pub mod Consequences
-pub mod Answers
-pub mod Uses

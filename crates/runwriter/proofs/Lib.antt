@@ -1,6 +1,0 @@
-pub mod Examples
-pub mod Reading
-pub mod Spelling
-pub mod Cases
-pub mod Shows
-pub mod Uses

@@ -1,8 +1,0 @@
-pub mod Searching
-pub mod Alone
-pub mod Stepping
-pub mod Trying
-pub mod Asking
-pub mod Exactly
-pub mod Examples
-pub mod Uses

@@ -1,0 +1,3 @@
+pub mod Lean
+pub mod Claims
+pub mod Uses

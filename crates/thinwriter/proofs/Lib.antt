@@ -1,3 +1,0 @@
-pub mod Outputs
-pub mod Claims
-pub mod Uses
