@@ -91,7 +91,7 @@ pub fn text_behind(before: Text, space: &mut [u8], missing: &[u8]) -> Text
 }
 
 // Whether there is a record to go on with. That one is broken is told on standard output.
-pub fn is_whole(reading: Reading) -> bool
+fn is_whole(reading: Reading) -> bool
     ensures { λ b. ⌜ b ≡ isWhole reading ⌝ }
 {
     match reading {
@@ -105,7 +105,7 @@ pub fn is_whole(reading: Reading) -> bool
 }
 
 // The next record, at the start of the lent space.
-pub fn next_record(space: &mut [u8]) -> Record
+fn next_record(space: &mut [u8]) -> Record
     ensures { λ r. ⌜ Counts (r .bytes) (now (space .exit)) ⌝ }
     ensures { λ r. ⌜ Kept r (now (space .entry)) (now (space .exit)) ⌝ }
 {
