@@ -1,5 +1,5 @@
 -- Reading a case text in one walk: the record is built line by line, beside four flags for what the record cannot show. Contracts cite these
--- definitions and proofs/ ties them to the case_file's; nothing of document 01 rests on this file. Assumes nothing.
+-- definitions and proofs/ ties them to those of case_file; nothing of document 01 rests on this file. Assumes nothing.
 use mathlib.Core.Path.{_≡_}
 use mathlib.Core.Bool.{Bool, true, false, cond, not, _&&_, _||_}
 use mathlib.Core.List.{List, [], _∷_}

@@ -1,4 +1,4 @@
--- What follows from the reader's promise: the answer is the case_file's, of which its theorems speak.
+-- What follows from the reader's promise: the answer is the one that case_file defines, of which its theorems speak.
 -- Assumes nothing.
 use mathlib.Core.Path.{_≡_, sym, _∙_}
 use mathlib.Core.List.{List}

@@ -1,5 +1,5 @@
 -- WHERE NO TRAIN IS DEARER THAN 1 NOTHING CHANGES (document 02, Q-12, on weights of 1). Here stands what document 01 counts, turns ("A turn", and "Test of a plan", last
--- sentence), and the statement that this is then the same as what Game and Claim count, weights. Tables and plans follow in ByTurns of crates tables and plan.
+-- sentence), and the statement that this is then the same as what Game and Claim count, weights. Tables and plans follow in ByTurns of crates game_tables and plan.
 -- Assumes nothing.
 use mathlib.Core.Path.{_≡_}
 use mathlib.Core.Bool.{true}
