@@ -103,10 +103,10 @@ module _ (d : Draft) (n : ℕ) (side : Side) (x : KnownEnd) (hx : x ≡ end_in d
   signal-in e p r hr v hv = rw (← hx, p, hr, hv)
 
 module _ (d : Draft) (n : ℕ) (b : Bool) (h : b ≡ within n d.railway.sections) where
-  pub closed_in : b ≡ true → (r : Railway) → r ≡ with_closed d.railway (n - 1) → (v : Bool) → v ≡ is_closed d.railway (n - 1)
+  pub closed-in : b ≡ true → (r : Railway) → r ≡ with_closed d.railway (n - 1) → (v : Bool) → v ≡ is_closed d.railway (n - 1)
       → record { railway = r; weight = d.weight; unknown = d.unknown; wrong = d.wrong; double = d.double || v } ≡ put_closed d n
   unfolding put_closed
-  closed_in t r hr v hv = rw (sym h ∙ t, hr, hv)
+  closed-in t r hr v hv = rw (sym h ∙ t, hr, hv)
 
   pub closed-not : b ≡ false → unknown_in d ≡ put_closed d n
   unfolding put_closed
@@ -117,15 +117,15 @@ module _ (d : Draft) (n : ℕ) (t : TrainLine) (w : ℕ) (hw : w ≡ said_weight
   abbrev pub train_given : Train
   train_given = record { heading = t.heading; start = record { 0 = t.start - 1 }; destination = record { 0 = t.destination - 1 }; weight = w % 256 }
 
-  put_in : put_roster v n t ≡ put_train d n t
+  put-in : put_roster v n t ≡ put_train d n t
   unfolding put_train
-  put_in = ap (λ (x : Draft). put_roster x n t) (hv ∙ ap (weighed_in d) hw)
+  put-in = ap (λ (x : Draft). put_roster x n t) (hv ∙ ap (weighed_in d) hw)
 
   pub train-in : (a && (b && c)) ≡ true → (q : Railway) → q ≡ with_train v.railway (n - 1) train_given → with_railway v q ≡ put_train d n t
-  train-in e q h = let z : with_railway v q ≡ put_roster v n t = rw (← ha, ← hb, ← hc, e, h, hw) in z ∙ put_in
+  train-in e q h = let z : with_railway v q ≡ put_roster v n t = rw (← ha, ← hb, ← hc, e, h, hw) in z ∙ put-in
 
   pub train-not : (a && (b && c)) ≡ false → unknown_in v ≡ put_train d n t
-  train-not e = let z : unknown_in v ≡ put_roster v n t = rw (← ha, ← hb, ← hc, e) in z ∙ put_in
+  train-not e = let z : unknown_in v ≡ put_roster v n t = rw (← ha, ← hb, ← hc, e) in z ∙ put-in
 
 -- WEIGHTS
 pub wrong-below : (w : ℕ) → w < least_weight → true ≡ wrong_weight w

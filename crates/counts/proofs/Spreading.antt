@@ -64,9 +64,9 @@ is_greater (some m) = (
   λ h. let z : m ≡ h.0 = some_one h.2 in eq-eqb (class_of (some m)) 255 ((class m).high (omega (arith, h.1))),
 )
 
-is_none : (o : Option ℕ) → (eqb (class_of o) 256 ≡ true) ↔ (o ≡ none)
-is_none none = ((λ e. refl), λ e. refl)
-is_none (some m) = ((λ e. absurd (omega (arith, (class m).less, eqb-true (class_of (some m)) 256 e))), λ e. some-none refl e)
+is-none : (o : Option ℕ) → (eqb (class_of o) 256 ≡ true) ↔ (o ≡ none)
+is-none none = ((λ e. refl), λ e. refl)
+is-none (some m) = ((λ e. absurd (omega (arith, (class m).less, eqb-true (class_of (some m)) 256 e))), λ e. some-none refl e)
 
 -- TWO TESTS that pass the same numbers pass as many
 pub count_same : (f g : ℕ → Bool) (k : ℕ) → ((i : ℕ) → i < k → f i ≡ g i) → count_below f k ≡ count_below g k
@@ -98,7 +98,7 @@ module _ (figs : List ℕ) (m : ℕ) (Is : ℕ → Option ℕ → Type 0) (agree
 
   none-one : (p : ℕ) → p < m → (in_class figs 256 p ≡ true) ↔ Is p none
   unfolding in_class
-  none-one p l = ((λ e. (agrees p l none).0 ((is_none (figure_in figs p)).0 e)), λ i. (is_none (figure_in figs p)).1 ((agrees p l none).1 i))
+  none-one p l = ((λ e. (agrees p l none).0 ((is-none (figure_in figs p)).0 e)), λ i. (is-none (figure_in figs p)).1 ((agrees p l none).1 i))
 
   pub number-each : (n x : ℕ) → n ≤ 254 → x ≡ count_below (in_class figs n) m → NumberOf (λ p. Is p (some n)) m x
   number-each n x h e = record { test = in_class figs n; exact = each-one n h; many = e }

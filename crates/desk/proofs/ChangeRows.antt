@@ -74,9 +74,9 @@ pub or-else : (a b : Option Refusal) → or_else a b ≡ none → (a ≡ none) �
 or-else none b e = (refl, e)
 or-else (some f) b e = some-none refl e
 
-pub is_some : (o : Option ℕ) → is_none o ≡ false → (n : ℕ) × (o ≡ some n)
-is_some none e = clash refl e
-is_some (some n) e = (n, refl)
+pub is-some : (o : Option ℕ) → is_none o ≡ false → (n : ℕ) × (o ≡ some n)
+is-some none e = clash refl e
+is-some (some n) e = (n, refl)
 
 -- tables that are long enough, in an accepted case
 pub enough : (s : Railway) (figs sets : List ℕ) → record_refusal s ≡ none → tables_short s figs sets ≡ false → Enough s figs sets
@@ -102,7 +102,7 @@ module _ (r s : Railway) (d : Desk) (figs sets : List ℕ) where
       let p = refuse-none (tables_short s figs sets) Space _ m.1 in
       let w = refuse-none (desk_row r d) Report _ p.1 in
       let z = refuse-none (stranded s figs d) Stranded none w.1 in
-      let f : (n : ℕ) × (figure_in figs (desk_code s d) ≡ some n) = is_some (figure_in figs (desk_code s d)) z.0 in
+      let f : (n : ℕ) × (figure_in figs (desk_code s d) ≡ some n) = is-some (figure_in figs (desk_code s d)) z.0 in
       record { shape = shape_of r s m.0; long = p.0; sound = w.0; figure = f.0; has = f.1 }
 
   none_rows : record_refusal r ≡ none → NoRow r s d figs sets → first (record_rows r ++ change_rows r s d figs sets) ≡ none

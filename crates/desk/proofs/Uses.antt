@@ -277,8 +277,8 @@ module _ (figs sets : List ℕ) (x : Opening) (post : OpenPost head_on figs sets
   unfolding start_code code_of list_below sum_below train_of with_join with_signal with_legs with_train
   none-head-on = head_on-filled.1.figures 2 (omega arith)
 
-  is_none : x.answer ≡ NoFigure
-  is_none = (h.none-exactly x post).1 none-head-on
+  is-none : x.answer ≡ NoFigure
+  is-none = (h.none-exactly x post).1 none-head-on
 
   not_opened : x.answer ≡ Opened → ⊥
   not_opened q =
@@ -468,13 +468,13 @@ unfolding keeps_test weight_of shared at_home move_of passes follow entered is_c
     with_signal with_legs with_train any_below all_below
 all_fit = refl
 
-one_of : (a b : Bool) → (a || b) ≡ true → a ≡ false → b ≡ true
-one_of a b e q = elim (either a b e) [ inl z ↦ clash z q | inr z ↦ z ]
+one-of : (a b : Bool) → (a || b) ≡ true → a ≡ false → b ≡ true
+one-of a b e q = elim (either a b e) [ inl z ↦ clash z q | inr z ↦ z ]
 
 followable : Followable weighed figs_f sets_w
 followable p n l e away =
     test-keeps (game_of weighed) (figure_in figs_f) p (setting_in weighed sets_w p) n
-    (one_of (at_home weighed p) _ (sym (ap (λ (f : Option ℕ). fits f p) e) ∙ all-at (λ q. fits (figure_in figs_f q) q) 9 all_fit p (omega (arith, l, yard.nine))) away)
+    (one-of (at_home weighed p) _ (sym (ap (λ (f : Option ℕ). fits f p) e) ∙ all-at (λ q. fits (figure_in figs_f q) q) 9 all_fit p (omega (arith, l, yard.nine))) away)
 
 -- from a desk with (2, 1) at most 9 reports count with them, and behind one of train 1 the figure is 4 or less
 module _ (says : DeskHolds) where

@@ -95,9 +95,9 @@ module _ (f : ℕ → Bool) (v : ℕ → Option ℕ) where
       ]
 
 -- the one found; 0 where there is none
-abbrev one_of : {f : ℕ → Bool} {v : ℕ → Option ℕ} {k : ℕ} → Search f v k → ℕ
-one_of (inl r) = 0
-one_of (inr r) = r.one
+abbrev one-of : {f : ℕ → Bool} {v : ℕ → Option ℕ} {k : ℕ} → Search f v k → ℕ
+one-of (inl r) = 0
+one-of (inr r) = r.one
 
 -- PART TWO: the choice of trains against which no way of working does better than the figure.
 module _ {S : Type 0} (g : Game S) (F : ℕ → Option ℕ) where
@@ -117,7 +117,7 @@ module _ {S : Type 0} (g : Game S) (F : ℕ → Option ℕ) where
 
   -- a train that may move and whose move leads to the largest figure
   worst : ℕ → S → ℕ
-  worst p s = one_of (worst-search p s)
+  worst p s = one-of (worst-search p s)
 
   record Worst (p : ℕ) (s : S) : Type 0 where
     moves : may g p s (worst p s) ≡ true
@@ -130,14 +130,14 @@ module _ {S : Type 0} (g : Game S) (F : ℕ → Option ℕ) where
       go : (x : Search (may g p s) (value p s) g.trains) → worst-search p s ≡ x → ((u : ℕ) → may g p s u ≡ false) ⊎ Worst p s
       go (inl r) e = inl (λ u. elim (bool? (may g p s u)) [ inl m ↦ r u (may-train g p s u m) | inr m ↦ m ])
       go (inr r) e =
-          let w : worst p s ≡ r.one = ap one_of e in
+          let w : worst p s ≡ r.one = ap one-of e in
           inr (record { moves = rw w r.passes; tops = λ u m. rw (w, ← value-may p s u m, ← value-may p s r.one r.passes) (r.tops u (may-train g p s u m) m) })
 
   worst-there : (p : ℕ) (s : S) → 0 < g.trains → worst p s < g.trains
   unfolding worst
   worst-there p s l = go (worst-search p s)
     where
-      go : (x : Search (may g p s) (value p s) g.trains) → one_of x < g.trains
+      go : (x : Search (may g p s) (value p s) g.trains) → one-of x < g.trains
       go (inl r) = l
       go (inr r) = r.below
 
@@ -158,7 +158,7 @@ module _ {S : Type 0} (g : Game S) (F : ℕ → Option ℕ) where
         | inr e ↦ rw (e, ← a.same-trains t, e)
       ]
 
-      same-one : (f f' : ℕ → Bool) (v v' : ℕ → Option ℕ) → f ≡ f' → v ≡ v' → one_of (largest f v g.trains) ≡ one_of (largest f' v' g.trains)
+      same-one : (f f' : ℕ → Bool) (v v' : ℕ → Option ℕ) → f ≡ f' → v ≡ v' → one-of (largest f v g.trains) ≡ one-of (largest f' v' g.trains)
       same-one f f' v v' p q = rw (p, q)
 
 -- A bound on figures by what has been spent, that a turn against the worst train keeps.

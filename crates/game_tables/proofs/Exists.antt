@@ -124,14 +124,14 @@ module _ (r : Railway) (F : ℕ → Option ℕ) (E : ℕ → ℕ) (small : (p j 
   abbrev pub entries-written : List ℕ
   entries-written = overwritten E (placements r) sets
 
-  number_at : (p : ℕ) → p < placements r → get_or figures-written p no_figure ≡ number_for (F p)
-  number_at p l = overwritten-below (λ p. number_for (F p)) (placements r) figs lf p no_figure l
+  number-at : (p : ℕ) → p < placements r → get_or figures-written p no_figure ≡ number_for (F p)
+  number-at p l = overwritten-below (λ p. number_for (F p)) (placements r) figs lf p no_figure l
 
   pub figure-at : (p : ℕ) → p < placements r → figure_in figures-written p ≡ F p
-  figure-at p l = ap figure_entry (number_at p l) ∙ number-back (F p) (λ j. small p j l)
+  figure-at p l = ap figure_entry (number-at p l) ∙ number-back (F p) (λ j. small p j l)
 
-  pub entry_at : (p : ℕ) → p < placements r → get_or entries-written p 0 ≡ E p
-  entry_at p l = overwritten-below E (placements r) sets ls p 0 l
+  pub entry-at : (p : ℕ) → p < placements r → get_or entries-written p 0 ≡ E p
+  entry-at p l = overwritten-below E (placements r) sets ls p 0 l
 
   pub figures-kept : Kept r figs figures-written
   figures-kept = record { as_long = overwritten-length (λ p. number_for (F p)) (placements r) figs lf; past = λ p l. overwritten-past (λ p. number_for (F p)) (placements r) figs lf p 0 l }
@@ -144,7 +144,7 @@ module _ (r : Railway) (F : ℕ → Option ℕ) (E : ℕ → ℕ) (small : (p j 
       → IsPlanEntry r (figure_in figures-written) p (figure_in figures-written p) (get_or entries-written p 0)
   settings-written ok plan p l =
       let e : figure_in figures-written p ≡ F p = figure-at p l in
-      rw (entry_at p l, e) (entry-same-figures r ok F (figure_in figures-written) (λ q lq. sym (figure-at q lq)) p (F p) (E p) l (plan p l))
+      rw (entry-at p l, e) (entry-same-figures r ok F (figure_in figures-written) (λ q lq. sym (figure-at q lq)) p (F p) (E p) l (plan p l))
 
 -- THE PROMISE CAN BE KEPT
 pub record Made (r : Railway) (figs sets : List ℕ) : Type 0 where

@@ -176,7 +176,7 @@ module _ (r : Railway) (figs sets : List ℕ) where
       let here : run_from r figs sets u.most place (drop at b) ≡ run_behind (length l) l (run_from r figs sets (u.most - 1) next (drop (at + length l) b)) =
       ap (λ (m : ℕ). run_from r figs sets m place (drop at b)) k
       ∙ run-line (u.most - 1) place next (length l) (drop at b) (l ++ drop (length l) (drop at b)) e
-      ∙ line_of (u.most - 1) (take-append_seam l (drop (length l) (drop at b))) (drop-append_seam l (drop (length l) (drop at b)) ∙ drop-drop (length l) at b) in
+      ∙ line-of (u.most - 1) (take-append_seam l (drop (length l) (drop at b))) (drop-append_seam l (drop (length l) (drop at b)) ∙ drop-drop (length l) at b) in
       let split : run_behind (at + length l) (take at b ++ l) (run_from r figs sets (u.most - 1) next (drop (at + length l) b)) ≡ whole =
       twice (run_from r figs sets (u.most - 1) next (drop (at + length l) b)) ∙ ap (run_behind at (take at b)) (sym here) ∙ u.same in
       record {
@@ -187,8 +187,8 @@ module _ (r : Railway) (figs sets : List ℕ) where
             (drop_at (take at b ++ l) (drop (at + length l) b) (at + length l) long) ∙ split;
       }
     where
-      line_of : (m : ℕ) {f g x y : List ℕ} → f ≡ g → x ≡ y → run_behind (length l) f (run_from r figs sets m next x) ≡ run_behind (length l) g (run_from r figs sets m next y)
-      line_of m p q = λ i. run_behind (length l) (p i) (run_from r figs sets m next (q i))
+      line-of : (m : ℕ) {f g x y : List ℕ} → f ≡ g → x ≡ y → run_behind (length l) f (run_from r figs sets m next x) ≡ run_behind (length l) g (run_from r figs sets m next y)
+      line-of m p q = λ i. run_behind (length l) (p i) (run_from r figs sets m next (q i))
 
       after : (m : ℕ) {f g x y : List ℕ} → f ≡ g → x ≡ y → run_behind (at + length l) f (run_from r figs sets m next x) ≡ run_behind (at + length l) g (run_from r figs sets m next y)
       after m p q = λ i. run_behind (at + length l) (p i) (run_from r figs sets m next (q i))

@@ -235,10 +235,10 @@ one_line (f ∷ g ∷ fs) s e =
 spelled-lines : (ls : List PlanLine) → lines_of (flatten (map spell ls)) ≡ map spell ls
 unfolding lines_of flatten spell
 spelled-lines [] = refl
-spelled-lines (l ∷ ls) = line_of l (flatten (map spell ls)) ∙ ap (λ (x : List (List ℕ)). spell l ∷ x) (spelled-lines ls)
+spelled-lines (l ∷ ls) = line-of l (flatten (map spell ls)) ∙ ap (λ (x : List (List ℕ)). spell l ∷ x) (spelled-lines ls)
   where
-    line_of : (l : PlanLine) (s : List ℕ) → lines_of (spell l ++ s) ≡ spell l ∷ lines_of s
-    line_of l s = one_line (line_fields l) s (fields-plain l)
+    line-of : (l : PlanLine) (s : List ℕ) → lines_of (spell l ++ s) ≡ spell l ∷ lines_of s
+    line-of l s = one_line (line_fields l) s (fields-plain l)
 
 pub plan-lines : (r : Railway) (figs sets : List ℕ) → lines_of (plan_text r figs sets) ≡ plan_texts r figs sets
 unfolding plan_texts

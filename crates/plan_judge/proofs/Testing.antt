@@ -33,8 +33,8 @@ pub within : {n k : ℕ} → k ≡ n → (i : ℕ) → i < k → i < n
 within e i l = rw (← e) l
 
 module _ {n k : ℕ} (e : k ≡ n) (f : ℕ → Bool) (i : ℕ) where
-  pub one_of : i < k → f i ≡ true → true ≡ any_below f n
-  one_of l h = any-one f n i (rw (← e) l) h
+  pub one-of : i < k → f i ≡ true → true ≡ any_below f n
+  one-of l h = any-one f n i (rw (← e) l) h
 
   pub none_of : i ≤ k → k ≤ i → any_below f i ≡ false → false ≡ any_below f n
   none_of l m h = any_none f n i h (rw (← e) l) (rw (← e) m)

@@ -201,12 +201,12 @@ module _ (r : Railway) (w : Laid r) where
   before_last plus none f h = some-none h refl
   before_last plus (some g) f h = (g, refl, h)
 
-  first_of : (plus : ℕ → Bool) (k : ℕ) (e f : End) → left_by r plus (suc k) e ≡ some f → First plus k e f
+  first-of : (plus : ℕ → Bool) (k : ℕ) (e f : End) → left_by r plus (suc k) e ≡ some f → First plus k e f
   unfolding left_by
-  first_of plus zero e f h = first-at plus e f h
-  first_of plus (suc k) e f h =
+  first-of plus zero e f h = first-at plus e f h
+  first-of plus (suc k) e f h =
       let a = before_last plus (left_by r plus (suc k) e) f h in
-      let b = first_of plus k e a.0 a.1 in
+      let b = first-of plus k e a.0 a.1 in
       record {
         point = b.point;
         enters = b.enters;
@@ -241,10 +241,10 @@ module _ (r : Railway) (w : Laid r) where
   -- so what is left over more points is a walk over as many
   left-longer : (plus : ℕ → Bool) (k d : ℕ) (e f : End) → k ≤ d → left_by r plus (suc d) e ≡ some f
       → longer r k (joined r e) ≡ true
-  left-longer plus zero d e f b h = let a = first_of plus d e f h in longer-at e a.point a.enters a.there
+  left-longer plus zero d e f b h = let a = first-of plus d e f h in longer-at e a.point a.enters a.there
   left-longer plus (suc k) zero e f b h = absurd (omega arith)
   left-longer plus (suc k) (suc d) e f b h =
-      let a = first_of plus (suc d) e f h in
+      let a = first-of plus (suc d) e f h in
       longer-by plus k e a.point a.enters a.leaves a.there a.passed
       (left-longer plus k d (Port a.point a.leaves) f (omega arith) a.on)
 
@@ -258,11 +258,11 @@ module _ (r : Railway) (w : Laid r) where
     round-longer : (k d : ℕ) (e : End) → left_by r plus d e ≡ some p → longer r k (joined r e) ≡ true
     round-longer zero d e h =
         let c = not_there d e h in
-        let a = first_of plus c.0 e p c.1 in
+        let a = first-of plus c.0 e p c.1 in
         longer-at e a.point a.enters a.there
     round-longer (suc k) d e h =
         let c = not_there d e h in
-        let a = first_of plus c.0 e p c.1 in
+        let a = first-of plus c.0 e p c.1 in
         longer-by plus k e a.point a.enters a.leaves a.there a.passed
         (round-longer k c.0 (Port a.point a.leaves) a.on)
 
@@ -274,7 +274,7 @@ module _ (r : Railway) (w : Laid r) where
       go zero b h = absurd (omega arith)
       go (suc zero) b h = absurd (omega arith)
       go (suc (suc d)) b h =
-          let a = first_of x.plus (suc d) (Section x.start x.side) x.last h in
+          let a = first-of x.plus (suc d) (Section x.start x.side) x.last h in
           port-row r a.point.0 a.leaves
           (port-there r w (Section x.start x.side) a.point a.enters a.there)
           (left-longer x.plus most_behind d (Port a.point a.leaves) x.last (omega arith) a.on)
@@ -283,7 +283,7 @@ module _ (r : Railway) (w : Laid r) where
   unfolding left_by
   round-row x =
       let p = Port x.point x.leg in
-      let a = first_of x.plus x.further p p x.again in
+      let a = first-of x.plus x.further p p x.again in
       port-row r x.point.0 x.leg
       (ltb-true x.point.0 r.points (laid-known r w p (Port a.point a.enters) a.there).0)
       (round-longer x.plus p x.further x.again most_behind 0 p refl)

@@ -30,9 +30,9 @@ data Last (r : Railway) (heading : Side) (x z m : ℕ) : Type 0 where
   begun : m ≡ 0 → x ≡ z → Last r heading x z m
   entry : (y n : ℕ) → m ≡ suc n → Run r heading x y n → Enters r heading y z → Last r heading x z m
 
-last_of : {r : Railway} {heading : Side} {x z m : ℕ} → Run r heading x z m → Last r heading x z m
-last_of (here l) = begun refl refl
-last_of (further {y} {z} {n} run e) = entry y n refl run e
+last-of : {r : Railway} {heading : Side} {x z m : ℕ} → Run r heading x z m → Last r heading x z m
+last-of (here l) = begun refl refl
+last-of (further {y} {z} {n} run e) = entry y n refl run e
 
 module _ (r : Railway) (accepted : record_refusal r ≡ none) (heading : Side) (x : ℕ) where
   ok : Facts r
@@ -48,7 +48,7 @@ module _ (r : Railway) (accepted : record_refusal r ≡ none) (heading : Side) (
       | inl q ↦ (let d : get_or (set row x 0) x 0 ≡ 0 = get_or-set_same row x 0 0 (let m : length row ≡ most_sections = ap length e ∙ length-replicate most_sections no_run in rw m few) in
           rw (q, d) (found (omega arith) (record { run = here there; least = λ m run. omega arith })))
       | inr q ↦ (let d : get_or (set row x 0) y 0 ≡ no_run = get_or-set_other row x y 0 0 q ∙ ap (λ (xs : List ℕ). get_or xs y 0) e ∙ get_or-replicate most_sections y no_run 0 l in
-          not_yet d (λ m run. positive y q m (last_of run)))
+          not_yet d (λ m run. positive y q m (last-of run)))
     ]
       where
         positive : (y : ℕ) → (y ≡ x → ⊥) → (m : ℕ) → Last r heading x y m → 0 < m
@@ -136,7 +136,7 @@ module _ (r : Railway) (accepted : record_refusal r ≡ none) (heading : Side) (
 
         next : (z v : ℕ) → get_or row z 0 ≡ v → Known r heading x n (suc n) z v → Known r heading x (suc n) (suc n) z v
         next z v e (found l k) = found l k
-        next z v e (not_yet d k) = not_yet d (λ m run. longer z (e ∙ d) k m (last_of run) (k m run))
+        next z v e (not_yet d k) = not_yet d (λ m run. longer z (e ∙ d) k m (last-of run) (k m run))
 
   -- THE LAST LEVEL: an entry is there wherever a run leads
   module _ (row : List ℕ) (h : RowTo r heading x r.sections row) where
@@ -151,15 +151,15 @@ module _ (r : Railway) (accepted : record_refusal r ≡ none) (heading : Side) (
         let lz : z < r.sections = entered_below r ok e.plus (Section (record { 0 = y }) heading) z e.comes in
         has z _ (h.each z (omega (arith, lz, ok.few-sections))) (suc (get_or row y 0)) (further before.run e) (least-short ok before)
 
-    entry_of : (y v : ℕ) → get_or row y 0 ≡ v → Known r heading x r.sections r.sections y v → IsRun r heading x y v
-    entry_of y v e (found l k) =
+    entry-of : (y v : ℕ) → get_or row y 0 ≡ v → Known r heading x r.sections r.sections y v → IsRun r heading x y v
+    entry-of y v e (found l k) =
         record { reached = λ other. k.run; least = k.least; none-exactly = (λ d n run. omega (arith, d, l, ok.few-sections), λ no-run. absurd (no-run v k.run)) }
-    entry_of y v e (not_yet d k) =
+    entry-of y v e (not_yet d k) =
         let without : (n : ℕ) → Run r heading x y n → ⊥ = λ n run. (let s = least-short ok (short run) in omega (arith, e, d, s, ok.few-sections)) in
         record { reached = λ other. absurd (other d); least = λ n run. absurd (without n run); none-exactly = (λ q n run. without n run, λ no-run. d) }
 
     pub last_row : IsRow r heading x row
-    last_row = record { sized = h.sized; each = λ y l. entry_of y (get_or row y 0) refl (h.each y l) }
+    last_row = record { sized = h.sized; each = λ y l. entry-of y (get_or row y 0) refl (h.each y l) }
 
   -- A SECTION THAT IS NOT THERE: no run begins on it
   pub no_row : r.sections ≤ x → (row : List ℕ) → row ≡ replicate most_sections no_run → IsRow r heading x row

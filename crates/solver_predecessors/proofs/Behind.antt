@@ -41,8 +41,8 @@ record Ends (ws : List Way) (y : ℕ) : Type 0 where
   there : nth ws number ≡ some way
   to : way.to ≡ y
 
-first_of : (x y : ℕ) (xs ys : List ℕ) → x ∷ xs ≡ y ∷ ys → x ≡ y
-first_of x y xs ys e = cc
+first-of : (x y : ℕ) (xs ys : List ℕ) → x ∷ xs ≡ y ∷ ys → x ≡ y
+first-of x y xs ys e = cc
 
 reached-ends : (b : ℕ) (ws : List Way) (y : ℕ) (ys : List ℕ) → reached_by b ws ≡ y ∷ ys → Ends ws y
 unfolding reached_by nth
@@ -50,7 +50,7 @@ reached-ends b [] y ys e = let z : ◌≡◌ {A = ℕ} 0 1 = cc in absurd (omega
 reached-ends b (w ∷ ws) y ys e = go (suits b w.care w.want) (λ d. reached-ends b ws y ys d) e
   where
     go : (s : Bool) → (reached_by b ws ≡ y ∷ ys → Ends ws y) → cond s (w.to ∷ reached_by b ws) (reached_by b ws) ≡ y ∷ ys → Ends (w ∷ ws) y
-    go true rest e = record { number = 0; way = w; there = refl; to = first_of w.to y (reached_by b ws) ys e }
+    go true rest e = record { number = 0; way = w; there = refl; to = first-of w.to y (reached_by b ws) ys e }
     go false rest e = let k = rest e in record { number = suc k.number; way = k.way; there = k.there; to = k.to }
 
 -- A MOVE THAT ENDS in placement c: the train has entered a section.

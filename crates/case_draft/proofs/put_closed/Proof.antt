@@ -3,7 +3,7 @@
 use borrow.Author.Rules.{rules}
 use native.Mathlib.Omega.{arith}
 use mathlib.Core.Path.{◌∙◌}
-use Rattle.case_draft.proofs.Parts.{closed_in, closed-not}
+use Rattle.case_draft.proofs.Parts.{closed-in, closed-not}
 use Rattle.case_draft.proofs.put_closed.Statement.{statement}
 use Rattle.case_draft.proofs.put_closed.Tie as tie
 
@@ -20,7 +20,7 @@ returns c =
     let t = k.before in
     let w = t.before in
     let a = w.before.before.args in
-    closed_in a.d a.n _ w.within.ensures.is t.if1.true _ v.with-closed.ensures _
+    closed-in a.d a.n _ w.within.ensures.is t.if1.true _ v.with-closed.ensures _
     k.closed_at.ensures
 
 returns-2 : tie.Need-returns-2

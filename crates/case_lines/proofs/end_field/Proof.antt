@@ -12,7 +12,7 @@ use Rattle.case_lines.proofs.end_field.Tie as tie
 
 returns : tie.Need-returns
 unfolding end_field_at
-returns c = fails _ (sym c.before.before.number_at.ensures ∙ ap number_got c.enum_told.given.1)
+returns c = fails _ (sym c.before.before.number-at.ensures ∙ ap number_got c.enum_told.given.1)
 
 returns-2 : tie.Need-returns-2
 unfolding end_field_at
@@ -20,7 +20,7 @@ returns-2 c =
     let a = c.before.before.before in
     let n = a.before.before.before in
     let s = n.before.before.before.before.before.args.text.now in
-    goes _ (sym n.before.before.before.number_at.ensures ∙ ap number_got n.before.n.given.1)
+    goes _ (sym n.before.before.before.number-at.ensures ∙ ap number_got n.before.n.given.1)
     (mark-none s _ _ (sym a.before.before.side-field.ensures ∙ ap side_got a.enum-told2.given.1)
     (sym c.before.before.leg-field.ensures ∙ ap leg_got c.enum-told3.given.1))
 
@@ -31,7 +31,7 @@ returns-3 c =
     let a = k.before in
     let n = a.before.before.before in
     let s = n.before.before.before.before.before.args.text.now in
-    goes _ (sym n.before.before.before.number_at.ensures ∙ ap number_got n.before.n.given.1)
+    goes _ (sym n.before.before.before.number-at.ensures ∙ ap number_got n.before.n.given.1)
     (mark-leg s _ _ _ _ (sym a.before.before.side-field.ensures ∙ ap side_got a.enum-told2.given.1)
     (sym k.leg-field.ensures ∙ ap leg_got c.before.leg.given.1))
 
@@ -41,7 +41,7 @@ returns-4 c =
     let k = c.before.before.before in
     let n = k.before in
     let s = n.before.before.before.before.before.args.text.now in
-    goes _ (sym n.before.before.before.number_at.ensures ∙ ap number_got n.before.n.given.1)
+    goes _ (sym n.before.before.before.number-at.ensures ∙ ap number_got n.before.n.given.1)
     (mark-side s _ _ _ _ (sym k.side-field.ensures ∙ ap side_got c.before.side.given.1))
 
 pub end-field-spec : {M : Type 1} → statement M

@@ -13,4 +13,4 @@ tab-number-spec =
     byte-fails b.before.before.args.text.now 9 _ (omega arith) _ b.byte_at.ensures c.enum_told.given.1 _)
     (λ c κs. search rules) (λ c. let k = c.before.before in let b = k.before.before in
     byte-goes b.before.before.args.text.now 9 _ (omega arith) _ b.byte_at.ensures _ k.field.given.1 _
-    c.number_at.ensures))
+    c.number-at.ensures))

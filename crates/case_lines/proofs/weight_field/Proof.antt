@@ -21,7 +21,7 @@ returns-2 c =
     let b = k.before.before.before.before in
     let s = b.before.before.args.text.now in
     weight-none s _ _ (byte-hit s 9 _ (omega arith) _ b.byte_at.ensures _ k.before.before.field.given.1)
-    (sym k.number_at.ensures ∙ ap number_got c.enum-told2.given.1)
+    (sym k.number-at.ensures ∙ ap number_got c.enum-told2.given.1)
 
 returns-3 : tie.Need-returns-3
 returns-3 c =
@@ -29,7 +29,7 @@ returns-3 c =
     let b = k.before.before.before.before in
     let s = b.before.before.args.text.now in
     weight-said s _ _ (byte-hit s 9 _ (omega arith) _ b.byte_at.ensures _
-    k.before.before.field.given.1) _ _ (sym k.number_at.ensures ∙ ap number_got c.before.w.given.1)
+    k.before.before.field.given.1) _ _ (sym k.number-at.ensures ∙ ap number_got c.before.w.given.1)
 
 pub weight-field-spec : {M : Type 1} → statement M
 weight-field-spec =

@@ -18,12 +18,12 @@ loop-holds : tie.Need-loop-init invariant-loop decreases-loop
 loop-holds c = tally-start _ _ _ refl
 
 mul-counts : tie.Need-overflow-mul-counts invariant-loop decreases-loop
-mul-counts c = omega (arith, class-there c.before.entry_at.result _ c.class_of.ensures)
+mul-counts c = omega (arith, class-there c.before.entry-at.result _ c.class_of.ensures)
 
 array-read-counts : tie.Need-array-read-counts invariant-loop decreases-loop
 array-read-counts c =
     let loop = c.before.before.before in
-    omega (arith, class-there c.before.entry_at.result _ c.class_of.ensures, loop.loop.invariant.sized)
+    omega (arith, class-there c.before.entry-at.result _ c.class_of.ensures, loop.loop.invariant.sized)
 
 add-counts : tie.Need-overflow-add-counts invariant-loop decreases-loop
 add-counts c =
@@ -31,14 +31,14 @@ add-counts c =
     omega (
       arith,
       tally-most loop-test.before.loop.invariant _
-          (class-there c.before.entry_at.result _ c.class_of.ensures),
+          (class-there c.before.entry-at.result _ c.class_of.ensures),
       loop-test.loop-test.true,
     )
 
 array-write-counts : tie.Need-array-write-counts invariant-loop decreases-loop
 array-write-counts c =
     let loop = c.before.before.before in
-    omega (arith, class-there c.before.entry_at.result _ c.class_of.ensures, loop.loop.invariant.sized)
+    omega (arith, class-there c.before.entry-at.result _ c.class_of.ensures, loop.loop.invariant.sized)
 
 loop-less : tie.Need-loop-smaller invariant-loop decreases-loop
 loop-less c = omega (arith, c.before.before.loop-test.true)
@@ -46,7 +46,7 @@ loop-less c = omega (arith, c.before.before.loop-test.true)
 loop-again : tie.Need-loop-preserved invariant-loop decreases-loop
 loop-again c =
     let loop-test = c.before.before in
-    tally-next loop-test.before.loop.invariant loop-test.loop-test.true _ _ c.before.entry_at.ensures
+    tally-next loop-test.before.loop.invariant loop-test.loop-test.true _ _ c.before.entry-at.ensures
     c.class_of.ensures
 
 returns : tie.Need-returns invariant-loop decreases-loop

@@ -14,7 +14,7 @@ returns c =
     let g = h.before.before in
     let w = g.before in
     let a = w.before.before.before.args in
-    counts-made a.m a.a a.counts.now _ _ _ w.entry_at.ensures g.entry-at2.ensures
+    counts-made a.m a.a a.counts.now _ _ _ w.entry-at.ensures g.entry-at2.ensures
     s.Span-of.ensures h.put-head.ensures r.put-rows.ensures m.put-more.ensures
 
 pub put-counts-spec : {M : Type 1} → statement M

@@ -32,7 +32,7 @@ loop-again : tie.Need-loop-preserved invariant-loop decreases-loop
 loop-again c =
     let l = c.before.before in
     let a = l.before.before.args in
-    (sum-next a.counts.now a.first l.loop.j l.loop.sum _ l.loop.invariant.0 c.entry_at.ensures (omega arith), omega (arith, c.before.loop-test.true))
+    (sum-next a.counts.now a.first l.loop.j l.loop.sum _ l.loop.invariant.0 c.entry-at.ensures (omega arith), omega (arith, c.before.loop-test.true))
 
 cast-result : tie.Need-overflow-cast-result invariant-loop decreases-loop
 cast-result c = omega (arith, c.if1.true)

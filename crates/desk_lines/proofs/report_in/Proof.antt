@@ -8,13 +8,13 @@ use Rattle.desk_lines.proofs.report_in.Statement.{statement}
 use Rattle.desk_lines.proofs.report_in.Tie as tie
 
 returns : tie.Need-returns
-returns c = no-train _ (sym c.before.before.number_at.ensures ∙ ap number_got c.enum_told.given.1)
+returns c = no-train _ (sym c.before.before.number-at.ensures ∙ ap number_got c.enum_told.given.1)
 
 returns-2 : tie.Need-returns-2
 returns-2 c =
     let b = c.before.before in
     let t = b.before.before in
-    no-tab _ _ _ (sym t.before.before.number_at.ensures ∙ ap number_got t.t.given.1) _ b.byte_at.ensures c.enum-told2.given.1
+    no-tab _ _ _ (sym t.before.before.number-at.ensures ∙ ap number_got t.t.given.1) _ b.byte_at.ensures c.enum-told2.given.1
 
 returns-3 : tie.Need-returns-3
 returns-3 c =
@@ -22,7 +22,7 @@ returns-3 c =
     let f = n.before.before in
     let b = f.before.before in
     let t = b.before.before in
-    no-section _ _ _ (sym t.before.before.number_at.ensures ∙ ap number_got t.t.given.1)
+    no-section _ _ _ (sym t.before.before.number-at.ensures ∙ ap number_got t.t.given.1)
     _ b.byte_at.ensures _ f.field.given.1 (sym n.number-at2.ensures ∙ ap number_got c.enum-told3.given.1)
 
 returns-4 : tie.Need-returns-4
@@ -32,7 +32,7 @@ returns-4 c =
     let f = n.before.before in
     let b = f.before.before in
     let t = b.before.before in
-    more-behind _ _ _ (sym t.before.before.number_at.ensures ∙ ap number_got t.t.given.1)
+    more-behind _ _ _ (sym t.before.before.number-at.ensures ∙ ap number_got t.t.given.1)
     _ b.byte_at.ensures _ f.field.given.1 _ _
     (sym n.number-at2.ensures ∙ ap number_got x.x.given.1) c.if1.true
 
@@ -43,7 +43,7 @@ returns-5 c =
     let f = n.before.before in
     let b = f.before.before in
     let t = b.before.before in
-    a-report _ _ _ (sym t.before.before.number_at.ensures ∙ ap number_got t.t.given.1)
+    a-report _ _ _ (sym t.before.before.number-at.ensures ∙ ap number_got t.t.given.1)
     _ b.byte_at.ensures _ f.field.given.1 _ _
     (sym n.number-at2.ensures ∙ ap number_got x.x.given.1) c.if1.false
 

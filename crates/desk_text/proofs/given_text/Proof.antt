@@ -23,7 +23,7 @@ returns-2 c =
     let s = i.before.before.before in
     let a = s.before.before.before.args in
     λ accepted.
-    given-away a.r a.figures.now (desk_at a.desk) a.v _ _ _ accepted i.if1.false _ n.entry_at.ensures
+    given-away a.r a.figures.now (desk_at a.desk) a.v _ _ _ accepted i.if1.false _ n.entry-at.ensures
     l.put-state.ensures
 
 pub given-text-spec : {M : Type 1} → statement M

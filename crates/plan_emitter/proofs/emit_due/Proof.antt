@@ -11,7 +11,7 @@ returns c =
     let start-code = c.before.before in
     let a = start-code.before.before.before.before.args in
     none_emitted r a.figures.now a.settings.now a.place a.out.now _ _
-    (start-code.start-code.ensures r h) c.before.entry_at.ensures c.if1.true
+    (start-code.start-code.ensures r h) c.before.entry-at.ensures c.if1.true
 
 returns-2 : tie.Need-returns-2
 returns-2 c =
@@ -22,7 +22,7 @@ returns-2 c =
     let start-code = if1.before.before in
     let a = start-code.before.before.before.before.args in
     top-emitted r a.figures.now a.settings.now a.place a.out.now _ _
-    (start-code.start-code.ensures r h) if1.before.entry_at.ensures if1.if1.false
+    (start-code.start-code.ensures r h) if1.before.entry-at.ensures if1.if1.false
     enum_told.enum_told.given.1 emit-start.emit-start.ensures
 
 returns-3 : tie.Need-returns-3
@@ -34,7 +34,7 @@ returns-3 c =
     let start-code = if1.before.before in
     let a = start-code.before.before.before.before.args in
     from-emitted r a.figures.now a.settings.now a.place a.out.now _ _
-    (start-code.start-code.ensures r h) if1.before.entry_at.ensures if1.if1.false _
+    (start-code.start-code.ensures r h) if1.before.entry-at.ensures if1.if1.false _
     place.place.given.1 (emit-from.emit-from.ensures r h)
 
 pub emit-due-spec : {M : Type 1} → statement M

@@ -23,9 +23,9 @@ returns c =
     let placement-line = put-line.before.before.before.before in
     let points-in = placement-line.before.before in
     let placement-of = points-in.before.before in
-    let entry_at = placement-of.before.before in
-    let a = entry_at.before.before.before.before.args in
-    placement-written r a.figures.now a.settings.now a.p a.out.now h has entry_at.entry_at.ensures
+    let entry-at = placement-of.before.before in
+    let a = entry-at.before.before.before.before.args in
+    placement-written r a.figures.now a.settings.now a.p a.out.now h has entry-at.entry-at.ensures
     (omega arith) placement-of.before.entry-at2.ensures (placement-of.placement-of.ensures r h)
     (points-in.before.trains-in.ensures r h) (points-in.points-in.ensures r h) refl
     placement-line.placement-line.ensures put-line.put-line.ensures

@@ -18,7 +18,7 @@ returns c =
     let placement-of = m.before.before in
     let o = placement-of.before in
     let a = o.before.before.before.before.before.args in
-    let is = placement-is r a.figures.now a.settings.now a.p h has o.before.entry_at.ensures
+    let is = placement-is r a.figures.now a.settings.now a.p h has o.before.entry-at.ensures
     (omega arith) o.entry-at2.ensures (placement-of.placement-of.ensures r h)
     (m.before.trains-in.ensures r h) (m.points-in.ensures r h) in
     placed-in-place r a.figures.now a.settings.now a.p a.out.now a.at is
@@ -41,7 +41,7 @@ returns-2 c =
     let placement-of = m.before.before in
     let o = placement-of.before in
     let a = o.before.before.before.before.before.args in
-    let is = placement-is r a.figures.now a.settings.now a.p h has o.before.entry_at.ensures
+    let is = placement-is r a.figures.now a.settings.now a.p h has o.before.entry-at.ensures
     (omega arith) o.entry-at2.ensures (placement-of.placement-of.ensures r h)
     (m.before.trains-in.ensures r h) (m.points-in.ensures r h) in
     placed-copied r a.figures.now a.settings.now a.p a.out.now a.at is refl

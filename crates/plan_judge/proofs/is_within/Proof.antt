@@ -25,7 +25,7 @@ returns-4 c =
     let e = c.before in
     let m = e.before.before in
     let a = m.before.before.before.args in
-    at-within a.figures.now a.n a.weight _ _ _ m.m.given.1 e.entry_at.ensures _
+    at-within a.figures.now a.n a.weight _ _ _ m.m.given.1 e.entry-at.ensures _
     c.is_within.ensures
 
 pub is-within-spec : {M : Type 1} → statement M

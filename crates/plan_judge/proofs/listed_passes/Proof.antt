@@ -23,7 +23,7 @@ returns-2 c =
     let a = w.before.before.before.before.args in
     let on = w.before.placement-of.ensures r h in
     home-passes r a.figures.now a.settings.now a.p a.n _ (w.lost-in.ensures r _ on)
-    e.before.if1.false _ e.entry_at.ensures _ (o.opens-signalled.ensures r _ on) if2.if2.true _
+    e.before.if1.false _ e.entry-at.ensures _ (o.opens-signalled.ensures r _ on) if2.if2.true _
     (c.before.home-in.ensures r _ on) c.if3.true
 
 returns-3 : tie.Need-returns-3
@@ -36,7 +36,7 @@ returns-3 c =
     let a = w.before.before.before.before.args in
     let on = w.before.placement-of.ensures r h in
     kept-passes r a.figures.now a.settings.now a.p a.n _ (w.lost-in.ensures r _ on)
-    e.before.if1.false _ e.entry_at.ensures _ (o.opens-signalled.ensures r _ on) i.before.if2.true _
+    e.before.if1.false _ e.entry-at.ensures _ (o.opens-signalled.ensures r _ on) i.before.if2.true _
     (i.home-in.ensures r _ on) _ c.before.if3.false (c.keeps.ensures r _ on ways)
 
 returns-4 : tie.Need-returns-4
@@ -48,7 +48,7 @@ returns-4 c =
     let a = w.before.before.before.before.args in
     let on = w.before.placement-of.ensures r h in
     unsignalled-fails r a.figures.now a.settings.now a.p a.n _ (w.lost-in.ensures r _ on)
-    e.before.if1.false _ e.entry_at.ensures _ (o.opens-signalled.ensures r _ on) c.if2.false
+    e.before.if1.false _ e.entry-at.ensures _ (o.opens-signalled.ensures r _ on) c.if2.false
 
 pub listed-passes-spec : {M : Type 1} → statement M
 listed-passes-spec =

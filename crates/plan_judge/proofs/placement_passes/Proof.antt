@@ -9,14 +9,14 @@ returns : tie.Need-returns
 returns c =
     λ r h w.
     let a = c.before.before.before.before.args in
-    unlisted-passes r a.figures.now a.settings.now a.p _ c.before.entry_at.ensures c.if1.true
+    unlisted-passes r a.figures.now a.settings.now a.p _ c.before.entry-at.ensures c.if1.true
 
 returns-2 : tie.Need-returns-2
 returns-2 c =
     λ r h w.
-    let entry_at = c.before.before in
-    let a = entry_at.before.before.before.args in
-    listed-decides r a.figures.now a.settings.now a.p _ entry_at.entry_at.ensures _
+    let entry-at = c.before.before in
+    let a = entry-at.before.before.before.args in
+    listed-decides r a.figures.now a.settings.now a.p _ entry-at.entry-at.ensures _
     c.before.if1.false (c.listed-passes.ensures r h w)
 
 pub placement-passes-spec : {M : Type 1} → statement M

@@ -12,7 +12,7 @@ use Rattle.game.specs.Game.{may}
 use Rattle.game.specs.Moves.{game_of}
 use Rattle.game_tables.specs.Entries.{setting_at}
 use Rattle.game_moves.specs.Steps.{On}
-use Rattle.plan_judge.proofs.Testing.{one_of, none_of}
+use Rattle.plan_judge.proofs.Testing.{one-of, none_of}
 use Rattle.plan_judge.proofs.some_may.Statement.{statement}
 use Rattle.plan_judge.proofs.some_may.Tie as tie
 
@@ -31,7 +31,7 @@ returns c =
     λ r p on.
     let loop-test = c.before.before in
     let l = loop-test.before in
-    one_of (l.before.trains-in.ensures r on.compiled) _ l.loop.t loop-test.loop-test.true
+    one-of (l.before.trains-in.ensures r on.compiled) _ l.loop.t loop-test.loop-test.true
     (sym (c.before.may-in.ensures r p on) ∙ c.if1.true)
 
 loop-again : tie.Need-loop-preserved invariant-loop decreases-loop

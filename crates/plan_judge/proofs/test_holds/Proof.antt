@@ -11,7 +11,7 @@ returns c =
     let f = c.before in
     let a = f.before.before.before.before.args in
     start-unlisted r a.figures.now a.settings.now a.m _ _ (f.before.start-code.ensures r h)
-    f.entry_at.ensures c.if1.true
+    f.entry-at.ensures c.if1.true
 
 returns-2 : tie.Need-returns-2
 returns-2 c =
@@ -20,7 +20,7 @@ returns-2 c =
     let f = e.before in
     let a = f.before.before.before.before.args in
     start-same r a.figures.now a.settings.now a.m _ _ (f.before.start-code.ensures r h)
-    f.entry_at.ensures e.if1.false _ c.before.if2.true (c.all_pass.ensures r h w)
+    f.entry-at.ensures e.if1.false _ c.before.if2.true (c.all_pass.ensures r h w)
 
 returns-3 : tie.Need-returns-3
 returns-3 c =
@@ -29,7 +29,7 @@ returns-3 c =
     let f = e.before in
     let a = f.before.before.before.before.args in
     start-other r a.figures.now a.settings.now a.m _ _ (f.before.start-code.ensures r h)
-    f.entry_at.ensures e.if1.false c.if2.false
+    f.entry-at.ensures e.if1.false c.if2.false
 
 pub test-holds-spec : {M : Type 1} → statement M
 test-holds-spec =

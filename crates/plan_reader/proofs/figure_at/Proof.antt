@@ -9,16 +9,16 @@ use Rattle.plan_reader.proofs.figure_at.Statement.{statement}
 use Rattle.plan_reader.proofs.figure_at.Tie as tie
 
 returns : tie.Need-returns
-returns c = figure-none _ _ (sym c.before.before.number_at.ensures ∙ ap number_got c.enum_told.given.1)
+returns c = figure-none _ _ (sym c.before.before.number-at.ensures ∙ ap number_got c.enum_told.given.1)
 
 returns-2 : tie.Need-returns-2
 returns-2 c =
     let n = c.before.before in
-    figure-there _ _ (sym n.before.before.number_at.ensures ∙ ap number_got n.n.given.1)
+    figure-there _ _ (sym n.before.before.number-at.ensures ∙ ap number_got n.n.given.1)
     (omega (arith, c.if1.true))
 
 returns-3 : tie.Need-returns-3
-returns-3 c = let n = c.before.before in figure-high _ _ (sym n.before.before.number_at.ensures ∙ ap number_got n.n.given.1) c.if1.false
+returns-3 c = let n = c.before.before in figure-high _ _ (sym n.before.before.number-at.ensures ∙ ap number_got n.n.given.1) c.if1.false
 
 pub figure-at-spec : {M : Type 1} → statement M
 figure-at-spec =

@@ -19,11 +19,11 @@ all k =
 
 abbrev past-number : tie.After-n → Left ℕ
 unfolding number_tab
-past-number k = let b = k.before.before in number-on (all b) _ b.number_at.ensures k.n.given.1 refl
+past-number k = let b = k.before.before in number-on (all b) _ b.number-at.ensures k.n.given.1 refl
 
 returns : tie.Need-returns
 unfolding number_tab
-returns c = let b = c.before.before in number-off (all b) _ b.number_at.ensures c.enum_told.given.1 refl
+returns c = let b = c.before.before in number-off (all b) _ b.number-at.ensures c.enum_told.given.1 refl
 
 returns-2 : tie.Need-returns-2
 unfolding number_tab

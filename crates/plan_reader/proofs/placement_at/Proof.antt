@@ -45,7 +45,7 @@ returns-3 c =
     (b1.before.before.points-in.ensures r h) (b1.before.trains-in.ensures r h) _
     (sym b1.sections-at.ensures ∙ ap sections_got k1.before.x.given.1)
     (sym b2.figure-at.ensures ∙ ap number_got k2.before.n.given.1)
-    (sym b3.entry_at.ensures ∙ ap number_got t.enum-told3.given.1) c.none-at3.ensures
+    (sym b3.entry-at.ensures ∙ ap number_got t.enum-told3.given.1) c.none-at3.ensures
 
 cast-t23 : tie.Need-overflow-cast-t23
 cast-t23 c =
@@ -59,7 +59,7 @@ cast-t24 : tie.Need-overflow-cast-t24
 cast-t24 c =
     let k3 = c.before in
     let b3 = k3.before.before.before in
-    omega (arith, entry-small _ _ _ _ _ _ (sym b3.entry_at.ensures ∙ ap number_got k3.before.v.given.1))
+    omega (arith, entry-small _ _ _ _ _ _ (sym b3.entry-at.ensures ∙ ap number_got k3.before.v.given.1))
 
 returns-4 : tie.Need-returns-4
 returns-4 c =
@@ -74,7 +74,7 @@ returns-4 c =
     (b1.before.before.points-in.ensures r h) (b1.before.trains-in.ensures r h) _
     (sym b1.sections-at.ensures ∙ ap sections_got k1.before.x.given.1)
     (sym b2.figure-at.ensures ∙ ap number_got k2.before.n.given.1)
-    (sym b3.entry_at.ensures ∙ ap number_got k3.before.v.given.1) _ refl _ (c.code_of_lem.ensures r h) refl
+    (sym b3.entry-at.ensures ∙ ap number_got k3.before.v.given.1) _ refl _ (c.code_of_lem.ensures r h) refl
 
 pub placement-at-spec : {M : Type 1} → statement M
 placement-at-spec =

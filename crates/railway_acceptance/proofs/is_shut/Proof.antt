@@ -5,7 +5,7 @@ use Rattle.railway_acceptance.proofs.is_shut.Statement.{statement}
 use Rattle.railway_acceptance.proofs.is_shut.Tie as tie
 
 returns : tie.Need-returns
-returns c = λ r h. rw (c.before.closed_in.ensures r h, c.closed-in2.ensures r h)
+returns c = λ r h. rw (c.before.closed-in.ensures r h, c.closed-in2.ensures r h)
 
 pub is-shut-spec : {M : Type 1} → statement M
 is-shut-spec = tie.close (tie.spec (λ c κs. search rules) (λ c κs. search rules) returns)

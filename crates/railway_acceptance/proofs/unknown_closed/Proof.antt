@@ -27,7 +27,7 @@ loop-again c =
     let inv = test.before.loop.invariant in (
       omega arith,
       noted_more inv.1 test.loop-test.true
-          (λ r h. closed-past r _ h.1 _ inv.0 _ (c.closed_in.ensures r h.0)),
+          (λ r h. closed-past r _ h.1 _ inv.0 _ (c.closed-in.ensures r h.0)),
     )
 
 returns : tie.Need-returns invariant-loop decreases-loop

@@ -35,7 +35,7 @@ loop-again c =
     let w = i.before in
     let l = w.before.before in (
       omega (arith, w.before.loop-test.true),
-      λ r laid le. step r _ _ _ _ _ _ _ (w.way-to.ensures.0 r (is_closed r) laid le) (omega (arith, i.if1.false)) c.first_of.ensures (l.loop.invariant.1 r laid le),
+      λ r laid le. step r _ _ _ _ _ _ _ (w.way-to.ensures.0 r (is_closed r) laid le) (omega (arith, i.if1.false)) c.first-of.ensures (l.loop.invariant.1 r laid le),
     )
 
 returns-2 : tie.Need-returns-2 invariant-loop decreases-loop

@@ -6,7 +6,7 @@ use Rattle.runs_text.proofs.run_of.Statement.{statement}
 use Rattle.runs_text.proofs.run_of.Tie as tie
 
 returns-3 : tie.Need-returns-3
-returns-3 c = λ a b. of-heading _ _ _ _ _ _ _ c.before.enum_told.given.1 c.entry_at.ensures
+returns-3 c = λ a b. of-heading _ _ _ _ _ _ _ c.before.enum_told.given.1 c.entry-at.ensures
 
 returns-4 : tie.Need-returns-4
 returns-4 c = λ a b. of-heading _ _ _ _ _ _ _ c.before.enum-told2.given.1 c.entry-at2.ensures

@@ -49,7 +49,7 @@ loop-again c =
     (λ z q lq k.
     told-no (z.1.ensures r g.0 (omega (arith, i.loop-test.true, g.0.counted, g.1))) z.2.left q lq
     (before-one l.loop.c k))
-    (λ z q lq k. absurd (other-figure l.loop.c _ e.entry_at.ensures z.left k))
+    (λ z q lq k. absurd (other-figure l.loop.c _ e.entry-at.ensures z.left k))
     c.if2.branch)
     (λ r g q lq k. codes-part l.loop.c k)
 

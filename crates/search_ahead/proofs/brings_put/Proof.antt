@@ -24,7 +24,7 @@ returns-2 c =
     let a = (start e).args in
     λ r behind o on lt there put.
     put-figured o a.n a.mover.code a.mover.train a.y a.p
-    there put _ e.entry_at.ensures c.if2.true
+    there put _ e.entry-at.ensures c.if2.true
 
 returns-3 : tie.Need-returns-3
 returns-3 c =
@@ -48,7 +48,7 @@ returns-4 c =
     λ r behind o on lt there put.
     put-gains o a.n a.mover.code a.mover.train a.y a.p
     there put a.mover.placement _ on lt u.put_on.ensures f.find-in.result f.find-in.ensures
-    _ e.entry_at.ensures i.if2.false _ (ap entry_found w.found.given.1)
+    _ e.entry-at.ensures i.if2.false _ (ap entry_found w.found.given.1)
 
 pub brings-put-spec : {M : Type 1} → statement M
 brings-put-spec =

@@ -21,7 +21,7 @@ returns : tie.Need-returns invariant-loop decreases-loop
 returns p =
     let x = p.before in
     stands x.before.before.loop.c (omega (arith, x.before.loop-test.true))
-    (sym x.entry_at.ensures ∙ p.if1.true)
+    (sym x.entry-at.ensures ∙ p.if1.true)
 
 add-c : tie.Need-overflow-add-c invariant-loop decreases-loop
 add-c p =
@@ -37,7 +37,7 @@ loop-again p =
     let x = p.before in
     let l = x.before.before in
     let a = l.before.before.args in
-    others-next a.figures.now a.n a.from l.loop.c _ l.loop.invariant x.entry_at.ensures p.if1.false
+    others-next a.figures.now a.n a.from l.loop.c _ l.loop.invariant x.entry-at.ensures p.if1.false
 
 returns-2 : tie.Need-returns-2 invariant-loop decreases-loop
 returns-2 p = none-stands (λ q l h. p.before.loop.invariant q l (omega (arith, p.loop-test.false)))

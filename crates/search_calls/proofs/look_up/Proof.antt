@@ -33,7 +33,7 @@ returns-3 c =
     let a = o.before.before.before in
     looks-there a.args.r a.args.figures.now a.args.settings.now _ o.open-case.ensures
     a.args.search _ t.enum_told.given.1 _ x.names-none.ensures e.if1.false _ _ _
-    z.code_of_lem.ensures y.entry_at.ensures c.shows.ensures
+    z.code_of_lem.ensures y.entry-at.ensures c.shows.ensures
 
 pub look-up-spec : {M : Type 1} → statement M
 look-up-spec =

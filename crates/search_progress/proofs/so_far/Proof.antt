@@ -21,7 +21,7 @@ with-entry-requires : tie.Need-with-entry-requires invariant-loop decreases-loop
 with-entry-requires c κs = let l = c.before.before in omega (arith, tells-within l.loop.invariant.0, c.before.loop-test.true)
 
 loop-again : tie.Need-loop-preserved invariant-loop decreases-loop
-loop-again c = let e = c.before in (tells-next (c.with-entry.ensures _ _ e.entry_at.ensures e.before.before.loop.invariant.0), omega arith)
+loop-again c = let e = c.before in (tells-next (c.with-entry.ensures _ _ e.entry-at.ensures e.before.before.loop.invariant.0), omega arith)
 
 returns : tie.Need-returns invariant-loop decreases-loop
 returns c = let l = c.before.loop.invariant in tells_all l.0 l.1 c.loop-test.false

@@ -12,7 +12,7 @@ returns c =
     let start-code = c.before.before in (
       refl,
       start_none r start-code.before.before.args.figures.now _ _ (start-code.start-code.ensures r h)
-          c.before.entry_at.ensures c.if1.true,
+          c.before.entry-at.ensures c.if1.true,
     )
 
 returns-2 : tie.Need-returns-2
@@ -21,7 +21,7 @@ returns-2 c =
     let start-code = c.before.before in (
       refl,
       start-some r start-code.before.before.args.figures.now _ _ (start-code.start-code.ensures r h)
-          c.before.entry_at.ensures c.if1.false,
+          c.before.entry-at.ensures c.if1.false,
     )
 
 pub start-answer-spec : {M : Type 1} → statement M

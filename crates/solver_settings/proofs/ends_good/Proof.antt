@@ -37,7 +37,7 @@ by-figure i r p on code l inside =
     let table = on.compiled in
     ends_by r p _ _ on a.figures.now a.aim.figure a.t a.y l inside _ _ _ _ _ code
     ((counted i).sections-in.ensures r table) x.before.power.ensures x.section-at.ensures u.code-Put.ensures _
-    h.before.entry_at.ensures _ (h.weight-in.ensures r table) _ i.is_within.ensures
+    h.before.entry-at.ensures _ (h.weight-in.ensures r table) _ i.is_within.ensures
 
 returns : tie.Need-returns
 returns c =

@@ -11,7 +11,7 @@ returns c =
     let n = c.before in
     let v = n.before in
     let a = v.before.before.before.args in
-    entry-unlisted r a.figures.now a.settings.now a.p _ _ v.entry_at.ensures
+    entry-unlisted r a.figures.now a.settings.now a.p _ _ v.entry-at.ensures
     n.entry-at2.ensures c.if1.true
 
 returns-2 : tie.Need-returns-2
@@ -22,7 +22,7 @@ returns-2 c =
     let n = e.before in
     let v = n.before in
     let a = v.before.before.before.args in
-    entry-home r a.figures.now a.settings.now a.p _ _ v.entry_at.ensures n.entry-at2.ensures
+    entry-home r a.figures.now a.settings.now a.p _ _ v.entry-at.ensures n.entry-at2.ensures
     e.if1.false _ (w.home-in.ensures r _ (w.before.placement-of.ensures r h)) c.if2.true
 
 returns-3 : tie.Need-returns-3
@@ -34,7 +34,7 @@ returns-3 c =
     let v = n.before in
     let a = v.before.before.before.args in
     let on = w.before.placement-of.ensures r h in
-    entry-lean r a.figures.now a.settings.now a.p _ _ v.entry_at.ensures n.entry-at2.ensures
+    entry-lean r a.figures.now a.settings.now a.p _ _ v.entry-at.ensures n.entry-at2.ensures
     e.if1.false _ (w.home-in.ensures r _ on) c.before.if2.false _
     (c.lean-entry.ensures r _ on)
 

@@ -30,10 +30,10 @@ loop-again c =
     let l = i.before in
     let a = l.before.before.before.before.args in (
       omega (arith, i.loop-test.true),
-      put-length a.settings.now l.loop.settings u.put.new.0 l.loop.p e.entry_at.result
+      put-length a.settings.now l.loop.settings u.put.new.0 l.loop.p e.entry-at.result
           u.put.ensures l.loop.invariant.1,
       λ r h k. thin-put r _ _ _ l.loop.p (l.loop.invariant.2 r h k) (l.before.placements.ensures r h) k
-          i.loop-test.true _ (e.entry_at.ensures r h) _ u.put.ensures,
+          i.loop-test.true _ (e.entry-at.ensures r h) _ u.put.ensures,
     )
 
 same_length : tie.Need-same-length invariant-loop decreases-loop

@@ -90,7 +90,7 @@ returns-4 c =
     let m = compared stands.before.before in
     λ r h new.
     over-stranded r _ _ _ _ (sound stands r h new) _ _ (code.code_of_lem.ensures (to m) (new-table m new))
-    entry.entry_at.ensures none-there.if3.true _ c.unchanged4.ensures
+    entry.entry-at.ensures none-there.if3.true _ c.unchanged4.ensures
 
 returns-5 : tie.Need-returns-5
 returns-5 c =
@@ -101,7 +101,7 @@ returns-5 c =
     let m = compared stands.before.before in
     λ r h new.
     let made = new-table m new in
-    over-made r _ _ _ _ (sound stands r h new) _ _ (code.code_of_lem.ensures (to m) made) entry.entry_at.ensures
+    over-made r _ _ _ _ (sound stands r h new) _ _ (code.code_of_lem.ensures (to m) made) entry.entry-at.ensures
     there.if3.false _ (c.desk-on.ensures (to m) made)
 
 pub go-over-spec : {M : Type 1} → statement M

@@ -29,7 +29,7 @@ returns-2 c =
     let case = told.before.before in
     let a = (start case).args in
     open_none a.r a.figures.now a.settings.now _ case.open-case.ensures told.enum_told.given.1 _ _
-    entry.before.start-code.ensures entry.entry_at.ensures none-there.if1.true _ c.nowhere2.ensures
+    entry.before.start-code.ensures entry.entry-at.ensures none-there.if1.true _ c.nowhere2.ensures
 
 returns-3 : tie.Need-returns-3
 returns-3 c =
@@ -40,7 +40,7 @@ returns-3 c =
     let case = told.before.before in
     let a = (start case).args in
     open-stands a.r a.figures.now a.settings.now _ case.open-case.ensures told.enum_told.given.1 _ _
-    entry.before.start-code.ensures entry.entry_at.ensures there.if1.false _ place.placement-of.ensures
+    entry.before.start-code.ensures entry.entry-at.ensures there.if1.false _ place.placement-of.ensures
     (placement-length place.placement-of.result _ place.placement-of.type-inv) _ c.desk-on.ensures
 
 pub open_spec : {M : Type 1} → statement M

@@ -41,7 +41,7 @@ heard n =
     let a = (start case).args in
     report-heard a.r a.figures.now a.settings.now _ case.open-case.ensures
     told.enum_told.given.1 a.self
-    _ stop.stopped.ensures sound.if1.false _ entry.entry_at.ensures a.t a.x _
+    _ stop.stopped.ensures sound.if1.false _ entry.entry-at.ensures a.t a.x _
     laid.case-ways.ensures _
     place.placement-of.ensures _ n.counts.ensures
 

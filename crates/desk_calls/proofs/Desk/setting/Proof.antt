@@ -37,7 +37,7 @@ returns-3 c =
     let case = told.before.before in
     let a = (start case).args in
     setting-given a.r a.figures.now a.settings.now _ case.open-case.ensures told.enum_told.given.1
-    a.self _ stop.stopped.ensures sound.if1.false _ c.entry_at.ensures
+    a.self _ stop.stopped.ensures sound.if1.false _ c.entry-at.ensures
 
 pub setting-spec : {M : Type 1} → statement M
 setting-spec =
