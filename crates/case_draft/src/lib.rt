@@ -1,5 +1,6 @@
 // What a reader keeps of a case text on its way: the record as it is built, line by line, beside four flags for what the record cannot show.
 // The types are declared here; specs/ has what each line makes of a draft and what a draft is answered with, proofs/ that it is the text's answer.
+#![tactic(auto)]
 ghost use Rattle.std.specs.Prelude.{◌≡◌, true, false};
 ghost use Rattle.railway.specs.Rows.{wrong_weight};
 ghost use Rattle.case_file.specs.Form.{said_weight};
@@ -11,7 +12,7 @@ use railway::{End, PointNo, Railway, SectionNo, Side, Train};
 use text::Cursor;
 
 // The record so far; a weight was one that no train may have; a name was not there; a join may not be; a signal, or a closed section, was named twice.
-#[derive(Drop)]
+#[derive(Clone, Copy)]
 pub struct Draft {
     pub railway: Railway,
     pub weight: bool,
@@ -21,7 +22,7 @@ pub struct Draft {
 }
 
 // The kinds of line behind the first, by their letters.
-#[derive(Drop)]
+#[derive(Clone, Copy)]
 pub enum Kind {
     P,
     J,
@@ -31,7 +32,7 @@ pub enum Kind {
 }
 
 // What tells the lines of a kind: the letter that each begins with, and whether the first line says how many there are.
-#[derive(Drop)]
+#[derive(Clone, Copy)]
 pub struct Mark {
     pub letter: u8,
     pub counted: bool,
@@ -68,14 +69,14 @@ impl Kind {
 }
 
 // An end that a line names, if its section or point is there.
-#[derive(Drop)]
+#[derive(Clone, Copy)]
 pub enum KnownEnd {
     NotThere,
     There(End),
 }
 
 // Whether lines were in form, the draft with them, and the cursor behind them.
-#[derive(Drop)]
+#[derive(Clone, Copy)]
 pub struct Lines {
     pub good: bool,
     pub draft: Draft,

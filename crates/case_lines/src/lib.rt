@@ -1,5 +1,6 @@
 // The lines of a case text, each read at a cursor: what it says and the cursor behind it, or it is not in form. A line is read
 // up to the first field that is not the number, end or side that it must be. Any bytes and any cursor may come in.
+#![tactic(auto)]
 ghost use Rattle.std.specs.Prelude.{◌≡◌};
 ghost use Rattle.text.specs.Answers.{number_got};
 ghost use Rattle.case_file.specs.Reading.{case_number_at, side_field_at, leg_field_at, end_field_at, header_at, point_line_at, join_line_at, signal_line_at, closed_line_at, weight_field_at, train_line_at};
@@ -9,66 +10,66 @@ use railway::{Leg, Side};
 use text::{Byte, Cursor, LINE_END, Number, TAB, Width};
 
 // `u` or `d`.
-#[derive(Drop)]
+#[derive(Clone, Copy)]
 pub enum SideRead {
     NoSide,
     SideIs(Side, Cursor),
 }
 
 // `s`, `+` or `-`.
-#[derive(Drop)]
+#[derive(Clone, Copy)]
 enum LegRead {
     NoLeg,
     LegIs(Leg, Cursor),
 }
 
 // An end as it is written, with the document's number.
-#[derive(Drop)]
+#[derive(Clone, Copy)]
 pub enum NamedEnd {
     OfSection(u64, Side),
     OfPoint(u64, Leg),
 }
 
-#[derive(Drop)]
+#[derive(Clone, Copy)]
 enum EndRead {
     NoEnd,
     EndIs(NamedEnd, Cursor),
 }
 
 // The H line: sections, points, trains.
-#[derive(Drop)]
+#[derive(Clone, Copy)]
 pub enum HeaderRead {
     NoHeader,
     CountsAre(u64, u64, u64, Cursor),
 }
 
-#[derive(Drop)]
+#[derive(Clone, Copy)]
 pub enum JoinRead {
     NoJoin,
     EndsAre(NamedEnd, NamedEnd, Cursor),
 }
 
-#[derive(Drop)]
+#[derive(Clone, Copy)]
 pub enum SignalRead {
     NoSignal,
     SignalIs(u64, Side, Cursor),
 }
 
 // A weight as it is written, or none.
-#[derive(Drop)]
+#[derive(Clone, Copy)]
 pub enum NamedWeight {
     Unsaid,
     Said(u64),
 }
 
-#[derive(Drop)]
+#[derive(Clone, Copy)]
 enum WeightRead {
     NoWeight,
     WeightIs(NamedWeight, Cursor),
 }
 
 // A T line: heading, start, destination, weight.
-#[derive(Drop)]
+#[derive(Clone, Copy)]
 pub enum TrainRead {
     NoTrain,
     TrainIs(Side, u64, u64, NamedWeight, Cursor),

@@ -1,6 +1,7 @@
 // A reader of a case text: the text, and the place where it stands. It walks over lines of one kind, each put into the draft, and is moved on
 // behind each; nothing else on the way knows the place. A struct that holds a slice is taken apart by few functions, and each calls one that has
 // the slice and the place as parameters; other crates call `first_line` and `lines_of`. Any bytes may come in, and any place.
+#![tactic(auto)]
 ghost use Rattle.std.specs.Prelude.{◌≡◌};
 ghost use Rattle.text.specs.Reading.{then};
 ghost use Rattle.case_file.specs.Reading.{header_at};
@@ -14,7 +15,7 @@ use text::{Cursor, Number};
 
 // Lines of a kind: how many are due, where their kind has a count; how many were read; whether they and the lines before them were in form, and
 // the draft with them.
-#[derive(Drop)]
+#[derive(Clone, Copy)]
 struct Walk {
     kind: Kind,
     count: u64,
@@ -24,7 +25,7 @@ struct Walk {
 }
 
 // The text, and the place where the reader stands.
-#[derive(Drop)]
+#[derive(Clone, Copy)]
 struct Reader<'a> {
     text: &'a [u8],
     at: usize,

@@ -1,5 +1,6 @@
 // A case text and a plan, each read from a descriptor into a lent buffer, and the line that program plancheck writes for them. The plan is checked
 // while it comes: at the first refused line no more is read.
+#![tactic(auto)]
 ghost use Rattle.std.specs.Prelude.{◌≡◌, not, ◌&&◌, ◌+◌, ◌≤◌, ltb, length, take};
 ghost use Rattle.game_tables.specs.Lengths.{entries};
 ghost use Rattle.plan_checker.specs.Answers.{checking};
@@ -17,7 +18,7 @@ use railway::{CaseAnswer, Railway};
 const PIECE: usize = 4096;
 
 // How many bytes were read into either buffer, and what was put into the third.
-#[derive(Drop)]
+#[derive(Clone, Copy)]
 pub struct Heard {
     pub case: usize,
     pub plan: usize,
@@ -25,14 +26,14 @@ pub struct Heard {
 }
 
 // What was answered, and how many bytes of the plan were read for it.
-#[derive(Drop)]
+#[derive(Clone, Copy)]
 struct Answered {
     answer: TestAnswer,
     bytes: usize,
 }
 
 // Where a check stands: so many bytes have come, and so many of them were taken; whether it goes on.
-#[derive(Drop)]
+#[derive(Clone, Copy)]
 struct Stand {
     checker: Checker,
     at: usize,

@@ -1,5 +1,6 @@
 // What program plancheck does, for it and for the program that runs it on another input: the case of file case.txt in the working folder and a plan on standard
 // input; `pass` on standard output, or `refused`, a tab and the number.
+#![tactic(auto)]
 ghost use Rattle.std.specs.Prelude.{◌≡◌, suc, ◌≤◌, length};
 ghost use Rattle.std.proofs.Math.Option.{get_or};
 ghost use Rattle.case_file.specs.Rows.{most_bytes};

@@ -1,5 +1,6 @@
 // A plan's text checked, whole or piece by piece as it comes: its lines handed to the checker, as many as it takes, then the test; a line that is
 // refused ends it.
+#![tactic(auto)]
 ghost use Rattle.std.specs.Prelude.{◌≡◌, drop};
 ghost use Rattle.game_tables.specs.Tables.{case_refusal};
 ghost use Rattle.answer_lines.specs.Lines.{most_answer_bytes, Puts};
@@ -16,7 +17,7 @@ use railway::{CaseAnswer, Railway, Refusal};
 pub const ENTRIES: usize = game_tables::ENTRIES;
 
 // What a call for the bytes that have come hands back: the checker, how many bytes were taken, and whether no line more can be taken.
-#[derive(Drop)]
+#[derive(Clone, Copy)]
 pub struct Progress {
     pub checker: Checker,
     pub bytes: usize,

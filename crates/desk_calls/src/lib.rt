@@ -2,6 +2,7 @@
 // desk of it, and a change takes it over to another case, its trains where they stand. It carries the code of its placement and how many trains have arrived, and what it carries is
 // tested before it is used. The desk goes from call to call by value; the record is tested again at every call, and the two tables, which are lent, are only read. A report or a change
 // that is refused hands the desk back as it was.
+#![tactic(auto)]
 ghost use Rattle.std.specs.Prelude.{◌≡◌, ℕ};
 ghost use Rattle.railway.specs.declared.Railway.{Railway};
 ghost use Rattle.std.proofs.Math.Option.{none};
@@ -26,7 +27,7 @@ use railway_routes::{NO_SECTION, Ways};
 
 // Where the trains stand, the code of that placement, and how many of them stand on their destinations: a lamp reads both off the desk. What is there for trains that the case does
 // not have is not looked at.
-#[derive(Drop)]
+#[derive(Clone, Copy)]
 pub struct Desk {
     pub at: Placement,
     pub code: u32,
@@ -34,21 +35,21 @@ pub struct Desk {
 }
 
 // What opening hands back. Where no desk is opened, the one beside the answer stands nowhere, and every call with it is refused.
-#[derive(Drop)]
+#[derive(Clone, Copy)]
 pub struct OpenReply {
     pub answer: OpenAnswer,
     pub desk: Desk,
 }
 
 // What a report hands back.
-#[derive(Drop)]
+#[derive(Clone, Copy)]
 pub struct ReportReply {
     pub answer: ReportAnswer,
     pub desk: Desk,
 }
 
 // What a change of case hands back.
-#[derive(Drop)]
+#[derive(Clone, Copy)]
 pub struct ChangeReply {
     pub answer: ChangeAnswer,
     pub desk: Desk,

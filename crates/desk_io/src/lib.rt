@@ -3,6 +3,7 @@
 // also name a file with another case; that is solved, too, and the desk goes over to it, or it is refused, and work
 // goes on as before. Each is written before the next line is read. Behind `home`, behind an opening that is refused or
 // has no figure, and at the end of the input it stops.
+#![tactic(auto)]
 ghost use Rattle.std.specs.Prelude.{◌≡◌, true, suc, ◌≤◌, length};
 ghost use Rattle.std.proofs.Math.Option.{get_or};
 ghost use Rattle.io.specs.Counts.{IsPrefixLen};
@@ -33,7 +34,7 @@ const CASE: usize = case_file::MOST_BYTES + 1;
 const TURNS: usize = 72057594037927936;
 
 // How many bytes were written for an opening or for a line, the case and the desk behind it, and whether lines are read from there on.
-#[derive(Drop)]
+#[derive(Clone, Copy)]
 struct Stand {
     railway: Railway,
     desk: Desk,
@@ -42,14 +43,14 @@ struct Stand {
 }
 
 // A line of standard input: whether it came with its end, and how many bytes of it stand in the buffer.
-#[derive(Drop)]
+#[derive(Clone, Copy)]
 struct LineRead {
     whole: bool,
     count: usize,
 }
 
 // A byte of standard input.
-#[derive(Drop)]
+#[derive(Clone, Copy)]
 enum Byte {
     End,
     Is(u8),

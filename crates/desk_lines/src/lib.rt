@@ -1,5 +1,6 @@
 // The lines of program deskrun. What it writes for a state: where each train stands, and `open` behind those whose signal is to be opened; the figure that is left; how the points are
 // to lie. `home` stands for the last. What it reads: a report, train and section; or a change of case, with the name of a file. All functions are total.
+#![tactic(auto)]
 ghost use Rattle.std.specs.Prelude.{◌≡◌};
 ghost use Rattle.laws.specs.Below.{gather_below};
 ghost use Rattle.text.specs.Appending.{Appended};
@@ -25,7 +26,7 @@ pub const NAME: usize = 7;
 const NOWHERE: u8 = 255;
 
 // A line that was read: the train and the section of a report, by the document's numbers.
-#[derive(Drop)]
+#[derive(Clone, Copy)]
 pub enum ReportLine {
     NoReport,
     Of(u64, u64),

@@ -1,6 +1,7 @@
 // Moves on a compiled railway: codes and placements, who may move, and what a move ends in. All functions are total. What they
 // promise, they promise of every accepted railway whose table is handed in (crate `railway_compiled`), and beside it that of its ways where points matter
 // (crate `railway_routes`). A placement goes by its code, or by value with the section of each train.
+#![tactic(auto)]
 ghost use Rattle.std.specs.Prelude.{◌≡◌, cond, ℕ, ◌+◌, ◌*◌, ◌/◌, ◌%◌, ◌≤◌, ◌<◌, ltb};
 ghost use Rattle.std.proofs.Math.Option.{some};
 ghost use Rattle.laws.specs.Below.{any_below};
@@ -32,7 +33,7 @@ const FIRST_TRAIN: u32 = 1u32 << Railway::POINTS;
 pub const NO_CODE: u32 = 4294967295;
 
 // What comes of a move: it is not allowed, loses, or leads to the next placement.
-#[derive(Drop)]
+#[derive(Clone, Copy)]
 pub enum Move {
     NotAllowed,
     Derails,

@@ -1,5 +1,6 @@
 // A placement by value, with the section of each train, and the bits of an entry of the setting table: what is looked at without a railway's
 // table. Nothing is refused: past the last train and past the last bit stands 0.
+#![tactic(auto)]
 ghost use Rattle.std.specs.Prelude.{◌≡◌};
 ghost use Rattle.laws.specs.Bits.{bit};
 ghost use Rattle.game_placement.specs.ByValue.{section_in};
@@ -7,7 +8,7 @@ ghost use Rattle.game_placement.specs.ByValue.{section_in};
 use railway::Railway;
 
 // The section of each train, the document's number less one; 0 for trains that are not there.
-#[derive(Drop)]
+#[derive(Clone, Copy)]
 pub struct Placement {
     pub sections: [u8; Railway::TRAINS as usize],
 }

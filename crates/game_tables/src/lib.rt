@@ -1,4 +1,5 @@
 // The two tables and what a solver promises of them: specs/ has the definitions, proofs/ that the promise can be kept, in one way only.
+#![tactic(auto)]
 ghost use Rattle.std.specs.Prelude.{◌≡◌, get_or};
 ghost use Rattle.game.specs.Local.{is_within};
 ghost use Rattle.game_tables.specs.Tables.{figure_entry};
@@ -6,7 +7,7 @@ ghost use Rattle.game_tables.specs.Tables.{figure_entry};
 use railway::Refusal;
 
 // What the solver answers: a refusal; that the start has no figure; the start's figure. Both tables are filled in the last two.
-#[derive(Drop)]
+#[derive(Clone, Copy)]
 pub enum SolverAnswer {
     Refused(Refusal),
     Unsolvable,

@@ -16,6 +16,7 @@ use Rattle.laws.proofs.Below.{listed, gathered}
 module _ {A : Type 0} where
   pub any_false : (f : A → Bool) (l : List A) (x : A) → any f l ≡ false → Memᴰ x l → f x ≡ false
   unfolding any
+  any_false f [] x e m = elim m [ ]
   any_false f (y ∷ l) x e (Memᴰ.head p) = rw p (or-false (f y) (any f l) e).0
   any_false f (y ∷ l) x e (Memᴰ.tail m) = any_false f l x (or-false (f y) (any f l) e).1 m
 
@@ -48,6 +49,7 @@ module _ {A : Type 0} where
 
   pub all_in : (f : A → Bool) (l : List A) (x : A) → all f l ≡ true → Memᴰ x l → f x ≡ true
   unfolding all
+  all_in f [] x e m = elim m [ ]
   all_in f (y ∷ l) x e (Memᴰ.head p) = rw p (and-true (f y) (all f l) e).0
   all_in f (y ∷ l) x e (Memᴰ.tail m) = all_in f l x (and-true (f y) (all f l) e).1 m
 

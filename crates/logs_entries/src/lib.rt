@@ -1,5 +1,6 @@
 // A log, a lent slice of entries, taken out into a value, for functions that go by value. The slice is only read, and each entry once. Whatever reads it here is thin: it reads, or
 // calls a function that has no slice.
+#![tactic(auto)]
 ghost use Rattle.std.specs.Prelude.{◌≡◌, ◌<◌, length};
 ghost use Rattle.logs_entries.specs.Packing.{entry_in, begun, wants, with_entry, PackedPost};
 
@@ -9,7 +10,7 @@ use logs::Entry;
 pub const MOST: usize = 256;
 
 // A log by value: how many entries it has, how many of them were taken out, and the train and the section of each of these. What stands behind them is 0.
-#[derive(Drop)]
+#[derive(Clone, Copy)]
 pub struct Packed {
     pub count: usize,
     pub next: usize,

@@ -1,5 +1,6 @@
 // The checker of a plan: a call for each line, into two lent tables, and a call for the test after the last. Each call takes a record and tests it
 // again, takes the checker by value and hands the next one back beside its answer. What is refused leaves checker and tables as they were.
+#![tactic(auto)]
 ghost use Rattle.std.specs.Prelude.{◌≡◌, List, ◌++◌, ℕ, ◌≤◌, ◌<◌, length, drop, set, replicate};
 ghost use Rattle.std.proofs.Math.Option.{none};
 ghost use Rattle.railway.specs.declared.Railway.{Railway};
@@ -24,31 +25,31 @@ use railway_compiled::Table;
 use railway_routes::Ways;
 
 // What the checker keeps between calls, beside the tables.
-#[derive(Drop)]
+#[derive(Clone, Copy)]
 pub struct Checker {
     pub state: CheckerState,
 }
 
 // What the call for fresh tables, one for a line, one for several and the call for the test hand back.
-#[derive(Drop)]
+#[derive(Clone, Copy)]
 pub struct FreshReply {
     pub answer: CaseAnswer,
     pub checker: Checker,
 }
 
-#[derive(Drop)]
+#[derive(Clone, Copy)]
 pub struct LineReply {
     pub answer: LineAnswer,
     pub checker: Checker,
 }
 
-#[derive(Drop)]
+#[derive(Clone, Copy)]
 pub struct FrontReply {
     pub answer: FrontAnswer,
     pub checker: Checker,
 }
 
-#[derive(Drop)]
+#[derive(Clone, Copy)]
 pub struct TestReply {
     pub answer: TestAnswer,
     pub checker: Checker,

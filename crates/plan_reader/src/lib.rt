@@ -2,6 +2,7 @@
 // line for a placement. It is read field by field with a cursor in the text that it stands in, each field only as it is spelled, so that its end
 // need not be looked for first and nothing is read twice. Any bytes of any length may come in. What is promised is promised of every accepted
 // railway whose table is handed in (crate `railway_compiled`).
+#![tactic(auto)]
 ghost use Rattle.std.specs.Prelude.{◌≡◌, ◌≤◌};
 ghost use Rattle.std.proofs.Math.Option.{none};
 ghost use Rattle.text.specs.Answers.{more_digits, number_got};
@@ -21,7 +22,7 @@ use railway_compiled::Table;
 use text::{Byte, Cursor, LINE_END, Number, TAB, Width};
 
 // What a line says: the start's figure; or a placement's code, its figure and its entry of the setting table.
-#[derive(Drop)]
+#[derive(Clone, Copy)]
 pub enum LineRead {
     NoLine,
     Start(u32),
@@ -29,7 +30,7 @@ pub enum LineRead {
 }
 
 // What the line at a place says, and the place behind it. Where it says nothing, that place means nothing.
-#[derive(Drop)]
+#[derive(Clone, Copy)]
 pub struct LineAt {
     pub line: LineRead,
     pub end: usize,
@@ -57,7 +58,7 @@ pub fn read_at(table: &Table, text: &[u8], at: usize) -> LineAt
 }
 
 // The sections of four trains, and the cursor behind them.
-#[derive(Drop)]
+#[derive(Clone, Copy)]
 enum Sections {
     NoSections,
     SectionsAre(u8, u8, u8, u8, Cursor),

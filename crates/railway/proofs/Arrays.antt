@@ -2,7 +2,7 @@
 -- Assumes nothing.
 use mathlib.Core.Path.{◌≡◌, refl, sym, ◌∙◌}
 use mathlib.Core.List.{List}
-use lib.ListN.{length, length-map}
+use lib.ListN.{length}
 use mir.Val.{Val}
 use denote.Laws.{Is}
 use Rattle.railway.specs.declared.Railway.{Railway}
@@ -12,19 +12,19 @@ use Rattle.railway.specs.contracts.Railway as T
 
 module _ (r : Railway) (vs : List Val) (p : Is T.the_row r vs) where
   pub legs-length : length r.legs ≡ most_points
-  legs-length = sym (length-map r.legs _) ∙ p.1.1.1.1.1.0.1.0.1
+  legs-length = p.1.1.1.1.1.0.1.0.1
 
   pub links-length : length r.links ≡ all_ends
-  links-length = sym (length-map r.links _) ∙ p.1.1.1.1.1.1.0.1.0.1
+  links-length = p.1.1.1.1.1.1.0.1.0.1
 
   pub signals-length : length r.signals ≡ section_ends
-  signals-length = sym (length-map r.signals _) ∙ p.1.1.1.1.1.1.1.0.1.0.1
+  signals-length = p.1.1.1.1.1.1.1.0.1.0.1
 
   pub closed-length : length r.closed ≡ most_sections
-  closed-length = sym (length-map r.closed _) ∙ p.1.1.1.1.1.1.1.1.0.1.0.1
+  closed-length = p.1.1.1.1.1.1.1.1.0.1.0.1
 
   pub roster-length : length r.roster ≡ most_trains
-  roster-length = sym (length-map r.roster _) ∙ p.1.1.1.1.1.1.1.1.1.0.1.0.1
+  roster-length = p.1.1.1.1.1.1.1.1.1.0.1.0.1
 
   -- so its links, signals and closed sections can be lent
   pub own-links : LinksOf r r.links

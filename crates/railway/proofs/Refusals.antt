@@ -71,6 +71,7 @@ none-step false y xs x h e (Memᴰ.tail m) ih = ih e m
 
 pub first-none : (xs : List Row) → first xs ≡ none → Every NotApplying xs
 unfolding first
+first-none [] e x m = elim m [ ]
 first-none (y ∷ xs) e x m = none-step y.applies y xs x refl e m (λ e m. first-none xs e x m)
 
 pub none_first : (xs : List Row) → Every NotApplying xs → first xs ≡ none

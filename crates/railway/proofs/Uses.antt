@@ -82,6 +82,7 @@ other f b xs n (mathlib.Core.List.Memᴰ.head e) = absurd (n (sym (ap (λ (x : R
 other f b xs n (mathlib.Core.List.Memᴰ.tail m) = m
 
 last : (b : Bool) → Memᴰ (row Place true) (row Place b ∷ []) → b ≡ true
+last b (Memᴰ.tail x4) = elim x4 [ ]
 last b (mathlib.Core.List.Memᴰ.head e) = sym (ap (λ (x : Row). x.applies) e)
 
 place-applies : (r : Railway) → number_of (record_refusal r) ≡ some 8 → place_row r ≡ true

@@ -2,6 +2,8 @@
 // small: what an end is joined to stands there as one byte. Every lookup and every update is total: what no railway can have is joined
 // to nothing, has no signal, is not closed, and changes nothing.
 // The test of a record, rows 3 to 8, 13 and 16 of the table of numbers, is the crate `railway_acceptance`.
+#![tactic(auto)]
+
 ghost use Rattle.std.specs.Prelude.{◌≡◌, get_or};
 ghost use Rattle.railway.specs.declared.Railway.{Railway};
 ghost use Rattle.railway.specs.Bounds.{fewest_sections, fewest_trains, most_sections, most_points, most_trains, least_weight, most_weight, section_ends, all_ends};
@@ -12,13 +14,13 @@ ghost use Rattle.railway.specs.Record.{with_legs, with_train, with_closed};
 ghost use Rattle.railway.specs.Refusals.{number, rank};
 ghost use Rattle.railway.specs.Lent.{LinksOf, SignalsOf, ClosedOf};
 
-#[derive(Drop)]
+#[derive(Clone, Copy)]
 pub enum Side {
     Up,
     Down,
 }
 
-#[derive(Drop)]
+#[derive(Clone, Copy)]
 pub enum Leg {
     Stem,
     Plus,
@@ -26,33 +28,33 @@ pub enum Leg {
 }
 
 // The document's number less one.
-#[derive(Drop)]
+#[derive(Clone, Copy)]
 pub struct SectionNo(pub u8);
 
 // The document's number less one.
-#[derive(Drop)]
+#[derive(Clone, Copy)]
 pub struct PointNo(pub u8);
 
-#[derive(Drop)]
+#[derive(Clone, Copy)]
 pub enum End {
     Section(SectionNo, Side),
     Port(PointNo, Leg),
 }
 
 // What an end is joined to.
-#[derive(Drop)]
+#[derive(Clone, Copy)]
 pub enum Joined {
     Nothing,
     With(End),
 }
 
 // The side that a point's legs lie on.
-#[derive(Drop)]
+#[derive(Clone, Copy)]
 pub struct Legs {
     pub side: Side,
 }
 
-#[derive(Drop)]
+#[derive(Clone, Copy)]
 pub struct Train {
     pub heading: Side,
     pub start: SectionNo,
@@ -62,7 +64,7 @@ pub struct Train {
 
 // Why a case, a record, a table, a plan or a report is refused, in the order in which they are given. Each variant is the word that the
 // table of numbers has for it in its second column (docs/FORMATS.md); `number` gives the number.
-#[derive(Drop)]
+#[derive(Clone, Copy)]
 pub enum Refusal {
     Length,
     Form,
@@ -84,7 +86,7 @@ pub enum Refusal {
 }
 
 // What a case is answered with, as a record or as a text: it is accepted, or refused with the first row that applies.
-#[derive(Drop)]
+#[derive(Clone, Copy)]
 pub enum CaseAnswer {
     Accepted,
     Refused(Refusal),
@@ -92,7 +94,7 @@ pub enum CaseAnswer {
 
 // Legs by point; links by end, in the order of `index_of`; signals by section end; closed sections; the roster by train. A link is the byte of the
 // end that is joined there, which is its index, or any byte past the last end's for no join.
-#[derive(Drop)]
+#[derive(Clone, Copy)]
 pub struct Railway {
     pub sections: u8,
     pub points: u8,
@@ -138,12 +140,11 @@ impl Railway {
     // The record with nothing in it. Its promise also ties the constants to the numbers that the definitions speak of.
     pub fn empty() -> Railway
         ensures empty { result ≡ empty_railway }
-        ensures* sections { do ⌜ ((← (⟦Railway::FEWEST_SECTIONS⟧).entry) ≡ fewest_sections) × ((← (⟦Railway::SECTIONS⟧).entry) ≡ most_sections) ⌝ }
-        ensures* points { do ⌜ (← (⟦Railway::POINTS⟧).entry) ≡ most_points ⌝ }
-        ensures* trains { do
-          ⌜ ((← (⟦Railway::FEWEST_TRAINS⟧).entry) ≡ fewest_trains) × ((← (⟦Railway::TRAINS⟧).entry) ≡ most_trains)
-              × ((← (⟦Railway::LEAST_WEIGHT⟧).entry) ≡ least_weight) × ((← (⟦Railway::MOST_WEIGHT⟧).entry) ≡ most_weight) ⌝ }
-        ensures* ends { do ⌜ ((← (⟦Railway::SECTION_ENDS⟧).entry) ≡ section_ends) × ((← (⟦Railway::ENDS⟧).entry) ≡ all_ends) × ((← (⟦Railway::NO_LINK⟧).entry) ≡ no_link) ⌝ }
+        ensures sections { (Self.FEWEST_SECTIONS ≡ fewest_sections) × (Self.SECTIONS ≡ most_sections) }
+        ensures points { Self.POINTS ≡ most_points }
+        ensures trains { (Self.FEWEST_TRAINS ≡ fewest_trains) × (Self.TRAINS ≡ most_trains)
+            × (Self.LEAST_WEIGHT ≡ least_weight) × (Self.MOST_WEIGHT ≡ most_weight) }
+        ensures ends { (Self.SECTION_ENDS ≡ section_ends) × (Self.ENDS ≡ all_ends) × (Self.NO_LINK ≡ no_link) }
     {
         let up = Legs { side: Side::Up };
         let t = no_train();

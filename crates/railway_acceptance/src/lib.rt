@@ -1,6 +1,7 @@
 // The test of a record: accepted, or refused with the first of rows 3 to 8, 13 and 16 that applies. Any record may come in, also one that
 // no text describes; each row looks at every place that it concerns. Besides the test, some of its parts are public for the
 // reader of case texts: they judge one row, pair or place of a record by itself, and are no entry points.
+#![tactic(auto)]
 ghost use Rattle.std.specs.Prelude.{◌≡◌, ◌&&◌, ◌||◌, cond, not, ℕ, ◌*◌, ◌<◌, ◌≤◌, ltb, eqb};
 ghost use Rattle.laws.specs.Below.{any_below};
 ghost use Rattle.railway.specs.declared.Railway.{Railway};
@@ -27,7 +28,7 @@ type Sides = [u8; Railway::POINTS as usize];
 type Roster = [Train; Railway::TRAINS as usize];
 
 // What rows 4 and 5 find in the links: one at or to an end that is not there, one that ties ends which no join may tie, one that is not returned.
-#[derive(Drop)]
+#[derive(Clone, Copy)]
 struct Found {
     unknown: bool,
     wrong: bool,

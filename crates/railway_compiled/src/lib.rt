@@ -2,6 +2,7 @@
 // `compile` takes a record, tests it, and fills the table; the others read the table alone, and are total. What they
 // promise, they promise of every accepted railway whose table it is; of bytes that are no railway's table no definition says
 // anything, and they only read them. Where the ends lead to is the table of crate `railway_routes`.
+#![tactic(auto)]
 ghost use Rattle.std.specs.Prelude.{◌≡◌, ℕ, ◌+◌, ◌<◌, ◌≤◌};
 ghost use Rattle.railway.specs.declared.Railway.{Railway};
 ghost use Rattle.railway.specs.Bounds.{most_trains};
@@ -36,7 +37,7 @@ const HELD: u8 = 1;
 const PARKED: u8 = 2;
 
 // What compiling a record gives: the answer of its test, and the table; all zero where the record is refused.
-#[derive(Drop)]
+#[derive(Clone, Copy)]
 pub struct Compilation {
     pub tested: CaseAnswer,
     pub table: Table,

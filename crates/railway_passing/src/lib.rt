@@ -1,6 +1,7 @@
 // Following a train from an end, the points lying as given: from an end to the point that it is joined to, from there to the end by which the train leaves, over four points at most.
 // `pass` takes a record, tests it, and tells the section that the train comes to and the points that it meets. That a section is closed makes no difference
 // here.
+#![tactic(auto)]
 ghost use Rattle.std.specs.Prelude.{◌≡◌, ◌+◌, ◌≤◌, ◌<◌, length};
 ghost use Rattle.laws.specs.Bits.{bit};
 ghost use Rattle.railway.specs.declared.Railway.{Railway};
@@ -15,7 +16,7 @@ use railway::{CaseAnswer, End, Joined, Leg, Links, PointNo, Railway, SectionNo};
 pub const MOST_MET: u8 = 4;
 
 // Where a train comes to: it derails, or comes to a section.
-#[derive(Drop)]
+#[derive(Clone, Copy)]
 pub enum Reached {
     Nowhere,
     Section(SectionNo),
@@ -23,7 +24,7 @@ pub enum Reached {
 
 // Where it comes to, how many points it meets, and these in order, the one that it derails at last; 0 behind them. Points and sections count from 0, as in
 // the record.
-#[derive(Drop)]
+#[derive(Clone, Copy)]
 pub struct Passed {
     pub reached: Reached,
     pub count: u8,
@@ -31,14 +32,14 @@ pub struct Passed {
 }
 
 // What passing answers: the test of the record, and where it is accepted the passage; else nothing is met and nowhere reached.
-#[derive(Drop)]
+#[derive(Clone, Copy)]
 pub struct Passing {
     pub tested: CaseAnswer,
     pub passed: Passed,
 }
 
 // Which way a point come to by a port is left.
-#[derive(Drop)]
+#[derive(Clone, Copy)]
 enum Onward {
     Derails,
     By(Leg),

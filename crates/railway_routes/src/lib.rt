@@ -2,6 +2,7 @@
 // point to lie both ways, so each suits some settings, and a setting suits at most one.
 // `ways_of` makes the table from the links of a record and flags for the sections that are shut; the others read it, and are total. What they promise, they
 // promise of every railway whose table it is; of words that are no railway's table no definition says anything.
+#![tactic(auto)]
 ghost use Rattle.std.specs.Prelude.{◌≡◌, Bool, ℕ, ◌+◌, ◌*◌, ◌^◌, ◌<◌, ◌≤◌, replicate};
 ghost use Rattle.laws.specs.Bits.{bit};
 ghost use Rattle.railway.specs.declared.Railway.{Railway};
@@ -33,7 +34,7 @@ pub const ALL_WORDS: usize = WORDS * (Railway::SECTION_ENDS as usize);
 pub type Ways = [u16; ALL_WORDS];
 
 // A walk from a section end, so far: how many points it may still meet, which points matter, and which of those have to lie at plus.
-#[derive(Drop)]
+#[derive(Clone, Copy)]
 struct Walk {
     left: u8,
     care: u16,

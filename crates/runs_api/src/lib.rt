@@ -1,6 +1,7 @@
 // Shortest runs in a call for programs in other languages: a case text, and two square tables that are lent. The static
 // library that `rt staticlib` writes exports it. It reads and judges the text, and answers the number of the refusal,
 // or 0; refused, it leaves both tables as they were.
+#![tactic(auto)]
 ghost use Rattle.std.specs.Prelude.{◌≡◌};
 ghost use Rattle.std.proofs.Math.Option.{none};
 ghost use Rattle.railway.specs.Rows.{record_refusal};

@@ -1,4 +1,5 @@
 // What program showruns does: a case text on standard input; on standard output the run of each train and their sum, or `refused`, a tab and the number.
+#![tactic(auto)]
 ghost use Rattle.runs_io.specs.Shown.{Shown};
 
 use libc::STDIN_FILENO;

@@ -1,6 +1,7 @@
 // All that program showruns writes for a case text, put into a lent buffer: a line for each train with its run from start to destination, or `none`, and behind them the sum of the runs, which is what
 // any plan takes at least, or `none` where a train has none; or the line of a refusal. It stands whole at the front of
 // the buffer, or finds no room and is refused for that, and the buffer is as it was.
+#![tactic(auto)]
 ghost use Rattle.std.specs.Prelude.{◌≡◌, ℕ, suc, ◌<◌, ◌≤◌, length, get_or};
 ghost use Rattle.std.proofs.Math.Option.{none};
 ghost use Rattle.laws.specs.Below.{any_below, sum_below, gather_below};

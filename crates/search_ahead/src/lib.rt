@@ -1,6 +1,7 @@
 // Looking ahead: whether a round brings anything, told without writing anything. What can gain in a round is one move before its
 // frontier, as in `solver_rounds`; the first placement there that would gain settles it. So whoever shows a search round by round knows in time
 // whether more is to come.
+#![tactic(auto)]
 ghost use Rattle.std.specs.Prelude.{◌≡◌, true, ◌↔◌, List, ℕ, suc, ◌≤◌, ◌<◌};
 ghost use Rattle.railway.specs.declared.Railway.{Railway};
 ghost use Rattle.railway.specs.Record.{is_closed};

@@ -1,5 +1,6 @@
 // A search in calls for programs in other languages: a case text, and tables, marks and numbers that are lent. The static library that `rt staticlib` writes exports these
 // calls. Each reads and judges the text, and answers the number of the refusal, or 0; two have other answers beside. A call that refuses leaves all that it is lent as it was.
+#![tactic(auto)]
 ghost use Rattle.std.specs.Prelude.{◌≡◌};
 ghost use Rattle.search_api.specs.Exported.{search_numbers, search_of, lent, OpenedRailway, OpenedText, RoundedRailway, RoundedText};
 ghost use Rattle.search_api.specs.Exported.{section_named, placement_of, LookedRailway, LookedText};

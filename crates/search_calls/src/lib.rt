@@ -2,6 +2,7 @@
 // search goes from call to call by value. The tables are lent and hold what has come so far; the marks of the rounds are lent too, for they are too many to be copied at every
 // call. Rounds are those of the solver. Where the very next round is not due, the next that brings figures is looked for, so that rounds between take no time and the end is
 // known as soon as it comes.
+#![tactic(auto)]
 ghost use Rattle.std.specs.Prelude.{◌≡◌, true, ℕ, suc, ◌≤◌, ◌<◌, length};
 ghost use Rattle.railway.specs.declared.Railway.{Railway};
 ghost use Rattle.railway.specs.Record.{is_closed};
@@ -27,7 +28,7 @@ use solver_marks::MARKS;
 use solver_rounds::LAST_ROUND;
 
 // What comes behind a round: the next, as a search carries it, and whether the search has ended.
-#[derive(Drop)]
+#[derive(Clone, Copy)]
 pub struct Onward {
     pub coming: u32,
     pub ended: bool,

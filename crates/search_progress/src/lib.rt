@@ -1,5 +1,6 @@
 // How far a search has come, for a program that tells it while it searches: how many placements have a figure so far and which is the largest, read
 // off the figure table; and the line that says so, put whole at the front of a lent buffer, or refused for want of room.
+#![tactic(auto)]
 ghost use Rattle.std.specs.Prelude.{◌≡◌, List, ℕ, suc, ◌<◌, get_or};
 ghost use Rattle.text.specs.Appending.{Appended};
 ghost use Rattle.game_tables.specs.Tables.{no_figure};
@@ -11,7 +12,7 @@ use game_tables::NO_FIGURE;
 use text::{LINE_END, TAB, append};
 
 // How many placements have a figure, and the largest of these; 0 where none has one.
-#[derive(Drop)]
+#[derive(Clone, Copy)]
 pub struct Progress {
     pub count: u32,
     pub largest: u32,

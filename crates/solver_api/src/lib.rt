@@ -1,6 +1,7 @@
 // Reader, solver, emitter and checker for programs in other languages: a case text, and tables, buffers and numbers that are lent. The static library
 // that `rt staticlib` writes exports these calls. Each answers the number of the refusal, or 0; the call for
 // a plan's lines has two answers more. A call that refuses leaves all that it is lent as it was.
+#![tactic(auto)]
 ghost use Rattle.std.specs.Prelude.{◌≡◌};
 ghost use Rattle.solver_api.specs.Exported.{SolvedRailway, SolvedText};
 ghost use Rattle.solver_api.specs.Plans.{place_at, place_number, writing, WrittenRailway, WrittenText};

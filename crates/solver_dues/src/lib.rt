@@ -1,6 +1,7 @@
 // When a range of codes is due again: a figure there and the weight of a train make the number of a round, in which that train's move to the figure's placement
 // can bring something. So a solver passes by the rounds that nothing makes due. The functions promise of every railway whose compiled table they are handed;
 // codes past the end of the figures have none.
+#![tactic(auto)]
 ghost use Rattle.std.specs.Prelude.{◌≡◌, false, ℕ, ◌+◌, ◌≤◌, ◌<◌, length};
 ghost use Rattle.laws.specs.Below.{any_below};
 ghost use Rattle.railway.specs.declared.Railway.{Railway};

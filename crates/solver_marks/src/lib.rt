@@ -1,6 +1,7 @@
 // The marks: what a solver notes for each stretch of codes, in one lent list: for each train the next round that its weight makes due for the stretch, or an earlier
 // one, and behind all of these the largest figure in it, or a larger one. So a solver passes by the stretches where a round has nothing to do, and by the
 // rounds that are due nowhere. No function asks for anything; what they promise holds of a list with room for all stretches.
+#![tactic(auto)]
 ghost use Rattle.std.specs.Prelude.{◌≡◌, ℕ, ◌+◌, ◌≤◌, ◌<◌, get_or};
 ghost use Rattle.railway.specs.Bounds.{most_trains};
 ghost use Rattle.game_tables.specs.Tables.{no_figure};
@@ -30,7 +31,7 @@ pub const MARKS: usize = (TRAINS + 1) * STRETCHES;
 
 // The rounds that a new figure is the first to make due, by the weight of each train; the largest number where there is no such train, or where a lower one has
 // its weight.
-#[derive(Drop)]
+#[derive(Clone, Copy)]
 pub struct Soon {
     pub first: u32,
     pub second: u32,

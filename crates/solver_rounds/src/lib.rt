@@ -6,6 +6,7 @@
 // the frontier has none, and whoever runs rounds can pass by those that are due nowhere. The functions promise what they do for every
 // accepted railway whose compiled table and ways they are handed: those into sections that are not closed, for moves, and those to all
 // sections, for going back. `begin` and `round` ask for nothing: where a table is too short they do nothing, and promise nothing.
+#![tactic(auto)]
 ghost use Rattle.std.specs.Prelude.{◌≡◌, false, ℕ, suc, ◌+◌, ◌%◌, ◌≤◌, ◌<◌, length, get_or};
 ghost use Rattle.std.proofs.Math.Option.{none};
 ghost use Rattle.railway.specs.declared.Railway.{Railway};
@@ -47,7 +48,7 @@ pub const LAST_ROUND: u32 = (Railway::MOST_WEIGHT as u32)
 const SECTIONS: u32 = Railway::SECTIONS as u32;
 
 // The round that is going on: its number n, how many placements there are, and the first rounds that a figure n makes due.
-#[derive(Drop)]
+#[derive(Clone, Copy)]
 struct ThisRound {
     n: u32,
     m: u32,
@@ -55,14 +56,14 @@ struct ThisRound {
 }
 
 // Codes in a row, up to one that is not among them.
-#[derive(Drop)]
+#[derive(Clone, Copy)]
 pub struct Codes {
     pub from: u32,
     pub upto: u32,
 }
 
 // A train that may have come to a placement by the last move: the placement with its code, the train and its stride.
-#[derive(Drop)]
+#[derive(Clone, Copy)]
 pub struct Mover {
     pub placement: Placement,
     pub code: u32,

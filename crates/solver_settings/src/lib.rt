@@ -1,6 +1,7 @@
 // The first setting that keeps a figure at a placement, or nothing: what one step of a solver asks. It looks at the ways of the trains that may move, so
 // that its time goes with those and not with the settings. Each train is looked at by itself first, and mostly that decides; only where several free trains
 // ask for different points are their ways combined.
+#![tactic(auto)]
 ghost use Rattle.std.specs.Prelude.{◌≡◌, true, false, cond, ◌&&◌, ℕ, ◌≤◌, ◌<◌, eqb, ltb};
 ghost use Rattle.std.proofs.Math.Option.{some};
 ghost use Rattle.laws.specs.Below.{any_below, all_below};
@@ -31,7 +32,7 @@ const FIRST_TRAIN: u32 = 1u32 << Railway::POINTS;
 const NO_BITS: u32 = FIRST_TRAIN;
 
 // What is looked for: a setting that keeps this figure at this placement of so many trains, which is told by value and by its code.
-#[derive(Drop)]
+#[derive(Clone, Copy)]
 struct Aim {
     placement: Placement,
     code: u32,
@@ -40,7 +41,7 @@ struct Aim {
 }
 
 // Ways of the trains so far, combined: the points that matter, and those of them that have to lie at plus. With them the bits that are to be undercut.
-#[derive(Drop)]
+#[derive(Clone, Copy)]
 struct Combined {
     care: u32,
     want: u32,
@@ -48,7 +49,7 @@ struct Combined {
 }
 
 // A way of the table: from the section end with this index, by its number, and the section that it leads to.
-#[derive(Drop)]
+#[derive(Clone, Copy)]
 struct WayAt {
     end: u8,
     number: u8,
@@ -56,7 +57,7 @@ struct WayAt {
 }
 
 // What a search for a setting finds: nothing, or an entry of the setting table.
-#[derive(Drop)]
+#[derive(Clone, Copy)]
 pub enum Found {
     Nothing,
     Entry(u32),

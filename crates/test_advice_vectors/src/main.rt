@@ -2,6 +2,7 @@
 // what is advised, or the number of the refusal, and then the tables as they are left: code, figure and setting for
 // each placement that has a figure. Behind them come records that no case text is read as, and tables that are too
 // short or longer than they have to be, with every entry as it is left.
+#![tactic(auto)]
 use advice::Advice;
 use game_tables::{ENTRIES, NO_FIGURE};
 use libc::STDOUT_FILENO;

@@ -1,6 +1,7 @@
 // Changes of case. Standard input is records (crate test_framing), three for each: a case text, the text of a new case, and a script of calls at a desk (crate test_script). Behind them
 // changes are asked for that no script has: from records that are refused, and with tables of which one is too short. A line each: what is asked, a tab, and `changed` or `refused`
 // with the number.
+#![tactic(auto)]
 use desk::ChangeAnswer;
 use desk_calls::Desk;
 use game_placement::Placement;

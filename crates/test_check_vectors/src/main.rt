@@ -1,4 +1,5 @@
 // Pairs of texts, a case and a plan, and what program plancheck writes for each pair. Standard input is records (crate test_framing).
+#![tactic(auto)]
 
 fn main() {
     let mut turns: u64 = 0;

@@ -2,6 +2,7 @@
 // refuse. A line for each call: `taken`, `pass`, or `refused`, a tab and the number. A test comes before the first line and one after the last.
 // Then the emitter's answer for a buffer that is a byte too short, and that buffer; then the checker's answers to a plan with a wrong figure. Last,
 // tables made fresh that are longer than the case needs, and one that is shorter: the entries at the last code and past it.
+#![tactic(auto)]
 use libc::{STDIN_FILENO, STDOUT_FILENO};
 use plan::{Emitted, LineAnswer, PlanPlace};
 use plan_checker::Checker;

@@ -1,6 +1,7 @@
 // How many placements have each figure, for case texts. Standard input is records (crate test_framing), a case text each; it is solved, and the figure table that the solver left is counted: a line
 // for each figure up to 254 that some placement has, with their number, then one for the greater figures and one for none; or the number of the refusal. Behind them come records and
 // tables that no case text gives.
+#![tactic(auto)]
 use counts::{CountAnswer, CountReply};
 use game_tables::{ENTRIES, NO_FIGURE};
 use libc::STDOUT_FILENO;

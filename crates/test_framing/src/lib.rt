@@ -1,5 +1,6 @@
 // What programs that run vectors share. The records of a vector file, from standard input: a line `@`, tab, the number of bytes in decimal, and then those bytes, of any value. A record
 // comes whole or not at all: one that is longer than the lent space, one that ends early and a line of another form are told as broken. And small railways that no case text is read as.
+#![tactic(auto)]
 ghost use Rattle.std.specs.Prelude.{◌≡◌, false};
 ghost use Rattle.io.specs.Counts.{IsPrefixLen};
 ghost use Rattle.test_framing.specs.Framed.{is_whole, record_of, Kept, KeptText};
@@ -9,7 +10,7 @@ use libc::{STDIN_FILENO, STDOUT_FILENO};
 use railway::{End, Leg, PointNo, Railway, SectionNo, Side, Train};
 
 // Whether there was a record.
-#[derive(Drop)]
+#[derive(Clone, Copy)]
 pub enum Reading {
     Whole,
     Ended,
@@ -17,28 +18,28 @@ pub enum Reading {
 }
 
 // What was read, and of how many bytes the record is: none unless it is whole.
-#[derive(Drop)]
+#[derive(Clone, Copy)]
 pub struct Record {
     pub reading: Reading,
     pub bytes: usize,
 }
 
 // A text that was asked for: whether it is there, and of how many bytes; of none, if it is not.
-#[derive(Drop)]
+#[derive(Clone, Copy)]
 pub struct Text {
     pub there: bool,
     pub bytes: usize,
 }
 
 // A byte of standard input.
-#[derive(Drop)]
+#[derive(Clone, Copy)]
 enum Byte {
     End,
     Is(u8),
 }
 
 // The number that stands in the line before a record.
-#[derive(Drop)]
+#[derive(Clone, Copy)]
 enum Length {
     Ended,
     Broken,

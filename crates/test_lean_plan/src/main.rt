@@ -1,4 +1,5 @@
 // What program plancheck does, on a plan that program thinplan has written: the one that the gate sees it write.
+#![tactic(auto)]
 
 fn main() {
     check_io::write_verdict();

@@ -1,6 +1,7 @@
 // Two logs compared, for case texts. Standard input is records (crate test_framing), three for each: a case text, the panel's log and that of the axle counters, an entry a line: a train and
 // a section, by the document's numbers. For each it is told whether they agree, or which train differs, or the number of the refusal. Behind them come records that no case text is read
 // as, with logs of several lengths.
+#![tactic(auto)]
 ghost use Rattle.std.specs.Prelude.{◌≤◌, take};
 ghost use Rattle.logs.specs.Logs.{LogPost};
 
@@ -15,7 +16,7 @@ const SPACE: usize = 257;
 const NOWHERE: u8 = 255;
 
 // A log as far as it has been read, with the train and the digits of the line that is being read.
-#[derive(Drop)]
+#[derive(Clone, Copy)]
 struct Log {
     entries: [Entry; SPACE],
     count: usize,

@@ -1,6 +1,7 @@
 // What every move ends in, for case texts: by rising code, each placement with no two trains on a section, and there by rising entry of the
 // setting table: the code, the entry, and of each train `-` it may not move, `x` it derails, `c` it collides, or the section it then stands on.
 // Standard input is records (crate test_framing).
+#![tactic(auto)]
 use game_moves::Move;
 use libc::STDOUT_FILENO;
 use railway::{CaseAnswer, Railway};

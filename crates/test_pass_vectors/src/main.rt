@@ -1,6 +1,7 @@
 // Where a train comes to and which points it meets, for case texts: by rising section end, 1d, 1u, 2d and on, and there by rising setting of the points: the
 // end, the bits of the points at plus, the section or `x` for none, and the points met in order, parted by commas, or `.` for none.
 // Standard input is records (crate test_framing).
+#![tactic(auto)]
 use libc::STDOUT_FILENO;
 use railway::{CaseAnswer, End, Railway, SectionNo, Side};
 use railway_passing::{MOST_MET, Passed, Reached};

@@ -1,4 +1,5 @@
 // Case texts, and what program signalplan writes for each. Standard input is records (crate test_framing).
+#![tactic(auto)]
 
 fn main() {
     let mut turns: u64 = 0;

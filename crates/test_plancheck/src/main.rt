@@ -1,6 +1,7 @@
 // Cases and plans from files of the working folder, read and checked as program plancheck does: a plan of 443 lines, which comes in two pieces, the same
 // with its last line wrong, and with its last line out of form; a case text of 4,096 bytes, with signals named twice, and one of 4,097; a case and a plan
 // that are not there.
+#![tactic(auto)]
 
 fn main() {
     check(b"line.txt", b"line-plan.txt");

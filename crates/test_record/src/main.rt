@@ -3,6 +3,7 @@
 // `J1u2d` a join, `G1u..` a signal, `X2...` a closed section, `T123.` train 1 up from section 2 to 3, with the case file's numbers, letters and signs.
 // The last byte of a train is its weight: `.` for 1, `0` for 0, `*` for 255.
 // Row 7 has no line of its own: a record has one flag a signal and one a section, and what is set twice is set.
+#![tactic(auto)]
 use libc::STDOUT_FILENO;
 use railway::{CaseAnswer, End, Leg, PointNo, Railway, SectionNo, Side, Train};
 

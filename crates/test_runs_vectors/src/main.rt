@@ -1,6 +1,7 @@
 // Tables of runs for case texts: a refusal's line; or `case`, and for heading up and then down, by rising row and column, the heading, the row, the column and the entry, where that says a run.
 // Standard input is records (crate test_framing). Behind them records that no text makes, handed to the call itself:
 // what each is, the number that is answered, 0 for none, and whether the table came back as it was.
+#![tactic(auto)]
 use libc::STDOUT_FILENO;
 use railway::{CaseAnswer, End, Railway, SectionNo, Side, Train};
 use runs_tables::{NO_RUN, Runs};

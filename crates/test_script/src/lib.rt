@@ -3,6 +3,7 @@
 // section: a report; `c`: a change to the new case, which is then the present one with its tables; `d`, a section for each train, a code, a number of trains: the present desk; `l`, n,
 // and `n`, n: so many entries of the present tables, or of the new ones, are lent from here on; `f`, code, figure, setting: written into the present tables. Of these `o`, `s`, `r` and
 // `c` are answered, a line each, and the desk that is handed back becomes the present one.
+#![tactic(auto)]
 ghost use Rattle.std.specs.Prelude.{◌≡◌, true, false};
 ghost use Rattle.io.specs.Counts.{IsPrefixLen};
 ghost use Rattle.case_reader.specs.Answers.{ByCase};
@@ -24,7 +25,7 @@ const FIELDS: u8 = 7;
 const NOWHERE: u8 = 255;
 
 // A command as far as its line has been read: its letter, which is field 0; the numbers in the fields behind it; the field that is read.
-#[derive(Drop)]
+#[derive(Clone, Copy)]
 struct Command {
     letter: u8,
     numbers: [u32; FIELDS as usize],
@@ -33,7 +34,7 @@ struct Command {
 
 // What is kept from command to command beside the tables: the present case, whether it is the new one, the present desk, and how many entries of the present tables and of the new
 // ones are lent.
-#[derive(Drop)]
+#[derive(Clone, Copy)]
 struct Kept {
     railway: Railway,
     over: bool,

@@ -1,6 +1,7 @@
 // Searches that are looked into between their rounds. Standard input is records (crate test_framing), two for each: a case text, and placements, a line
 // each, the section of each train. After the opening, and after each round until the search has ended and one more: every code whose figure has
 // come with it, with the figure and the setting; and what each placement shows.
+#![tactic(auto)]
 use game_placement::Placement;
 use game_tables::{ENTRIES, NO_FIGURE};
 use libc::STDOUT_FILENO;
@@ -10,7 +11,7 @@ use solver_marks::MARKS;
 use solver_rounds::LAST_ROUND;
 
 // A placement as far as its line has been read: the train whose section comes next, and the digits of it so far.
-#[derive(Drop)]
+#[derive(Clone, Copy)]
 struct Line {
     sections: [u8; Railway::TRAINS as usize],
     train: u8,

@@ -1,6 +1,8 @@
 // Bytes and number fields at a cursor, for the case file and the plan alike. A cursor goes in by value, and the next one comes back with what
 // was read. Past the end of a text stands byte 0, which begins no field, so any cursor may come in. Writing is in `append`. specs/ has the
 // definitions, proofs/ the laws.
+#![tactic(auto)]
+
 ghost use Rattle.std.specs.Prelude.{◌≡◌, ◌-◌, ◌^◌, ◌≤◌, ◌<◌, length, get_or};
 ghost use Rattle.text.specs.Reading.{is_digit, digits_at, number_at};
 ghost use Rattle.text.specs.Answers.{more_digits, number_got, byte_got, byte_inside};
@@ -12,27 +14,27 @@ pub const TAB: u8 = b'\t';
 
 pub const LINE_END: u8 = b'\n';
 
-#[derive(Drop)]
+#[derive(Clone, Copy)]
 pub struct Cursor {
     pub at: usize,
 }
 
 // How long a number may be: three digits in a case file, ten in a plan.
-#[derive(Drop)]
+#[derive(Clone, Copy)]
 pub enum Width {
     Three,
     Ten,
 }
 
 // A number field: its value and the cursor behind it, or no number stands there.
-#[derive(Drop)]
+#[derive(Clone, Copy)]
 pub enum Number {
     None,
     Value(u64, Cursor),
 }
 
 // A byte that was looked for: the cursor behind it, or another byte stands there.
-#[derive(Drop)]
+#[derive(Clone, Copy)]
 pub enum Byte {
     Other,
     Past(Cursor),

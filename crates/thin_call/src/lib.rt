@@ -1,6 +1,7 @@
 // The thinning of a plan, after its last line, in the tables that the checker has entered it into. The call makes the test of the plan itself: what the test refuses is refused with the
 // same number, and nothing has changed then. Else one pass over the setting table leaves, at each listed placement that is not home, nobody open where some train is free, and else the
 // lowest train alone that may move. The checker comes back as it was, and may be handed more lines.
+#![tactic(auto)]
 ghost use Rattle.std.specs.Prelude.{◌≡◌, ℕ, ◌^◌, ◌+◌, ◌≤◌, ◌<◌, length, set};
 ghost use Rattle.laws.specs.Below.{lowest};
 ghost use Rattle.railway.specs.declared.Railway.{Railway};
@@ -26,7 +27,7 @@ use thin::ThinAnswer;
 const FIRST_TRAIN: u32 = 1u32 << Railway::POINTS;
 
 // What the call hands back.
-#[derive(Drop)]
+#[derive(Clone, Copy)]
 pub struct ThinReply {
     pub answer: ThinAnswer,
     pub checker: Checker,

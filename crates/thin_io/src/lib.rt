@@ -1,4 +1,5 @@
 // What program thinplan does: the case of file case.txt in the working folder and a plan on standard input; the text of the lean plan on standard output, or `refused`, a tab and the number.
+#![tactic(auto)]
 ghost use Rattle.std.specs.Prelude.{◌≡◌, suc, length};
 ghost use Rattle.case_file.specs.Rows.{most_bytes};
 ghost use Rattle.plan_text.specs.Written.{text_bytes};
