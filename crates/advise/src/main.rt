@@ -3,7 +3,8 @@
 #![tactic(auto)]
 ghost use Rattle.advice_text.specs.Lines.{Advised};
 
-use libc::STDIN_FILENO;
+// The descriptor of standard input.
+const STDIN_FILENO: i32 = 0;
 
 // One byte more than a case text may have: so many bytes decide what is written (`CutWrites` in advice_text/specs/Lines).
 const CASE: usize = case_file::MOST_BYTES + 1;

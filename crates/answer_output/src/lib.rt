@@ -6,9 +6,11 @@ ghost use Rattle.answer_lines.specs.Lines.{refusal_line, test_line, put_into};
 ghost use Rattle.answer_output.specs.Front.{has_front, front_bytes};
 
 use case_file::Written;
-use libc::STDOUT_FILENO;
 use plan::TestAnswer;
 use railway::Refusal;
+
+// The descriptor of standard output.
+const STDOUT_FILENO: i32 = 1;
 
 // Room enough for every line here.
 pub const LINE: usize = answer_lines::LINE;

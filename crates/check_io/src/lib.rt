@@ -10,7 +10,9 @@ ghost use Rattle.check_text.specs.Claims.{read_bytes};
 ghost use Rattle.check_io.specs.Answered.{Answered};
 
 use case_file::Written;
-use libc::STDIN_FILENO;
+
+// The descriptor of standard input.
+const STDIN_FILENO: i32 = 0;
 
 // One byte more than a case text may have: so many bytes decide what is answered (`CutDecides` in case_file/specs/Claims).
 const CASE: usize = case_file::MOST_BYTES + 1;

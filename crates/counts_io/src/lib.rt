@@ -10,8 +10,13 @@ ghost use Rattle.counts_io.specs.Shown.{ToldCounts, RailwayShown, CaseShown, Sho
 use case_file::Written;
 use counts::CountAnswer;
 use game_tables::ENTRIES;
-use libc::{STDIN_FILENO, STDOUT_FILENO};
 use railway::{CaseAnswer, Railway, Refusal};
+
+// The descriptor of standard input.
+const STDIN_FILENO: i32 = 0;
+
+// The descriptor of standard output.
+const STDOUT_FILENO: i32 = 1;
 
 // One byte more than a case text may have: so many bytes decide what is written (`CutShows` in specs/Shown).
 const CASE: usize = case_file::MOST_BYTES + 1;

@@ -23,9 +23,11 @@ use desk_calls::Desk;
 use desk_lines::{INPUT, LINE, NAME};
 use desk_text::Step;
 use game_tables::ENTRIES;
-use libc::STDIN_FILENO;
 use railway::{CaseAnswer, Railway, Refusal};
 use text::{LINE_END, append};
+
+// The descriptor of standard input.
+const STDIN_FILENO: i32 = 0;
 
 // One byte more than a case text may have: so many bytes decide what is written (`CutFollows` in specs/Followed).
 const CASE: usize = case_file::MOST_BYTES + 1;

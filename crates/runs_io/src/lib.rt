@@ -2,7 +2,8 @@
 #![tactic(auto)]
 ghost use Rattle.runs_io.specs.Shown.{Shown};
 
-use libc::STDIN_FILENO;
+// The descriptor of standard input.
+const STDIN_FILENO: i32 = 0;
 
 // One byte more than a case text may have: so many bytes decide what is written (`CutShows` in runs_text/specs/Written).
 const CASE: usize = case_file::MOST_BYTES + 1;

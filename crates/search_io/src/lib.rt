@@ -4,12 +4,14 @@
 ghost use Rattle.plan_io.specs.Planned.{Planned};
 
 use game_tables::ENTRIES;
-use libc::STDIN_FILENO;
 use railway::{CaseAnswer, Railway};
 use search::{Marks, Search, SearchAnswer};
 use search_progress::Progress;
 use solver_marks::MARKS;
 use solver_rounds::LAST_ROUND;
+
+// The descriptor of standard input.
+const STDIN_FILENO: i32 = 0;
 
 // One byte more than a case text may have: so many bytes decide what is written (`CutWrites` in plan_text/specs/Written).
 const CASE: usize = case_file::MOST_BYTES + 1;

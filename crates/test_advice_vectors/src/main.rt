@@ -5,8 +5,10 @@
 #![tactic(auto)]
 use advice::Advice;
 use game_tables::{ENTRIES, NO_FIGURE};
-use libc::STDOUT_FILENO;
 use railway::{CaseAnswer, Railway, Refusal, SectionNo, Side};
+
+// The descriptor of standard output.
+const STDOUT_FILENO: i32 = 1;
 
 fn main() {
     let mut turns: u64 = 0;

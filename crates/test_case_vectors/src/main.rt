@@ -2,8 +2,10 @@
 // input is records (crate test_framing), each of 65,536 bytes at most.
 #![tactic(auto)]
 use case_file::Written;
-use libc::STDOUT_FILENO;
 use railway::{CaseAnswer, Railway};
+
+// The descriptor of standard output.
+const STDOUT_FILENO: i32 = 1;
 
 fn main() {
     let mut turns: u64 = 0;

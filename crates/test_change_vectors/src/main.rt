@@ -5,8 +5,10 @@
 use desk::ChangeAnswer;
 use desk_calls::Desk;
 use game_placement::Placement;
-use libc::STDOUT_FILENO;
 use railway::Railway;
+
+// The descriptor of standard output.
+const STDOUT_FILENO: i32 = 1;
 
 fn main() {
     let mut turns: u64 = 0;

@@ -3,11 +3,16 @@
 // Then the emitter's answer for a buffer that is a byte too short, and that buffer; then the checker's answers to a plan with a wrong figure. Last,
 // tables made fresh that are longer than the case needs, and one that is shorter: the entries at the last code and past it.
 #![tactic(auto)]
-use libc::{STDIN_FILENO, STDOUT_FILENO};
 use plan::{Emitted, LineAnswer, PlanPlace};
 use plan_checker::Checker;
 use plan_lines::MOST_LINE_BYTES;
 use railway::{CaseAnswer, Railway, Refusal};
+
+// The descriptor of standard input.
+const STDIN_FILENO: i32 = 0;
+
+// The descriptor of standard output.
+const STDOUT_FILENO: i32 = 1;
 
 // The placements of three sections and two trains.
 const ENTRIES: usize = 9;

@@ -4,8 +4,10 @@
 #![tactic(auto)]
 use counts::{CountAnswer, CountReply};
 use game_tables::{ENTRIES, NO_FIGURE};
-use libc::STDOUT_FILENO;
 use railway::{CaseAnswer, Railway, Refusal};
+
+// The descriptor of standard output.
+const STDOUT_FILENO: i32 = 1;
 
 fn main() {
     let mut turns: u64 = 0;

@@ -1,7 +1,9 @@
 // Desks, each followed by a script of calls. Standard input is records (crate test_framing), two for each: a case text of at most 1,024 placements, and a script (crate test_script), which
 // asks for no change: there is no new case.
 #![tactic(auto)]
-use libc::STDOUT_FILENO;
+
+// The descriptor of standard output.
+const STDOUT_FILENO: i32 = 1;
 
 fn main() {
     let mut turns: u64 = 0;

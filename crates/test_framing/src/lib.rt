@@ -6,8 +6,13 @@ ghost use Rattle.io.specs.Counts.{IsPrefixLen};
 ghost use Rattle.test_framing.specs.Framed.{is_whole, record_of, Kept, KeptText};
 ghost use Rattle.test_framing.specs.Made.{one_train, join_ports, in_round};
 
-use libc::{STDIN_FILENO, STDOUT_FILENO};
 use railway::{End, Leg, PointNo, Railway, SectionNo, Side, Train};
+
+// The descriptor of standard input.
+const STDIN_FILENO: i32 = 0;
+
+// The descriptor of standard output.
+const STDOUT_FILENO: i32 = 1;
 
 // Whether there was a record.
 #[derive(Clone, Copy)]

@@ -5,9 +5,11 @@
 ghost use Rattle.std.specs.Prelude.{◌≤◌, take};
 ghost use Rattle.logs.specs.Logs.{LogPost};
 
-use libc::STDOUT_FILENO;
 use logs::{Entry, LogAnswer};
 use railway::{CaseAnswer, Railway, Refusal};
+
+// The descriptor of standard output.
+const STDOUT_FILENO: i32 = 1;
 
 // One entry more than a log may have. Of a longer one those behind are left out, which no answer tells.
 const SPACE: usize = 257;

@@ -3,10 +3,12 @@
 // Standard input is records (crate test_framing).
 #![tactic(auto)]
 use game_moves::Move;
-use libc::STDOUT_FILENO;
 use railway::{CaseAnswer, Railway};
 use railway_compiled::Table;
 use railway_routes::Ways;
+
+// The descriptor of standard output.
+const STDOUT_FILENO: i32 = 1;
 
 // How many sets of open trains there can be.
 const OPENS: u32 = 1u32 << Railway::TRAINS;

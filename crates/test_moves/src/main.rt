@@ -4,11 +4,13 @@
 #![tactic(auto)]
 use game_moves::Move;
 use game_tables::NO_FIGURE;
-use libc::STDOUT_FILENO;
 use railway::{CaseAnswer, End, Leg, PointNo, Railway, SectionNo, Side, Train};
 use railway_compiled::Table;
 use railway_routes::Ways;
 use solver_settings::Found;
+
+// The descriptor of standard output.
+const STDOUT_FILENO: i32 = 1;
 
 fn number(label: &[u8], n: u32) {
     io::write_all(STDOUT_FILENO, label);

@@ -2,9 +2,11 @@
 // end, the bits of the points at plus, the section or `x` for none, and the points met in order, parted by commas, or `.` for none.
 // Standard input is records (crate test_framing).
 #![tactic(auto)]
-use libc::STDOUT_FILENO;
 use railway::{CaseAnswer, End, Railway, SectionNo, Side};
 use railway_passing::{MOST_MET, Passed, Reached};
+
+// The descriptor of standard output.
+const STDOUT_FILENO: i32 = 1;
 
 fn main() {
     let mut turns: u64 = 0;

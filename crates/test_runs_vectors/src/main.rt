@@ -2,9 +2,11 @@
 // Standard input is records (crate test_framing). Behind them records that no text makes, handed to the call itself:
 // what each is, the number that is answered, 0 for none, and whether the table came back as it was.
 #![tactic(auto)]
-use libc::STDOUT_FILENO;
 use railway::{CaseAnswer, End, Railway, SectionNo, Side, Train};
 use runs_tables::{NO_RUN, Runs};
+
+// The descriptor of standard output.
+const STDOUT_FILENO: i32 = 1;
 
 // What stands in the tables that are handed in: no run of the yards here is so long, so that an entry which is left shows.
 const OLD: u8 = 77;

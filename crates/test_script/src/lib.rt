@@ -12,8 +12,10 @@ use desk::{ChangeAnswer, OpenAnswer, ReportAnswer, SettingAnswer};
 use desk_calls::Desk;
 use game_placement::Placement;
 use game_tables::SolverAnswer;
-use libc::STDOUT_FILENO;
 use railway::{CaseAnswer, Railway, Refusal};
+
+// The descriptor of standard output.
+const STDOUT_FILENO: i32 = 1;
 
 // As many entries have the tables.
 const ENTRIES: usize = 1024;

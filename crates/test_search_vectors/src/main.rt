@@ -4,11 +4,13 @@
 #![tactic(auto)]
 use game_placement::Placement;
 use game_tables::{ENTRIES, NO_FIGURE};
-use libc::STDOUT_FILENO;
 use railway::{CaseAnswer, Railway};
 use search::{Marks, Search, Shown};
 use solver_marks::MARKS;
 use solver_rounds::LAST_ROUND;
+
+// The descriptor of standard output.
+const STDOUT_FILENO: i32 = 1;
 
 // A placement as far as its line has been read: the train whose section comes next, and the digits of it so far.
 #[derive(Clone, Copy)]

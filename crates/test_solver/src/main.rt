@@ -5,8 +5,10 @@
 // enough and one entry shorter, and of records that are refused. Every entry that the solver is lent holds a mark before the call.
 #![tactic(auto)]
 use game_tables::{ENTRIES, NO_FIGURE, SolverAnswer};
-use libc::STDOUT_FILENO;
 use railway::{CaseAnswer, Railway, Train};
+
+// The descriptor of standard output.
+const STDOUT_FILENO: i32 = 1;
 
 const MARK: u32 = 7;
 

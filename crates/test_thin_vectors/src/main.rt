@@ -2,10 +2,12 @@
 // code: code, figure, setting; or the refusal of the first line that is refused. Behind them calls on records and tables that the program makes.
 #![tactic(auto)]
 use game_tables::{ENTRIES, NO_FIGURE};
-use libc::STDOUT_FILENO;
 use plan_checker::Checker;
 use railway::{CaseAnswer, Railway};
 use thin::ThinAnswer;
+
+// The descriptor of standard output.
+const STDOUT_FILENO: i32 = 1;
 
 fn main() {
     let mut turns: u64 = 0;

@@ -2,8 +2,10 @@
 // `bytes` or `refused` with a number; then the whole buffer as it was left, and a line end.
 #![tactic(auto)]
 use case_file::Written;
-use libc::STDOUT_FILENO;
 use railway::{End, Leg, PointNo, Railway, SectionNo, Side, Train};
+
+// The descriptor of standard output.
+const STDOUT_FILENO: i32 = 1;
 
 fn show(label: &[u8], answer: Written, buffer: &[u8]) {
     io::write_all(STDOUT_FILENO, label);

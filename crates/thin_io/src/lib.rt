@@ -9,7 +9,12 @@ ghost use Rattle.thin_text.specs.Lean.{LeanOutput};
 ghost use Rattle.thin_io.specs.Thinned.{ThinnedBytes};
 
 use case_file::Written;
-use libc::{STDIN_FILENO, STDOUT_FILENO};
+
+// The descriptor of standard input.
+const STDIN_FILENO: i32 = 0;
+
+// The descriptor of standard output.
+const STDOUT_FILENO: i32 = 1;
 
 // One byte more than a case text may have: so many bytes decide what is written (`CutThins` in thin_text/specs/Claims).
 const CASE: usize = case_file::MOST_BYTES + 1;
