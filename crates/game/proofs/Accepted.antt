@@ -21,8 +21,8 @@ use Rattle.railway.specs.Refusals.{first, refuse_if}
 use Rattle.railway.specs.Record.{link_at, joined, train_of, weight_of}
 use Rattle.railway.specs.Rows.{count_row, wrong_weight_at, weight_row, known, unknown_link, unknown_link_at, unknown_signal_at, unknown_closed_at, unknown_train_at, unknown_row, record_refusal}
 use Rattle.railway.proofs.Rows.{right-weight}
+
 -- (Examples is named so that it is checked before: a wrong definition then shows at a computed value.)
-use Rattle.game.proofs.Examples as Examples
 
 -- an end that something is joined to is there
 abbrev pub Known : Railway → Joined → Type 0

@@ -4,9 +4,9 @@
 use mathlib.Core.Path.{◌≡◌, refl, sym, ◌∙◌, subst}
 use mathlib.Core.Logic.{inl, inr}
 use mathlib.Core.Bool.{true, false}
-use mathlib.Core.List.{List, [], ◌∷◌}
+use mathlib.Core.List.{List}
 use mathlib.Core.Option.{Option, none, some}
-use Prim.Native.Nat.{ℕ, zero, suc, ◌+◌, ◌≤◌, ◌<◌}
+use Prim.Native.Nat.{ℕ, zero, suc, ◌+◌, ◌≤◌}
 use native.Mathlib.Omega.{arith}
 use lib.ListN.{length, length-append}
 use Rattle.laws.proofs.Bools.{bool?, clash}
@@ -14,7 +14,7 @@ use Rattle.game.specs.Game.{Outcome, lost, at, Game, Turn, Strategy, Adversary, 
 use Rattle.game.specs.Game.{over, grown, stand_after, turn, step, play, cost, spent, spent_at, home_at, HomeWithin}
 use Rattle.game.specs.Game.{Forced, IsFigure}
 use Rattle.game.specs.Claim.{Within, figure_of, Keeps}
-use Rattle.game.specs.ByTurns.{HomeInTurns, ForcedInTurns, IsTurns, Smaller, KeepsInTurns, AllOne, AsBefore, OneAsBefore}
+use Rattle.game.specs.ByTurns.{HomeInTurns, ForcedInTurns, IsTurns, Smaller, KeepsInTurns, AllOne, OneAsBefore}
 use Rattle.game.proofs.Local.{may-train, mover-cases, spent-grown}
 
 module _ {S : Type 0} (g : Game S) (one : AllOne g) where

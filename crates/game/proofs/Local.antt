@@ -15,8 +15,8 @@ use Rattle.laws.proofs.Below.{all-at, all_of, any_at, any_of, lowest-cases}
 use Rattle.game.specs.Game.{Outcome, lost, at, Game, Turn, may, mover, home, over, grown, cost, spent}
 use Rattle.game.specs.Claim.{Within, figure_of, Keeps}
 use Rattle.game.specs.Local.{is_within, goes_within, Costs, keeps_test}
+
 -- (Examples is named so that it is checked before: a wrong definition then shows at a computed value.)
-use Rattle.game.proofs.Examples as Examples
 
 -- home and over, from lost and home
 pub home-over : (a b : Bool) → (not a && b) ≡ true → (a || b) ≡ true

@@ -11,8 +11,8 @@ use lib.ListN.{length, get_or, set}
 use Rattle.laws.specs.Below.{sum_below}
 use Rattle.laws.proofs.Below.{sum_same, sum_first, sum-times}
 use Rattle.game.specs.Placement.{code_of, sections_in}
+
 -- (Examples is named so that it is checked before: a wrong definition then shows at a computed value.)
-use Rattle.game.proofs.Examples as Examples
 
 -- all sections of a list are below s
 abbrev pub AllBelow : ℕ → List ℕ → Type 0
