@@ -104,11 +104,13 @@ one_same (port m l) (port n k) p q = less_one m n p q
 -- the ends of the J lines
 pub one_end : (js : List JoinLine) (j : JoinLine) → Memᴰ j js → Memᴰ j.one (join_ends js)
 unfolding join_ends
+one_end [] j x' = elim x' [ ]
 one_end (k ∷ js) j (Memᴰ.head p) = Memᴰ.head (ap (λ (x : JoinLine). x.one) p)
 one_end (k ∷ js) j (Memᴰ.tail m) = Memᴰ.tail (Memᴰ.tail (one_end js j m))
 
 pub other-end : (js : List JoinLine) (j : JoinLine) → Memᴰ j js → Memᴰ j.other (join_ends js)
 unfolding join_ends
+other-end [] j x' = elim x' [ ]
 other-end (k ∷ js) j (Memᴰ.head p) = Memᴰ.tail (Memᴰ.head (ap (λ (x : JoinLine). x.other) p))
 other-end (k ∷ js) j (Memᴰ.tail m) = Memᴰ.tail (Memᴰ.tail (other-end js j m))
 
@@ -152,12 +154,14 @@ module _ (k : JoinLine) (js : List JoinLine) (once : repeats same_end (join_ends
 
 pub partner-one : (js : List JoinLine) (j : JoinLine) → repeats same_end (join_ends js) ≡ false → Memᴰ j js → partner js j.one ≡ With (end_of j.other)
 unfolding partner
+partner-one [] j once x'' = elim x'' [ ]
 partner-one (k ∷ js) j once (Memᴰ.head p) = rw (p, same_self k.one)
 partner-one (k ∷ js) j once (Memᴰ.tail m) =
     rw (one-not k js once j.one (one_end js j m), other-not k js once j.one (one_end js j m)) (partner-one js j (later-once k js once) m)
 
 pub partner-other : (js : List JoinLine) (j : JoinLine) → repeats same_end (join_ends js) ≡ false → Memᴰ j js → partner js j.other ≡ With (end_of j.one)
 unfolding partner
+partner-other [] j once x'' = elim x'' [ ]
 partner-other (k ∷ js) j once (Memᴰ.head p) = rw (p, same-turned k.one k.other (apart k js once), same_self k.other)
 partner-other (k ∷ js) j once (Memᴰ.tail m) =
     rw (one-not k js once j.other (other-end js j m), other-not k js once j.other (other-end js j m)) (partner-other js j (later-once k js once) m)

@@ -33,8 +33,8 @@ use Rattle.case_file.specs.Given.{accepted, refused, railway_given, Says, Applie
 use Rattle.case_file.specs.Reading.{read, case_rows, judged, case_answer}
 use Rattle.case_file.specs.Claims.{RefusedExactly, AcceptedExactly, ReaderAnswers, AlwaysAnswered}
 use Rattle.case_file.proofs.Reading.{read-sound, read-complete, describes-one, form-decided}
+
 -- (Examples is named so that it is checked before: a wrong definition then shows at a computed value.)
-use Rattle.case_file.proofs.Examples as Examples
 
 -- a computed row applies exactly where the table's does
 pub record Agrees (text : List ℕ) (x : Row) : Type 0 where

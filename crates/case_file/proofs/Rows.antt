@@ -25,8 +25,8 @@ use Rattle.case_file.specs.Rows.{unknown_closed, unknown_train, unknown_row, own
 use Rattle.case_file.specs.Rows.{join_row, loose_end, loose_at, loose_row, chain_row, double_row, closed_in, shut_out}
 use Rattle.case_file.specs.Rows.{place_row, description_rows}
 use Rattle.case_file.specs.Claims.{JoinableLines}
+
 -- (Examples is named so that it is checked before: a wrong definition then shows at a computed value.)
-use Rattle.case_file.proofs.Examples as Examples
 
 -- a J line as it should be
 pub record RightJoin (d : Description) (j : JoinLine) : Type 0 where

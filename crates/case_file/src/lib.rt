@@ -1,6 +1,7 @@
 // The case file: what a case text says of a railway and what the writer makes of one. The definitions are in specs/, the theorems in proofs/.
 // Declared here are the answers of reader and writer, and the bound of a text.
 #![tactic(auto)]
+
 use railway::{CaseAnswer, Railway, Refusal};
 
 // The most bytes of a case text.
