@@ -1,6 +1,6 @@
 -- A line as code reads it: a field behind a tab is one step, read or not; sides, legs and ends are read by looking for one byte after the other, and a weight where there is a tab.
 -- Assumes nothing.
-use Prim.Native.Nat.{ℕ, ◌+◌, ◌<◌}
+use Prim.Native.Nat.{ℕ, ◌+◌}
 use mathlib.Core.Path.{◌≡◌, refl, sym, ◌∙◌, ap}
 use mathlib.Core.Bool.{true, false, cond}
 use mathlib.Core.List.{List}
@@ -10,10 +10,6 @@ use lib.ListN.{get_or}
 use borrow.Author.Tests.{eq-eqb, ne_eqb}
 use Rattle.text.specs.Reading.{Got, bad, got, then, byte_at}
 use Rattle.text.proofs.Reading.{bad-got}
-use Rattle.text.specs.declared.Cursor.{Cursor}
-use Rattle.text.specs.declared.Byte.{Byte}
-use Rattle.text.specs.declared.Byte.TheVariants.{Other, Past}
-use Rattle.text.specs.Answers.{byte_got, byte_inside}
 use Rattle.text.proofs.Chain.{fails, goes, Left, onward}
 use Rattle.railway.specs.declared.Side.{Side}
 use Rattle.railway.specs.declared.Side.TheVariants.{Up, Down}

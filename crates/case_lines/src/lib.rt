@@ -1,6 +1,7 @@
 // The lines of a case text, each read at a cursor: what it says and the cursor behind it, or it is not in form. A line is read
 // up to the first field that is not the number, end or side that it must be. Any bytes and any cursor may come in.
 #![tactic(auto)]
+
 ghost use Rattle.std.specs.Prelude.{◌≡◌};
 ghost use Rattle.text.specs.Answers.{number_got};
 ghost use Rattle.case_file.specs.Reading.{case_number_at, side_field_at, leg_field_at, end_field_at, header_at, point_line_at, join_line_at, signal_line_at, closed_line_at, weight_field_at, train_line_at};
