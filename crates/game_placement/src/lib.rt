@@ -1,6 +1,7 @@
 // A placement by value, with the section of each train, and the bits of an entry of the setting table: what is looked at without a railway's
 // table. Nothing is refused: past the last train and past the last bit stands 0.
 #![tactic(auto)]
+
 ghost use Rattle.std.specs.Prelude.{◌≡◌};
 ghost use Rattle.laws.specs.Bits.{bit};
 ghost use Rattle.game_placement.specs.ByValue.{section_in};

@@ -1,6 +1,4 @@
 -- With all weights 1 the tables are as before: a figure is that in turns, the same settings keep it, and so the same one of them comes first. Assumes nothing.
-use mathlib.Core.Path.{◌≡◌}
-use mathlib.Core.List.{List}
 use mathlib.Core.Option.{Option, none, some}
 use Prim.Native.Nat.{ℕ, zero, suc}
 use lib.ListN.{get_or}
@@ -9,8 +7,8 @@ use Rattle.game.specs.Setting.{Setting}
 use Rattle.game.specs.Moves.{game_of}
 use Rattle.game.specs.ByTurns.{AsBefore}
 use Rattle.game.proofs.ByTurns.{one-as-before}
-use Rattle.game_tables.specs.Tables.{figure_in, IsPlanSetting, IsPlanEntry, Filled}
-use Rattle.game_tables.specs.ByTurns.{WeightsOne, IsSettingInTurns, IsEntryInTurns, FilledInTurns, TablesAsBefore}
+use Rattle.game_tables.specs.Tables.{figure_in, IsPlanSetting, IsPlanEntry}
+use Rattle.game_tables.specs.ByTurns.{WeightsOne, IsSettingInTurns, IsEntryInTurns, TablesAsBefore}
 
 module _ (r : Railway) (one : WeightsOne r) where
   abbrev same : AsBefore (game_of r)

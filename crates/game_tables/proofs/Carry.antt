@@ -22,8 +22,8 @@ use Rattle.game.proofs.Moves.{inside, costs}
 use Rattle.game_tables.specs.Entries.{setting_at, entry_from}
 use Rattle.game_tables.specs.Tables.{IsPlanEntry}
 use Rattle.game_tables.specs.Find.{try_open, found_by, find}
+
 -- (Examples is named so that it is checked before: a wrong definition then shows at a computed value.)
-use Rattle.game_tables.proofs.Examples as Examples
 
 -- Figures of F below n are G's.
 abbrev pub Carries : Railway → (ℕ → Option ℕ) → (ℕ → Option ℕ) → ℕ → Type 0

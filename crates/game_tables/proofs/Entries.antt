@@ -26,7 +26,6 @@ use Rattle.game.specs.Setting.{heads_for, held, free, opens_for, may_move, signa
 use Rattle.game.proofs.Setting.{held-flag, may_free, may-held, may-neither, move_same}
 use Rattle.game_tables.specs.Entries.{train_bits, opens_in, opens_end, setting_at, entry_from, entry_of, EntryActs}
 -- (Examples is named so that it is checked before: a wrong definition then shows at a computed value.)
-use Rattle.game_tables.proofs.Examples as Examples
 use mathlib.Core.Option.{none}
 use Rattle.railway.specs.Rows.{record_refusal}
 use Rattle.game.specs.Game.{may}

@@ -19,8 +19,8 @@ use Rattle.railway.specs.Rows.{record_rows, record_refusal}
 use Rattle.railway.proofs.Refusals.{first-append}
 use Rattle.game.specs.Placement.{placements}
 use Rattle.game_tables.specs.Tables.{tables_short, case_rows, case_refusal}
+
 -- (Examples is named so that it is checked before: a wrong definition then shows at a computed value.)
-use Rattle.game_tables.proofs.Examples as Examples
 
 module _ (r : Railway) (figs sets : List ℕ) where
   -- the record's rows, else row 9

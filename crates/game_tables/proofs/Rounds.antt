@@ -31,7 +31,7 @@ use Rattle.game.proofs.Claim.{whole}
 use Rattle.game_tables.specs.Entries.{setting_at}
 use Rattle.game_tables.specs.Tables.{no_figure, figure_entry, figure_in, IsPlanEntry, Filled}
 use Rattle.game_tables.specs.Find.{find}
-use Rattle.game_tables.specs.Rounds.{first_figure, Cleared, Step, stays, gains, Stepped, up_to, RoundTables, Due, Quiet, NoneDue, AllBelow, AcceptedGo}
+use Rattle.game_tables.specs.Rounds.{first_figure, Cleared, Step, stays, gains, Stepped, up_to, RoundTables, Quiet, NoneDue, AllBelow, AcceptedGo}
 use Rattle.game_tables.proofs.Find.{find-sound, find_none}
 use Rattle.game_tables.proofs.Best.{Best, find-best}
 use Rattle.game_tables.proofs.Carry.{Carries, keeps-carry, entry-carry}

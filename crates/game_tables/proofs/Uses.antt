@@ -19,12 +19,12 @@ use Rattle.railway.specs.Record.{is_closed, joined_by, joined, has_signal, legs_
 use Rattle.railway.specs.Passing.{follow, passes, entered}
 use Rattle.railway.specs.Rows.{weight_row, unknown_row, join_row, loose_row, longer, chain_row, place_row}
 use Rattle.railway.specs.Yards.{yard_a}
-use Rattle.game.specs.Game.{at, Turn, Strategy, Adversary, standing, positional, may, over, play, spent, home_at, HomeWithin, IsFigure}
+use Rattle.game.specs.Game.{at, Turn, Strategy, Adversary, standing, positional, may, play, spent, home_at, HomeWithin, IsFigure}
 use Rattle.game.specs.Claim.{Keeps, Alike}
 use Rattle.game.specs.Placement.{code_of, sections_in, placements, stands_on, at_home, shared}
 use Rattle.game.specs.Setting.{Setting, heads_for, held, may_move, free, signal_open}
 use Rattle.game.specs.Moves.{occupied, move_of, game_of}
-use Rattle.game.specs.ByTurns.{HomeInTurns, IsTurns, KeepsInTurns, AsBefore}
+use Rattle.game.specs.ByTurns.{IsTurns, KeepsInTurns, AsBefore}
 use Rattle.game.proofs.Accepted.{facts}
 use Rattle.game.proofs.Figures.{figure-one}
 use Rattle.game.proofs.ByTurns.{one-as-before}

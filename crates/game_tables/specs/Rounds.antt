@@ -1,6 +1,6 @@
 -- How a search goes, round by round: round n brings the figures n and no others (document 02, Q-7: its opening, `Cleared`; the tables between, `RoundTables`; its end, `AllBelow`). Nothing
 -- of document 01 rests on this file: the statement at its end says that each round leaves `RoundTables`, and that these are the tables wanted once no figure is larger. Assumes nothing.
-use Rattle.std.specs.Prelude.{◌≡◌, ◌↔◌, Bool, true, false, cond, List, ℕ, suc, ◌+◌, ◌*◌, ◌^◌, ◌≤◌, ◌<◌, get_or, leb}
+use Rattle.std.specs.Prelude.{◌≡◌, ◌↔◌, false, cond, List, ℕ, suc, ◌+◌, ◌*◌, ◌^◌, ◌≤◌, ◌<◌, get_or, leb}
 use Rattle.std.proofs.Math.Option.{Option, none, some}
 use Rattle.railway.specs.declared.Railway.{Railway}
 use Rattle.railway.specs.Bounds.{most_sections, most_trains, most_weight}

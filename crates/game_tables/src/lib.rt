@@ -1,5 +1,6 @@
 // The two tables and what a solver promises of them: specs/ has the definitions, proofs/ that the promise can be kept, in one way only.
 #![tactic(auto)]
+
 ghost use Rattle.std.specs.Prelude.{◌≡◌, get_or};
 ghost use Rattle.game.specs.Local.{is_within};
 ghost use Rattle.game_tables.specs.Tables.{figure_entry};

@@ -3,15 +3,14 @@
 use native.Mathlib.Omega.{arith}
 use mathlib.Core.Path.{◌≡◌, sym, ◌∙◌}
 use mathlib.Core.Logic.{inl, inr}
-use mathlib.Core.Bool.{true, false}
+use mathlib.Core.Bool.{false}
 use Prim.Native.Nat.{ℕ, ◌+◌, ◌-◌, ◌≤◌, ◌<◌}
 use lib.Dec.{leb}
 use borrow.Author.Tests.{eq-eqb, ne_eqb, lt-leb, le-leb}
 use Rattle.laws.proofs.Bools.{eq?, lt?}
 use Rattle.game.specs.Local.{is_within}
 use Rattle.game_tables.specs.Tables.{no_figure, figure_entry}
-use Rattle.game_tables.proofs.is_within.Statement.{statement}
-use Rattle.game_tables.proofs.is_within.Tie as tie
+use Rattle.game_tables.proofs.is_within.Goals as goal
 
 no-entry : (e w n : ℕ) → e ≡ no_figure → false ≡ is_within n w (figure_entry e)
 no-entry e w n h = rw (eq-eqb e no_figure h)
@@ -28,14 +27,11 @@ light e w n h l = rw (ne_eqb e no_figure h) (elim (lt? (n - w) e) [
   | inr b ↦ le-leb e (n - w) b ∙ sym (le-leb (e + w) n (omega arith))
 ])
 
-returns : tie.Need-returns
-returns c = let a = c.before.args in no-entry a.entry a.weight a.n c.if1.true
+pub returns-then-entry-eq-NO_FIGURE : goal.returns-then-entry-eq-NO_FIGURE
+returns-then-entry-eq-NO_FIGURE c = no-entry c.args.entry c.args.weight c.args.n c.if-entry-eq-NO_FIGURE.true
 
-returns-2 : tie.Need-returns-2
-returns-2 c = let a = c.before.before.args in too-light a.entry a.weight a.n c.if2.true
+pub returns-then-n-w : goal.returns-then-n-w
+returns-then-n-w c = too-light c.args.entry c.args.weight c.args.n c.if-n-w.true
 
-returns-3 : tie.Need-returns-3
-returns-3 c = let a = c.before.before.args in light a.entry a.weight a.n c.before.if1.false c.if2.false
-
-pub is-within-spec : {M : Type 1} → statement M
-is-within-spec = tie.close (tie.spec returns returns-2 returns-3)
+pub returns : goal.returns
+returns c = light c.args.entry c.args.weight c.args.n c.if-entry-eq-NO_FIGURE.false c.if-n-w.false
