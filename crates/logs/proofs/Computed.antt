@@ -24,8 +24,8 @@ use Rattle.logs.specs.declared.Entry.{Entry}
 use Rattle.logs.specs.declared.LogAnswer.TheVariants.{Refused}
 use Rattle.logs.specs.Logs.{most_entries, sections_for, SameFor, lacking, faulty, log_rows, Taken, number_said, train_named, Found, LogPost}
 use Rattle.logs.specs.Computed.{same_list, differs, answer_by, compare}
+
 -- (Examples is named so that it is checked before: a wrong definition then shows at a computed value.)
-use Rattle.logs.proofs.Examples as Examples
 
 -- TWO LISTS
 same-is : (xs ys : List ℕ) → same_list xs ys ≡ true → xs ≡ ys

@@ -11,8 +11,8 @@ use borrow.Author.Tests.{eqb-true, eqb-false, eq-eqb, ne_eqb}
 use Rattle.laws.proofs.Bools.{bool?}
 use Rattle.logs.specs.declared.Entry.{Entry}
 use Rattle.logs.specs.Logs.{sections_for, Agreeing, Swaps, done, swap, AgreeBySwaps}
+
 -- (Examples is named so that it is checked before: a wrong definition then shows at a computed value.)
-use Rattle.logs.proofs.Examples as Examples
 
 -- SECTIONS of a train
 take_own : (t : ℕ) (e : Entry) (es : List Entry) → e.train ≡ t → sections_for t (e ∷ es) ≡ e.section ∷ sections_for t es

@@ -1,6 +1,7 @@
 // A log, a lent slice of entries, taken out into a value, for functions that go by value. The slice is only read, and each entry once. Whatever reads it here is thin: it reads, or
 // calls a function that has no slice.
 #![tactic(auto)]
+
 ghost use Rattle.std.specs.Prelude.{◌≡◌, ◌<◌, length};
 ghost use Rattle.logs_entries.specs.Packing.{entry_in, begun, wants, with_entry, PackedPost};
 
