@@ -1,6 +1,5 @@
 -- Where all weights are 1 plans are those that count turns: the same settings keep a figure, so the same plans pass the test; tables with figures in turns are filled tables, and
 -- all filled tables make the same plan. Assumes nothing.
-use mathlib.Core.Path.{◌≡◌}
 use Prim.Native.Nat.{ℕ}
 use Rattle.railway.specs.declared.Railway.{Railway}
 use Rattle.game.specs.Setting.{Setting}

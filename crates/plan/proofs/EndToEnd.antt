@@ -163,7 +163,7 @@ end-to-end-holds r a figs sets figs' sets' accepted lf ls post =
     let unrefused : case_refusal r figs sets ≡ none = none-refused r figs sets accepted lf ls in
     let leaves : SolverLeaves r a figs sets figs' sets' none = subst (SolverLeaves r a figs sets figs' sets') unrefused post.leaves in
     let filled = leaves.0.filled in
-    let still : case_refusal r figs' sets' ≡ none = none-refused r figs' sets' accepted (rw leaves.0.kept-figs.as_long lf) (rw leaves.0.Kept-sets.as_long ls) in
+    let still : case_refusal r figs' sets' ≡ none = none-refused r figs' sets' accepted (rw leaves.0.kept-figs.as_long lf) (rw leaves.0.kept_sets.as_long ls) in
     record {
       solved = post.numbered ∙ ap number_of unrefused;
       answer = leaves.1;

@@ -2,10 +2,10 @@
 -- so do the lines, for these list the same, placement by placement. Assumes nothing.
 use mathlib.Core.Path.{◌≡◌, refl, sym, ◌∙◌, ap, subst}
 use mathlib.Core.Logic.{◌⊎◌, inl, inr}
-use mathlib.Core.Bool.{Bool, true, false, cond, not, ◌&&◌}
+use mathlib.Core.Bool.{Bool, true, false, cond, ◌&&◌}
 use mathlib.Core.List.{List, [], ◌∷◌, ◌++◌, map, map-append, append-nil}
 use mathlib.Core.Option.{Option, none, some}
-use Prim.Native.Nat.{ℕ, zero, suc, ◌+◌, ◌≤◌, ◌<◌}
+use Prim.Native.Nat.{ℕ, zero, suc, ◌≤◌, ◌<◌}
 use native.Mathlib.Omega.{arith}
 use lib.ListN.{length, get_or}
 use lib.Dec.{eqb, ltb, leb}
@@ -13,7 +13,7 @@ use borrow.Author.Tests.{lt-ltb, eqb-true, eq-eqb, ne_eqb, le-leb, le-ltb}
 use Rattle.laws.specs.Below.{which_below, or_else}
 use Rattle.laws.specs.Bits.{bit}
 use Rattle.laws.specs.Lists.{all, rises}
-use Rattle.laws.proofs.Bools.{lt?, eq?, clash, and-true, and_both}
+use Rattle.laws.proofs.Bools.{lt?, eq?, clash, and_both}
 use Rattle.laws.proofs.Below.{list_length, list_get}
 use Rattle.laws.proofs.Which.{which-map, all-which}
 use Rattle.railway.specs.declared.Railway.{Railway}
@@ -30,7 +30,7 @@ use Rattle.game_tables.proofs.Certify.{entry-is, figure-small}
 use Rattle.plan.specs.Lines.{PlacementLine, placement_line, fits, line_code}
 use Rattle.plan.specs.Text.{is_some, has_figure, line_for, plan_lines, plan_texts}
 use Rattle.plan.specs.Test.{Listing, listed_setting, Test, line_on, figure_on, opens_on, plus_on, by_lines, by_tables}
-use Rattle.plan.specs.Checked.{Form, Passing}
+use Rattle.plan.specs.Checked.{Passing}
 use Rattle.plan.proofs.Test.{SameListing, test-same}
 use Rattle.plan.proofs.Forms.{code_after, rises-snoc, code-after-snoc}
 

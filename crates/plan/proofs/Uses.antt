@@ -19,7 +19,7 @@ use Rattle.railway.specs.Refusals.{first}
 use Rattle.railway.specs.Record.{is_closed, joined_by, joined, has_signal, legs_of, train_of, weight_of, with_join, with_signal, with_legs, with_train}
 use Rattle.railway.specs.Rows.{weight_row, unknown_row, join_row, loose_row, longer, chain_row, place_row}
 use Rattle.railway.specs.Yards.{yard_a, head_on}
-use Rattle.game.specs.Game.{Game, Strategy, Adversary, lost_by_move, standing, following, positional, may, home, over, step, play, home_at, HomeWithin, ComesHome, Position}
+use Rattle.game.specs.Game.{Game, Strategy, Adversary, lost_by_move, standing, following, positional, may, over, step, play, home_at, HomeWithin, ComesHome, Position}
 use Rattle.game.specs.Placement.{code_of, sections_in, stands_on, start_code, at_home, shared}
 use Rattle.game.specs.Setting.{Setting, SameSetting, heads_for, held, may_move, free, signal_open}
 use Rattle.game.specs.Moves.{game_of}

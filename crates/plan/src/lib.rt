@@ -1,6 +1,7 @@
 // Plans: what the emitter and the checker are handed and what they answer. specs/ has the definitions, proofs/ the theorems on plans by any
 // maker and on the plan that the solver's tables make.
 #![tactic(auto)]
+
 use railway::Refusal;
 
 // A place in the plan's text: before its first line, or before the lines of the codes from this one on.
