@@ -1,7 +1,8 @@
 // Shortest runs in a call for programs in other languages: a case text, and two square tables that are lent. The static
-// library that `rt staticlib` writes exports it. It reads and judges the text, and answers the number of the refusal,
+// library of crate runs_api_c exports it. It reads and judges the text, and answers the number of the refusal,
 // or 0; refused, it leaves both tables as they were.
 #![tactic(auto)]
+
 ghost use Rattle.std.specs.Prelude.{◌≡◌};
 ghost use Rattle.std.proofs.Math.Option.{none};
 ghost use Rattle.railway.specs.Rows.{record_refusal};
@@ -11,8 +12,7 @@ use railway::{CaseAnswer, Railway, Side};
 use runs_tables::Runs;
 
 // THE TABLES of both headings: rows by the section that runs begin on, in each a byte for every section; sections count from 0.
-#[unsafe(no_mangle)]
-pub extern "C" fn runs_case(text: &[u8], up: &mut Runs, down: &mut Runs) -> u8
+pub fn runs_case(text: &[u8], up: &mut Runs, down: &mut Runs) -> u8
     ensures { TextTables text.now up.old down.old result up.new down.new }
 {
     let read = case_reader::read_case(text);

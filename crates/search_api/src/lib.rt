@@ -1,6 +1,7 @@
-// A search in calls for programs in other languages: a case text, and tables, marks and numbers that are lent. The static library that `rt staticlib` writes exports these
+// A search in calls for programs in other languages: a case text, and tables, marks and numbers that are lent. The static library of crate search_api_c exports these
 // calls. Each reads and judges the text, and answers the number of the refusal, or 0; two have other answers beside. A call that refuses leaves all that it is lent as it was.
 #![tactic(auto)]
+
 ghost use Rattle.std.specs.Prelude.{◌≡◌};
 ghost use Rattle.search_api.specs.Exported.{search_numbers, search_of, lent, OpenedRailway, OpenedText, RoundedRailway, RoundedText};
 ghost use Rattle.search_api.specs.Exported.{section_named, placement_of, LookedRailway, LookedText};
@@ -26,8 +27,7 @@ pub const WITHOUT: u8 = 255;
 const NOWHERE: u8 = 255;
 
 // OPENS A SEARCH: both tables hold what is known before the first round, and the state is that of a search of which no round is finished. The marks are for the rounds alone.
-#[unsafe(no_mangle)]
-pub extern "C" fn open_search(
+pub fn open_search(
     text: &[u8],
     state: &mut Numbers,
     figures: &mut [u32],
@@ -73,8 +73,7 @@ fn open_railway(
 }
 
 // ONE ROUND MORE, with all as the last call left it: answers 0 where the search goes on, and `ENDED` where it has ended, by this round or before.
-#[unsafe(no_mangle)]
-pub extern "C" fn search_round(
+pub fn search_round(
     text: &[u8],
     state: &mut Numbers,
     figures: &mut [u32],
@@ -122,8 +121,7 @@ fn round_railway(
 
 // LOOKS UP what a placement shows, by the number of each train's section in the document: answers 0 with the figure in `figure`; `NOT_YET`, or `WITHOUT`. Of trains that are not
 // there any number will do; 0 is the number of no section.
-#[unsafe(no_mangle)]
-pub extern "C" fn look_up(
+pub fn look_up(
     text: &[u8],
     state: &Numbers,
     figures: &[u32],

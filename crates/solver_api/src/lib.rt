@@ -1,7 +1,8 @@
-// Reader, solver, emitter and checker for programs in other languages: a case text, and tables, buffers and numbers that are lent. The static library
-// that `rt staticlib` writes exports these calls. Each answers the number of the refusal, or 0; the call for
+// Reader, solver, emitter and checker for programs in other languages: a case text, and tables, buffers and numbers that are lent. The static
+// library of crate solver_api_c exports these calls. Each answers the number of the refusal, or 0; the call for
 // a plan's lines has two answers more. A call that refuses leaves all that it is lent as it was.
 #![tactic(auto)]
+
 ghost use Rattle.std.specs.Prelude.{◌≡◌};
 ghost use Rattle.solver_api.specs.Exported.{SolvedRailway, SolvedText};
 ghost use Rattle.solver_api.specs.Plans.{place_at, place_number, writing, WrittenRailway, WrittenText};
@@ -21,8 +22,7 @@ pub const NO_PLAN: u8 = 254;
 pub type Numbers = [u32; 3];
 
 // Fills both tables and answers 0, also where the start has no figure; or answers the refusal's number and leaves them as they were.
-#[unsafe(no_mangle)]
-pub extern "C" fn solve_case(text: &[u8], figures: &mut [u32], settings: &mut [u32]) -> u8
+pub fn solve_case(text: &[u8], figures: &mut [u32], settings: &mut [u32]) -> u8
     ensures { SolvedText text.now figures.old settings.old result figures.new settings.new }
 {
     let read = case_reader::read_case(text);
@@ -45,8 +45,7 @@ fn solve_railway(r: Railway, figures: &mut [u32], settings: &mut [u32]) -> u8
 
 // THE PLAN'S LINES from a place on (0: the plan's first line), as many as have room in `out`. Answers 0 where lines were written, with the next place in
 // `place` and their bytes in `bytes`. Every other answer leaves all that is lent as it was.
-#[unsafe(no_mangle)]
-pub extern "C" fn write_plan_lines(
+pub fn write_plan_lines(
     text: &[u8],
     figures: &[u32],
     settings: &[u32],
@@ -116,8 +115,7 @@ fn place_number(place: PlanPlace) -> u64
 }
 
 // A CHECK BEGINS: both tables are made fresh, and the state is that of a checker that has taken no line.
-#[unsafe(no_mangle)]
-pub extern "C" fn begin_check(
+pub fn begin_check(
     text: &[u8],
     state: &mut Numbers,
     figures: &mut [u32],
@@ -150,8 +148,7 @@ fn begin_railway(r: Railway, state: &mut Numbers, figures: &mut [u32], settings:
 
 // THE LINES IN FRONT of a plan's text, up to the first that is refused: they are entered, and how many bytes they have stands in `bytes`. A case or tables
 // are refused, a line is not.
-#[unsafe(no_mangle)]
-pub extern "C" fn take_plan_lines(
+pub fn take_plan_lines(
     text: &[u8],
     state: &mut Numbers,
     plan: &[u8],
@@ -199,8 +196,7 @@ fn take_railway(
 }
 
 // THE TEST of the lines taken: 0 where the plan passes.
-#[unsafe(no_mangle)]
-pub extern "C" fn test_plan(text: &[u8], state: &Numbers, figures: &[u32], settings: &[u32]) -> u8
+pub fn test_plan(text: &[u8], state: &Numbers, figures: &[u32], settings: &[u32]) -> u8
     ensures { TestedText text.now (lent state.now figures.now settings.now) result }
 {
     let read = case_reader::read_case(text);
