@@ -2,6 +2,7 @@
 // no text describes; each row looks at every place that it concerns. Besides the test, some of its parts are public for the
 // reader of case texts: they judge one row, pair or place of a record by itself, and are no entry points.
 #![tactic(auto)]
+
 ghost use Rattle.std.specs.Prelude.{◌≡◌, ◌&&◌, ◌||◌, cond, not, ℕ, ◌*◌, ◌<◌, ◌≤◌, ltb, eqb};
 ghost use Rattle.laws.specs.Below.{any_below};
 ghost use Rattle.railway.specs.declared.Railway.{Railway};
