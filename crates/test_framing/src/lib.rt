@@ -1,6 +1,7 @@
 // What programs that run vectors share. The records of a vector file, from standard input: a line `@`, tab, the number of bytes in decimal, and then those bytes, of any value. A record
 // comes whole or not at all: one that is longer than the lent space, one that ends early and a line of another form are told as broken. And small railways that no case text is read as.
 #![tactic(auto)]
+
 ghost use Rattle.std.specs.Prelude.{◌≡◌, false};
 ghost use Rattle.io.specs.Counts.{IsPrefixLen};
 ghost use Rattle.test_framing.specs.Framed.{is_whole, record_of, Kept, KeptText};

@@ -5,8 +5,7 @@ use Prim.Native.Nat.{ℕ}
 use borrow.Author.Tests.{eq-eqb, ne_eqb}
 use Rattle.test_framing.specs.declared.Reading.TheVariants.{Whole, Broken}
 use Rattle.test_framing.specs.Framed.{record_of}
-use Rattle.test_framing.proofs.record_of.Statement.{statement}
-use Rattle.test_framing.proofs.record_of.Tie as tie
+use Rattle.test_framing.proofs.record_of.Goals as goal
 
 all-came : (n got : ℕ) → got ≡ n → record { reading = Whole; bytes = n } ≡ record_of n got
 all-came n got e = rw (eq-eqb got n e)
@@ -14,11 +13,8 @@ all-came n got e = rw (eq-eqb got n e)
 some-lack : (n got : ℕ) → (got ≡ n → ⊥) → record { reading = Broken; bytes = 0 } ≡ record_of n got
 some-lack n got e = rw (ne_eqb got n e)
 
-returns : tie.Need-returns
-returns c = all-came _ _ c.if1.true
+pub returns-then-got-n : goal.returns-then-got-n
+returns-then-got-n c = all-came _ _ c.if-got-n.true
 
-returns-2 : tie.Need-returns-2
-returns-2 c = some-lack _ _ c.if1.false
-
-pub record-of-spec : {M : Type 1} → statement M
-record-of-spec = tie.close (tie.spec returns returns-2)
+pub returns-else-got-n : goal.returns-else-got-n
+returns-else-got-n c = some-lack _ _ c.if-got-n.false

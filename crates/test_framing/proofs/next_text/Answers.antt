@@ -1,7 +1,6 @@
 -- `test_framing::next_text` meets its contract: a whole record is the text, and of any other reading there is none.
 -- Assumes nothing.
-use borrow.Author.Rules.{rules}
-use mathlib.Core.Path.{◌≡◌, refl, ap}
+use mathlib.Core.Path.{◌≡◌, ap}
 use mathlib.Core.Bool.{Bool}
 use mathlib.Core.List.{List}
 use Prim.Native.Nat.{ℕ}
@@ -9,8 +8,7 @@ use lib.ListN.{length}
 use Rattle.test_framing.specs.declared.Reading.{Reading}
 use Rattle.test_framing.specs.declared.Reading.TheVariants.{Whole, Ended, Broken}
 use Rattle.test_framing.specs.Framed.{is_whole, KeptBy, KeptIf}
-use Rattle.test_framing.proofs.next_text.Statement.{statement}
-use Rattle.test_framing.proofs.next_text.Tie as tie
+use Rattle.test_framing.proofs.next_text.Goals as goal
 
 kept_if : (g : Reading) (n : ℕ) (old new : List ℕ) → KeptBy g n old new → KeptIf (is_whole g) n old new
 kept_if Whole n old new k = k
@@ -20,10 +18,5 @@ kept_if Broken n old new k = k
 told : (g : Reading) (n : ℕ) (old new : List ℕ) (there : Bool) → there ≡ is_whole g → KeptBy g n old new → KeptIf there n old new
 told g n old new there e k = rw e (kept_if g n old new k)
 
-returns : tie.Need-returns
-returns c =
-    let r = c.before.before.before.next-record in
-    (r.ensures.0, told r.result.reading _ _ _ _ c.is_whole.ensures r.ensures.1)
-
-pub next-text-spec : {M : Type 1} → statement M
-next-text-spec = tie.close (tie.spec (λ c κs. search rules) (λ c κs. search rules) (λ c. search rules) returns)
+pub returns : goal.returns
+returns c = let r = c.next_record-record in record { prefix_len = r.ensures.prefix_len; kept_text = told r.result.reading _ _ _ _ c.is_whole.ensures r.ensures.kept }

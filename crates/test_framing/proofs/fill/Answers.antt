@@ -1,6 +1,5 @@
 -- `test_framing::fill`: a part of the space is as long as it says, and what lies past it is lent to nobody.
 -- Assumes nothing.
-use borrow.Author.Rules.{rules}
 use native.Mathlib.Omega.{arith}
 use mathlib.Core.Path.{◌≡◌, refl, sym, ap, ◌∙◌}
 use mathlib.Core.Bool.{Bool, true, false, cond}
@@ -13,10 +12,8 @@ use Rattle.io.specs.Counts.{IsPrefixLen}
 use Rattle.test_framing.specs.declared.Record.{Record}
 use Rattle.test_framing.specs.declared.Reading.TheVariants.{Whole, Broken}
 use Rattle.test_framing.specs.Framed.{record_of, Kept}
-use Rattle.test_framing.proofs.fill.Statement.{statement}
-use Rattle.test_framing.proofs.fill.Tie as tie
+use Rattle.test_framing.proofs.fill.Goals as goal
 
--- n bytes come back new, and the rest of the space is as it was
 module _ (old new : List ℕ) (n : ℕ) (in-old : n ≤ length old) (kept : length new ≡ length (take n old)) where
   as_many : length new ≡ n
   as_many = kept ∙ length-take-le n old in-old
@@ -38,19 +35,11 @@ module _ (old new : List ℕ) (n : ℕ) (in-old : n ≤ length old) (kept : leng
       go true = whole
       go false = ((omega arith, refl), (refl, as_long))
 
-slice-aggregate-read-full : tie.Need-slice-aggregate-read-full
-slice-aggregate-read-full c = simp length-take (omega arith)
+-- n bytes come back new, and the rest of the space is as it was
+pub slice_bounds-read_full-end-2 : goal.slice_bounds-read_full-end-2
+slice_bounds-read_full-end-2 c = simp length-take (omega arith)
 
-returns-2 : tie.Need-returns-2
-returns-2 c =
-    let read = c.before.before.before in
-    let if1 = read.before.before in
-    let start = if1.before.before in
-    filled start.args.space.now read.read-full.new.1.0 start.args.n if1.if1.false
-    read.read-full.auto.1.0 _ _ c.record_of.ensures
-
-pub fill_spec : {M : Type 1} → statement M
-fill_spec =
-    tie.close (tie.spec
-    (λ c. search rules) (λ c. search rules) slice-aggregate-read-full (λ c κs. search rules)
-    (λ c κs. search rules) (λ c. search rules) returns-2)
+pub returns : goal.returns
+returns c =
+    let f = filled c.args.space.now c.read_full-got.new.buf c.args.n c.if-space-n.false c.read_full-got.auto.buf _ _ c.record_of.ensures in
+    record { prefix_len = f.0; kept = f.1 }

@@ -1,13 +1,11 @@
 -- `test_framing::one_train` meets its contract: the bare record with these counts, and its train.
 -- Assumes nothing.
 use mathlib.Core.Path.{◌≡◌}
-use borrow.Author.Rules.{rules}
 use Prim.Native.Nat.{ℕ}
 use Rattle.railway.specs.declared.Train.{Train}
 use Rattle.railway.specs.declared.Railway.{Railway}
 use Rattle.railway.specs.Record.{bare_railway, empty_railway, with_train}
-use Rattle.test_framing.proofs.one_train.Statement.{statement}
-use Rattle.test_framing.proofs.one_train.Tie as tie
+use Rattle.test_framing.proofs.one_train.Goals as goal
 
 -- the counts of a record, set
 abbrev counted : Railway → ℕ → ℕ → ℕ → Railway
@@ -26,8 +24,5 @@ counted r s p k =
 made : (empty r : Railway) (s p : ℕ) (t : Train) → empty ≡ empty_railway → r ≡ with_train (counted empty s p 1) 0 t → r ≡ with_train (bare_railway s p 1) 0 t
 made empty r s p t e h = rw e at h
 
-returns : tie.Need-returns
-returns c = made _ _ _ _ _ c.before.empty.ensures.0 c.with-train.ensures
-
-pub one-train-spec : {M : Type 1} → statement M
-one-train-spec = tie.close (tie.spec (λ c κs. search rules) (λ c κs. search rules) returns)
+pub returns : goal.returns
+returns c = made _ _ _ _ _ c.empty-r.ensures.empty c.with_train.ensures
