@@ -1,6 +1,7 @@
 // A line of a plan, spelled into a lent buffer at a cursor. All functions are total, and each answers the cursor behind what it has written;
 // a byte that finds no room is lost. They serve whoever has the parts of a line at hand: the emitter writes its lines with them.
 #![tactic(auto)]
+
 ghost use Rattle.std.specs.Prelude.{◌≡◌};
 ghost use Rattle.laws.specs.Below.{any_below, gather_below, list_below};
 ghost use Rattle.laws.specs.Bits.{bit};
