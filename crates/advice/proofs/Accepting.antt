@@ -154,8 +154,7 @@ module _ (r : Railway) (e : End) (below : end_index e < section_ends) (there : k
   signal-at i = elim (eq? i (end_index e)) [
     | inl h ↦
         let k : known r (end_at i) ≡ true = rw h there in
-        let k' : known (flagged r more) (end_at i) ≡ true = known_kept r more (end_at i) ∙ k in
-        rw (k, k') (and-off (get_or more i false) ∙ sym (and-off (flag_at r i)))
+        rw k (and-off (get_or more i false) ∙ sym (and-off (flag_at r i)))
     | inr h ↦
         let g : get_or more i false ≡ flag_at r i = get_or-set_other r.signals (end_index e) i true false h in
         rw (g, known_kept r more (end_at i))

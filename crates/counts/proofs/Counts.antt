@@ -2,14 +2,14 @@
 -- filled has each placement's figure at its code, and no placement has two. Assumes nothing.
 use mathlib.Core.Path.{◌≡◌, refl, sym, ◌∙◌, ap}
 use mathlib.Core.Logic.{◌↔◌, inl, inr}
-use mathlib.Core.Bool.{true, false, not}
+use mathlib.Core.Bool.{true, not}
 use mathlib.Core.List.Memᴰ
 use mathlib.Core.List.{List, [], ◌∷◌, ◌++◌, Memᴰ}
 use mathlib.Core.Option.{Option, none, some}
 use Prim.Native.Nat.{ℕ, ◌≤◌, ◌<◌}
 use native.Mathlib.Omega.{arith}
 use lib.ListN.{length, get_or, replicate, length-replicate, get_or-replicate, get_or-eq_default}
-use lib.Dec.{ltb, eqb}
+use lib.Dec.{eqb}
 use borrow.Author.Tests.{eq-eqb, lt-ltb, le-ltb}
 use Rattle.laws.specs.Below.{or_else, list_below}
 use Rattle.laws.specs.Lists.{all}
@@ -30,10 +30,9 @@ use Rattle.game_tables.specs.declared.SolverAnswer.{SolverAnswer}
 use Rattle.game_tables.specs.Tables.{no_figure, figure_in, case_refusal}
 use Rattle.game_tables.specs.Solver.{SolverTables, SolverPost, figure_given}
 use Rattle.game_tables.proofs.Refusals.{case-none}
-use Rattle.counts.specs.declared.CountAnswer.{CountAnswer}
 use Rattle.counts.specs.declared.CountAnswer.TheVariants.{Counted, Refused}
 use Rattle.counts.specs.declared.CountReply.{CountReply}
-use Rattle.counts.specs.Counts.{classes, in_class, count_of, table_short, count_refusal, reply_by, count_number, CountPost, Spread, CountClaims, SolvedCounts, CountsHold}
+use Rattle.counts.specs.Counts.{classes, in_class, count_of, table_short, count_refusal, reply_by, count_number, CountPost, Spread, CountClaims, CountsHold}
 use Rattle.counts.proofs.Spreading.{count_same, number-one, spread-of}
 
 -- no row of a record has the number 9

@@ -2,10 +2,10 @@
 -- table's figures is said of all that agrees with them at every code. Assumes nothing.
 use mathlib.Core.Path.{◌≡◌, refl, sym, ◌∙◌, ap}
 use mathlib.Core.Logic.{◌↔◌, inl, inr}
-use mathlib.Core.Bool.{Bool, true, false, cond}
+use mathlib.Core.Bool.{Bool, true}
 use mathlib.Core.List.{List}
 use mathlib.Core.Option.{Option, none, some}
-use Prim.Native.Nat.{ℕ, zero, suc, ◌+◌, ◌≤◌, ◌<◌}
+use Prim.Native.Nat.{ℕ, zero, suc, ◌≤◌, ◌<◌}
 use native.Mathlib.Omega.{arith}
 use lib.ListN.{length, get_or}
 use lib.Dec.{ltb, eqb}
@@ -16,8 +16,8 @@ use Rattle.laws.proofs.Below.{sum_same, list_get, list_length}
 use Rattle.game_tables.specs.Tables.{figure_in}
 use Rattle.counts.specs.Counts.{classes, class_of, in_class, NumberOf, Spread}
 use Rattle.counts.proofs.Adding.{by-class}
+
 -- (Examples is named so that it is checked before: a wrong definition then shows at a computed value.)
-use Rattle.counts.proofs.Examples as Examples
 
 -- IN WHICH COUNT, by the figure
 class_low : (m : ℕ) → m < 255 → class_of (some m) ≡ m

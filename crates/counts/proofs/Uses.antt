@@ -2,16 +2,14 @@
 -- a field that were taken away, or that said nothing, would be missed. Assumes nothing.
 use mathlib.Core.Path.{◌≡◌, refl, ◌∙◌, subst}
 use mathlib.Core.Logic.{◌↔◌}
-use mathlib.Core.Bool.{true, false}
-use mathlib.Core.List.{List, [], ◌∷◌, ◌++◌}
+use mathlib.Core.List.{List, [], ◌++◌}
 use mathlib.Core.Option.{Option, none, some}
-use Prim.Native.Nat.{ℕ, ◌+◌, ◌≤◌, ◌<◌}
+use Prim.Native.Nat.{ℕ, ◌≤◌, ◌<◌}
 use native.Mathlib.Omega.{arith}
 use lib.ListN.{length, get_or, replicate, length-append, length-replicate, get_or-append, get_or-eq_default}
 use Rattle.laws.specs.Below.{count_below, sum_below}
-use Rattle.laws.proofs.Bools.{not-true, some-none}
+use Rattle.laws.proofs.Bools.{not-true}
 use Rattle.laws.proofs.Below.{count-one, count_none}
-use Rattle.railway.specs.declared.Railway.{Railway}
 use Rattle.railway.specs.declared.Refusal.{Refusal}
 use Rattle.railway.specs.declared.Refusal.TheVariants.{Count}
 use Rattle.railway.specs.Refusals.{first}
@@ -32,9 +30,9 @@ use Rattle.game_tables.proofs.Solver.{Promised, promised}
 use Rattle.counts.specs.declared.CountAnswer.TheVariants.{Counted, Refused}
 use Rattle.counts.specs.declared.CountReply.{CountReply}
 use Rattle.counts.specs.Counts.{in_class, count_refusal, reply_by, count_number, CountPost, NumberOf, Spread, CountsHold}
-use Rattle.counts.proofs.Examples.{lost-ones, yard-a, high, figs_high}
+use Rattle.counts.proofs.Examples.{lost-ones}
 use Rattle.counts.proofs.Spreading.{number-each, number-greater, number-none}
-use Rattle.counts.proofs.Counts.{too_short, counts-hold}
+use Rattle.counts.proofs.Counts.{counts-hold}
 
 pub nine : placements yard_a ≡ 9
 unfolding with_join with_signal with_legs with_train

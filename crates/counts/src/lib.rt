@@ -1,6 +1,7 @@
 // How many placements have each figure (document 02, Q-8): what is promised of counting them in a figure table, and
 // what follows, stand in `specs/`; the call is in crate `counts_call`. Here are the types.
 #![tactic(auto)]
+
 use railway::Refusal;
 
 // So many counts there are: of the figures 0 to 254 one each, of all greater figures one, of the placements without a figure one.

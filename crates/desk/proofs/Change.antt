@@ -327,7 +327,7 @@ solved s a figs sets figs₁ sets₁ lf ls post r d sized text read =
     let acc : record_refusal s ≡ none = read-accepted text s read in
     let ok : case_refusal s figs sets ≡ none = (case-none s figs sets).1 (acc, record { figures = lf; settings = ls }) in
     let t : SolverTables s figs sets figs₁ sets₁ × (figure_given a ≡ figure_in figs₁ (start_code s)) = rw ok at post.leaves in
-    change-solved s acc figs₁ sets₁ t.0.filled (record { figures = rw t.0.kept-figs.as_long lf; settings = rw t.0.Kept-sets.as_long ls }) r d sized text read
+    change-solved s acc figs₁ sets₁ t.0.filled (record { figures = rw t.0.kept-figs.as_long lf; settings = rw t.0.kept_sets.as_long ls }) r d sized text read
 
 -- the rows of the old record and of the change rise by rank
 change-rises : (r s : Railway) (d : Desk) (figs sets : List ℕ) → rises 2 (map row_rank (record_rows r ++ change_rows r s d figs sets)) ≡ true

@@ -71,6 +71,7 @@ lows (x ∷ l) = leb (rank x) 9 && lows l
 
 in-lows : (l : List Refusal) (f : Refusal) → lows l ≡ true → Memᴰ f l → rank f ≤ 9
 unfolding lows
+in-lows [] f e x'' = elim x'' [ ]
 in-lows (x ∷ l) f e (Memᴰ.head p) = let k = and-true (leb (rank x) 9) (lows l) e in rw p (leb-true (rank x) 9 k.0)
 in-lows (x ∷ l) f e (Memᴰ.tail m) = in-lows l f (and-true (leb (rank x) 9) (lows l) e).1 m
 

@@ -330,7 +330,7 @@ desk-holds =
       solved = λ r a figs sets figs₁ sets₁ acc lf ls post.
           let ok : case_refusal r figs sets ≡ none = (case-none r figs sets).1 (acc, record { figures = lf; settings = ls }) in
           let s : SolverTables r figs sets figs₁ sets₁ × (figure_given a ≡ figure_in figs₁ (start_code r)) = rw ok at post.leaves in (
-            desk-runs r acc figs₁ sets₁ s.0.filled (rw s.0.kept-figs.as_long lf) (rw s.0.Kept-sets.as_long ls),
+            desk-runs r acc figs₁ sets₁ s.0.filled (rw s.0.kept-figs.as_long lf) (rw s.0.kept_sets.as_long ls),
             filled-followable r acc figs₁ sets₁ s.0.filled,
           );
       descent = descent;

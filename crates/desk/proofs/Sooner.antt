@@ -26,6 +26,7 @@ use Rattle.desk.proofs.ChangeExamples as ChangeExamples
 module _ {A : Type 0} (rk : A → ℕ) where
   pub rises-least : (c : ℕ) (l : List A) (x : A) → rises c (map rk l) ≡ true → Memᴰ x l → c ≤ rk x
   unfolding rises
+  rises-least c [] x e x4 = elim x4 [ ]
   rises-least c (y ∷ l) x e (mathlib.Core.List.Memᴰ.head p) =
       let k = and-true (leb c (rk y)) (rises (suc (rk y)) (map rk l)) e in rw p (leb-true c (rk y) k.0)
   rises-least c (y ∷ l) x e (mathlib.Core.List.Memᴰ.tail m) =
@@ -47,6 +48,7 @@ module _ {A : Type 0} (rk : A → ℕ) where
 
     lowest-first : (c : ℕ) (table : List A) (x : A) → rises c (map rk table) ≡ true → Memᴰ x table → P x → ((y : A) → Memᴰ y table → rk y < rk x → P y → ⊥) → FirstOf P table x
     unfolding rises
+    lowest-first c [] x up x6 here off = elim x6 [ ]
     lowest-first c (z ∷ l) x up (mathlib.Core.List.Memᴰ.head p) here off =
         record { before = []; after = l; order = rw p refl; here = here; not-before = every-none (λ y. P y → ⊥) }
     lowest-first c (z ∷ l) x up (mathlib.Core.List.Memᴰ.tail m) here off =
@@ -61,6 +63,7 @@ module _ {A : Type 0} (rk : A → ℕ) where
         }
 
 in_map : {A B : Type 0} (f : A → B) (l : List A) (x : A) → Memᴰ x l → Memᴰ (f x) (map f l)
+in_map {A = A} {B = B} f [] x x3 = elim x3 [ ]
 in_map f (y ∷ l) x (mathlib.Core.List.Memᴰ.head p) = mathlib.Core.List.Memᴰ.head (ap f p)
 in_map f (y ∷ l) x (mathlib.Core.List.Memᴰ.tail m) = mathlib.Core.List.Memᴰ.tail (in_map f l x m)
 

@@ -1,13 +1,13 @@
 -- RUNS AND FIGURES. A turn moves one train by one section at most, and costs 1 at least; so whoever stands somewhere after some turns has, train by train, a run from where it began, and
 -- all of them together enter no more sections than the turns have cost. A play that comes home within a total has runs to the destinations, then, and no table's entry is larger. Assumes nothing.
-use mathlib.Core.Path.{◌≡◌, refl, sym, ◌∙◌, ap, subst}
-use mathlib.Core.Logic.{◌⊎◌, inl, inr}
-use mathlib.Core.Bool.{Bool, true, false, cond, not, ◌&&◌}
-use mathlib.Core.List.{List, []}
+use mathlib.Core.Path.{◌≡◌, refl, ◌∙◌, ap}
+use mathlib.Core.Logic.{inl, inr}
+use mathlib.Core.Bool.{Bool, true, false, cond, not}
+use mathlib.Core.List.{List}
 use mathlib.Core.Option.{Option, none, some}
-use Prim.Native.Nat.{ℕ, zero, suc, ◌+◌, ◌≤◌, ◌<◌}
+use Prim.Native.Nat.{ℕ, zero, suc, ◌≤◌, ◌<◌}
 use native.Mathlib.Omega.{arith}
-use lib.ListN.{length, get_or, set}
+use lib.ListN.{length, get_or}
 use lib.Seq.{get_or-set_same, get_or-set_other}
 use lib.Dec.{eqb}
 use borrow.Author.Tests.{eqb-true, eq-eqb, ne_eqb}
@@ -17,8 +17,7 @@ use Rattle.laws.proofs.Below.{all-at, list_length, list_get}
 use Rattle.railway.specs.declared.Side.{Side}
 use Rattle.railway.specs.declared.Side.TheVariants.{Up, Down}
 use Rattle.railway.specs.declared.Railway.{Railway}
-use Rattle.railway.specs.Bounds.{most_sections}
-use Rattle.railway.specs.Record.{train_of, weight_of}
+use Rattle.railway.specs.Record.{train_of}
 use Rattle.railway.specs.Passing.{entered}
 use Rattle.game.specs.Game.{Outcome, lost, at, collision, Turn, Strategy, Adversary, Position, lost_by_move, standing, mover}
 use Rattle.game.specs.Game.{over, grown, stand_after, turn, step, play, spent, spent_at, home_at, HomeWithin, Forced}
@@ -30,9 +29,9 @@ use Rattle.game.proofs.Accepted.{Facts}
 use Rattle.game.proofs.Placement.{AllBelow, sections-code, sections-length}
 use Rattle.game.proofs.Moves.{section-below, entered_below, sections-with}
 use Rattle.game.proofs.Local.{may-train, mover-cases, spent-grown}
-use Rattle.runs.specs.Runs.{Enters, Run, here, further, no_run, entry_at, RunTable, table_of, train_run, runs_sum}
+use Rattle.runs.specs.Runs.{Enters, Run, here, further, no_run, RunTable, table_of, train_run, runs_sum}
+
 -- (Says is named so that it is checked before.)
-use Rattle.runs.proofs.Says as Says
 
 -- SUMS: one more at one place
 abbrev plus_one : ℕ → (ℕ → ℕ) → ℕ → ℕ

@@ -1,21 +1,18 @@
 -- Runs by computation, in Yard A, in the line whose middle section is closed, and in a line of four sections with a point at each end of it: who enters which section, with the points so. No
 -- theorem rests on these; they show what the definitions say. Assumes nothing.
-use mathlib.Core.Path.{◌≡◌, refl}
-use mathlib.Core.Bool.{Bool, true, false}
-use mathlib.Core.Option.{none, some}
+use mathlib.Core.Path.{refl}
+use mathlib.Core.Bool.{true, false}
 use Prim.Native.Nat.{ℕ}
 use native.Mathlib.Omega.{arith}
 use lib.Dec.{eqb}
 use Rattle.laws.proofs.Bools.{some-none}
-use Rattle.railway.specs.declared.Side.{Side}
 use Rattle.railway.specs.declared.Side.TheVariants.{Up, Down}
 use Rattle.railway.specs.declared.Leg.TheVariants.{Stem, Plus, Minus}
-use Rattle.railway.specs.declared.End.TheVariants.{Section}
 use Rattle.railway.specs.declared.Railway.{Railway}
 use Rattle.railway.specs.Ends.{end_at}
 use Rattle.railway.specs.Record.{is_closed, joined_by, joined, has_signal, with_join, with_signal, with_closed, with_legs, with_train}
 use Rattle.railway.specs.Passing.{follow, passes, entered}
-use Rattle.railway.specs.Yards.{yard_h, line_p, line_j, line_x, line_t, sec, port, yard_a}
+use Rattle.railway.specs.Yards.{yard_h, line_p, line_j, line_t, sec, port, yard_a}
 use Rattle.game.proofs.Examples.{shut_line}
 use Rattle.runs.specs.Runs.{Enters, Run, here, further}
 

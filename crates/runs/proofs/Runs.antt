@@ -1,23 +1,20 @@
 -- Q-3 OF ANY ANSWERS of the call: in an accepted record its promise is that they hold the tables of their headings; of these Says and Bound speak. What a solver answers is the start's
 -- figure in its table, which is the figure. Assumes nothing.
-use mathlib.Core.Path.{◌≡◌, refl, sym, ◌∙◌, subst}
-use mathlib.Core.Logic.{inl, inr}
-use mathlib.Core.Bool.{Bool, true, false}
+use mathlib.Core.Path.{◌≡◌, refl, ◌∙◌, subst}
 use mathlib.Core.List.{List}
 use mathlib.Core.Option.{Option, none, some}
-use Prim.Native.Nat.{ℕ, ◌≤◌, ◌<◌}
+use Prim.Native.Nat.{ℕ, ◌≤◌}
 use lib.ListN.{length}
 use Rattle.laws.proofs.Bools.{some-none}
 use Rattle.railway.specs.declared.Side.{Side}
 use Rattle.railway.specs.declared.Side.TheVariants.{Up, Down}
 use Rattle.railway.specs.declared.Railway.{Railway}
 use Rattle.railway.specs.declared.Refusal.{Refusal}
-use Rattle.railway.specs.Refusals.{number_of}
 use Rattle.railway.specs.Rows.{record_refusal}
 use Rattle.game.specs.Game.{IsFigure}
 use Rattle.game.specs.Placement.{placements, start_code}
 use Rattle.game.specs.Moves.{game_of}
-use Rattle.game.proofs.Accepted.{Facts, facts}
+use Rattle.game.proofs.Accepted.{facts}
 use Rattle.game.proofs.Moves.{start-below}
 use Rattle.game.proofs.Figures.{figure-one}
 use Rattle.game_tables.specs.declared.SolverAnswer.{SolverAnswer}
@@ -26,7 +23,7 @@ use Rattle.game_tables.specs.Tables.{figure_in, case_refusal}
 use Rattle.game_tables.specs.Solver.{number_given, figure_given, SolverLeaves, SolverPost}
 use Rattle.game_tables.proofs.Refusals.{case-none}
 use Rattle.runs.specs.declared.RunReply.{RunReply}
-use Rattle.runs.specs.Runs.{no_run, RunTable, table_in, TableLeft, RunPost, train_run, runs_sum, Bounded, RunsHold}
+use Rattle.runs.specs.Runs.{RunTable, table_in, TableLeft, RunPost, Bounded, RunsHold}
 use Rattle.runs.proofs.Says.{says}
 use Rattle.runs.proofs.Track.{same_runs}
 use Rattle.runs.proofs.Bound.{sum-at-least, none-without}

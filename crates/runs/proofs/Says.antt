@@ -1,15 +1,13 @@
 -- What a table says, from what its entries are; and, besides: of runs from a section to itself the shortest enters
 -- nothing; a run begins and ends on sections that are there, and whatever it enters is not closed. Assumes nothing.
-use mathlib.Core.Path.{◌≡◌, refl, sym, ◌∙◌}
-use mathlib.Core.Logic.{◌↔◌, ◌⊎◌, inl, inr}
+use mathlib.Core.Path.{◌≡◌, refl}
 use mathlib.Core.Bool.{Bool, true, false, cond}
 use mathlib.Core.List.{List}
 use mathlib.Core.Option.{Option, none, some}
-use Prim.Native.Nat.{ℕ, zero, suc, ◌≤◌, ◌<◌}
+use Prim.Native.Nat.{ℕ, ◌<◌}
 use native.Mathlib.Omega.{arith}
 use Rattle.laws.proofs.Bools.{clash, some-none, some_one}
 use Rattle.railway.specs.declared.Side.{Side}
-use Rattle.railway.specs.declared.End.{End}
 use Rattle.railway.specs.declared.End.TheVariants.{Section}
 use Rattle.railway.specs.declared.Railway.{Railway}
 use Rattle.railway.specs.Bounds.{most_sections}
@@ -18,8 +16,7 @@ use Rattle.railway.specs.Passing.{passes, in_use, entered}
 use Rattle.game.proofs.Accepted.{Facts}
 use Rattle.game.proofs.Moves.{entered_below}
 -- (Examples is named so that it is checked before: a wrong definition then shows at a computed value.)
-use Rattle.runs.proofs.Examples as Examples
-use Rattle.runs.specs.Runs.{Enters, Run, here, further, no_run, IsRun, entry_at, RunTable, TableSays}
+use Rattle.runs.specs.Runs.{Enters, Run, here, further, no_run, entry_at, RunTable, TableSays}
 
 -- what is entered is not closed
 in-use : (r : Railway) (o : Option ℕ) (x : ℕ) → in_use r o ≡ some x → is_closed r x ≡ false

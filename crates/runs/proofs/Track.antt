@@ -1,8 +1,6 @@
 -- SIGNALS AND TRAINS PLAY NO PART: what is entered goes by what ends are joined to and by what is closed, so that records of one track have the same runs, entries and tables. Assumes nothing.
 use mathlib.Core.Path.{◌≡◌, refl, sym, ◌∙◌, ap}
-use mathlib.Core.Logic.{◌↔◌}
 use mathlib.Core.Bool.{Bool}
-use mathlib.Core.List.{List}
 use mathlib.Core.Option.{Option, none, some}
 use Prim.Native.Nat.{ℕ, zero, suc, ◌<◌}
 use Rattle.railway.specs.declared.Side.{Side}
@@ -16,8 +14,7 @@ use Rattle.railway.specs.declared.Railway.{Railway}
 use Rattle.railway.specs.Record.{is_closed, joined}
 use Rattle.railway.specs.Passing.{Passage, through, most_met, meeting, past_point, past_join, follow, passes, in_use, entered}
 -- (Examples is named so that it is checked before.)
-use Rattle.runs.proofs.Examples as Examples
-use Rattle.runs.specs.Runs.{Enters, Run, here, further, IsRun, RunTable, SameTrack, SameRuns}
+use Rattle.runs.specs.Runs.{Enters, Run, here, further, IsRun, SameTrack, SameRuns}
 
 module _ {r s : Railway} (h : SameTrack r s) where
   pub back : SameTrack s r

@@ -1,14 +1,14 @@
 -- The statements on runs at work, in Yard A and in the line whose middle section is closed: from each part a number is drawn, so that a part that were taken away, or that said nothing, would be
 -- missed. Tables, numbers and answers are any of which the statement holds. In Yard A train 1 goes up from 2 to 3 and train 2 down from 3 to 1, one section each, and the start has figure 2.
 -- Assumes nothing.
-use mathlib.Core.Path.{◌≡◌, refl, sym, ◌∙◌}
+use mathlib.Core.Path.{◌≡◌, refl}
 use mathlib.Core.Bool.{Bool, true}
 use mathlib.Core.List.{List, []}
 use mathlib.Core.Option.{none, some}
-use Prim.Native.Nat.{ℕ, zero, suc, ◌≤◌, ◌<◌}
+use Prim.Native.Nat.{ℕ, ◌≤◌}
 use native.Mathlib.Omega.{arith}
 use lib.ListN.{length, get_or}
-use Rattle.laws.specs.Below.{any_below, sum_below, list_below}
+use Rattle.laws.specs.Below.{any_below, sum_below}
 use Rattle.laws.proofs.Bools.{some-none}
 use Rattle.railway.specs.declared.Side.{Side}
 use Rattle.railway.specs.declared.Side.TheVariants.{Up, Down}
@@ -21,15 +21,15 @@ use Rattle.railway.specs.Passing.{follow, passes, entered}
 use Rattle.railway.specs.Rows.{weight_row, unknown_row, join_row, loose_row, longer, chain_row, place_row, record_refusal}
 use Rattle.railway.specs.Yards.{line_t, yard_a, yard_aless}
 use Rattle.game.specs.Game.{IsFigure, Forced}
-use Rattle.game.specs.Placement.{code_of, placements, start_code}
+use Rattle.game.specs.Placement.{placements, start_code}
 use Rattle.game.specs.Moves.{game_of}
 use Rattle.game.proofs.Examples.{shut_line}
 use Rattle.game_tables.specs.declared.SolverAnswer.{SolverAnswer}
 use Rattle.game_tables.specs.declared.SolverAnswer.TheVariants.{Unsolvable, Figure}
 use Rattle.game_tables.specs.Solver.{SolverPost}
-use Rattle.game_tables.proofs.KnownYards.{yard_a-accepted, yard_a-filled}
+use Rattle.game_tables.proofs.KnownYards.{yard_a-accepted}
 use Rattle.runs.specs.declared.RunReply.{RunReply}
-use Rattle.runs.specs.Runs.{Enters, Run, here, further, no_run, IsRun, entry_at, Square, RunTable, SameTrack, table_in, RunPost, train_run, runs_sum, TableSays, Bounded, RunsSay}
+use Rattle.runs.specs.Runs.{Run, here, further, no_run, IsRun, entry_at, Square, RunTable, SameTrack, table_in, RunPost, train_run, runs_sum, TableSays, RunsSay}
 use Rattle.runs.proofs.Examples.{up-from-2, down-to-1}
 use Rattle.runs.proofs.Runs.{table-of, runs-hold}
 
