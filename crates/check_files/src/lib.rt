@@ -1,6 +1,7 @@
-// A case text and a plan, each read from a descriptor into a lent buffer, and the line that program plancheck writes for them. The plan is checked
+// A case text and a plan, each read from its source into a lent buffer, and the line that program plancheck writes for them. The plan is checked
 // while it comes: at the first refused line no more is read.
 #![tactic(auto)]
+
 ghost use Rattle.std.specs.Prelude.{◌≡◌, not, ◌&&◌, ◌+◌, ◌≤◌, ltb, length, take};
 ghost use Rattle.game_tables.specs.Lengths.{entries};
 ghost use Rattle.plan_checker.specs.Answers.{checking};
@@ -12,6 +13,7 @@ use check_text::ENTRIES;
 use plan::TestAnswer;
 use plan_checker::Checker;
 use railway::{CaseAnswer, Railway};
+use std::io::Read;
 
 // So many bytes of a plan are asked for at once at most. A longer one comes in several pieces though all of it is there, so that a run on a file goes
 // through the loop more than once.
@@ -41,17 +43,17 @@ struct Stand {
     going: bool,
 }
 
-// Descriptors of the case's file and of the plan's. One that cannot be read is an empty text.
-pub fn check_files(
-    case_file: i32,
-    plan_file: i32,
+// The case's file and the plan's, or what else reads. One that cannot be read is an empty text.
+pub fn check_files<C: Read, P: Read>(
+    case_file: &mut C,
+    plan_file: &mut P,
     case: &mut [u8],
     plan: &mut [u8],
     line: &mut [u8],
 ) -> Heard
     ensures { HeardPost case.new plan.new line.old result.case result.plan result.line line.new }
 {
-    let n = io::read_full(case_file, case);
+    let n = file_input::read_full(case_file, case);
     let read = answer_to(&case[..n], plan_file, plan);
     let answer = read.answer;
     let m = read.bytes;
@@ -64,7 +66,7 @@ pub fn check_files(
 }
 
 // A case text, and the plan that is read for it. Where the case is refused nothing is read.
-fn answer_to(case: &[u8], file: i32, plan: &mut [u8]) -> Answered
+fn answer_to<P: Read>(case: &[u8], file: &mut P, plan: &mut [u8]) -> Answered
     ensures { (result.bytes ≤ length plan.new) × CasePlanPost case.now (take result.bytes plan.new) result.answer }
 {
     let read = case_reader::read_case(case);
@@ -79,7 +81,7 @@ fn answer_to(case: &[u8], file: i32, plan: &mut [u8]) -> Answered
 }
 
 // The tables are the call's own.
-fn check_plan(r: Railway, file: i32, plan: &mut [u8]) -> Answered
+fn check_plan<P: Read>(r: Railway, file: &mut P, plan: &mut [u8]) -> Answered
     ensures { (result.bytes ≤ length plan.new) × PlanPost r (take result.bytes plan.new) result.answer }
 {
     let mut figures = [0u32; ENTRIES];
@@ -88,9 +90,9 @@ fn check_plan(r: Railway, file: i32, plan: &mut [u8]) -> Answered
 }
 
 // Piece after piece, until the text ends, the buffer is full or a line is refused.
-fn listen(
+fn listen<P: Read>(
     r: Railway,
-    file: i32,
+    file: &mut P,
     plan: &mut [u8],
     figures: &mut [u32],
     settings: &mut [u32],
@@ -105,11 +107,11 @@ fn listen(
 }
 
 // They, by a checker that no line has come to yet.
-fn hear(
+fn hear<P: Read>(
     start: Checker,
     goes: bool,
     r: Railway,
-    file: i32,
+    file: &mut P,
     plan: &mut [u8],
     figures: &mut [u32],
     settings: &mut [u32],
@@ -135,10 +137,10 @@ fn hear(
 }
 
 // One piece, and the lines that have come with it. Where nothing comes the text is at its end, or the buffer is full.
-fn turn(
+fn turn<P: Read>(
     checker: Checker,
     r: Railway,
-    file: i32,
+    file: &mut P,
     plan: &mut [u8],
     at: usize,
     have: usize,
@@ -184,14 +186,12 @@ fn not_refused(made: CaseAnswer) -> bool {
 }
 
 // One read behind the bytes that are there, a piece at most: how many came.
-fn read_more(file: i32, plan: &mut [u8], have: usize) -> usize
+fn read_more<P: Read>(file: &mut P, plan: &mut [u8], have: usize) -> usize
     requires { have ≤ length plan.old }
     ensures { MoreRead plan.old have result plan.new }
 {
     let end = piece_end(have, plan.len());
-    let piece = &mut plan[have..end];
-    let got = libc::read(file, piece);
-    io::count(got, piece)
+    file_input::read_some(file, &mut plan[have..end])
 }
 
 // Where a piece ends that begins here, in a buffer of so many bytes.

@@ -4,6 +4,7 @@
 // goes on as before. Each is written before the next line is read. Behind `home`, behind an opening that is refused or
 // has no figure, and at the end of the input it stops.
 #![tactic(auto)]
+
 ghost use Rattle.std.specs.Prelude.{◌≡◌, true, suc, ◌≤◌, length};
 ghost use Rattle.std.proofs.Math.Option.{get_or};
 ghost use Rattle.io.specs.Counts.{IsPrefixLen};
@@ -59,32 +60,31 @@ enum Byte {
 }
 
 // The answer is how many bytes there are to be written.
-pub fn write_desk() -> usize
+pub fn write_desk(rt: &HostRuntime) -> usize
     ensures { Followed result }
 {
     let mut case = [0u8; CASE];
-    follow_file(&mut case)
+    follow_file(rt, &mut case)
 }
 
 // Reads the case into a buffer for all bytes that decide. A file that is not there cannot be read, and is an empty text.
-fn follow_file(case: &mut [u8]) -> usize
+fn follow_file(rt: &HostRuntime, case: &mut [u8]) -> usize
     requires { length case.old ≡ suc most_bytes }
     ensures { Followed result }
 {
-    let file = os::open_read(b"case.txt");
-    let came = io::read_full(file, case);
-    follow_case(&case[..came])
+    let came = file_input::read_file(rt, "case.txt", case);
+    follow_case(rt, &case[..came])
 }
 
 // A case text: refused by the reader, or read.
-fn follow_case(case: &[u8]) -> usize
+fn follow_case(rt: &HostRuntime, case: &[u8]) -> usize
     ensures { CaseFollowed case.now result }
 {
     let read = case_reader::read_case(case);
     let answer = read.answer;
     match answer {
         CaseAnswer::Refused(f) => write_refusal(f),
-        CaseAnswer::Accepted => follow_railway(read.railway),
+        CaseAnswer::Accepted => follow_railway(rt, read.railway),
     }
 }
 
@@ -98,17 +98,17 @@ fn write_refusal(f: Refusal) -> usize
 }
 
 // A railway, with tables of its own.
-fn follow_railway(r: Railway) -> usize
+fn follow_railway(rt: &HostRuntime, r: Railway) -> usize
     ensures { Solved r result }
 {
     let mut figures = [0u32; ENTRIES];
     let mut settings = [0u32; ENTRIES];
     solver::solve(r, &mut figures, &mut settings);
-    follow_plan(r, &mut figures, &mut settings)
+    follow_plan(rt, r, &mut figures, &mut settings)
 }
 
 // The desk, from its opening on. The tables are those of the case that it follows.
-fn follow_plan(r: Railway, figures: &mut [u32], settings: &mut [u32]) -> usize
+fn follow_plan(rt: &HostRuntime, r: Railway, figures: &mut [u32], settings: &mut [u32]) -> usize
     requires { (length figures.old ≡ entries) × (length settings.old ≡ entries) }
     ensures { Ran r figures.old settings.old result }
 {
@@ -122,7 +122,7 @@ fn follow_plan(r: Railway, figures: &mut [u32], settings: &mut [u32]) -> usize
         if TURNS <= turns {
             return bytes;
         }
-        let next = turn(desk, railway, figures, settings);
+        let next = turn(rt, desk, railway, figures, settings);
         railway = next.railway;
         desk = next.desk;
         bytes += next.bytes;
@@ -144,7 +144,13 @@ fn open(r: Railway, figures: &[u32], settings: &[u32]) -> Stand
 }
 
 // The next line, or as many of its bytes as decide what it is. At the end of the input nothing is written.
-fn turn(desk: Desk, r: Railway, figures: &mut [u32], settings: &mut [u32]) -> Stand
+fn turn(
+    rt: &HostRuntime,
+    desk: Desk,
+    r: Railway,
+    figures: &mut [u32],
+    settings: &mut [u32],
+) -> Stand
     requires { (length figures.old ≡ entries) × (length settings.old ≡ entries) }
     ensures { Turned (panel_of r figures.old settings.old (desk_at desk))
         (panel_of result.railway figures.new settings.new (desk_at result.desk)) result.bytes result.going }
@@ -153,7 +159,7 @@ fn turn(desk: Desk, r: Railway, figures: &mut [u32], settings: &mut [u32]) -> St
     let read = next_line(&mut line);
     let n = read.count;
     if read.whole {
-        return hear(desk, &line[..n], r, figures, settings);
+        return hear(rt, desk, &line[..n], r, figures, settings);
     }
     Stand {
         railway: r,
@@ -164,13 +170,20 @@ fn turn(desk: Desk, r: Railway, figures: &mut [u32], settings: &mut [u32]) -> St
 }
 
 // A line that came: a change, or what is taken for a report.
-fn hear(desk: Desk, line: &[u8], r: Railway, figures: &mut [u32], settings: &mut [u32]) -> Stand
+fn hear(
+    rt: &HostRuntime,
+    desk: Desk,
+    line: &[u8],
+    r: Railway,
+    figures: &mut [u32],
+    settings: &mut [u32],
+) -> Stand
     requires { (length figures.old ≡ entries) × (length settings.old ≡ entries) }
     ensures { Turned (panel_of r figures.old settings.old (desk_at desk))
         (panel_of result.railway figures.new settings.new (desk_at result.desk)) result.bytes result.going }
 {
     if desk_lines::is_change(line) {
-        return change_file(desk, line, r, figures, settings);
+        return change_file(rt, desk, line, r, figures, settings);
     }
     answer(desk, line, r, figures, settings)
 }
@@ -226,6 +239,7 @@ fn bytes_put(put: Written) -> usize
 
 // A CHANGE: the file that a line names is read, as the first case was.
 fn change_file(
+    rt: &HostRuntime,
     desk: Desk,
     line: &[u8],
     r: Railway,
@@ -239,19 +253,26 @@ fn change_file(
         result.bytes result.going }
 {
     let mut text = [0u8; CASE];
-    let file = open_named(line);
-    let came = io::read_full(file, &mut text);
-    libc::close(file);
+    let came = read_named(rt, line, &mut text);
     change_text(desk, &text[..came], r, figures, settings)
 }
 
-// The file's name stands behind the word and its tab.
-fn open_named(line: &[u8]) -> i32 {
+// The file's name stands behind the word and its tab. Bytes that are no UTF-8 name none.
+fn read_named(rt: &HostRuntime, line: &[u8], text: &mut [u8]) -> usize
+    ensures { IsPrefixLen result text.new }
+{
+    match str::from_utf8(name_of(line)) {
+        Ok(name) => file_input::read_file(rt, name, text),
+        Err(_) => 0,
+    }
+}
+
+fn name_of(line: &[u8]) -> &[u8] {
     let n = line.len();
     if n < NAME {
-        return os::open_read(line);
+        return line;
     }
-    os::open_read(&line[NAME..n])
+    &line[NAME..n]
 }
 
 // Its text: read, and solved in tables of its own. Of a text that is refused the reader hands out an empty record, for which nothing is solved.

@@ -2,6 +2,6 @@
 // the last, or `refused`, a tab and the number. A line `change`, tab, name of a file has the desk go over to the case in that file.
 #![tactic(auto)]
 
-fn main() {
-    desk_io::write_desk();
+fn main(rt: HostRuntime) {
+    desk_io::write_desk(&rt);
 }

@@ -1,6 +1,6 @@
 // What program plancheck does, on a plan that passes: Yard A's own.
 #![tactic(auto)]
 
-fn main() {
-    check_io::write_verdict();
+fn main(rt: HostRuntime) {
+    check_io::write_verdict(&rt);
 }

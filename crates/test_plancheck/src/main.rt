@@ -3,25 +3,29 @@
 // that are not there.
 #![tactic(auto)]
 
-fn main() {
-    check(b"line.txt", b"line-plan.txt");
-    check(b"line.txt", b"last-line-wrong.txt");
-    check(b"line.txt", b"last-line-out-of-form.txt");
-    check(b"4096-bytes.txt", b"line-plan.txt");
-    check(b"4097-bytes.txt", b"line-plan.txt");
-    check(b"missing.txt", b"line-plan.txt");
-    check(b"line.txt", b"missing.txt");
+fn main(rt: HostRuntime) {
+    check(&rt, "line.txt", "line-plan.txt");
+    check(&rt, "line.txt", "last-line-wrong.txt");
+    check(&rt, "line.txt", "last-line-out-of-form.txt");
+    check(&rt, "4096-bytes.txt", "line-plan.txt");
+    check(&rt, "4097-bytes.txt", "line-plan.txt");
+    check(&rt, "missing.txt", "line-plan.txt");
+    check(&rt, "line.txt", "missing.txt");
 }
 
-fn check(case_name: &[u8], plan_name: &[u8]) {
+fn check(rt: &HostRuntime, case_name: &str, plan_name: &str) {
     let mut case = io::large_buffer();
     let mut plan = io::large_buffer();
     let mut line = [0u8; answer_output::LINE];
-    let case_file = os::open_read(case_name);
-    let plan_file = os::open_read(plan_name);
-    let heard = check_files::check_files(case_file, plan_file, &mut case, &mut plan, &mut line);
+    let mut case_file = file_input::open(rt, case_name);
+    let mut plan_file = file_input::open(rt, plan_name);
+    let heard = check_files::check_files(
+        &mut case_file,
+        &mut plan_file,
+        &mut case,
+        &mut plan,
+        &mut line,
+    );
     let put = heard.line;
     answer_output::front(&line, put);
-    libc::close(case_file);
-    libc::close(plan_file);
 }

@@ -1,5 +1,6 @@
 // What program thinplan does: the case of file case.txt in the working folder and a plan on standard input; the text of the lean plan on standard output, or `refused`, a tab and the number.
 #![tactic(auto)]
+
 ghost use Rattle.std.specs.Prelude.{◌≡◌, suc, length};
 ghost use Rattle.case_file.specs.Rows.{most_bytes};
 ghost use Rattle.plan_text.specs.Written.{text_bytes};
@@ -23,22 +24,21 @@ const CASE: usize = case_file::MOST_BYTES + 1;
 const PLAN: usize = plan_text::TEXT + 1;
 
 // The answer is how many bytes there are to be written.
-pub fn write_lean() -> usize
+pub fn write_lean(rt: &HostRuntime) -> usize
     ensures { ThinnedBytes result }
 {
     let mut case = [0u8; CASE];
     let mut plan = [0u8; PLAN];
     let mut text = [0u8; plan_text::TEXT];
-    lean_input(&mut case, &mut plan, &mut text)
+    lean_input(rt, &mut case, &mut plan, &mut text)
 }
 
 // Reads into buffers of these lengths, and writes what stands in the third. A file that is not there cannot be read, and is an empty text.
-fn lean_input(case: &mut [u8], plan: &mut [u8], text: &mut [u8]) -> usize
+fn lean_input(rt: &HostRuntime, case: &mut [u8], plan: &mut [u8], text: &mut [u8]) -> usize
     requires { (length case.old ≡ suc most_bytes) × (length plan.old ≡ read_bytes) × (length text.old ≡ text_bytes) }
     ensures { ThinnedBytes result }
 {
-    let file = os::open_read(b"case.txt");
-    let n = io::read_full(file, case);
+    let n = file_input::read_file(rt, "case.txt", case);
     let m = io::read_full(STDIN_FILENO, plan);
     let bytes = whole_text(&case[..n], &plan[..m], text);
     io::write_all(STDOUT_FILENO, &text[..bytes]);
