@@ -33,8 +33,8 @@ use Rattle.railway.proofs.Refusals.{first-same}
 use Rattle.game.specs.Placement.{start_code}
 use Rattle.game.proofs.Accepted.{facts}
 use Rattle.advice.specs.Advising.{There, signalled, StillAccepted}
+
 -- (Examples is named so that it is checked before: a wrong definition then shows at a computed value.)
-use Rattle.advice.proofs.Examples as Examples
 
 -- the record with other signals
 abbrev pub flagged : Railway → List Bool → Railway

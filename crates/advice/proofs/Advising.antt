@@ -14,7 +14,7 @@ use Rattle.railway.specs.declared.Railway.{Railway}
 use Rattle.railway.specs.Refusals.{number_of}
 use Rattle.railway.specs.Rows.{record_refusal}
 use Rattle.game.specs.Game.{IsFigure}
-use Rattle.game.specs.Placement.{placements, start_code}
+use Rattle.game.specs.Placement.{start_code}
 use Rattle.game.specs.Moves.{game_of}
 use Rattle.game.proofs.Accepted.{facts}
 use Rattle.game.proofs.Moves.{start-below}

@@ -18,8 +18,8 @@ use Rattle.railway.specs.Record.{flag_at, has_signal}
 use Rattle.railway.proofs.Ends.{side-small, end-index, section-below, numbered_of, end-section, index-end}
 use Rattle.railway.proofs.Lookups.{signal-there}
 use Rattle.advice.specs.Advising.{HasNone, ends_of, tries, with_one, NoneBefore, FirstHelp, last_tried, There, Bare, Earlier, signalled, FirstHelping, LastBare}
+
 -- (Examples is named so that it is checked before: a wrong definition then shows at a computed value.)
-use Rattle.advice.proofs.Examples as Examples
 
 -- the index of a section end that a railway can have
 index_is : (n : SectionNo) (s : Side) → n.0 < most_sections → end_index (Section n s) ≡ 2 * n.0 + side_index s

@@ -15,8 +15,8 @@ use Rattle.game.specs.Placement.{arrived, at_home}
 use Rattle.game_placement.specs.declared.Placement.{Placement}
 use Rattle.desk.specs.Desk.{Desk, desk_code, misplaced, arrivals, miscarries, desk_row, desk_on}
 use Rattle.desk.specs.Following.{Carries}
+
 -- (Examples is named so that it is checked before: a wrong definition then shows at a computed value.)
-use Rattle.desk.proofs.Examples as Examples
 
 -- the desk of a placement carries what is right
 pub made-right : (r : Railway) (q : Placement) → Carries r (desk_on r q)

@@ -28,10 +28,9 @@ use Rattle.game_placement.specs.declared.Placement.{Placement}
 use Rattle.desk.specs.declared.ChangeAnswer.{ChangeAnswer}
 use Rattle.desk.specs.declared.ChangeAnswer.TheVariants.{Changed, Refused}
 use Rattle.desk.specs.Desk.{Desk, desk_code, desk_row, desk_on}
-use Rattle.desk.specs.Following.{call, refused, Carries, Apart}
+use Rattle.desk.specs.Following.{Carries, Apart}
 use Rattle.desk.specs.Change.{heads_other, mismatch, is_none, stranded, change_rows, Changing, change_by, change_to, number_changed, ChangePost, SameShape, CanChange}
 -- (ChangeExamples is named so that it is checked before: a wrong definition then shows at a computed value.)
-use Rattle.desk.proofs.ChangeExamples as ChangeExamples
 use Rattle.desk.proofs.Carrying.{made-right}
 
 -- THE SHAPE. Headings that agree.

@@ -28,7 +28,6 @@ use Rattle.game_placement.specs.ByValue.{section_in}
 use Rattle.desk.specs.Desk.{Desk, desk_code, misplaced, desk_row, start_desk, moved_desk}
 use Rattle.desk.specs.Following.{Carries, Apart}
 -- (Examples is named so that it is checked before: a wrong definition then shows at a computed value.)
-use Rattle.desk.proofs.Examples as Examples
 use Rattle.desk.proofs.Carrying.{made-right, sound-exactly}
 
 -- numbers below k have different values, if no lower one has that of a higher

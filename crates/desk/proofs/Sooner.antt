@@ -19,8 +19,8 @@ use Rattle.railway.specs.Rows.{record_rows, record_refusal}
 use Rattle.railway.proofs.Refusals.{first-is, first-none}
 use Rattle.case_file.specs.Given.{Applies, case_table, RefusedWith}
 use Rattle.desk.specs.Change.{sooner, row_rank, AppliesToEither}
+
 -- (ChangeExamples is named so that it is checked before: a wrong definition then shows at a computed value.)
-use Rattle.desk.proofs.ChangeExamples as ChangeExamples
 
 -- A LIST THAT RISES BY RANK: none is below the bound, and what has a lower rank than an element stands before it
 module _ {A : Type 0} (rk : A → ℕ) where

@@ -1,6 +1,7 @@
 // A desk, at which a plan is followed report by report: what its calls answer. specs/ has the definitions and the statement over whole lists of reports, proofs/ that it follows
 // from what a call promises. The desk and its calls are in crate desk_calls.
 #![tactic(auto)]
+
 use railway::Refusal;
 
 // What opening a desk answers: it stands at the start; the start has no figure; or a refusal.
