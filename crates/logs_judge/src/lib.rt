@@ -1,6 +1,7 @@
 // The comparison of two logs with a record, the panel's log and that of the axle counters, which are lent and only read. `compare` takes each log out once, and what judges them has
 // plain slices of trains and of sections. The record is tested as at every entry; then both logs are judged; then they are compared, with one pass over each for a train.
 #![tactic(auto)]
+
 ghost use Rattle.std.specs.Prelude.{◌≡◌, List, get_or};
 ghost use Rattle.std.proofs.Math.Option.{none};
 ghost use Rattle.laws.specs.Below.{lowest};
