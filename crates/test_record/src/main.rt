@@ -4,6 +4,7 @@
 // The last byte of a train is its weight: `.` for 1, `0` for 0, `*` for 255.
 // Row 7 has no line of its own: a record has one flag a signal and one a section, and what is set twice is set.
 #![tactic(auto)]
+
 use railway::{CaseAnswer, End, Leg, PointNo, Railway, SectionNo, Side, Train};
 
 // The descriptor of standard output.
