@@ -11,7 +11,6 @@ use Rattle.laws.proofs.Bits.{low_bit, high_bit, bit-none}
 use Rattle.laws.proofs.Bitwise.{bit-power}
 use Rattle.game_tables.specs.Entries.{train_bits, opens_in}
 use Rattle.thin.specs.Thinning.{open_bit, open_only}
-use Rattle.thin.proofs.Examples as Examples
 
 -- train t is the one
 abbrev pub is_train : Option ℕ → ℕ → Bool

@@ -5,16 +5,14 @@ use mathlib.Core.Logic.{◌⊎◌, ◌↔◌, inl, inr}
 use mathlib.Core.Bool.{true}
 use mathlib.Core.List.{List, [], ◌∷◌, ◌++◌, head-eq_of_cons-eq}
 use mathlib.Core.Option.{none}
-use Prim.Native.Nat.{ℕ, ◌≤◌, ◌<◌}
+use Prim.Native.Nat.{ℕ, ◌<◌}
 use native.Mathlib.Omega.{arith}
-use Rattle.laws.proofs.Bools.{clash, some-none}
 use Rattle.railway.specs.declared.Railway.{Railway}
 use Rattle.railway.specs.declared.Refusal.{Refusal}
 use Rattle.railway.specs.declared.Refusal.TheVariants.{PlanForm, PlanFault}
 use Rattle.railway.specs.Rows.{record_refusal}
-use Rattle.game.specs.Game.{Adversary, following, HomeWithin}
+use Rattle.game.specs.Game.{following, HomeWithin}
 use Rattle.game.specs.Placement.{start_code}
-use Rattle.game.specs.Setting.{Setting}
 use Rattle.game.specs.Moves.{game_of}
 use Rattle.game.proofs.Accepted.{facts}
 use Rattle.game_tables.specs.Tables.{no_figure, setting_in}
@@ -22,8 +20,8 @@ use Rattle.plan.specs.declared.CheckerState.{CheckerState}
 use Rattle.plan.specs.declared.CheckerState.TheVariants.{Fresh, Begun}
 use Rattle.plan.specs.declared.LineAnswer.{LineAnswer}
 use Rattle.plan.specs.declared.TestAnswer.{TestAnswer}
-use Rattle.plan.specs.declared.TestAnswer.TheVariants.{Pass, Refused as TestRefused}
-use Rattle.plan.specs.Checker.{Checking, take_line, test_plan, LineCalls, call_lines, is_taken, taken_texts}
+use Rattle.plan.specs.declared.TestAnswer.TheVariants.{Pass}
+use Rattle.plan.specs.Checker.{Checking, take_line, test_plan, call_lines, is_taken, taken_texts}
 use Rattle.plan.specs.Checked.{Checked, InForm, Passing, Failing}
 use Rattle.plan.proofs.Calls.{taking-one}
 use Rattle.plan.proofs.Checked.{Holds, unbegun, begun, ran, checked-holds, fresh_holds}
@@ -31,9 +29,8 @@ use Rattle.plan.proofs.Forms.{form-one}
 use Rattle.plan.proofs.Fresh.{fresh-made}
 use Rattle.thin.specs.declared.ThinAnswer.{ThinAnswer}
 use Rattle.thin.specs.declared.ThinAnswer.TheVariants.{Thinned, Refused}
-use Rattle.thin.specs.Thinning.{ThinPost}
 use Rattle.thin.specs.Claims.{ThinClaims}
-use Rattle.thin.specs.Calls.{PlanThinned, PlansThin}
+use Rattle.thin.specs.Calls.{PlansThin}
 use Rattle.thin.proofs.Claims.{thins-hold, passed}
 
 -- an answer is thinned or a refusal

@@ -1,35 +1,33 @@
 -- What thinning is worth, of a call that keeps its promise. Whether the plan passes is one question for the test and for the call, the first row that applies; behind it the claims are
 -- those on the tables. Lines that follow are answered by the state, the figures and the lengths of the tables, which stay. Assumes nothing.
 use mathlib.Core.Path.{◌≡◌, refl, sym, ◌∙◌, ap, subst}
-use mathlib.Core.Logic.{◌↔◌, inl, inr}
-use mathlib.Core.Bool.{Bool, true, false, cond, not, ◌||◌}
+use mathlib.Core.Logic.{inl, inr}
+use mathlib.Core.Bool.{true, false, cond, ◌||◌}
 use mathlib.Core.List.{List, [], ◌∷◌, ◌++◌}
 use mathlib.Core.Option.{Option, none, some}
 use Prim.Native.Nat.{ℕ, ◌≤◌, ◌<◌}
 use native.Mathlib.Omega.{arith}
-use lib.ListN.{length, get_or, set, length-set}
-use lib.Dec.{ltb, eqb}
-use Rattle.laws.specs.Below.{count_below, lowest}
+use lib.ListN.{length, get_or, length-set}
+use lib.Dec.{ltb}
 use Rattle.laws.specs.Bits.{bit}
-use Rattle.laws.proofs.Bools.{bool?, option?, lt?, clash, not_is, some-none, some_one}
+use Rattle.laws.proofs.Bools.{bool?, option?, lt?, some-none}
 use Rattle.laws.proofs.Below.{count-mono}
 use Rattle.railway.specs.declared.Railway.{Railway}
 use Rattle.railway.specs.declared.Refusal.{Refusal}
 use Rattle.railway.specs.declared.Refusal.TheVariants.{PlanForm, PlanFault, Space}
-use Rattle.railway.specs.Refusals.{Row, row, first, number_of}
+use Rattle.railway.specs.Refusals.{row, first}
 use Rattle.railway.specs.Rows.{record_refusal, record_rows}
-use Rattle.game.specs.Game.{may, Adversary, following, HomeWithin}
-use Rattle.game.specs.Placement.{placements, start_code, at_home, shared}
-use Rattle.game.specs.Setting.{Setting, may_move, signal_open}
+use Rattle.game.specs.Game.{Adversary, following, HomeWithin}
+use Rattle.game.specs.Placement.{placements, start_code, at_home}
+use Rattle.game.specs.Setting.{Setting}
 use Rattle.game.specs.Moves.{game_of}
 use Rattle.game.proofs.Accepted.{facts}
-use Rattle.game_tables.specs.Entries.{train_bits, opens_in, setting_from, setting_at}
+use Rattle.game_tables.specs.Entries.{train_bits, opens_in, setting_at}
 use Rattle.game_tables.specs.Tables.{figure_in, setting_in, tables_short, case_refusal}
 use Rattle.game_tables.proofs.Refusals.{case-none}
 use Rattle.plan.specs.declared.CheckerState.{CheckerState}
 use Rattle.plan.specs.declared.CheckerState.TheVariants.{Fresh, Begun}
 use Rattle.plan.specs.declared.LineAnswer.{LineAnswer}
-use Rattle.plan.specs.declared.LineAnswer.TheVariants.{Taken, Refused as LineRefused}
 use Rattle.plan.specs.declared.TestAnswer.{TestAnswer}
 use Rattle.plan.specs.declared.TestAnswer.TheVariants.{Pass, Refused as TestRefused}
 use Rattle.plan.specs.Lines.{PlanLine, start_line, placement_line, line_code}
@@ -42,10 +40,10 @@ use Rattle.plan.proofs.Steps.{line-steps, test-steps}
 use Rattle.plan.proofs.Test.{tested, plan-works}
 use Rattle.thin.specs.declared.ThinAnswer.{ThinAnswer}
 use Rattle.thin.specs.declared.ThinAnswer.TheVariants.{Thinned, Refused}
-use Rattle.thin.specs.Thinning.{some_free, stays, open_only, thinned_entry, thinned_table, thinned_checking, thin_leaves, thin_plan, ThinPost}
+use Rattle.thin.specs.Thinning.{stays, thinned_entry, thinned_table, thinned_checking, thin_leaves, thin_plan, ThinPost}
 use Rattle.thin.specs.Claims.{opened, LeanAt, Lean, ThinClaims, ThinsHold}
 use Rattle.thin.proofs.Bits.{is_train, only-opens}
-use Rattle.thin.proofs.Placement.{lean, stays-none, stays-lowest, was-open}
+use Rattle.thin.proofs.Placement.{stays-none, stays-lowest, was-open}
 use Rattle.thin.proofs.Thinning.{as_long, entry-below, entry_past, entry-none, entry-home, entry-lean, entry-points, passes-again, table-again}
 
 -- THE ANSWER of the call and of the test, by one refusal

@@ -3,23 +3,21 @@
 use mathlib.Core.Path.{◌≡◌, refl, sym, ◌∙◌, ap}
 use mathlib.Core.Logic.{inl, inr}
 use mathlib.Core.Bool.{Bool, true, false, ◌&&◌, ◌||◌}
-use mathlib.Core.Option.{none}
 use Prim.Native.Nat.{ℕ, ◌<◌}
 use lib.Dec.{ltb, eqb}
 use borrow.Author.Tests.{eqb-true, eq-eqb, lt-ltb, ltb-true}
 use Rattle.laws.specs.Below.{any_below}
-use Rattle.laws.proofs.Bools.{bool?, clash, same_bool, and-true, and_both, and-off, not-true, either, or_left, or_right}
+use Rattle.laws.proofs.Bools.{same_bool, and-true, and_both, and-off, not-true, either, or_left, or_right}
 use Rattle.laws.proofs.Below.{any_at, any_of, none_any}
 use Rattle.railway.specs.declared.Railway.{Railway}
 use Rattle.railway.specs.Ends.{end_index}
-use Rattle.game.specs.Game.{may}
 use Rattle.game.specs.Placement.{shared}
 use Rattle.game.specs.Setting.{heads_for, held, free, may_move, signal_open}
-use Rattle.game.specs.Moves.{move_of, game_of}
+use Rattle.game.specs.Moves.{move_of}
 use Rattle.game.proofs.Setting.{held-not-free}
 use Rattle.game_tables.specs.Entries.{opens_end, setting_from}
 use Rattle.game_tables.proofs.Entries.{own-end}
-use Rattle.thin.specs.Law.{moves, in_either, in_both, MovesUnder, SharedSignal, SignalsShared, LawHolds}
+use Rattle.thin.specs.Law.{moves, in_either, in_both, MovesUnder, SignalsShared, LawHolds}
 use Rattle.thin.proofs.Examples.{common-fails}
 
 module _ (r : Railway) (p : ℕ) where

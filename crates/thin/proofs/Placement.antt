@@ -3,23 +3,22 @@
 -- the one that stays: thinned again, it stays again. Assumes nothing.
 use mathlib.Core.Path.{◌≡◌, refl, sym, ◌∙◌, ap, fun_ext}
 use mathlib.Core.Logic.{◌⊎◌, inl, inr}
-use mathlib.Core.Bool.{Bool, true, false, cond, ◌&&◌, ◌||◌}
+use mathlib.Core.Bool.{Bool, true, false, ◌&&◌, ◌||◌}
 use mathlib.Core.Option.{Option, none, some}
 use Prim.Native.Nat.{ℕ, ◌≤◌, ◌<◌}
 use native.Mathlib.Omega.{arith}
 use lib.Dec.{ltb, eqb}
-use borrow.Author.Tests.{ltb-true, lt-ltb, eqb-true, eq-eqb}
-use Rattle.laws.specs.Below.{any_below, lowest}
+use borrow.Author.Tests.{lt-ltb, eqb-true, eq-eqb}
+use Rattle.laws.specs.Below.{lowest}
 use Rattle.laws.proofs.Bools.{bool?, clash, not-false, and-true, and_both, and-off, either, or_left, or_right, some-none, some_one}
 use Rattle.laws.proofs.Below.{any_at, any_false, lowest-cases, lowest-least}
 use Rattle.railway.specs.declared.Railway.{Railway}
-use Rattle.game.specs.Game.{may}
 use Rattle.game.specs.Placement.{shared}
 use Rattle.game.specs.Setting.{held, free, may_move, signal_open}
 use Rattle.game.specs.Moves.{game_of}
 use Rattle.game.proofs.Local.{may-train}
 use Rattle.game_tables.specs.Entries.{setting_from}
-use Rattle.thin.specs.Law.{moves, in_either, in_both, MovesUnder}
+use Rattle.thin.specs.Law.{moves, in_either, in_both}
 use Rattle.thin.specs.Thinning.{some_free, stays}
 use Rattle.thin.proofs.Bits.{is_train}
 use Rattle.thin.proofs.Law.{opens_at, may-is, of-by, law, by-open, by-none}

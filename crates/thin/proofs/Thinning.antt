@@ -11,22 +11,19 @@ use lib.ListN.{length, get_or, drop, length-append, length-drop, get_or-append}
 use lib.Seq.{get_or-append-add, get_or-drop, drop_at}
 use Rattle.laws.specs.Below.{list_below}
 use Rattle.laws.specs.Bits.{bit}
-use Rattle.laws.proofs.Bools.{bool?, option?, lt?, clash, some-none, some_one}
+use Rattle.laws.proofs.Bools.{bool?, option?}
 use Rattle.laws.proofs.Below.{list_length, list_get, list_same}
 use Rattle.railway.specs.declared.Railway.{Railway}
-use Rattle.game.specs.Game.{may}
 use Rattle.game.specs.Claim.{Within, figure_of, Keeps}
 use Rattle.game.specs.Placement.{placements, at_home, shared}
-use Rattle.game.specs.Setting.{held}
 use Rattle.game.specs.Moves.{game_of}
 use Rattle.game.proofs.Accepted.{Facts}
 use Rattle.game_tables.specs.Entries.{train_bits, opens_in, setting_from, setting_at}
 use Rattle.game_tables.specs.Tables.{figure_in}
 use Rattle.plan.specs.Test.{Listing, listed_setting, Test, by_tables}
 use Rattle.plan.proofs.Test.{SameListing, test-same}
-use Rattle.thin.specs.Law.{moves}
 use Rattle.thin.specs.Thinning.{stays, open_only, thinned_if, thinned_entry, thinned_table}
-use Rattle.thin.proofs.Bits.{is_train, only-points, only-opens, only-twice}
+use Rattle.thin.proofs.Bits.{only-points, only-opens, only-twice}
 use Rattle.thin.proofs.Law.{law}
 use Rattle.thin.proofs.Placement.{lean, lean-signalled, fewer, still, stays-points, stays-again}
 

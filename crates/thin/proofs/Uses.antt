@@ -1,20 +1,19 @@
 -- The law, the promise of the call and the claims put to use: of any call of which they hold something is drawn, each time from one field, in two sidings and in Yard A. Nothing rests on
 -- these facts; they hold the fields fast. Assumes nothing.
 use mathlib.Core.Path.{◌≡◌, refl, sym, ◌∙◌, ap, subst}
-use mathlib.Core.Bool.{Bool, true, false, ◌&&◌, ◌||◌}
+use mathlib.Core.Bool.{Bool, true, false, ◌&&◌}
 use mathlib.Core.List.{List, [], ◌∷◌, cons-ne-nil}
-use mathlib.Core.Option.{Option, none, some}
-use Prim.Native.Nat.{ℕ, ◌≤◌, ◌<◌}
+use mathlib.Core.Option.{none, some}
+use Prim.Native.Nat.{ℕ, ◌≤◌}
 use native.Mathlib.Omega.{arith}
 use lib.Dec.{eqb}
 use lib.ListN.{length, get_or}
 use Rattle.laws.specs.Below.{all_below, any_below, sum_below, count_below, list_below, lowest, which_below}
 use Rattle.laws.specs.Bits.{bit, from_bits}
 use Rattle.laws.specs.Lists.{any, all, rises}
-use Rattle.laws.proofs.Bools.{clash, not-true, some-none, some_one}
+use Rattle.laws.proofs.Bools.{clash, not-true}
 use Rattle.text.specs.Text.{digits, line, bytes}
 use Rattle.text.specs.Reading.{fields, value_of, same_text}
-use Rattle.railway.specs.declared.Railway.{Railway}
 use Rattle.railway.specs.declared.Refusal.{Refusal}
 use Rattle.railway.specs.declared.Refusal.TheVariants.{PlanForm, PlanFault}
 use Rattle.railway.specs.Ends.{end_at}
@@ -23,7 +22,7 @@ use Rattle.railway.specs.Record.{is_closed, joined_by, joined, has_signal, legs_
 use Rattle.railway.specs.Passing.{follow, passes, entered}
 use Rattle.railway.specs.Rows.{weight_row, unknown_row, join_row, loose_row, longer, chain_row, place_row, record_refusal}
 use Rattle.railway.specs.Yards.{yard_a}
-use Rattle.game.specs.Game.{at, Adversary, following, HomeWithin}
+use Rattle.game.specs.Game.{Adversary, following, HomeWithin}
 use Rattle.game.specs.Local.{keeps_test}
 use Rattle.game.specs.Placement.{code_of, sections_in, stands_on, start_code, at_home, shared}
 use Rattle.game.specs.Setting.{Setting, heads_for, held, may_move, free, signal_open}
@@ -31,9 +30,7 @@ use Rattle.game.specs.Moves.{occupied, move_of, game_of}
 use Rattle.game_tables.specs.Entries.{opens_in, setting_from, setting_at, entry_from}
 use Rattle.game_tables.specs.Tables.{setting_in, tables_short}
 use Rattle.game_tables.proofs.KnownYards.{figs_a, sets_a}
-use Rattle.plan.specs.declared.CheckerState.{CheckerState}
 use Rattle.plan.specs.declared.CheckerState.TheVariants.{Fresh, Begun}
-use Rattle.plan.specs.declared.LineAnswer.{LineAnswer}
 use Rattle.plan.specs.declared.LineAnswer.TheVariants.{Taken, Refused as LineRefused}
 use Rattle.plan.specs.declared.TestAnswer.{TestAnswer}
 use Rattle.plan.specs.declared.TestAnswer.TheVariants.{Pass, Refused as TestRefused}
@@ -46,8 +43,8 @@ use Rattle.plan.specs.Checker.{Checking, test_number, take_line, test_plan, call
 use Rattle.plan.proofs.RuleUses.{other_texts, other-passes, other-fails, other-not-failing, other-not-passing}
 use Rattle.thin.specs.declared.ThinAnswer.{ThinAnswer}
 use Rattle.thin.specs.declared.ThinAnswer.TheVariants.{Thinned, Refused}
-use Rattle.thin.specs.Law.{moves, in_either, in_both, queue, MovesUnder, SharedSignal, LawHolds}
-use Rattle.thin.specs.Thinning.{some_free, thin_number, thin_plan, ThinPost}
+use Rattle.thin.specs.Law.{moves, in_either, in_both, queue, SharedSignal, LawHolds}
+use Rattle.thin.specs.Thinning.{some_free, thin_number, ThinPost}
 use Rattle.thin.specs.Claims.{LeanAt, Lean, ThinClaims}
 use Rattle.thin.specs.Calls.{PlanThinned}
 use Rattle.thin.proofs.Examples.{sidings, sidings_free, figs_s, generous, lean_s, generous_free, handed, calls}

@@ -1,6 +1,6 @@
 -- Thinning a plan in the checker's tables (document 02, Q-14): which train stays open at a placement, what becomes of an entry and of the setting table, and the call, which makes the
 -- test of the plan itself. It is total: any record, state and tables. Assumes nothing.
-use Rattle.std.specs.Prelude.{◌≡◌, Bool, false, cond, List, ◌++◌, ℕ, ◌+◌, ◌%◌, ◌^◌, get_or, drop}
+use Rattle.std.specs.Prelude.{◌≡◌, Bool, cond, List, ◌++◌, ℕ, ◌+◌, ◌%◌, ◌^◌, get_or, drop}
 use Rattle.std.proofs.Math.Option.{Option, none, some}
 use Rattle.laws.specs.Below.{any_below, lowest, list_below}
 use Rattle.railway.specs.declared.Railway.{Railway}
