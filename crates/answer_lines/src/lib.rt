@@ -1,6 +1,7 @@
 // A text put into a lent buffer, and the lines that stand for an answer: a refusal, no plan, the answer to the test of a plan. Each is put whole at the
 // front of the buffer, and the answer says how many bytes it has; or it finds no room, is refused for that, and the buffer is as it was.
 #![tactic(auto)]
+
 ghost use Rattle.text.specs.Appending.{Appended};
 ghost use Rattle.answer_lines.specs.Lines.{refusal_line, none_line, test_line, PutPost};
 

@@ -1,0 +1,14 @@
+-- `answer_lines::refusal_line` meets its contract: the line stands whole in a buffer of its own, and what is put from there is the line.
+-- Assumes nothing.
+use Rattle.text.proofs.Appending.{front_fits, front_cut}
+use Rattle.answer_lines.proofs.Lines.{refusal-short, made-put}
+use Rattle.answer_lines.proofs.refusal_line.Goals as goal
+
+pub slice_bounds-line-end : goal.slice_bounds-line-end
+slice_bounds-line-end c = front_fits c.spell_refusal-n.ensures c.spell_refusal-n.auto.out
+
+pub slice_bounds-put-end : goal.slice_bounds-put-end
+slice_bounds-put-end c = front_cut c.spell_refusal-n.ensures c.spell_refusal-n.auto.out
+
+pub returns : goal.returns
+returns c = made-put c.spell_refusal-n.ensures (refusal-short c.args.f) c.put.ensures
