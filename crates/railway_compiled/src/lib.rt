@@ -3,6 +3,7 @@
 // promise, they promise of every accepted railway whose table it is; of bytes that are no railway's table no definition says
 // anything, and they only read them. Where the ends lead to is the table of crate `railway_routes`.
 #![tactic(auto)]
+
 ghost use Rattle.std.specs.Prelude.{◌≡◌, ℕ, ◌+◌, ◌<◌, ◌≤◌};
 ghost use Rattle.railway.specs.declared.Railway.{Railway};
 ghost use Rattle.railway.specs.Bounds.{most_trains};
