@@ -13,8 +13,8 @@ use Rattle.laws.proofs.Bits.{bit-none}
 use Rattle.laws.proofs.Bitwise.{bit-and, bit-or, bit-power, bits-ext}
 use Rattle.railway.specs.Bounds.{most_points}
 use Rattle.railway_routes.specs.Routes.{suits, differs, bars, want_with}
+
 -- (Examples is named so that it is checked before: a wrong definition then shows at a computed value.)
-use Rattle.railway_routes.proofs.Examples as Examples
 
 -- two settings of a point are the same
 abbrev pub alike : Bool → Bool → Bool

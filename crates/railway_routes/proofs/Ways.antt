@@ -14,8 +14,8 @@ use Rattle.railway.specs.declared.Railway.{Railway}
 use Rattle.railway.specs.Bounds.{section_ends}
 use Rattle.railway.specs.Ends.{end_at}
 use Rattle.railway_routes.specs.Routes.{Way, routes_from, nth, most_ways, no_section, way_word, way_words, Laid, written, Put}
+
 -- (Examples is named so that it is checked before: a wrong definition then shows at a computed value.)
-use Rattle.railway_routes.proofs.Examples as Examples
 
 -- THE WAY WITH A NUMBER, in two lists
 pub nth-either : (ws vs : List Way) (i : ℕ) (w : Way) → nth (ws ++ vs) i ≡ some w → (nth ws i ≡ some w) ⊎ ((k : ℕ) × (nth vs k ≡ some w))

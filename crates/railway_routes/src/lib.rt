@@ -3,6 +3,7 @@
 // `ways_of` makes the table from the links of a record and flags for the sections that are shut; the others read it, and are total. What they promise, they
 // promise of every railway whose table it is; of words that are no railway's table no definition says anything.
 #![tactic(auto)]
+
 ghost use Rattle.std.specs.Prelude.{◌≡◌, Bool, ℕ, ◌+◌, ◌*◌, ◌^◌, ◌<◌, ◌≤◌, replicate};
 ghost use Rattle.laws.specs.Bits.{bit};
 ghost use Rattle.railway.specs.declared.Railway.{Railway};
