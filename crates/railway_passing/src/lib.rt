@@ -2,6 +2,7 @@
 // `pass` takes a record, tests it, and tells the section that the train comes to and the points that it meets. That a section is closed makes no difference
 // here.
 #![tactic(auto)]
+
 ghost use Rattle.std.specs.Prelude.{◌≡◌, ◌+◌, ◌≤◌, ◌<◌, length};
 ghost use Rattle.laws.specs.Bits.{bit};
 ghost use Rattle.railway.specs.declared.Railway.{Railway};
