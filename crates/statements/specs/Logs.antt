@@ -1,5 +1,5 @@
--- Panel log and axle log (document 02, Q-13), of the call that runs: what logs/Logs claims of an answer is said of the contract of `compare`, which asks nothing and is met. Its proof is
--- a walk by hand, for which the prover makes no `Asked` and no `Learnt`; so the contract is read off its two clauses, which are assertions of the prover's logic: `emp` asks nothing,
+-- Panel log and axle log (document 02, Q-13), of the call that runs: what logs/Logs claims of an answer is said of the contract of `compare`, which asks nothing and is met. The
+-- contract is read off its two clauses, which are assertions of the prover's logic: `emp` asks nothing,
 -- `fact` says that something holds and nothing else, `ent` is that one follows from the other. Arguments are written as in Running. Assumes nothing.
 use Rattle.std.specs.Prelude.{◌≡◌}
 use seplogic.Ra.Ura.{Ura}
