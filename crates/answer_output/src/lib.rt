@@ -1,6 +1,7 @@
 // The lines that programs write for an answer. Each is put at the front of a lent buffer, and what stands there is written on standard
 // output: the promise is about the buffer, since no contract can speak of what leaves the program, nor of whether it left.
 #![tactic(auto)]
+
 ghost use Rattle.std.specs.Prelude.{◌≡◌, leb, length};
 ghost use Rattle.answer_lines.specs.Lines.{refusal_line, test_line, put_into};
 ghost use Rattle.answer_output.specs.Front.{has_front, front_bytes};
