@@ -5,7 +5,7 @@ use Prim.Native.Nat.{ℕ, suc, ◌-◌, ◌<◌}
 use mathlib.Core.Path.{◌≡◌, refl, sym, ◌∙◌, ap}
 use mathlib.Core.Logic.{inl, inr}
 use mathlib.Core.Bool.{Bool, true, false, cond, not, ◌||◌}
-use mathlib.Core.List.{List, ◌∷◌, map, Memᴰ}
+use mathlib.Core.List.{List, [], ◌∷◌, map, Memᴰ}
 use mathlib.Core.Option.{Option, none, some}
 use native.Mathlib.Omega.{arith}
 use lib.Dec.{eqb}
@@ -178,6 +178,7 @@ module _ (d : Description) (f : WellFormed d) (b : Bounded d.sections d.points d
       shut-same t h ∙ any_false (shut_out d) d.roster (nth t) e (get_or-member d.roster t no_train_line (omega (arith, o, h)))))
     where
       member-at : (l : List TrainLine) (x : TrainLine) → Memᴰ x l → (i : ℕ) × (i < length l) × (get_or l i no_train_line ≡ x)
+      member-at [] x x3 = elim x3 [ ]
       member-at (y ∷ l) x (Memᴰ.head e) = (0, omega arith, sym e)
       member-at (y ∷ l) x (Memᴰ.tail m) = let p = member-at l x m in (suc p.0, omega (arith, p.1), p.2)
 

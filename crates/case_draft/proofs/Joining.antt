@@ -87,6 +87,7 @@ module _ (d : Description) (b : Bounded d.sections d.points d.trains) where
 
   ends-known : (js : List JoinLine) → Every (KnownJoin d) js → (e : EndField) → Memᴰ e (join_ends js) → known d e ≡ true
   unfolding join_ends
+  ends-known [] h e x'' = elim x'' [ ]
   ends-known (j ∷ js) h e (Memᴰ.head p) = rw p (h j (Memᴰ.head refl)).0
   ends-known (j ∷ js) h e (Memᴰ.tail (Memᴰ.head p)) = rw p (h j (Memᴰ.head refl)).1
   ends-known (j ∷ js) h e (Memᴰ.tail (Memᴰ.tail m)) = ends-known js (λ x m. h x (Memᴰ.tail m)) e m

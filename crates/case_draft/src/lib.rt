@@ -1,6 +1,7 @@
 // What a reader keeps of a case text on its way: the record as it is built, line by line, beside four flags for what the record cannot show.
 // The types are declared here; specs/ has what each line makes of a draft and what a draft is answered with, proofs/ that it is the text's answer.
 #![tactic(auto)]
+
 ghost use Rattle.std.specs.Prelude.{◌≡◌, true, false};
 ghost use Rattle.railway.specs.Rows.{wrong_weight};
 ghost use Rattle.case_file.specs.Form.{said_weight};
