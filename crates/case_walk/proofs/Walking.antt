@@ -255,6 +255,50 @@ module _ (s : List ℕ) where
         → lines_got x ≡ then (lines_got (lines_so_far start from)) (λ d c. rest_into s start c d)
     left-done h b e x f = rw (f, e) (done_at h)
 
+  -- HOW MANY TURNS ARE LEFT at most, by the walk and the place alone: none behind a line that was not in form
+  pub turns_left : ℕ → Walk → ℕ
+  turns_left at w = cond w.good (suc (cond (counted w.kind) (w.count - w.read) (length s - at))) 0
+
+  left-bad : (b : ℕ) (r : Walk) → r.good ≡ false → turns_left b r ≡ 0
+  unfolding turns_left
+  left-bad b r h = rw h
+
+  left-good : (b : ℕ) (r : Walk) → r.good ≡ true → turns_left b r ≡ suc (cond (counted r.kind) (r.count - r.read) (length s - b))
+  unfolding turns_left
+  left-good b r h = rw h
+
+  module _ (at : ℕ) (w : Walk) (b : goes_onward s at w ≡ true) (x : Lines) (h : lines_got x ≡ due_into s at w) where
+    fewer : lines_got x ≡ got x.draft x.next.at
+        → cond (counted w.kind) (w.count - number_due w) (length s - x.next.at) < cond (counted w.kind) (w.count - w.read) (length s - at)
+    fewer g =
+        let p : (w.good ≡ true) × (another s at w.read w.count w.kind ≡ true) = and-true _ _ b in
+        elim (bool? (counted w.kind)) [
+          | inl y ↦
+              let z : ltb w.read w.count ≡ true = rw y at p.1 in
+              let l = ltb-true w.read w.count z in
+              let n : number_due w ≡ w.read + 1 = rw z in
+              rw (y, n) (omega arith)
+          | inr y ↦
+              let q : begins w.kind at ≡ true = rw y at p.1 in
+              let i = begins-inside w.kind at q in
+              let f = (lawful w.kind).forward y at x.next.at w.draft x.draft (sym ((lawful w.kind).unnumbered y (number_due w) at w.draft) ∙ sym h ∙ g) i in
+              rw y (omega arith)
+        ]
+
+    -- each turn leaves fewer
+    pub turns-fall : turns_left x.next.at (with_line w x) < turns_left at w
+    turns-fall =
+        let p = and-true _ _ b in
+        let y = left-good at w p.0 in
+        elim (bool? x.good) [
+          | inl g ↦
+              let e : lines_got x ≡ got x.draft x.next.at = rw g in
+              let f = fewer e in
+              let z = left-good x.next.at (with_line w x) g in
+              omega arith
+          | inr g ↦ let z = left-bad x.next.at (with_line w x) g in omega arith
+        ]
+
 -- A WALK OF WHICH NOTHING IS READ has all lines of its kind left
 pub rest_all : (s : List ℕ) (kind : Kind) (count : ℕ) (before : Lines)
     → then (lines_got before) (λ d c. rest_into s

@@ -2,6 +2,7 @@
 // behind each; nothing else on the way knows the place. A struct that holds a slice is taken apart by few functions, and each calls one that has
 // the slice and the place as parameters; other crates call `first_line` and `lines_of`. Any bytes may come in, and any place.
 #![tactic(auto)]
+
 ghost use Rattle.std.specs.Prelude.{◌≡◌};
 ghost use Rattle.text.specs.Reading.{then};
 ghost use Rattle.case_file.specs.Reading.{header_at};
