@@ -2,6 +2,7 @@
 // promise, they promise of every accepted railway whose table is handed in (crate `railway_compiled`), and beside it that of its ways where points matter
 // (crate `railway_routes`). A placement goes by its code, or by value with the section of each train.
 #![tactic(auto)]
+
 ghost use Rattle.std.specs.Prelude.{◌≡◌, cond, ℕ, ◌+◌, ◌*◌, ◌/◌, ◌%◌, ◌≤◌, ◌<◌, ltb};
 ghost use Rattle.std.proofs.Math.Option.{some};
 ghost use Rattle.laws.specs.Below.{any_below};
