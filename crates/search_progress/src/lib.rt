@@ -1,6 +1,7 @@
 // How far a search has come, for a program that tells it while it searches: how many placements have a figure so far and which is the largest, read
 // off the figure table; and the line that says so, put whole at the front of a lent buffer, or refused for want of room.
 #![tactic(auto)]
+
 ghost use Rattle.std.specs.Prelude.{◌≡◌, List, ℕ, suc, ◌<◌, get_or};
 ghost use Rattle.text.specs.Appending.{Appended};
 ghost use Rattle.game_tables.specs.Tables.{no_figure};
