@@ -14,8 +14,8 @@ use borrow.Author.Tests.{eq-eqb, ne_eqb, lt-ltb, le-ltb}
 use Rattle.laws.proofs.Bools.{lt?}
 use Rattle.text.specs.Text.{bytes}
 use Rattle.desk_lines.specs.Changes.{starts_with, is_change, CutChanges}
+
 -- (Examples is named so that it is checked before: a wrong definition then shows at a computed value.)
-use Rattle.desk_lines.proofs.Examples as Examples
 
 -- THE WORD, from place i on
 pub record WordTo (word l : List ℕ) (i : ℕ) : Type 0 where

@@ -22,8 +22,8 @@ use Rattle.game_placement.specs.declared.Placement.{Placement}
 use Rattle.game_placement.specs.ByValue.{section_in}
 use Rattle.plan_lines.specs.Spelling.{point_piece}
 use Rattle.desk_lines.specs.Panel.{spaced, train_piece, points_part, state_line, home_line, most_state_bytes}
+
 -- (Examples is named so that it is checked before: a wrong definition then shows at a computed value.)
-use Rattle.desk_lines.proofs.Examples as Examples
 
 -- A TRAIN, by its bit
 module _ (q : Placement) (v t x : ℕ) (b : Bool) {o o₁ o₂ o₃ o₄ o₅ : List ℕ} {a a₁ a₂ a₃ a₄ a₅ : ℕ} (on : x ≡ section_in q t) (is : b ≡ opens_in v t)

@@ -22,8 +22,8 @@ use Rattle.text.specs.Answers.{byte_got, byte_inside}
 use Rattle.text.proofs.Chain.{fails, goes, byte-fails, byte-goes}
 use Rattle.text.proofs.Decimal.{digits-short}
 use Rattle.desk_lines.specs.Reports.{Told, Spells, end_at, report_at, report_in, ReadsExactly, CutReads, place_of}
+
 -- (Examples is named so that it is checked before: a wrong definition then shows at a computed value.)
-use Rattle.desk_lines.proofs.Examples as Examples
 
 -- WHAT IS READ is written
 ended : (s : List ℕ) (x y : Told) (c e : ℕ) (b : Bool) → ltb e (length s) ≡ b → cond b bad (got x e) ≡ got y c → (length s ≤ e) × (x ≡ y)

@@ -1,6 +1,7 @@
 // The lines of program deskrun. What it writes for a state: where each train stands, and `open` behind those whose signal is to be opened; the figure that is left; how the points are
 // to lie. `home` stands for the last. What it reads: a report, train and section; or a change of case, with the name of a file. All functions are total.
 #![tactic(auto)]
+
 ghost use Rattle.std.specs.Prelude.{◌≡◌};
 ghost use Rattle.laws.specs.Below.{gather_below};
 ghost use Rattle.text.specs.Appending.{Appended};
