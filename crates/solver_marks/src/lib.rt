@@ -2,6 +2,7 @@
 // one, and behind all of these the largest figure in it, or a larger one. So a solver passes by the stretches where a round has nothing to do, and by the
 // rounds that are due nowhere. No function asks for anything; what they promise holds of a list with room for all stretches.
 #![tactic(auto)]
+
 ghost use Rattle.std.specs.Prelude.{◌≡◌, ℕ, ◌+◌, ◌≤◌, ◌<◌, get_or};
 ghost use Rattle.railway.specs.Bounds.{most_trains};
 ghost use Rattle.game_tables.specs.Tables.{no_figure};
