@@ -26,6 +26,7 @@ use Rattle.case_reader.proofs.Claims.{reader-accepts, reader-refuses, reader-set
 
 -- THE YARDS. The reader gives of each text in the table the yard that stands beside it; so train 2 of the last one heads down.
 each_read : (xs : List YardText) → AllAccepted xs → (x : YardText) → Memᴰ x xs → (a : CaseRead) → ReaderPost (bytes x.text) a → a ≡ accepted x.yard
+each_read [] h x x5 a p = elim x5 [ ]
 each_read (y ∷ ys) h x (Memᴰ.head e) a p = rw e ((reader-accepts (bytes y.text) a (rw (← e) p) y.yard).1 h.0)
 each_read (y ∷ ys) h x (Memᴰ.tail m) a p = each_read ys h.1 x m a p
 

@@ -2,6 +2,7 @@
 // line (`case_walk`). The record is built on the way, beside four flags for what it cannot show: a weight that no train may have, a name that is not
 // there, a join that may not be, a signal or a closed section named twice. Any bytes may come in, of any length.
 #![tactic(auto)]
+
 ghost use Rattle.std.specs.Prelude.{◌≡◌, false};
 ghost use Rattle.text.specs.Reading.{then};
 ghost use Rattle.case_file.specs.Given.{refused, ReaderPost};

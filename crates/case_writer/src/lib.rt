@@ -1,6 +1,7 @@
 // The writer of a case file: a record is tested, its text is made in a buffer of its own and copied into the lent one if it fits there.
 // A refused record or a short buffer leaves every byte of the lent one as it was.
 #![tactic(auto)]
+
 ghost use Rattle.std.specs.Prelude.{◌≡◌, [], ◌∷◌, ◌++◌, suc};
 ghost use Rattle.laws.specs.Below.{gather_below};
 ghost use Rattle.text.specs.Text.{decimal, line};
