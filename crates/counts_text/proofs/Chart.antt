@@ -2,7 +2,7 @@
 -- Assumes nothing.
 use mathlib.Core.Path.{◌≡◌, refl, sym, ◌∙◌, ap, subst}
 use mathlib.Core.Logic.{inl, inr}
-use mathlib.Core.Bool.{Bool, true, false}
+use mathlib.Core.Bool.{true, false}
 use mathlib.Core.List.{List, [], ◌∷◌, ◌++◌, append_assoc}
 use Prim.Native.Nat.{ℕ, zero, suc, ◌+◌, ◌*◌, ◌-◌, ◌/◌, ◌≤◌, ◌<◌}
 use native.Mathlib.Omega.{arith}
@@ -19,8 +19,8 @@ use Rattle.text.proofs.Appending.{append-none, append-then, line-more, line-last
 use Rattle.text.proofs.Decimal.{digits-length}
 use Rattle.search_progress.specs.declared.Progress.{Progress}
 use Rattle.counts_text.specs.Chart.{named, head_text, marks, mark_piece, bar, row_text, rows, span, first_of, label, together, figure_row, more_row, counts_text, chart_bytes, RowsCover}
+
 -- (Examples is named so that it is checked before: a wrong definition then shows at a computed value.)
-use Rattle.counts_text.proofs.Examples as Examples
 
 -- A BAR
 pub marks-part : (c h : ℕ) → c < h → (c * 40 + (h - 1)) / h ≡ marks c h

@@ -1,7 +1,6 @@
 -- The text written out, by computation: Yard A's counts, and rows and bars of others. Assumes nothing.
 use mathlib.Core.Path.{◌≡◌, refl}
-use mathlib.Core.List.{List, [], ◌∷◌, ◌++◌}
-use Prim.Native.Nat.{ℕ}
+use mathlib.Core.List.{[], ◌∷◌, ◌++◌}
 use lib.ListN.{replicate}
 use Rattle.laws.specs.Below.{sum_below, gather_below}
 use Rattle.text.specs.Text.{digits, line, bytes}

@@ -1,6 +1,7 @@
 // The text of program showcounts, put into a lent buffer at a cursor: how many placements there are, how many lead home and how many do not, the largest figure; then rows of figures that
 // some placement has, with a bar each. All functions are total: a byte that finds no room is lost.
 #![tactic(auto)]
+
 ghost use Rattle.std.specs.Prelude.{◌≡◌, [], ◌∷◌, ◌++◌, ◌≤◌};
 ghost use Rattle.laws.specs.Below.{gather_below};
 ghost use Rattle.text.specs.Text.{decimal, tab, line};

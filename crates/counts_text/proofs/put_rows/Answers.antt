@@ -1,0 +1,29 @@
+-- `counts_text::put_rows` meets its contract. The loop's invariant: the rows before b are written, and the buffer is as long as it was.
+-- Assumes nothing.
+use native.Mathlib.Omega.{arith}
+use mathlib.Core.Path.{refl, ◌∙◌}
+use Rattle.text.proofs.Appending.{pieces_none, pieces-next, pieces-all}
+use Rattle.counts_text.specs.Chart.{figure_row, rows}
+use Rattle.counts_text.proofs.Chart.{first_small}
+use Rattle.counts_text.proofs.put_rows.Goals as goal
+
+pub loop-b-init : goal.loop-b-init
+loop-b-init c = (pieces_none (figure_row c.args.h c.args.s c.args.counts.now), omega arith, refl)
+
+pub overflow_mul-b : goal.overflow_mul-b
+overflow_mul-b c = omega (arith, first_small c.args.s c.loop-b.b (omega arith) c.loop-b-test.true)
+
+pub put_row-next-requires : goal.put_row-next-requires
+put_row-next-requires c = first_small c.args.s c.loop-b.b (omega arith) c.loop-b-test.true
+
+pub loop-b-preserved : goal.loop-b-preserved
+loop-b-preserved c = (
+  pieces-next (figure_row c.args.h c.args.s c.args.counts.now) c.loop-b.b c.loop-b.invariant.0 c.put_row-next.ensures,
+  omega arith,
+  c.put_row-next.auto.out ∙ c.loop-b.invariant.2,
+)
+
+pub returns : goal.returns
+returns c =
+    pieces-all (figure_row c.args.h c.args.s c.args.counts.now) c.loop-b.b rows c.loop-b.invariant.1
+    c.loop-b-test.false c.loop-b.invariant.0
