@@ -16,8 +16,8 @@ use Rattle.railway.specs.declared.End.{End}
 use Rattle.railway.specs.declared.End.TheVariants.{Section, Port}
 use Rattle.railway.specs.Bounds.{most_sections, most_points, section_ends, all_ends}
 use Rattle.railway.specs.Ends.{Numbered, side_index, leg_index, end_index, side_at, leg_at, end_at}
+
 -- (ByteValues is named so that it is checked before: a wrong definition then shows at a computed value.)
-use Rattle.railway.proofs.ByteValues as ByteValues
 
 pub side-small : (s : Side) → side_index s < 2
 side-small Down = omega arith

@@ -31,8 +31,8 @@ use Rattle.railway.specs.Rows.{unknown_row, join_row, loose_row, chain_row, doub
 use Rattle.railway.specs.Chains.{Joinable}
 use Rattle.railway.proofs.Ends.{end-index, index-one, numbered_of}
 use Rattle.railway.proofs.Refusals.{refuse-none}
+
 -- (Examples is named so that it is checked before: a wrong definition then shows at a record's number.)
-use Rattle.railway.proofs.Examples as Examples
 
 -- counts within their bounds
 pub record Bounded (s p k : ℕ) : Type 0 where

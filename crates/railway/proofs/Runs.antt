@@ -36,8 +36,8 @@ use Rattle.railway.specs.Record.{joined, legs_of, side_of}
 use Rattle.railway.specs.Passing.{through}
 use Rattle.railway.specs.Chains.{left_by, Round}
 use Rattle.railway.proofs.Rows.{Laid, laid-known, laid-right, laid-back}
+
 -- (PassingExamples is named so that it is checked before: a wrong definition then shows at a computed value.)
-use Rattle.railway.proofs.PassingExamples as PassingExamples
 
 -- SIDES
 pub other-side : (a b : Side) → same_side a b ≡ false → b ≡ opposite a

@@ -1,6 +1,5 @@
 -- `railway::closed_in` meets its contract: a flag of the closed sections, and none past them.
 -- Assumes nothing.
-use borrow.Author.Rules.{rules}
 use Rattle.railway.proofs.Lookups.{lent-closed, closed_none}
 use Rattle.railway.proofs.closed_in.Goals as goal
 

@@ -1,6 +1,5 @@
 -- `railway::end_at` meets its contract: below the last section end a section's end, from there on a port.
 -- Assumes nothing.
-use borrow.Author.Rules.{rules}
 use borrow.Author.Tests.{lt-ltb, le-ltb}
 use Rattle.railway.specs.Ends.{end_at}
 use Rattle.railway.specs.Bounds.{section_ends}

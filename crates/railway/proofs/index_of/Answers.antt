@@ -1,7 +1,6 @@
 -- `railway::index_of` meets its contract: in each arm the index is computed as `endIndex` says, by the laws of ends.
 -- Assumes nothing.
 use native.Mathlib.Omega.{arith}
-use borrow.Author.Rules.{rules}
 use Rattle.railway.proofs.Ends.{side-small, leg-small, section-index, section-past, port-index, port-past}
 use Rattle.railway.proofs.index_of.Goals as goal
 

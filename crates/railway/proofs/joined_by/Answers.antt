@@ -1,7 +1,6 @@
 -- `railway::joined_by` meets its contract: below the number of all ends the end of the byte, from there on nothing.
 -- Assumes nothing.
 use mathlib.Core.Path.{sym, ◌∙◌, ap}
-use borrow.Author.Rules.{rules}
 use Rattle.railway.specs.declared.Joined.TheVariants.{With}
 use Rattle.railway.proofs.Bytes.{byte-there, byte_past}
 use Rattle.railway.proofs.joined_by.Goals as goal

@@ -1,6 +1,5 @@
 -- `railway::link_in` meets its contract: a byte of the links, or the one for no join past them.
 -- Assumes nothing.
-use borrow.Author.Rules.{rules}
 use Rattle.railway.proofs.Lookups.{lent-link, lent-no-link}
 use Rattle.railway.proofs.link_in.Goals as goal
 

@@ -1,6 +1,5 @@
 -- `railway::signal_in` meets its contract: a flag of the signals, and none past them.
 -- Assumes nothing.
-use borrow.Author.Rules.{rules}
 use Rattle.railway.proofs.Lookups.{lent-flag, lent-no-flag}
 use Rattle.railway.proofs.signal_in.Goals as goal
 

@@ -1,6 +1,5 @@
 -- `text::byte_at` meets its contract: inside the text the byte is looked at, past its end nothing stands.
 -- Assumes nothing.
-use borrow.Author.Rules.{rules}
 use Rattle.text.proofs.Numbers.{byte-there, byte-other, byte_past}
 use Rattle.text.proofs.byte_at.Goals as goal
 

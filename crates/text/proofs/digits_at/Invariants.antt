@@ -1,15 +1,10 @@
 -- `text::digits_at` meets its contract. The loop's invariant: what is to be read from here on is what was to be read
 -- where the loop began, and the number so far has no more digits than were read. The measure is the digits that may
 -- still come. Assumes nothing.
-use borrow.Author.Rules.{rules}
-use native.Mathlib.Omega.{arith}
-use mathlib.Core.Path.{◌≡◌, refl, sym, ◌∙◌}
-use mathlib.Core.Bool.{true}
+use mathlib.Core.Path.{◌≡◌}
 use Prim.Native.Nat.{◌≤◌, ◌<◌, ◌-◌, ◌^◌}
 use lib.ListN.{length}
-use Rattle.text.specs.Reading.{is_digit, digits_at}
-use Rattle.text.proofs.Decimal.{digit-is}
-use Rattle.text.proofs.Numbers.{digit-inside, digits-next, digits-stop, digits-out, small-next, small-enough}
+use Rattle.text.specs.Reading.{digits_at}
 use Rattle.text.proofs.digits_at.Given as goal
 
 abbrev pub invariant-loop-left : goal.invariant-loop-left

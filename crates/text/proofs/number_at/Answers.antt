@@ -9,7 +9,6 @@ use lib.ListN.{length}
 use Rattle.text.specs.Reading.{is_digit}
 use Rattle.text.proofs.Decimal.{digit-is}
 use Rattle.text.proofs.Numbers.{width_small, digit-inside, number-none, number-zero, number-first, small-first}
-use borrow.Author.Rules.{rules}
 use Rattle.text.proofs.number_at.Goals as goal
 
 pub overflow_add-at : goal.overflow_add-at

@@ -1,6 +1,5 @@
 -- `text::peek` meets its contract: the byte inside the text, and 0 past its end.
 -- Assumes nothing.
-use borrow.Author.Rules.{rules}
 use Rattle.text.proofs.Numbers.{past_end}
 use Rattle.text.proofs.peek.Goals as goal
 

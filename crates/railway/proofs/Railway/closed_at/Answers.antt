@@ -1,6 +1,5 @@
 -- `railway::Railway::closed_at` meets its contract: past the table no section is closed.
 -- Assumes nothing.
-use borrow.Author.Rules.{rules}
 use Rattle.railway.proofs.Lookups.{closed-there, closed_none}
 use Rattle.railway.proofs.Railway.closed_at.Goals as goal
 

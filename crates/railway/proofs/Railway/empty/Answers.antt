@@ -1,7 +1,6 @@
 -- `railway::Railway::empty` meets its contract: the record is the empty one by computation, with the train that
 -- `no_train` answers. Assumes nothing.
 use mathlib.Core.Path.{refl}
-use borrow.Author.Rules.{rules}
 use Rattle.railway.proofs.Railway.empty.Goals as goal
 
 pub returns : goal.returns

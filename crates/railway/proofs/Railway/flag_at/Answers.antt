@@ -1,6 +1,5 @@
 -- `railway::Railway::flag_at` meets its contract: past the table stands no signal.
 -- Assumes nothing.
-use borrow.Author.Rules.{rules}
 use native.Mathlib.Omega.{arith}
 use Rattle.railway.proofs.Arrays.{signals-length}
 use Rattle.railway.proofs.Lookups.{flag-past}

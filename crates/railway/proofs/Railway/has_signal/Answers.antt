@@ -1,6 +1,5 @@
 -- `railway::Railway::has_signal` meets its contract: it is read by the end's index, and past the table stands no
 -- signal. Assumes nothing.
-use borrow.Author.Rules.{rules}
 use mathlib.Core.Path.{◌∙◌}
 use Rattle.railway.proofs.Arrays.{signals-length}
 use Rattle.railway.proofs.Lookups.{signal-read}

@@ -1,6 +1,5 @@
 -- `railway::Railway::joined` meets its contract: it is read by the end's index, and past the table nothing is joined.
 -- Assumes nothing.
-use borrow.Author.Rules.{rules}
 use mathlib.Core.Path.{◌∙◌}
 use Rattle.railway.proofs.Arrays.{links-length}
 use Rattle.railway.proofs.Lookups.{joined-read}

@@ -1,6 +1,5 @@
 -- `railway::Railway::legs_of` meets its contract: a point that is there has its legs, any other legs up.
 -- Assumes nothing.
-use borrow.Author.Rules.{rules}
 use native.Mathlib.Omega.{arith}
 use Rattle.railway.proofs.Arrays.{legs-length}
 use Rattle.railway.proofs.Lookups.{legs-there, legs-none, legs-past}

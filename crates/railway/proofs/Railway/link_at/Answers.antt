@@ -1,6 +1,5 @@
 -- `railway::Railway::link_at` meets its contract: the byte's end is answered, and past the table nothing is joined.
 -- Assumes nothing.
-use borrow.Author.Rules.{rules}
 use native.Mathlib.Omega.{arith}
 use Rattle.railway.proofs.Arrays.{links-length}
 use Rattle.railway.proofs.Lookups.{link-read, link-past}

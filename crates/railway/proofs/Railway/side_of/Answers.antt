@@ -1,6 +1,5 @@
 -- `railway::Railway::side_of` meets its contract: a section's end by itself, a port by the legs of its point.
 -- Assumes nothing.
-use borrow.Author.Rules.{rules}
 use Rattle.railway.proofs.Railway.side_of.Goals as goal
 
 pub returns-in-Port : goal.returns-in-Port

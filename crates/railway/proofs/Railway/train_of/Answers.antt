@@ -1,6 +1,5 @@
 -- `railway::Railway::train_of` meets its contract: a train that is there, or what stands for none.
 -- Assumes nothing.
-use borrow.Author.Rules.{rules}
 use native.Mathlib.Omega.{arith}
 use mathlib.Core.Path.{◌∙◌}
 use Rattle.railway.proofs.Arrays.{roster-length}

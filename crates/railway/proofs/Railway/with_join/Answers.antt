@@ -1,6 +1,5 @@
 -- `railway::Railway::with_join` meets its contract: both directions are set where both ends have an index, else nothing
 -- is. Assumes nothing.
-use borrow.Author.Rules.{rules}
 use mathlib.Core.Path.{refl}
 use Rattle.railway.proofs.Updates.{join-both, join-first-out, join-second-out}
 use Rattle.railway.proofs.Railway.with_join.Goals as goal

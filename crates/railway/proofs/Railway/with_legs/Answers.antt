@@ -1,6 +1,5 @@
 -- `railway::Railway::with_legs` meets its contract: the store where the point is one that a railway can have, else
 -- nothing. Assumes nothing.
-use borrow.Author.Rules.{rules}
 use mathlib.Core.Path.{refl}
 use Rattle.railway.proofs.Updates.{legs-set, legs-out}
 use Rattle.railway.proofs.Railway.with_legs.Goals as goal

@@ -1,6 +1,5 @@
 -- `railway::Railway::with_signal` meets its contract: the flag set where the end is a section's that a railway can
 -- have, else nothing. Assumes nothing.
-use borrow.Author.Rules.{rules}
 use mathlib.Core.Path.{refl}
 use Rattle.railway.proofs.Updates.{signal-added, signal-out}
 use Rattle.railway.proofs.Railway.with_signal.Goals as goal

@@ -1,6 +1,5 @@
 -- `railway::Railway::with_train` meets its contract: the store where the train is one that a railway can have, else
 -- nothing. Assumes nothing.
-use borrow.Author.Rules.{rules}
 use mathlib.Core.Path.{refl}
 use Rattle.railway.proofs.Updates.{train-set, train-out}
 use Rattle.railway.proofs.Railway.with_train.Goals as goal

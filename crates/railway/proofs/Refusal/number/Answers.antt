@@ -1,5 +1,4 @@
 -- `railway::Refusal::number` meets its contract: a refusal's number, by the variant that was met. Assumes nothing.
-use borrow.Author.Rules.{rules}
 use Rattle.railway.proofs.Refusal.number.Goals as goal
 
 pub returns-in-Length : goal.returns-in-Length

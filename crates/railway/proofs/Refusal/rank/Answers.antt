@@ -1,6 +1,5 @@
 -- `railway::Refusal::rank` meets its contract: a refusal's place in the order, by the variant that was met.
 -- Assumes nothing.
-use borrow.Author.Rules.{rules}
 use Rattle.railway.proofs.Refusal.rank.Goals as goal
 
 pub returns-in-Length : goal.returns-in-Length

@@ -1,6 +1,5 @@
 -- `text::append::byte` meets its contract: the store where there is room, else nothing.
 -- Assumes nothing.
-use borrow.Author.Rules.{rules}
 use Rattle.text.proofs.Appending.{append-room, append-full}
 use Rattle.text.proofs.append.byte.Goals as goal
 

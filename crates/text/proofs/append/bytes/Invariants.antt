@@ -1,12 +1,9 @@
 -- `text::append::bytes` meets its contract. The loop's invariant: the bytes before i are written, and the buffer is as
 -- long as it was. Assumes nothing.
-use native.Mathlib.Omega.{arith}
-use borrow.Author.Rules.{rules}
 use Prim.Native.Nat.{◌≤◌, ◌-◌}
-use mathlib.Core.Path.{◌≡◌, refl, ◌∙◌}
+use mathlib.Core.Path.{◌≡◌}
 use lib.ListN.{length, take}
 use Rattle.text.specs.Appending.{Appended}
-use Rattle.text.proofs.Appending.{append-none, append-next, append-all}
 use Rattle.text.proofs.append.bytes.Given as goal
 
 abbrev pub invariant-loop-i : goal.invariant-loop-i

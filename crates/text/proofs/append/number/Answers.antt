@@ -1,7 +1,6 @@
 -- `text::append::number` meets its contract: one digit or two, or the digits, and the byte behind them.
 -- Assumes nothing.
 use Rattle.text.proofs.Appending.{append-then, number-one, number-two}
-use borrow.Author.Rules.{rules}
 use Rattle.text.proofs.append.number.Goals as goal
 
 pub returns-then-n-lt10 : goal.returns-then-n-lt10

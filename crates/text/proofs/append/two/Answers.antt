@@ -1,6 +1,5 @@
 -- `text::append::two` meets its contract: one byte behind the other.
 -- Assumes nothing.
-use borrow.Author.Rules.{rules}
 use Rattle.text.proofs.Appending.{append-then}
 use Rattle.text.proofs.append.two.Goals as goal
 
