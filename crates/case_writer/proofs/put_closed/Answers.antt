@@ -1,6 +1,5 @@
 -- `case_writer::put_closed` meets its contract: the X line, or nothing.
 -- Assumes nothing.
-use borrow.Author.Rules.{rules}
 use Rattle.case_writer.proofs.Lines.{closed_none, closed-line}
 use Rattle.case_writer.proofs.put_closed.Goals as goal
 

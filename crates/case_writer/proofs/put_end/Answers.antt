@@ -1,6 +1,5 @@
 -- `case_writer::put_end` meets its contract: a number and a letter, for a section's end and for a point's port.
 -- Assumes nothing.
-use borrow.Author.Rules.{rules}
 use Rattle.case_writer.proofs.Lines.{section-end, port-end}
 use Rattle.case_writer.proofs.put_end.Goals as goal
 

@@ -1,6 +1,5 @@
 -- `case_writer::put_header` meets its contract: the fields of the H line, one behind the other.
 -- Assumes nothing.
-use borrow.Author.Rules.{rules}
 use Rattle.case_writer.proofs.Lines.{header-line}
 use Rattle.case_writer.proofs.put_header.Goals as goal
 

@@ -1,6 +1,5 @@
 -- `case_writer::put_join` meets its contract: nothing where there is no join or the other end comes first, else the J line.
 -- Assumes nothing.
-use borrow.Author.Rules.{rules}
 use Rattle.case_writer.proofs.Lines.{join-none, join-earlier, join-line}
 use Rattle.case_writer.proofs.put_join.Goals as goal
 

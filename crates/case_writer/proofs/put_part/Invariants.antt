@@ -1,13 +1,10 @@
 -- `case_writer::put_part` meets its contract. The loop's invariant: the pieces before i are written, and the buffer is as long as it was.
 -- Assumes nothing.
-use native.Mathlib.Omega.{arith}
-use borrow.Author.Rules.{rules}
 use Prim.Native.Nat.{◌≤◌, ◌-◌}
-use mathlib.Core.Path.{◌≡◌, refl, ◌∙◌}
+use mathlib.Core.Path.{◌≡◌}
 use lib.ListN.{length}
 use Rattle.laws.specs.Below.{gather_below}
 use Rattle.text.specs.Appending.{Appended}
-use Rattle.text.proofs.Appending.{pieces_none, pieces-next, pieces-all}
 use Rattle.case_writer.specs.Pieces.{piece_of}
 use Rattle.case_writer.proofs.put_part.Given as goal
 

@@ -1,6 +1,5 @@
 -- `case_writer::put_piece` meets its contract: a line of the part, made of what the record says.
 -- Assumes nothing.
-use borrow.Author.Rules.{rules}
 use Rattle.case_writer.proofs.Lines.{point-piece, join-piece, signal-piece, closed-piece, train-piece}
 use Rattle.case_writer.proofs.put_piece.Goals as goal
 

@@ -1,6 +1,5 @@
 -- `case_writer::put_point` meets its contract: the fields of the P line, one behind the other.
 -- Assumes nothing.
-use borrow.Author.Rules.{rules}
 use Rattle.case_writer.proofs.Lines.{point-line}
 use Rattle.case_writer.proofs.put_point.Goals as goal
 

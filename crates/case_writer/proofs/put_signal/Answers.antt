@@ -1,6 +1,5 @@
 -- `case_writer::put_signal` meets its contract: the G line, or nothing.
 -- Assumes nothing.
-use borrow.Author.Rules.{rules}
 use Rattle.case_writer.proofs.Lines.{signal-none, signal-line}
 use Rattle.case_writer.proofs.put_signal.Goals as goal
 

@@ -1,6 +1,5 @@
 -- `case_writer::put_text` meets its contract: the first line and the parts, one behind the other, make the text.
 -- Assumes nothing.
-use borrow.Author.Rules.{rules}
 use Rattle.text.proofs.Appending.{append-then}
 use Rattle.case_writer.proofs.Pieces.{text-pieces}
 use Rattle.case_writer.proofs.put_text.Goals as goal

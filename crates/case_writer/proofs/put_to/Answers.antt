@@ -1,6 +1,5 @@
 -- `case_writer::put_to` meets its contract: the destination, and the weight behind it or the end of the line.
 -- Assumes nothing.
-use borrow.Author.Rules.{rules}
 use Rattle.case_writer.proofs.Lines.{weight-omitted, weight-put}
 use Rattle.case_writer.proofs.put_to.Goals as goal
 

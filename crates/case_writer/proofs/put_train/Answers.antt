@@ -1,6 +1,5 @@
 -- `case_writer::put_train` meets its contract: the fields of the T line, one behind the other.
 -- Assumes nothing.
-use borrow.Author.Rules.{rules}
 use Rattle.case_writer.proofs.Lines.{train-line}
 use Rattle.case_writer.proofs.put_train.Goals as goal
 

@@ -1,7 +1,6 @@
 -- `case_writer::write_case` meets its contract: the record's refusal, or the text made, and then space or the copy. What is copied is what was made,
 -- since an accepted record's text fits into the buffer that it is made in.
 -- Assumes nothing.
-use borrow.Author.Rules.{rules}
 use mathlib.Core.Path.{refl}
 use Rattle.text.proofs.Appending.{front_fits, front_cut}
 use Rattle.case_writer.proofs.Written.{record-refused, space-refused, case-written}
