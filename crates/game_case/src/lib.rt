@@ -1,6 +1,7 @@
 // A case handed in with two lent tables: judged by the rows of the record, then 9, and compiled where none applies. Solver, emitter and checker begin with it; the ways are made
 // apart, for calls that ask where moves lead.
 #![tactic(auto)]
+
 ghost use Rattle.std.specs.Prelude.{◌≡◌, replicate};
 ghost use Rattle.railway.specs.declared.Refusal.TheVariants.{Space};
 ghost use Rattle.railway.specs.declared.CaseAnswer.TheVariants.{Refused};
