@@ -1,6 +1,7 @@
 // The checker of a plan: a call for each line, into two lent tables, and a call for the test after the last. Each call takes a record and tests it
 // again, takes the checker by value and hands the next one back beside its answer. What is refused leaves checker and tables as they were.
 #![tactic(auto)]
+
 ghost use Rattle.std.specs.Prelude.{◌≡◌, List, ◌++◌, ℕ, ◌≤◌, ◌<◌, length, drop, set, replicate};
 ghost use Rattle.std.proofs.Math.Option.{none};
 ghost use Rattle.railway.specs.declared.Railway.{Railway};

@@ -1,6 +1,7 @@
 // The emitter: a line of the plan a call, or as many as have room, from two tables into a lent buffer. A line is made in a buffer of its own and copied
 // if the lent one has room for it; every other answer leaves the lent one as it was, and bytes past what is written stay.
 #![tactic(auto)]
+
 ghost use Rattle.std.specs.Prelude.{◌≡◌, true, suc, ◌+◌, ◌<◌, leb};
 ghost use Rattle.std.proofs.Math.Option.{none, get_or};
 ghost use Rattle.laws.specs.Below.{lowest};

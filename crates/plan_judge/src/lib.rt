@@ -2,6 +2,7 @@
 // total: a code past a table has no figure, and its setting is zero. What they promise, they promise of every railway whose table and
 // ways are handed in.
 #![tactic(auto)]
+
 ghost use Rattle.std.specs.Prelude.{◌≡◌, ℕ, ◌<◌};
 ghost use Rattle.std.proofs.Math.Option.{some};
 ghost use Rattle.laws.specs.Below.{all_below, any_below};

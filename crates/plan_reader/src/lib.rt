@@ -3,6 +3,7 @@
 // need not be looked for first and nothing is read twice. Any bytes of any length may come in. What is promised is promised of every accepted
 // railway whose table is handed in (crate `railway_compiled`).
 #![tactic(auto)]
+
 ghost use Rattle.std.specs.Prelude.{◌≡◌, ◌≤◌};
 ghost use Rattle.std.proofs.Math.Option.{none};
 ghost use Rattle.text.specs.Answers.{more_digits, number_got};

@@ -2,6 +2,7 @@
 // same number, and nothing has changed then. Else one pass over the setting table leaves, at each listed placement that is not home, nobody open where some train is free, and else the
 // lowest train alone that may move. The checker comes back as it was, and may be handed more lines.
 #![tactic(auto)]
+
 ghost use Rattle.std.specs.Prelude.{◌≡◌, ℕ, ◌^◌, ◌+◌, ◌≤◌, ◌<◌, length, set};
 ghost use Rattle.laws.specs.Below.{lowest};
 ghost use Rattle.railway.specs.declared.Railway.{Railway};

@@ -1,0 +1,75 @@
+-- `plan_checker::Checker::take_lines` meets its contract. The loop's invariant: the lines taken so far, and those that are taken from the place reached on,
+-- are all that are taken. The place is where a line begins, so each turn reads a whole line; and what is taken was read, so that its end is known.
+-- Assumes nothing.
+use borrow.Author.Rules.{rules}
+use native.Mathlib.Omega.{arith}
+use mathlib.Core.Path.{◌≡◌, refl, ◌∙◌}
+use mathlib.Core.Option.{none}
+use Prim.Native.Nat.{◌-◌}
+use lib.ListN.{length, drop}
+use Rattle.railway.specs.declared.Railway.{Railway}
+use Rattle.game_tables.specs.Tables.{case_refusal}
+use Rattle.railway_compiled.specs.Table.{Compiled}
+use Rattle.plan.specs.FirstLine.{first_of}
+use Rattle.plan.specs.Several.{lines_of, front_of}
+use Rattle.plan_checker.specs.Answers.{checking}
+use Rattle.plan_checker.proofs.Lines.{LineAt, line_at, taken-end}
+use Rattle.plan_checker.proofs.Fronts.{some-small, line-taken, Fronting, fronting-start, fronting-over, fronting-stop, fronting-next}
+use Rattle.plan_checker.proofs.Checker.take_lines.Goals as goal
+
+pub loop-at-init : goal.loop-at-init
+loop-at-init c =
+    (
+      refl,
+      refl,
+      λ r h fine. fronting-start r c.args.text.now (checking c.args.self c.args.figures.now c.args.settings.now) fine,
+    )
+
+pub enter-taken-requires : goal.enter-taken-requires
+enter-taken-requires c = some-small c.requires (first_of (drop c.loop-at.at c.args.text.now)) _ (λ r h. (c.read_at-read.ensures r h).line)
+
+pub returns-in-Refused : goal.returns-in-Refused
+returns-in-Refused c =
+    let line : LineAt c.args.text.now c.loop-at.at = line_at c.args.text.now c.loop-at.at c.loop-at-test.true in
+    λ r h fine.
+    let text = c.args.text.now in
+    let k = checking c.loop-at.checker c.loop-at.figures c.loop-at.settings in
+    let f = c.loop-at.invariant.2 r h fine in
+    let w = line-taken r k (first_of (drop c.loop-at.at text)) _ _ f.fine (c.read_at-read.ensures r h).line
+    c.enter-taken.ensures in
+    fronting-stop r text _ c.loop-at.at k f line _ w _ c.in-Refused.is
+
+pub loop-at-smaller : goal.loop-at-smaller
+loop-at-smaller c =
+    let line : LineAt c.args.text.now c.loop-at.at = line_at c.args.text.now c.loop-at.at c.loop-at-test.true in
+    let k = checking c.loop-at.checker c.loop-at.figures c.loop-at.settings in
+    let here = line in
+    omega (
+      arith,
+      taken-end (c.read_at-read.ensures c.requires.railway c.requires.compiled) k _ _ c.enter-taken.ensures
+          c.in_default.is,
+      here.some,
+      here.within,
+    )
+
+pub loop-at-preserved : goal.loop-at-preserved
+loop-at-preserved c =
+    let line : LineAt c.args.text.now c.loop-at.at = line_at c.args.text.now c.loop-at.at c.loop-at-test.true in
+    let text = c.args.text.now in
+    let k = checking c.loop-at.checker c.loop-at.figures c.loop-at.settings in
+    let long₁ = c.enter-taken.auto.1.1.0 in
+    let long₂ = c.enter-taken.auto.1.1.1.0 in (
+      long₁ ∙ c.loop-at.invariant.0,
+      long₂ ∙ c.loop-at.invariant.1,
+      λ r h fine.
+          let f = c.loop-at.invariant.2 r h fine in
+          let read = c.read_at-read.ensures r h in
+          let w = line-taken r k (first_of (drop c.loop-at.at text)) _ _ f.fine read.line c.enter-taken.ensures in
+          let end = taken-end read k _ _ c.enter-taken.ensures c.in_default.is in
+          fronting-next r text _ c.loop-at.at k f line _ w _ end c.in_default.is long₁ long₂,
+    )
+
+pub returns : goal.returns
+returns c =
+    λ r h fine.
+    fronting-over r c.args.text.now _ c.loop-at.at (checking c.loop-at.checker c.loop-at.figures c.loop-at.settings) (c.loop-at.invariant.2 r h fine) c.loop-at-test.false

@@ -1,0 +1,27 @@
+-- `plan_checker::Checker::take_lines` meets its contract. The loop's invariant: the lines taken so far, and those that are taken from the place reached on,
+-- are all that are taken. The place is where a line begins, so each turn reads a whole line; and what is taken was read, so that its end is known.
+-- Assumes nothing.
+use borrow.Author.Rules.{rules}
+use native.Mathlib.Omega.{arith}
+use mathlib.Core.Path.{◌≡◌, refl, ◌∙◌}
+use mathlib.Core.Option.{none}
+use Prim.Native.Nat.{◌-◌}
+use lib.ListN.{length, drop}
+use Rattle.railway.specs.declared.Railway.{Railway}
+use Rattle.game_tables.specs.Tables.{case_refusal}
+use Rattle.railway_compiled.specs.Table.{Compiled}
+use Rattle.plan.specs.FirstLine.{first_of}
+use Rattle.plan.specs.Several.{lines_of, front_of}
+use Rattle.plan_checker.specs.Answers.{checking}
+use Rattle.plan_checker.proofs.Lines.{LineAt, line_at, taken-end}
+use Rattle.plan_checker.proofs.Fronts.{some-small, line-taken, Fronting, fronting-start, fronting-over, fronting-stop, fronting-next}
+use Rattle.plan_checker.proofs.Checker.take_lines.Given as goal
+
+abbrev pub invariant-loop-at : goal.invariant-loop-at
+invariant-loop-at l =
+    (length l.figures ≡ length l.initial.figures) × (length l.settings ≡ length l.initial.settings)
+    × ((r : Railway) → Compiled r l.table → case_refusal r l.initial.figures l.initial.settings ≡ none
+    → Fronting r l.text (front_of r (lines_of l.text) (checking l.initial.checker l.initial.figures l.initial.settings)) l.at (checking l.checker l.figures l.settings))
+
+abbrev pub decreases-loop-at : goal.decreases-loop-at
+decreases-loop-at l = length l.text - l.at
