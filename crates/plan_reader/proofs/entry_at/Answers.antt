@@ -1,6 +1,5 @@
 -- `plan_reader::entry_at` meets its contract: no more trains and points than a case can have, and their fields.
 -- Assumes nothing.
-use borrow.Author.Rules.{rules}
 use Rattle.plan_reader.proofs.Taking.{entry-trains, entry-points, entry-few}
 use Rattle.plan_reader.proofs.entry_at.Goals as goal
 

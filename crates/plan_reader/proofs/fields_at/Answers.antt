@@ -1,6 +1,5 @@
 -- `plan_reader::fields_at` meets its contract: field after field, each read where the one before it ends.
 -- Assumes nothing.
-use borrow.Author.Rules.{rules}
 use native.Mathlib.Omega.{arith}
 use mathlib.Core.Path.{refl, sym, ◌∙◌, ap}
 use Prim.Native.Nat.{ℕ}

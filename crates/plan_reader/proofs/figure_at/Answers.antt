@@ -1,6 +1,5 @@
 -- `plan_reader::figure_at` meets its contract: a number, and the test that it is a figure.
 -- Assumes nothing.
-use borrow.Author.Rules.{rules}
 use native.Mathlib.Omega.{arith}
 use mathlib.Core.Path.{sym, ◌∙◌, ap}
 use Rattle.text.specs.Answers.{number_got}

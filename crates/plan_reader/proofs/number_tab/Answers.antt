@@ -1,6 +1,5 @@
 -- `plan_reader::number_tab` meets its contract: a number, and behind it a tab.
 -- Assumes nothing.
-use borrow.Author.Rules.{rules}
 use native.Mathlib.Omega.{arith}
 use mathlib.Core.Path.{refl}
 use Prim.Native.Nat.{ℕ}

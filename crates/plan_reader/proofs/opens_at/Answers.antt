@@ -1,11 +1,9 @@
 -- `plan_reader::opens_at` meets its contract. The loop's invariant: what is to be read from here on is what was to be read where the loop began, and the
 -- bits so far are below the next train's.
 -- Assumes nothing.
-use borrow.Author.Rules.{rules}
 use native.Mathlib.Omega.{arith}
 use mathlib.Core.Path.{sym, ◌∙◌}
-use Prim.Native.Nat.{◌-◌}
-use Rattle.plan_reader.proofs.Taking.{byte-inside, OpensTo, opens-start, opens-room, opens-yes, opens_not, opens-none, opens-some, opens-zero}
+use Rattle.plan_reader.proofs.Taking.{byte-inside, opens-start, opens-room, opens-yes, opens_not, opens-none, opens-some, opens-zero}
 use Rattle.plan_reader.proofs.opens_at.Goals as goal
 use Rattle.plan_reader.proofs.opens_at.Goals.{then-peek-t, else-peek-t}
 

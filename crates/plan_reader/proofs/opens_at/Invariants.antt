@@ -1,12 +1,8 @@
 -- `plan_reader::opens_at` meets its contract. The loop's invariant: what is to be read from here on is what was to be read where the loop began, and the
 -- bits so far are below the next train's.
 -- Assumes nothing.
-use borrow.Author.Rules.{rules}
-use native.Mathlib.Omega.{arith}
-use mathlib.Core.Path.{sym, ◌∙◌}
-use mathlib.Core.Logic.{⊎_elim}
 use Prim.Native.Nat.{◌-◌}
-use Rattle.plan_reader.proofs.Taking.{byte-inside, OpensTo, opens-start, opens-room, opens-yes, opens_not, opens-none, opens-some, opens-zero}
+use Rattle.plan_reader.proofs.Taking.{OpensTo}
 use Rattle.plan_reader.proofs.opens_at.Given as goal
 
 abbrev pub invariant-loop-t : goal.invariant-loop-t

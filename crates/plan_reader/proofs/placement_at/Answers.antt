@@ -1,6 +1,5 @@
 -- `plan_reader::placement_at` meets its contract: sections, figure and entry, and the code of the placement.
 -- Assumes nothing.
-use borrow.Author.Rules.{rules}
 use native.Mathlib.Omega.{arith}
 use mathlib.Core.Path.{refl, sym, ◌∙◌, ap}
 use Rattle.text.specs.Answers.{number_got}

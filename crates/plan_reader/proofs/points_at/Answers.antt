@@ -1,6 +1,5 @@
 -- `plan_reader::points_at` meets its contract: a `.`, or the signs.
 -- Assumes nothing.
-use borrow.Author.Rules.{rules}
 use native.Mathlib.Omega.{arith}
 use mathlib.Core.Path.{refl}
 use Rattle.text.specs.Text.{byte}

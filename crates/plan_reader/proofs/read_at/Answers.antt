@@ -1,6 +1,5 @@
 -- `plan_reader::read_at` meets its contract: by its first byte a line is read as a first line or as one for a placement.
 -- Assumes nothing.
-use borrow.Author.Rules.{rules}
 use mathlib.Core.Path.{sym, ◌∙◌}
 use Rattle.plan_reader.proofs.read_at.Goals as goal
 

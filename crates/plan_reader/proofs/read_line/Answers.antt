@@ -1,6 +1,5 @@
 -- `plan_reader::read_line` meets its contract: the line that begins the text, if it ends where the text does.
 -- Assumes nothing.
-use borrow.Author.Rules.{rules}
 use Rattle.plan_reader.proofs.Answers.{line-whole, line-part}
 use Rattle.plan_reader.proofs.read_line.Goals as goal
 

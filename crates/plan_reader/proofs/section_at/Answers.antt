@@ -1,6 +1,5 @@
 -- `plan_reader::section_at` meets its contract, test by test.
 -- Assumes nothing.
-use borrow.Author.Rules.{rules}
 use native.Mathlib.Omega.{arith}
 use mathlib.Core.Path.{sym, ◌∙◌, ap}
 use Rattle.text.specs.Answers.{number_got}

@@ -1,11 +1,9 @@
 -- `plan_reader::signs_at` meets its contract. The loop's invariant: what is to be read from here on is what was to be read where the loop began, and the
 -- bits so far are below the next point's.
 -- Assumes nothing.
-use borrow.Author.Rules.{rules}
 use native.Mathlib.Omega.{arith}
 use mathlib.Core.Path.{sym, ◌∙◌}
-use Prim.Native.Nat.{◌-◌}
-use Rattle.plan_reader.proofs.Taking.{byte-inside, SignsTo, signs-start, signs-room, signs-plus, signs-minus, signs-none, signs-end}
+use Rattle.plan_reader.proofs.Taking.{byte-inside, signs-start, signs-room, signs-plus, signs-minus, signs-none, signs-end}
 use Rattle.plan_reader.proofs.signs_at.Goals as goal
 use Rattle.plan_reader.proofs.signs_at.Goals.{then-b-eq43, else-b-eq43+else-b-ne45}
 

@@ -1,12 +1,8 @@
 -- `plan_reader::signs_at` meets its contract. The loop's invariant: what is to be read from here on is what was to be read where the loop began, and the
 -- bits so far are below the next point's.
 -- Assumes nothing.
-use borrow.Author.Rules.{rules}
-use native.Mathlib.Omega.{arith}
-use mathlib.Core.Path.{sym, ◌∙◌}
-use mathlib.Core.Logic.{⊎_elim}
 use Prim.Native.Nat.{◌-◌}
-use Rattle.plan_reader.proofs.Taking.{byte-inside, SignsTo, signs-start, signs-room, signs-plus, signs-minus, signs-none, signs-end}
+use Rattle.plan_reader.proofs.Taking.{SignsTo}
 use Rattle.plan_reader.proofs.signs_at.Given as goal
 
 abbrev pub invariant-loop-i : goal.invariant-loop-i

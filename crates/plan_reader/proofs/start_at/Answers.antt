@@ -1,6 +1,5 @@
 -- `plan_reader::start_at` meets its contract: the word and a tab, a figure, and the line end.
 -- Assumes nothing.
-use borrow.Author.Rules.{rules}
 use native.Mathlib.Omega.{arith}
 use mathlib.Core.Path.{refl, sym, ◌∙◌, ap}
 use Rattle.text.specs.Answers.{number_got, byte_got}

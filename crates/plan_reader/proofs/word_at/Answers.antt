@@ -1,10 +1,6 @@
 -- `plan_reader::word_at` meets its contract. The loop's invariant: what is to be read from here on is what was to be read where the loop began.
 -- Assumes nothing.
-use borrow.Author.Rules.{rules}
-use native.Mathlib.Omega.{arith}
-use Prim.Native.Nat.{◌-◌}
-use lib.ListN.{length}
-use Rattle.plan_reader.proofs.Taking.{WordTo, word-start, word_next, word-other, word_end}
+use Rattle.plan_reader.proofs.Taking.{word-start, word_next, word-other, word_end}
 use Rattle.plan_reader.proofs.word_at.Goals as goal
 
 pub loop-i-init : goal.loop-i-init
