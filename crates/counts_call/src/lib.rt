@@ -1,6 +1,7 @@
 // How many placements have each figure, counted in one pass over a figure table, which is lent and only read. The record is tested as at every entry, then the length of the table; entries
 // past the last code are not read. Any table will do: with a solver's, the counts are those of the figures by whole plays (counts/specs/Counts).
 #![tactic(auto)]
+
 ghost use Rattle.std.specs.Prelude.{◌≡◌, List, ℕ};
 ghost use Rattle.std.proofs.Math.Option.{none, some};
 ghost use Rattle.laws.specs.Below.{count_below, list_below};
