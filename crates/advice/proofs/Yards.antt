@@ -1,7 +1,7 @@
 -- Five yards, with the tables of every case that is tried in them, by computation: they pass the test of
--- game_tables/Certify. In Yard A no signal is needed. In `following` the first end that helps is 1u. In `passingLoop`
+-- game_tables/Certify. In Yard A no signal is needed. In `following` the first end that helps is 1u. In `passing_loop`
 -- 2d is, and 3d helps too.
--- In `closedRing` none helps, and the last end without a signal is 2u, on the closed section: with a signal there other figures stand in the table. In `allHeld` every end has one. Assumes nothing.
+-- In `closed_ring` none helps, and the last end without a signal is 2u, on the closed section: with a signal there other figures stand in the table. In `all_held` every end has one. Assumes nothing.
 use mathlib.Core.Path.{◌≡◌, refl}
 use mathlib.Core.Bool.{true}
 use mathlib.Core.List.{List, [], ◌∷◌}

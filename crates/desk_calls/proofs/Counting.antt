@@ -1,4 +1,4 @@
--- Whether a report counts. `countsAt` tests what `reportRow` (desk/Desk) asks, in another order: a way that ends in a closed section comes to none, and so does one that derails.
+-- Whether a report counts. `counts_at` tests what `report_row` (desk/Desk) asks, in another order: a way that ends in a closed section comes to none, and so does one that derails.
 -- Assumes nothing.
 use mathlib.Core.Path.{◌≡◌, refl, sym, ◌∙◌}
 use mathlib.Core.Logic.{inl, inr}

@@ -1,4 +1,4 @@
--- What is promised of a case handed in with two tables. Nothing of document 01 rests on this file: it is `caseRefusal` (game_tables/Tables), and
+-- What is promised of a case handed in with two tables. Nothing of document 01 rests on this file: it is `case_refusal` (game_tables/Tables), and
 -- the compiled railway.
 -- Assumes nothing.
 use Rattle.std.specs.Prelude.{◌≡◌, List, ℕ, replicate}

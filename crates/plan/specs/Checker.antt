@@ -1,5 +1,5 @@
 -- The checker: a call for each line, into two lent tables, and a call for the test (document 01, "The two tables and the plan": the checker).
--- Each call is total: any record, state, tables and text. `readLine` gives the line that a text spells, and `testHolds` whether what the tables
+-- Each call is total: any record, state, tables and text. `read_line` gives the line that a text spells, and `test_holds` whether what the tables
 -- list passes the test of a plan; both are said in Checked, and that the tables list what the lines taken do. Assumes nothing.
 use Rattle.std.specs.Prelude.{Bool, true, false, not, List, [], ◌∷◌, ◌++◌, ℕ, suc, get_or, set, replicate, drop, ltb}
 use Rattle.std.proofs.Math.Option.{Option, none, some}

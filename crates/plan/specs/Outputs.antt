@@ -1,5 +1,5 @@
 -- What document 01, "Yards to try", says of its yards, with parking (document 02, Q-2), as one statement over one table (game_tables/KnownYards
--- `knownFigures`): the known figures, and the plan texts that are written out. Assumes nothing.
+-- `known_figures`): the known figures, and the plan texts that are written out. Assumes nothing.
 use Rattle.std.specs.Prelude.{◌≡◌, List, [], ◌∷◌, ℕ}
 use Rattle.std.proofs.Math.Option.{Option, none, some}
 use Prim.Native.String.{String}

@@ -1,4 +1,4 @@
--- What the contract of a step of the test says. Nothing of document 01 rests on this file: over tables it is `trainSignalled` (plan/Computed).
+-- What the contract of a step of the test says. Nothing of document 01 rests on this file: over tables it is `train_signalled` (plan/Computed).
 -- Assumes nothing.
 use Rattle.std.specs.Prelude.{Bool, not, ◌||◌, ℕ}
 use Rattle.railway.specs.declared.Railway.{Railway}

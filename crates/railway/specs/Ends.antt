@@ -57,7 +57,7 @@ side_at i = cond (eqb i 0) Down Up
 abbrev pub leg_at : ℕ → Leg
 leg_at i = cond (eqb i 0) Stem (cond (eqb i 1) Plus Minus)
 
--- The end of an index: a section end below `sectionEnds`, a port from there on.
+-- The end of an index: a section end below `section_ends`, a port from there on.
 unfoldable pub end_at : ℕ → End
 end_at i =
     cond (ltb i section_ends) (Section (record { 0 = i / 2 }) (side_at (i % 2)))

@@ -1,4 +1,4 @@
--- `railway::index_of` meets its contract: in each arm the index is computed as `endIndex` says, by the laws of ends.
+-- `railway::index_of` meets its contract: in each arm the index is computed as `end_index` says, by the laws of ends.
 -- Assumes nothing.
 use native.Mathlib.Omega.{arith}
 use Rattle.railway.proofs.Ends.{side-small, leg-small, section-index, section-past, port-index, port-past}

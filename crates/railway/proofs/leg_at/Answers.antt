@@ -1,4 +1,4 @@
--- `railway::leg_at` meets its contract: each test's outcome is rewritten into `legAt`.
+-- `railway::leg_at` meets its contract: each test's outcome is rewritten into `leg_at`.
 -- Assumes nothing.
 use borrow.Author.Tests.{eq-eqb, ne_eqb}
 use Rattle.railway.proofs.leg_at.Goals as goal

@@ -1,4 +1,4 @@
--- `railway::side_at` meets its contract: the test's outcome is rewritten into `sideAt`.
+-- `railway::side_at` meets its contract: the test's outcome is rewritten into `side_at`.
 -- Assumes nothing.
 use borrow.Author.Tests.{eq-eqb, ne_eqb}
 use Rattle.railway.proofs.side_at.Goals as goal
