@@ -2,6 +2,7 @@
 // a section, by the document's numbers. For each it is told whether they agree, or which train differs, or the number of the refusal. Behind them come records that no case text is read
 // as, with logs of several lengths.
 #![tactic(auto)]
+
 ghost use Rattle.std.specs.Prelude.{◌≤◌, take};
 ghost use Rattle.logs.specs.Logs.{LogPost};
 
@@ -190,7 +191,7 @@ fn at_most(n: usize) -> usize
     if n < SPACE { n } else { SPACE }
 }
 
-// The call, with the first entries of two arrays. (A function that lends a slice of structs is proved by hand.)
+// The call, with the first entries of two arrays.
 fn lend(r: Railway, panel: [Entry; SPACE], n: usize, axles: [Entry; SPACE], m: usize) -> LogAnswer
     requires { (n ≤ 257) × (m ≤ 257) }
     ensures { LogPost r (take n panel) (take m axles) result }
