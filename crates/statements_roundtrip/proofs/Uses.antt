@@ -112,11 +112,13 @@ other-side : Up ≡ Down → ⊥
 other-side h = let z : ◌≡◌ {A = ℕ} 0 1 = cc in omega (arith, z)
 
 no_join : (j : JoinLine) → Memᴰ j description_a.joins → (Names j.one (down 0) → ⊥) × (Names j.other (down 0) → ⊥)
+no_join j (Memᴰ.tail (Memᴰ.tail (Memᴰ.tail x12))) = elim x12 [ ]
 no_join j (Memᴰ.head e) = rw e (λ n. other-side n.1, λ n. n)
 no_join j (Memᴰ.tail (Memᴰ.head e)) = rw e (λ n. omega (arith, n.0), λ n. n)
 no_join j (Memᴰ.tail (Memᴰ.tail (Memᴰ.head e))) = rw e (λ n. omega (arith, n.0), λ n. n)
 
 no-signal : (g : SignalLine) → Memᴰ g description_a.signals → Names (section g.number g.side) (up 0) → ⊥
+no-signal g (Memᴰ.tail (Memᴰ.tail x9)) n = elim x9 [ ]
 no-signal g (Memᴰ.head e) n = let m : Names (section 1 Down) (up 0) = rw e at n in other-side (sym m.1)
 no-signal g (Memᴰ.tail (Memᴰ.head e)) n = let m : Names (section 2 Up) (up 0) = rw e at n in omega (arith, m.0)
 
@@ -170,6 +172,7 @@ module _ (answer : CaseRead) (c : ReadCall (bytes text_a) answer) (q : Railway) 
 
 -- Whatever railway is given for the text of the yard in which 3 and 4 are closed has 3 closed, by an X line, and not 1.
 no-closed : Memᴰ {A = ℕ} 1 (3 ∷ 4 ∷ []) → ⊥
+no-closed (Memᴰ.tail (Memᴰ.tail x8)) = elim x8 [ ]
 no-closed (Memᴰ.head e) = omega (arith, e)
 no-closed (Memᴰ.tail (Memᴰ.head e)) = omega (arith, e)
 
