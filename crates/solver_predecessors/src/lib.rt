@@ -1,6 +1,7 @@
 // Where trains can have come from. A way over any number of points is the same back, so a train that stands on a section has come by one of the ways from the
 // end behind it: a table of ways in which no section is shut, for a train may leave a closed one.
 #![tactic(auto)]
+
 ghost use Rattle.std.specs.Prelude.{◌≡◌};
 ghost use Rattle.railway.specs.declared.Railway.{Railway};
 ghost use Rattle.railway.specs.Ends.{end_index};
