@@ -2,6 +2,7 @@
 // setting table: the code, the entry, and of each train `-` it may not move, `x` it derails, `c` it collides, or the section it then stands on.
 // Standard input is records (crate test_framing).
 #![tactic(auto)]
+
 use game_moves::Move;
 use railway::{CaseAnswer, Railway};
 use railway_compiled::Table;
