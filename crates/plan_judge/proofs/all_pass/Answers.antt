@@ -1,18 +1,9 @@
 -- `plan_judge::all_pass` meets its contract. The loop's invariant: every placement before p is as it must be.
 -- Assumes nothing.
 use native.Mathlib.Omega.{arith}
-use borrow.Author.Rules.{rules}
-use mathlib.Core.Path.{◌≡◌, refl, sym, ◌∙◌}
-use mathlib.Core.Bool.{true}
-use Prim.Native.Nat.{◌-◌, ◌≤◌}
+use mathlib.Core.Path.{refl, sym, ◌∙◌}
 use Rattle.laws.specs.Below.{all_below}
 use Rattle.laws.proofs.Below.{all-next}
-use Rattle.railway.specs.declared.Railway.{Railway}
-use Rattle.railway.specs.Record.{is_closed}
-use Rattle.plan.specs.Test.{by_tables}
-use Rattle.plan.specs.Computed.{placement_passes}
-use Rattle.railway_routes.specs.Routes.{Laid}
-use Rattle.railway_compiled.specs.Table.{Compiled}
 use Rattle.plan_judge.proofs.Testing.{but-one, every_one}
 use Rattle.plan_judge.proofs.all_pass.Goals as goal
 
@@ -21,12 +12,11 @@ unfolding all_below
 loop-p-init c = (omega arith, λ r h w. refl)
 
 pub loop-p-preserved : goal.loop-p-preserved
-loop-p-preserved c =
-    (
-      omega arith,
-      λ r h w.
-          all-next _ _ (c.loop-p.invariant.1 r h w) (sym (c.placement_passes.ensures r h w) ∙ c.if-placement_passes.true),
-    )
+loop-p-preserved c = (
+  omega arith,
+  λ r h w.
+      all-next _ _ (c.loop-p.invariant.1 r h w) (sym (c.placement_passes.ensures r h w) ∙ c.if-placement_passes.true),
+)
 
 pub returns-else-placement_passes : goal.returns-else-placement_passes
 returns-else-placement_passes c =

@@ -1,19 +1,15 @@
 -- `plan_judge::all_pass` meets its contract. The loop's invariant: every placement before p is as it must be.
 -- Assumes nothing.
-use native.Mathlib.Omega.{arith}
-use borrow.Author.Rules.{rules}
-use mathlib.Core.Path.{◌≡◌, refl, sym, ◌∙◌}
+use mathlib.Core.Path.{◌≡◌}
 use mathlib.Core.Bool.{true}
 use Prim.Native.Nat.{◌-◌, ◌≤◌}
 use Rattle.laws.specs.Below.{all_below}
-use Rattle.laws.proofs.Below.{all-next}
 use Rattle.railway.specs.declared.Railway.{Railway}
 use Rattle.railway.specs.Record.{is_closed}
 use Rattle.plan.specs.Test.{by_tables}
 use Rattle.plan.specs.Computed.{placement_passes}
 use Rattle.railway_routes.specs.Routes.{Laid}
 use Rattle.railway_compiled.specs.Table.{Compiled}
-use Rattle.plan_judge.proofs.Testing.{but-one, every_one}
 use Rattle.plan_judge.proofs.all_pass.Given as goal
 
 abbrev pub invariant-loop-p : goal.invariant-loop-p

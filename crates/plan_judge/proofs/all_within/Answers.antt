@@ -1,20 +1,9 @@
 -- `plan_judge::all_within` meets its contract. The loop's invariant: every train before t that may move comes to a figure smaller by its weight at least.
 -- Assumes nothing.
 use native.Mathlib.Omega.{arith}
-use borrow.Author.Rules.{rules}
-use mathlib.Core.Path.{◌≡◌, refl, sym, ◌∙◌}
-use mathlib.Core.Bool.{true}
-use Prim.Native.Nat.{ℕ, ◌-◌, ◌≤◌}
+use mathlib.Core.Path.{refl, sym, ◌∙◌}
 use Rattle.laws.specs.Below.{all_below}
 use Rattle.laws.proofs.Below.{all-next}
-use Rattle.railway.specs.declared.Railway.{Railway}
-use Rattle.railway.specs.Record.{is_closed}
-use Rattle.game.specs.Local.{goes_within}
-use Rattle.game.specs.Moves.{game_of}
-use Rattle.game_tables.specs.Entries.{setting_at}
-use Rattle.game_tables.specs.Tables.{figure_in}
-use Rattle.railway_routes.specs.Routes.{Laid}
-use Rattle.game_moves.specs.Steps.{On}
 use Rattle.plan_judge.proofs.Testing.{but-one, every_one}
 use Rattle.plan_judge.proofs.all_within.Goals as goal
 
@@ -23,12 +12,11 @@ unfolding all_below
 loop-t-init c = (omega arith, λ r p on w. refl)
 
 pub loop-t-preserved : goal.loop-t-preserved
-loop-t-preserved c =
-    (
-      omega arith,
-      λ r p on w.
-          all-next _ _ (c.loop-t.invariant.1 r p on w) (sym (c.goes_within.ensures r p on w) ∙ c.if-goes_within.true),
-    )
+loop-t-preserved c = (
+  omega arith,
+  λ r p on w.
+      all-next _ _ (c.loop-t.invariant.1 r p on w) (sym (c.goes_within.ensures r p on w) ∙ c.if-goes_within.true),
+)
 
 pub returns-else-goes_within : goal.returns-else-goes_within
 returns-else-goes_within c =

@@ -1,12 +1,9 @@
 -- `plan_judge::all_within` meets its contract. The loop's invariant: every train before t that may move comes to a figure smaller by its weight at least.
 -- Assumes nothing.
-use native.Mathlib.Omega.{arith}
-use borrow.Author.Rules.{rules}
-use mathlib.Core.Path.{◌≡◌, refl, sym, ◌∙◌}
+use mathlib.Core.Path.{◌≡◌}
 use mathlib.Core.Bool.{true}
 use Prim.Native.Nat.{ℕ, ◌-◌, ◌≤◌}
 use Rattle.laws.specs.Below.{all_below}
-use Rattle.laws.proofs.Below.{all-next}
 use Rattle.railway.specs.declared.Railway.{Railway}
 use Rattle.railway.specs.Record.{is_closed}
 use Rattle.game.specs.Local.{goes_within}
@@ -15,7 +12,6 @@ use Rattle.game_tables.specs.Entries.{setting_at}
 use Rattle.game_tables.specs.Tables.{figure_in}
 use Rattle.railway_routes.specs.Routes.{Laid}
 use Rattle.game_moves.specs.Steps.{On}
-use Rattle.plan_judge.proofs.Testing.{but-one, every_one}
 use Rattle.plan_judge.proofs.all_within.Given as goal
 
 abbrev pub invariant-loop-t : goal.invariant-loop-t

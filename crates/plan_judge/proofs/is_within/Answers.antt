@@ -1,6 +1,5 @@
 -- `plan_judge::is_within` meets its contract, by what the move ends in.
 -- Assumes nothing.
-use borrow.Author.Rules.{rules}
 use Rattle.plan_judge.proofs.Ending.{refused-within, derailed-within, collided-within, at-within}
 use Rattle.plan_judge.proofs.is_within.Goals as goal
 

@@ -1,6 +1,5 @@
 -- `plan_judge::keeps` meets its contract: both of its halves.
 -- Assumes nothing.
-use borrow.Author.Rules.{rules}
 use Rattle.plan_judge.proofs.Testing.{none-keeps, some-keeps}
 use Rattle.plan_judge.proofs.keeps.Goals as goal
 

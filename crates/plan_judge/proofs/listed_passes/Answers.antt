@@ -1,6 +1,5 @@
 -- `plan_judge::listed_passes` meets its contract: lost, open without a signal, home, and else by the setting.
 -- Assumes nothing.
-use borrow.Author.Rules.{rules}
 use Rattle.plan_judge.proofs.Testing.{lost-fails, unsignalled-fails, home-passes, kept-passes}
 use Rattle.plan_judge.proofs.listed_passes.Goals as goal
 

@@ -1,15 +1,9 @@
 -- `plan_judge::opens_signalled` meets its contract. The loop's invariant: every open train before t has its signal.
 -- Assumes nothing.
 use native.Mathlib.Omega.{arith}
-use borrow.Author.Rules.{rules}
-use mathlib.Core.Path.{◌≡◌, refl, sym, ◌∙◌}
-use mathlib.Core.Bool.{true}
-use Prim.Native.Nat.{ℕ, ◌-◌, ◌≤◌}
+use mathlib.Core.Path.{refl, sym, ◌∙◌}
 use Rattle.laws.specs.Below.{all_below}
 use Rattle.laws.proofs.Below.{all-next}
-use Rattle.railway.specs.declared.Railway.{Railway}
-use Rattle.game_moves.specs.Steps.{On}
-use Rattle.plan_judge.specs.Steps.{signalled_in}
 use Rattle.plan_judge.proofs.Testing.{within, but-one, every_one}
 use Rattle.plan_judge.proofs.opens_signalled.Goals as goal
 
@@ -18,14 +12,13 @@ unfolding all_below
 loop-t-init c = (omega arith, λ r p on. refl)
 
 pub loop-t-preserved : goal.loop-t-preserved
-loop-t-preserved c =
-    (
-      omega arith,
-      λ r p on. let there =
-          within (c.trains_in-k.ensures r on.compiled) _ c.loop-t-test.true in
-          all-next _ _ (c.loop-t.invariant.1 r p on)
-          (sym (c.train_signalled.ensures r p on there) ∙ c.if-train_signalled.true),
-    )
+loop-t-preserved c = (
+  omega arith,
+  λ r p on. let there =
+      within (c.trains_in-k.ensures r on.compiled) _ c.loop-t-test.true in
+      all-next _ _ (c.loop-t.invariant.1 r p on)
+      (sym (c.train_signalled.ensures r p on there) ∙ c.if-train_signalled.true),
+)
 
 pub returns-else-train_signalled : goal.returns-else-train_signalled
 returns-else-train_signalled c =

@@ -1,16 +1,12 @@
 -- `plan_judge::opens_signalled` meets its contract. The loop's invariant: every open train before t has its signal.
 -- Assumes nothing.
-use native.Mathlib.Omega.{arith}
-use borrow.Author.Rules.{rules}
-use mathlib.Core.Path.{◌≡◌, refl, sym, ◌∙◌}
+use mathlib.Core.Path.{◌≡◌}
 use mathlib.Core.Bool.{true}
 use Prim.Native.Nat.{ℕ, ◌-◌, ◌≤◌}
 use Rattle.laws.specs.Below.{all_below}
-use Rattle.laws.proofs.Below.{all-next}
 use Rattle.railway.specs.declared.Railway.{Railway}
 use Rattle.game_moves.specs.Steps.{On}
 use Rattle.plan_judge.specs.Steps.{signalled_in}
-use Rattle.plan_judge.proofs.Testing.{within, but-one, every_one}
 use Rattle.plan_judge.proofs.opens_signalled.Given as goal
 
 abbrev pub invariant-loop-t : goal.invariant-loop-t

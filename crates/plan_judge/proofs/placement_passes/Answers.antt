@@ -1,6 +1,5 @@
 -- `plan_judge::placement_passes` meets its contract, by whether the placement is listed.
 -- Assumes nothing.
-use borrow.Author.Rules.{rules}
 use Rattle.plan_judge.proofs.Testing.{unlisted-passes, listed-decides}
 use Rattle.plan_judge.proofs.placement_passes.Goals as goal
 

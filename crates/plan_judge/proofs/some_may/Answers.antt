@@ -1,17 +1,9 @@
 -- `plan_judge::some_may` meets its contract. The loop's invariant: no train before t may move.
 -- Assumes nothing.
 use native.Mathlib.Omega.{arith}
-use borrow.Author.Rules.{rules}
-use mathlib.Core.Path.{◌≡◌, refl, sym, ◌∙◌}
-use mathlib.Core.Bool.{false}
-use Prim.Native.Nat.{ℕ, ◌-◌, ◌≤◌}
+use mathlib.Core.Path.{refl, sym, ◌∙◌}
 use Rattle.laws.specs.Below.{any_below}
 use Rattle.laws.proofs.Below.{any_next}
-use Rattle.railway.specs.declared.Railway.{Railway}
-use Rattle.game.specs.Game.{may}
-use Rattle.game.specs.Moves.{game_of}
-use Rattle.game_tables.specs.Entries.{setting_at}
-use Rattle.game_moves.specs.Steps.{On}
 use Rattle.plan_judge.proofs.Testing.{one-of, none_of}
 use Rattle.plan_judge.proofs.some_may.Goals as goal
 
@@ -26,11 +18,10 @@ returns-then-may_in c =
     (sym (c.may_in.ensures r p on) ∙ c.if-may_in.true)
 
 pub loop-t-preserved : goal.loop-t-preserved
-loop-t-preserved c =
-    (
-      omega arith,
-      λ r p on. any_next _ _ (c.loop-t.invariant.1 r p on) (sym (c.may_in.ensures r p on) ∙ c.if-may_in.false),
-    )
+loop-t-preserved c = (
+  omega arith,
+  λ r p on. any_next _ _ (c.loop-t.invariant.1 r p on) (sym (c.may_in.ensures r p on) ∙ c.if-may_in.false),
+)
 
 pub returns : goal.returns
 returns c =

@@ -1,6 +1,5 @@
 -- `plan_judge::test_holds` meets its contract: the start is not listed, is listed with another figure, or all depends on the placements.
 -- Assumes nothing.
-use borrow.Author.Rules.{rules}
 use Rattle.plan_judge.proofs.Testing.{start-unlisted, start-other, start-same}
 use Rattle.plan_judge.proofs.test_holds.Goals as goal
 

@@ -1,6 +1,5 @@
 -- `plan_judge::train_signalled` meets its contract, by whether the train is open.
 -- Assumes nothing.
-use borrow.Author.Rules.{rules}
 use Rattle.game_moves.proofs.Moving.{as-there}
 use Rattle.plan_judge.proofs.Testing.{open-signalled, closed-signalled}
 use Rattle.plan_judge.proofs.train_signalled.Goals as goal
