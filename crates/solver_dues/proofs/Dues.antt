@@ -2,7 +2,7 @@
 -- Assumes nothing.
 use mathlib.Core.Path.{◌≡◌, sym, ◌∙◌}
 use mathlib.Core.Logic.{inl, inr}
-use mathlib.Core.Bool.{Bool, true, false}
+use mathlib.Core.Bool.{false}
 use mathlib.Core.List.{List}
 use mathlib.Core.Option.{none, some}
 use Prim.Native.Nat.{ℕ, ◌+◌, ◌≤◌, ◌<◌}
@@ -14,7 +14,7 @@ use Rattle.laws.proofs.Bools.{bool?, eq?, some-none, some_one}
 use Rattle.laws.proofs.Lists.{get_or-inside}
 use Rattle.railway.specs.declared.Railway.{Railway}
 use Rattle.railway.specs.Record.{weight_of}
-use Rattle.game_tables.specs.Tables.{no_figure, figure_entry, figure_in}
+use Rattle.game_tables.specs.Tables.{no_figure, figure_entry}
 use Rattle.solver_dues.specs.Dues.{same_weight, LeastFrom, DueBy, SoonAfter, NextBy}
 use Rattle.solver_marks.specs.declared.Soon.{Soon}
 use Rattle.solver_marks.specs.Marks.{due_at}

@@ -2,6 +2,7 @@
 // can bring something. So a solver passes by the rounds that nothing makes due. The functions promise of every railway whose compiled table they are handed;
 // codes past the end of the figures have none.
 #![tactic(auto)]
+
 ghost use Rattle.std.specs.Prelude.{◌≡◌, false, ℕ, ◌+◌, ◌≤◌, ◌<◌, length};
 ghost use Rattle.laws.specs.Below.{any_below};
 ghost use Rattle.railway.specs.declared.Railway.{Railway};
