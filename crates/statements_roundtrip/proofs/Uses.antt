@@ -10,6 +10,7 @@ use Prim.Native.Nat.{ℕ}
 use native.Mathlib.Omega.{arith}
 use lib.ListN.{take, replicate}
 use denote.Ref.{Bor}
+use denote.MutBor.{MutBor}
 use base.Fml.{Lft}
 use contract.Lifetimes.{Lfts}
 use borrow.Fn.Kinds.{Dens}
@@ -85,13 +86,16 @@ read-call κ =
       learnt = (reader-answers (bytes text_a) (accepted yard_a)).0 e;
     }
 
+lending : List ℕ → MutBor (List ℕ)
+lending s = record { ref_ptr = (0, 0); ghost_name = 0; now = s }
+
 write-call : (κ : Lft) → WriteCall yard_a (replicate 4096 7) (written yard_a (replicate 4096 7)) (buffer_after yard_a (replicate 4096 7))
-unfolding handing
+unfolding lending
 write-call κ =
     record {
       lifetimes = (κ, tt);
-      arguments = (yard_a, (handing (replicate 4096 7), tt));
-      left = (yard_a, (handing (buffer_after yard_a (replicate 4096 7)), tt));
+      arguments = (yard_a, (lending (replicate 4096 7), tt));
+      left = (yard_a, (lending (buffer_after yard_a (replicate 4096 7)), tt));
       handed = (refl, refl);
       leaves = refl;
       learnt = promised yard_a (replicate 4096 7) refl refl;
