@@ -1,9 +1,9 @@
 -- WHAT LIES AHEAD. A train enters a section over some points exactly if one of the ways from its end leads there: the section entered is at the end of the way that the points suit, and every way
 -- suits the points that it wants at plus, all others at minus. Assumes nothing.
 use mathlib.Core.Path.{◌≡◌, refl, sym, ◌∙◌, ap}
-use mathlib.Core.Logic.{◌⊎◌, inl, inr}
+use mathlib.Core.Logic.{inl, inr}
 use mathlib.Core.Bool.{Bool, true, false, ◌||◌, ◌&&◌}
-use mathlib.Core.List.{List, [], ◌∷◌}
+use mathlib.Core.List.{List}
 use mathlib.Core.Option.{Option, none, some}
 use Prim.Native.Nat.{ℕ, ◌<◌}
 use native.Mathlib.Omega.{arith}
@@ -11,7 +11,7 @@ use lib.Dec.{eqb}
 use borrow.Author.Tests.{eqb-true, eq-eqb}
 use Rattle.laws.specs.Bits.{bit, from_bits}
 use Rattle.laws.specs.Lists.{any}
-use Rattle.laws.proofs.Bools.{bool?, lt?, clash, either, some-none}
+use Rattle.laws.proofs.Bools.{lt?, clash, either, some-none}
 use Rattle.laws.proofs.Bits.{bits-plain}
 use Rattle.railway.specs.declared.Side.{Side}
 use Rattle.railway.specs.declared.End.{End}
@@ -19,13 +19,13 @@ use Rattle.railway.specs.declared.End.TheVariants.{Section}
 use Rattle.railway.specs.declared.Railway.{Railway}
 use Rattle.railway.specs.Record.{is_closed}
 use Rattle.railway.specs.Rows.{record_refusal}
-use Rattle.railway.specs.Passing.{Passage, passes, in_use, entered}
+use Rattle.railway.specs.Passing.{Passage, in_use, entered}
 use Rattle.railway.proofs.Rows.{accepted-facts}
-use Rattle.game.proofs.Accepted.{Facts, facts}
+use Rattle.game.proofs.Accepted.{facts}
 use Rattle.game.proofs.Setting.{passes_same}
-use Rattle.railway_routes.specs.Routes.{Way, suits, routes_from, nth, reached_by, one_of, most_ways}
+use Rattle.railway_routes.specs.Routes.{Way, suits, routes_from, reached_by, one_of, most_ways}
 use Rattle.railway_routes.proofs.Ways.{nth_past}
-use Rattle.railway_routes.proofs.Suits.{bits-suit, Within}
+use Rattle.railway_routes.proofs.Suits.{bits-suit}
 use Rattle.railway_routes.proofs.Routes.{from-enters, from-few, from-small}
 use Rattle.railway_routes.proofs.Walking.{Goes, goes_of, of-goes}
 use Rattle.runs.specs.Runs.{Enters}

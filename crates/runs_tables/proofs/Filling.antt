@@ -2,10 +2,10 @@
 -- shortest run is n: so when all of these have been left, the row is that of level n + 1. No shortest run is longer than there are sections, and after so many levels an entry that is not there
 -- says that there is no run. Assumes nothing.
 use mathlib.Core.Path.{◌≡◌, refl, sym, ◌∙◌, ap}
-use mathlib.Core.Logic.{◌⊎◌, inl, inr, ◌↔◌}
+use mathlib.Core.Logic.{inl, inr}
 use mathlib.Core.List.{List}
 use mathlib.Core.Option.{none}
-use Prim.Native.Nat.{ℕ, zero, suc, ◌+◌, ◌≤◌, ◌<◌}
+use Prim.Native.Nat.{ℕ, suc, ◌≤◌, ◌<◌}
 use native.Mathlib.Omega.{arith}
 use lib.ListN.{length, get_or, set, length-set, replicate, length-replicate, get_or-replicate}
 use lib.Seq.{get_or-set_same, get_or-set_other}
@@ -21,7 +21,7 @@ use Rattle.game.proofs.Moves.{entered_below}
 use Rattle.railway_routes.specs.Routes.{routes_from, most_ways}
 use Rattle.runs.specs.Runs.{Enters, Run, here, further, no_run, IsRun}
 use Rattle.runs.proofs.Says.{run-from, run-to}
-use Rattle.runs_tables.specs.Filling.{Least, Known, found, not_yet, RowTo, LevelTo, IsRow, LeadsTo, Entry, same, fresh, Reached}
+use Rattle.runs_tables.specs.Filling.{Least, Known, found, not_yet, RowTo, LevelTo, IsRow, Entry, same, fresh, Reached}
 use Rattle.runs_tables.proofs.Ahead.{way-enters, enters-way}
 use Rattle.runs_tables.proofs.Lengths.{least-one, least-short}
 

@@ -1,18 +1,18 @@
 -- NO SHORTEST RUN IS LONGER than there are sections: along it every number up to its length is the length of the shortest run to some section, and no section has two such lengths. Assumes nothing.
-use mathlib.Core.Path.{◌≡◌, refl, sym, ◌∙◌, ap}
-use mathlib.Core.Logic.{◌⊎◌, inl, inr}
+use mathlib.Core.Path.{◌≡◌, refl}
+use mathlib.Core.Logic.{inl, inr}
 use mathlib.Core.Bool.{Bool, true, false, cond}
 use Prim.Native.Nat.{ℕ, zero, suc, ◌≤◌, ◌<◌}
 use native.Mathlib.Omega.{arith}
 use lib.Dec.{eqb, leb}
 use borrow.Author.Tests.{eqb-true, eq-eqb, le-leb, lt-leb}
 use Rattle.laws.specs.Below.{any_below, count_below}
-use Rattle.laws.proofs.Bools.{bool?, lt?, clash, not-true}
+use Rattle.laws.proofs.Bools.{lt?, not-true}
 use Rattle.laws.proofs.Below.{any_at, any_of, count-le, count-more}
 use Rattle.railway.specs.declared.Side.{Side}
 use Rattle.railway.specs.declared.Railway.{Railway}
 use Rattle.game.proofs.Accepted.{Facts}
-use Rattle.runs.specs.Runs.{Enters, Run, here, further}
+use Rattle.runs.specs.Runs.{Run, here, further}
 use Rattle.runs.proofs.Says.{run-to}
 use Rattle.runs_tables.specs.Filling.{Least}
 

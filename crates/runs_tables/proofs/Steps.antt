@@ -1,10 +1,10 @@
 -- The steps of the loops, for a record whose ways are lent: a section is left or passed by, a level is finished, a row, a table. Each is a law of Filling, with the numbers as code has them.
 -- Assumes nothing.
 use mathlib.Core.Path.{◌≡◌, refl, sym, ◌∙◌, ap, subst}
-use mathlib.Core.Logic.{◌⊎◌, inl, inr}
+use mathlib.Core.Logic.{inl, inr}
 use mathlib.Core.List.{List, []}
 use mathlib.Core.Option.{Option, none, some}
-use Prim.Native.Nat.{ℕ, zero, suc, ◌+◌, ◌≤◌, ◌<◌}
+use Prim.Native.Nat.{ℕ, suc, ◌+◌, ◌≤◌, ◌<◌}
 use native.Mathlib.Omega.{arith}
 use native.Mathlib.Numerals.{add-one}
 use lib.ListN.{length, get_or, set, length-set, replicate}
@@ -14,7 +14,7 @@ use mir.Syntax.{w8}
 use denote.Laws.{Is}
 use denote.Array.{Array}
 use denote.Plain.{UInt}
-use Rattle.laws.proofs.Bools.{eq?, some-none, some_one}
+use Rattle.laws.proofs.Bools.{eq?, some-none}
 use Rattle.railway.specs.declared.Side.{Side}
 use Rattle.railway.specs.declared.End.TheVariants.{Section}
 use Rattle.railway.specs.declared.Railway.{Railway}

@@ -1,7 +1,7 @@
 -- How a table of runs is filled, row by row and level by level. Nothing of the documents rests on this file: contracts of inner functions cite it, and the laws in proofs/ tie it to runs/Runs.
 -- Assumes nothing.
 use Rattle.std.specs.Prelude.{◌≡◌, cond, List, ℕ, suc, ◌≤◌, ◌<◌, eqb, length, get_or}
-use Rattle.std.proofs.Math.Option.{Option, none, some}
+use Rattle.std.proofs.Math.Option.{none, some}
 use Rattle.railway.specs.declared.Side.{Side}
 use Rattle.railway.specs.declared.Railway.{Railway}
 use Rattle.railway.specs.Bounds.{most_sections}

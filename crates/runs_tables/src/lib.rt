@@ -3,6 +3,7 @@
 // section are at the end of its ways (crate railway_routes). A row is filled level by level: what is entered first from a
 // section at n is at n + 1.
 #![tactic(auto)]
+
 ghost use Rattle.std.specs.Prelude.{◌≡◌, ℕ, suc, ◌<◌};
 ghost use Rattle.railway.specs.declared.Railway.{Railway};
 ghost use Rattle.railway.specs.Bounds.{most_sections, section_ends};
