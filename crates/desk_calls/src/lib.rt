@@ -3,6 +3,7 @@
 // tested before it is used. The desk goes from call to call by value; the record is tested again at every call, and the two tables, which are lent, are only read. A report or a change
 // that is refused hands the desk back as it was.
 #![tactic(auto)]
+
 ghost use Rattle.std.specs.Prelude.{◌≡◌, ℕ};
 ghost use Rattle.railway.specs.declared.Railway.{Railway};
 ghost use Rattle.std.proofs.Math.Option.{none};
