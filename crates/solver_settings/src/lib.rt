@@ -2,6 +2,7 @@
 // that its time goes with those and not with the settings. Each train is looked at by itself first, and mostly that decides; only where several free trains
 // ask for different points are their ways combined.
 #![tactic(auto)]
+
 ghost use Rattle.std.specs.Prelude.{◌≡◌, true, false, cond, ◌&&◌, ℕ, ◌≤◌, ◌<◌, eqb, ltb};
 ghost use Rattle.std.proofs.Math.Option.{some};
 ghost use Rattle.laws.specs.Below.{any_below, all_below};
