@@ -1,25 +1,18 @@
 -- `plan_emitter::due_lines` meets its contract: the call for one line, and behind its line all that have room.
 -- Assumes nothing.
-use native.Mathlib.Omega.{arith}
 use mathlib.Core.Path.{◌≡◌, refl}
 use mathlib.Core.Bool.{false}
-use mathlib.Core.List.{[], ◌∷◌}
-use mathlib.Core.Logic.{inl, inr}
-use types.Run.{OneOf}
-use denote.Enum.Declared.{declared, tag_of}
-use Rattle.plan.specs.contracts.Emitted.{enum}
+use Prim.Native.Nat.{ℕ}
+use Rattle.plan.specs.declared.PlanPlace.{PlanPlace}
 use Rattle.plan.specs.declared.Emitted.{Emitted}
 use Rattle.plan.specs.declared.Emitted.TheVariants.{Line, End, NoPlan, Refused}
 use Rattle.plan.specs.Emitter.{is_line}
 use Rattle.plan_emitter.proofs.Putting.{due-none, due-top, due-more}
-use borrow.Author.Rules.{rules}
 use Rattle.plan_emitter.proofs.due_lines.Goals as goal
 
 -- what is left beside a line
-no_line : (a : Emitted) → OneOf (1 ∷ 2 ∷ 3 ∷ []) (tag_of (declared enum) a) → is_line a ≡ false
-no_line (Line n next) (inl e) = absurd (omega (arith, e))
-no_line (Line n next) (inr (inl e)) = absurd (omega (arith, e))
-no_line (Line n next) (inr (inr e)) = absurd (omega (arith, e))
+no_line : (a : Emitted) → ((n : ℕ) (next : PlanPlace) → ¬ (a ≡ Line n next)) → is_line a ≡ false
+no_line (Line n next) h = absurd (h n next refl)
 no_line End h = refl
 no_line NoPlan h = refl
 no_line (Refused f) h = refl
@@ -28,7 +21,7 @@ pub returns-in_default : goal.returns-in_default
 returns-in_default c =
     λ r h ok.
     due-none r c.args.figures.now c.args.settings.now c.args.place c.args.out.now ok (c.emit_due-first.ensures r h)
-    (no_line c.emit_due-first.result c.in-Line.keys2)
+    (no_line c.emit_due-first.result c.in_default.not-Line)
 
 pub returns-in_default-next : goal.returns-in_default-next
 returns-in_default-next c =

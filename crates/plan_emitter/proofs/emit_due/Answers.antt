@@ -1,6 +1,5 @@
 -- `plan_emitter::emit_due` meets its contract: no plan where the start has no figure, else what is due at the place.
 -- Assumes nothing.
-use borrow.Author.Rules.{rules}
 use Rattle.plan_emitter.proofs.Emitting.{none_emitted, top-emitted, from-emitted}
 use Rattle.plan_emitter.proofs.emit_due.Goals as goal
 

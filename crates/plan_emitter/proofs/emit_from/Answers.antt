@@ -1,6 +1,5 @@
 -- `plan_emitter::emit_from` meets its contract: the line of the placement found, or the end.
 -- Assumes nothing.
-use borrow.Author.Rules.{rules}
 use Rattle.plan_emitter.proofs.Emitting.{due-placement, due-end}
 use Rattle.plan_emitter.proofs.emit_from.Goals as goal
 

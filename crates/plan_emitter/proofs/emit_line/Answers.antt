@@ -1,6 +1,5 @@
 -- `plan_emitter::emit_line` meets its contract: the refusal of the case, or what is due.
 -- Assumes nothing.
-use borrow.Author.Rules.{rules}
 use Rattle.plan_emitter.proofs.Emitting.{case-refused, case-emitted}
 use Rattle.plan_emitter.proofs.emit_line.Goals as goal
 

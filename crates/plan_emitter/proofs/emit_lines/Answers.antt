@@ -1,7 +1,6 @@
 -- `plan_emitter::emit_lines` meets its contract: the refusal of the case, or the lines that are due.
 -- Assumes nothing.
 use Rattle.plan_emitter.proofs.Putting.{lines-refused, lines-emitted}
-use borrow.Author.Rules.{rules}
 use Rattle.plan_emitter.proofs.emit_lines.Goals as goal
 
 pub returns-in-Refused : goal.returns-in-Refused

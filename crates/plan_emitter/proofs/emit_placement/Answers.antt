@@ -1,7 +1,6 @@
 -- `plan_emitter::emit_placement` meets its contract: the line in a buffer of its own, and the copy. A compiled railway's line has room there.
 -- Assumes nothing.
 use native.Mathlib.Omega.{arith}
-use borrow.Author.Rules.{rules}
 use mathlib.Core.Path.{refl}
 use Rattle.text.proofs.Appending.{front_fits, front_cut}
 use Rattle.plan_emitter.proofs.Emitting.{placement-written}

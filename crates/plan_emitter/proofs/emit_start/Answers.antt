@@ -1,6 +1,5 @@
 -- `plan_emitter::emit_start` meets its contract: the line in a buffer of its own, and the copy.
 -- Assumes nothing.
-use borrow.Author.Rules.{rules}
 use mathlib.Core.Path.{refl}
 use Rattle.plan.specs.declared.PlanPlace.TheVariants.{From}
 use Rattle.text.proofs.Appending.{front_fits, front_cut}

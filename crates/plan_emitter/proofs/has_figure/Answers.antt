@@ -1,6 +1,5 @@
 -- `plan_emitter::has_figure` meets its contract, by the entry.
 -- Assumes nothing.
-use borrow.Author.Rules.{rules}
 use Rattle.plan_emitter.proofs.Next.{none-there, figure-there}
 use Rattle.plan_emitter.proofs.has_figure.Goals as goal
 

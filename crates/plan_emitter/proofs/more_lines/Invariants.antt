@@ -1,9 +1,7 @@
 -- `plan_emitter::more_lines` meets its contract. The loop's invariant: of a run that was underway when the call came, what is left is left from the place
 -- reached on. The codes rise, so that it ends.
 -- Assumes nothing.
-use borrow.Author.Rules.{rules}
-use native.Mathlib.Omega.{arith}
-use mathlib.Core.Path.{◌≡◌, refl, ◌∙◌}
+use mathlib.Core.Path.{◌≡◌}
 use Prim.Native.Nat.{◌-◌}
 use lib.ListN.{length}
 use Rattle.railway.specs.declared.Railway.{Railway}
@@ -11,7 +9,6 @@ use Rattle.railway_compiled.specs.Table.{Compiled}
 use Rattle.plan.specs.declared.PlanPlace.TheVariants.{From}
 use Rattle.plan.specs.Several.{Run}
 use Rattle.plan.specs.Steps.{Planned, Underway}
-use Rattle.plan_emitter.proofs.Putting.{next-behind, lines-over, lines-full, lines_next}
 use Rattle.plan_emitter.proofs.more_lines.Given as goal
 
 abbrev pub invariant-loop-from : goal.invariant-loop-from

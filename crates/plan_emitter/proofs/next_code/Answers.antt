@@ -1,12 +1,6 @@
 -- `plan_emitter::next_code` meets its contract. The loop's invariant: no placement from c on before p has a figure.
 -- Assumes nothing.
 use native.Mathlib.Omega.{arith}
-use borrow.Author.Rules.{rules}
-use Prim.Native.Nat.{◌≤◌, ◌-◌}
-use mathlib.Core.Path.{◌≡◌}
-use mathlib.Core.Bool.{false}
-use Rattle.laws.specs.Below.{any_below}
-use Rattle.plan.specs.Emitter.{figure_from}
 use Rattle.plan_emitter.proofs.Next.{next_start, next-step, next-found, next-none}
 use Rattle.plan_emitter.proofs.next_code.Goals as goal
 
@@ -19,12 +13,11 @@ returns-then-has_figure c =
     c.has_figure.ensures c.args.total c.if-has_figure.true c.loop-p-test.true
 
 pub loop-p-preserved : goal.loop-p-preserved
-loop-p-preserved c =
-    (
-      omega arith,
-      next-step c.args.figures.now c.args.c c.loop-p.p c.loop-p.invariant.0 c.loop-p.invariant.1 _
-          c.has_figure.ensures c.if-has_figure.false,
-    )
+loop-p-preserved c = (
+  omega arith,
+  next-step c.args.figures.now c.args.c c.loop-p.p c.loop-p.invariant.0 c.loop-p.invariant.1 _
+      c.has_figure.ensures c.if-has_figure.false,
+)
 
 pub returns : goal.returns
 returns c = next-none c.args.figures.now c.args.c c.loop-p.p c.loop-p.invariant.0 c.loop-p.invariant.1 c.args.total c.loop-p-test.false

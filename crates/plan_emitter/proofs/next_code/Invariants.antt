@@ -1,13 +1,10 @@
 -- `plan_emitter::next_code` meets its contract. The loop's invariant: no placement from c on before p has a figure.
 -- Assumes nothing.
-use native.Mathlib.Omega.{arith}
-use borrow.Author.Rules.{rules}
 use Prim.Native.Nat.{◌≤◌, ◌-◌}
 use mathlib.Core.Path.{◌≡◌}
 use mathlib.Core.Bool.{false}
 use Rattle.laws.specs.Below.{any_below}
 use Rattle.plan.specs.Emitter.{figure_from}
-use Rattle.plan_emitter.proofs.Next.{next_start, next-step, next-found, next-none}
 use Rattle.plan_emitter.proofs.next_code.Given as goal
 
 abbrev pub invariant-loop-p : goal.invariant-loop-p

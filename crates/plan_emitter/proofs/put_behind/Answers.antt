@@ -1,6 +1,5 @@
 -- `plan_emitter::put_behind` meets its contract, by the room behind the cursor.
 -- Assumes nothing.
-use borrow.Author.Rules.{rules}
 use Rattle.plan_emitter.proofs.Putting.{put-past, put-short, put-room}
 use Rattle.plan_emitter.proofs.put_behind.Goals as goal
 

@@ -1,6 +1,5 @@
 -- `plan_emitter::put_line` meets its contract: space with nothing written, or the line in front of what was there.
 -- Assumes nothing.
-use borrow.Author.Rules.{rules}
 use Rattle.plan_emitter.proofs.Copying.{line-short, line-put}
 use Rattle.plan_emitter.proofs.put_line.Goals as goal
 

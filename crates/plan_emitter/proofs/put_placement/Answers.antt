@@ -5,7 +5,6 @@ use mathlib.Core.Path.{refl}
 use Rattle.text.proofs.Appending.{front_fits, front_cut}
 use Rattle.plan_emitter.proofs.Emitting.{placement-is}
 use Rattle.plan_emitter.proofs.Putting.{placed-in-place, placed-copied}
-use borrow.Author.Rules.{rules}
 use Rattle.plan_emitter.proofs.put_placement.Goals as goal
 
 pub returns-then-has_room : goal.returns-then-has_room

@@ -57,8 +57,8 @@ loop-at-preserved c =
     let line : LineAt c.args.text.now c.loop-at.at = line_at c.args.text.now c.loop-at.at c.loop-at-test.true in
     let text = c.args.text.now in
     let k = checking c.loop-at.checker c.loop-at.figures c.loop-at.settings in
-    let long₁ = c.enter-taken.auto.1.1.0 in
-    let long₂ = c.enter-taken.auto.1.1.1.0 in (
+    let long₁ = c.enter-taken.auto.figures in
+    let long₂ = c.enter-taken.auto.settings in (
       long₁ ∙ c.loop-at.invariant.0,
       long₂ ∙ c.loop-at.invariant.1,
       λ r h fine.
