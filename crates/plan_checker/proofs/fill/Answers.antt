@@ -1,9 +1,6 @@
 -- `plan_checker::fill` meets its contract. The loop's invariant: the entries before i are filled, and the rest is as it was.
 -- Assumes nothing.
-use borrow.Author.Rules.{rules}
-use native.Mathlib.Omega.{arith}
-use Prim.Native.Nat.{◌-◌}
-use Rattle.plan_checker.proofs.Freshening.{Front, front-none, front-next, front-inside, front-all}
+use Rattle.plan_checker.proofs.Freshening.{front-none, front-next, front-inside, front-all}
 use Rattle.plan_checker.proofs.fill.Goals as goal
 
 pub loop-i-init : goal.loop-i-init

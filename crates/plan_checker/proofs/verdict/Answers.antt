@@ -1,6 +1,5 @@
 -- `plan_checker::verdict` meets its contract, by the state and the test of a plan.
 -- Assumes nothing.
-use borrow.Author.Rules.{rules}
 use Rattle.plan_checker.specs.Answers.{checking}
 use Rattle.plan_checker.proofs.Calling.{verdict-early, verdict-pass, verdict-fault}
 use Rattle.plan_checker.proofs.verdict.Goals as goal

@@ -1,6 +1,5 @@
 -- `plan_checker::Checker::begin` meets its contract, by the state.
 -- Assumes nothing.
-use borrow.Author.Rules.{rules}
 use Rattle.plan_checker.specs.Answers.{checking}
 use Rattle.plan_checker.proofs.Steps.{start_first, start-again}
 use Rattle.plan_checker.proofs.Checker.begin.Goals as goal

@@ -1,6 +1,5 @@
 -- `plan_checker::Checker::enter` meets its contract, by what was read.
 -- Assumes nothing.
-use borrow.Author.Rules.{rules}
 use Rattle.plan_checker.specs.Answers.{checking}
 use Rattle.plan_checker.proofs.Steps.{read-nothing, read-start, read-placed, small-code}
 use Rattle.plan_checker.proofs.Checker.enter.Goals as goal

@@ -1,6 +1,5 @@
 -- `plan_checker::Checker::fresh` meets its contract: the case is refused and nothing is written, or both tables are filled up to the last code.
 -- Assumes nothing.
-use borrow.Author.Rules.{rules}
 use mathlib.Core.Path.{refl}
 use Rattle.plan_checker.proofs.Freshening.{enough, fresh-refused, fresh-filled}
 use Rattle.plan_checker.proofs.Checker.fresh.Goals as goal

@@ -1,6 +1,5 @@
 -- `plan_checker::Checker::list` meets its contract: before the first line, too low, and taken.
 -- Assumes nothing.
-use borrow.Author.Rules.{rules}
 use Rattle.plan_checker.specs.Answers.{checking}
 use Rattle.plan_checker.proofs.Steps.{placed-early, placed-low, placed-next}
 use Rattle.plan_checker.proofs.Checker.list.Goals as goal

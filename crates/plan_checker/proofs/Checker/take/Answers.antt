@@ -1,6 +1,5 @@
 -- `plan_checker::Checker::take` meets its contract: the case is refused, or the line taken or refused.
 -- Assumes nothing.
-use borrow.Author.Rules.{rules}
 use Rattle.plan_checker.specs.Answers.{checking}
 use Rattle.plan_checker.proofs.Calling.{line_refused}
 use Rattle.plan_checker.proofs.Fronts.{table-of, line-so}

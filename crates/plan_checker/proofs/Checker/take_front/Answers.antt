@@ -2,7 +2,6 @@
 -- Assumes nothing.
 use Rattle.plan_checker.specs.Answers.{checking}
 use Rattle.plan_checker.proofs.Fronts.{table-of, front-refused, front-taken}
-use borrow.Author.Rules.{rules}
 use Rattle.plan_checker.proofs.Checker.take_front.Goals as goal
 
 pub take_lines-requires : goal.take_lines-requires

@@ -2,7 +2,6 @@
 -- Assumes nothing.
 use Rattle.plan_checker.specs.Answers.{checking}
 use Rattle.plan_checker.proofs.Fronts.{some-small, line-taken}
-use borrow.Author.Rules.{rules}
 use Rattle.plan_checker.proofs.Checker.take_line.Goals as goal
 
 pub enter-requires : goal.enter-requires

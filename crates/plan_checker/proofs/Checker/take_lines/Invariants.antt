@@ -1,20 +1,16 @@
 -- `plan_checker::Checker::take_lines` meets its contract. The loop's invariant: the lines taken so far, and those that are taken from the place reached on,
 -- are all that are taken. The place is where a line begins, so each turn reads a whole line; and what is taken was read, so that its end is known.
 -- Assumes nothing.
-use borrow.Author.Rules.{rules}
-use native.Mathlib.Omega.{arith}
-use mathlib.Core.Path.{◌≡◌, refl, ◌∙◌}
+use mathlib.Core.Path.{◌≡◌}
 use mathlib.Core.Option.{none}
 use Prim.Native.Nat.{◌-◌}
-use lib.ListN.{length, drop}
+use lib.ListN.{length}
 use Rattle.railway.specs.declared.Railway.{Railway}
 use Rattle.game_tables.specs.Tables.{case_refusal}
 use Rattle.railway_compiled.specs.Table.{Compiled}
-use Rattle.plan.specs.FirstLine.{first_of}
 use Rattle.plan.specs.Several.{lines_of, front_of}
 use Rattle.plan_checker.specs.Answers.{checking}
-use Rattle.plan_checker.proofs.Lines.{LineAt, line_at, taken-end}
-use Rattle.plan_checker.proofs.Fronts.{some-small, line-taken, Fronting, fronting-start, fronting-over, fronting-stop, fronting-next}
+use Rattle.plan_checker.proofs.Fronts.{Fronting}
 use Rattle.plan_checker.proofs.Checker.take_lines.Given as goal
 
 abbrev pub invariant-loop-at : goal.invariant-loop-at

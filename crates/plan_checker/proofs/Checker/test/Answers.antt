@@ -1,6 +1,5 @@
 -- `plan_checker::Checker::test` meets its contract: the case is refused, or the lines taken are tested. The checker handed back is the one handed in.
 -- Assumes nothing.
-use borrow.Author.Rules.{rules}
 use Rattle.plan_checker.specs.Answers.{checking}
 use Rattle.game_case.proofs.Cases.{opened-table}
 use Rattle.plan_checker.proofs.Calling.{test-refused, test-judged, test-handed}
