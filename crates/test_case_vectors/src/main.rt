@@ -1,6 +1,7 @@
 // Case texts and what is made of each: read, and if it is accepted written again; else `refused`, a tab and the number. Standard
 // input is records (crate test_framing), each of 65,536 bytes at most.
 #![tactic(auto)]
+
 use case_file::Written;
 use railway::{CaseAnswer, Railway};
 

@@ -2,6 +2,7 @@
 // end, the bits of the points at plus, the section or `x` for none, and the points met in order, parted by commas, or `.` for none.
 // Standard input is records (crate test_framing).
 #![tactic(auto)]
+
 use railway::{CaseAnswer, End, Railway, SectionNo, Side};
 use railway_passing::{MOST_MET, Passed, Reached};
 

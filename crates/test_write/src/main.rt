@@ -1,6 +1,7 @@
 // Records and what the writer makes of them, in buffers of several lengths that are filled with `#` before. For each: what it is and the answer,
 // `bytes` or `refused` with a number; then the whole buffer as it was left, and a line end.
 #![tactic(auto)]
+
 use case_file::Written;
 use railway::{End, Leg, PointNo, Railway, SectionNo, Side, Train};
 
