@@ -17,7 +17,7 @@ use Rattle.railway.specs.declared.Railway.{Railway}
 use Rattle.railway.specs.Bounds.{most_sections, most_trains}
 use Rattle.railway.specs.Record.{train_of}
 use Rattle.railway.specs.Rows.{record_refusal}
-use Rattle.game.proofs.Accepted.{Facts, facts}
+use Rattle.game.proofs.Accepted.{facts}
 use Rattle.runs.specs.declared.RunReply.{RunReply}
 use Rattle.runs.specs.Runs.{entry_at, RunTable, table_in, RunPost, table_of, train_run}
 use Rattle.runs.proofs.Runs.{table-of}

@@ -6,7 +6,6 @@ use mathlib.Core.Option.{none}
 use Prim.Native.Nat.{ℕ, zero, suc, ◌+◌, ◌*◌, ◌≤◌, ◌<◌}
 use native.Mathlib.Omega.{arith}
 use native.Mathlib.Numerals.{add-one}
-use lib.Dec.{eqb}
 use lib.ListN.{length, get_or, length-append}
 use borrow.Author.Tests.{eq-eqb, ne_eqb}
 use Rattle.laws.specs.Below.{any_below, sum_below, gather_below}
@@ -23,7 +22,6 @@ use Rattle.answer_lines.specs.Lines.{none_line, PutPost, Puts}
 use Rattle.case_file.specs.declared.Written.{Written}
 use Rattle.runs.specs.Runs.{no_run, train_run}
 -- (Examples is named so that it is checked before: a wrong definition then shows at a computed value.)
-use Rattle.runs_text.proofs.Examples as Examples
 use Rattle.runs_text.specs.Written.{is_none, run_field, run_line, last_line, runs_text, RailwayRuns, text_bytes, TrainsRun}
 
 -- A TRAIN'S LINE, without a run and with one

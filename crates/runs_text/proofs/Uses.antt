@@ -1,18 +1,14 @@
 -- What is written of runs at work: for Yard A two runs of 1, and at least 2; for the line whose middle section is
 -- closed no run, and no plan. Of a text that is longer than a case may be the refusal's line, by the bytes that are
 -- read. Of what is shown, each part gives a number. Texts are any of which it is said. Assumes nothing.
-use mathlib.Core.Path.{◌≡◌, refl, sym, ◌∙◌}
-use mathlib.Core.Bool.{Bool, true, false}
+use mathlib.Core.Path.{◌≡◌, ◌∙◌}
 use mathlib.Core.List.{List}
-use mathlib.Core.Option.{none, some}
+use mathlib.Core.Option.{some}
 use Prim.Native.Nat.{ℕ, zero, suc, ◌+◌, ◌≤◌, ◌<◌}
 use native.Mathlib.Omega.{arith}
 use lib.ListN.{take}
 use Rattle.laws.specs.Below.{any_below, sum_below, gather_below}
 use Rattle.text.specs.Text.{digits, line, bytes}
-use Rattle.railway.specs.declared.Side.TheVariants.{Up, Down}
-use Rattle.railway.specs.declared.Railway.{Railway}
-use Rattle.railway.specs.declared.Refusal.{Refusal}
 use Rattle.railway.specs.declared.Refusal.TheVariants.{Form}
 use Rattle.railway.specs.Record.{train_of, with_join, with_signal, with_closed, with_legs, with_train}
 use Rattle.railway.specs.Yards.{yard_a}
@@ -22,10 +18,9 @@ use Rattle.game.specs.Moves.{game_of}
 use Rattle.game.proofs.Examples.{shut_line}
 use Rattle.plan.specs.Test.{Listing, Test}
 use Rattle.case_file.specs.Given.{RefusedWith, AcceptedWith}
-use Rattle.answer_lines.specs.Lines.{refusal_line}
-use Rattle.runs.specs.Runs.{no_run, entry_at, RunTable, train_run}
+use Rattle.runs.specs.Runs.{no_run, entry_at, train_run}
 use Rattle.runs.proofs.Uses.{run_up, run_down, one_up, one_down, none-up, none-down}
-use Rattle.runs_text.specs.Written.{runs_text, RailwayRuns, CaseRuns, ShownRuns}
+use Rattle.runs_text.specs.Written.{RailwayRuns, CaseRuns, ShownRuns}
 use Rattle.runs_text.proofs.Spelling.{text_same}
 use Rattle.runs_text.proofs.Cases.{cut-shows}
 use Rattle.runs_text.proofs.Written.{shows-runs}

@@ -2,6 +2,7 @@
 // any plan takes at least, or `none` where a train has none; or the line of a refusal. It stands whole at the front of
 // the buffer, or finds no room and is refused for that, and the buffer is as it was.
 #![tactic(auto)]
+
 ghost use Rattle.std.specs.Prelude.{◌≡◌, ℕ, suc, ◌<◌, ◌≤◌, length, get_or};
 ghost use Rattle.std.proofs.Math.Option.{none};
 ghost use Rattle.laws.specs.Below.{any_below, sum_below, gather_below};
