@@ -1,7 +1,5 @@
 -- `test_pass_vectors::main` is safe and ends: its turns are counted. Nothing has to hold from turn to turn.
 -- Assumes nothing.
-use borrow.Author.Rules.{rules}
-use native.Mathlib.Omega.{arith}
 use Prim.Native.Nat.{◌-◌}
 use Rattle.test_pass_vectors.proofs.main.Given as goal
 

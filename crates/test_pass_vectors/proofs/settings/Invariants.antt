@@ -1,7 +1,5 @@
 -- `test_pass_vectors::settings` is safe and ends: a setting a turn.
 -- Assumes nothing.
-use borrow.Author.Rules.{rules}
-use native.Mathlib.Omega.{arith}
 use Prim.Native.Nat.{◌-◌, ◌≤◌}
 use Rattle.test_pass_vectors.proofs.settings.Given as goal
 
