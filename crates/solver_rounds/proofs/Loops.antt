@@ -5,7 +5,6 @@ use mathlib.Core.Path.{◌≡◌, refl, sym, ◌∙◌, ap}
 use mathlib.Core.Logic.{◌⊎◌, inl, inr}
 use mathlib.Core.Bool.{true}
 use mathlib.Core.List.{List}
-use mathlib.Core.Option.{some}
 use Prim.Native.Nat.{ℕ, ◌+◌, ◌≤◌, ◌<◌}
 use native.Mathlib.Omega.{arith}
 use lib.ListN.{length, get_or}
@@ -16,12 +15,11 @@ use Rattle.laws.proofs.Below.{any_at}
 use Rattle.laws.proofs.Lists.{get_or-inside}
 use Rattle.railway.specs.declared.Railway.{Railway}
 use Rattle.railway.specs.Record.{weight_of}
-use Rattle.game.specs.Game.{over}
 use Rattle.game.specs.Placement.{placements}
 use Rattle.game_tables.specs.Tables.{no_figure}
 use Rattle.solver_dues.specs.Dues.{same_weight}
 use Rattle.solver_rounds.specs.declared.ThisRound.{ThisRound}
-use Rattle.solver_rounds.specs.Visits.{Turned, Round, same, Visited, Passed, ByWeight, Comes, Ahead, Weighed, Apart}
+use Rattle.solver_rounds.specs.Visits.{Turned, Round, Visited, Passed, ByWeight, Comes, Ahead, Weighed, Apart}
 use Rattle.solver_rounds.proofs.Entries.{entry-is}
 use Rattle.solver_rounds.proofs.Visits.{visited-onward, visited-less, round-on, visited-none, visited-then}
 

@@ -7,6 +7,7 @@
 // accepted railway whose compiled table and ways they are handed: those into sections that are not closed, for moves, and those to all
 // sections, for going back. `begin` and `round` ask for nothing: where a table is too short they do nothing, and promise nothing.
 #![tactic(auto)]
+
 ghost use Rattle.std.specs.Prelude.{◌≡◌, false, ℕ, suc, ◌+◌, ◌%◌, ◌≤◌, ◌<◌, length, get_or};
 ghost use Rattle.std.proofs.Math.Option.{none};
 ghost use Rattle.railway.specs.declared.Railway.{Railway};
