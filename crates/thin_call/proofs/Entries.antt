@@ -3,7 +3,7 @@ use mathlib.Core.Path.{◌≡◌, refl, sym, ◌∙◌, ap}
 use mathlib.Core.Logic.{inl, inr}
 use mathlib.Core.Bool.{Bool, true, false, cond}
 use mathlib.Core.List.{List}
-use mathlib.Core.Option.{Option, none, some}
+use mathlib.Core.Option.{none, some}
 use Prim.Native.Nat.{ℕ, zero, suc, ◌+◌, ◌*◌, ◌%◌, ◌^◌, ◌≤◌, ◌<◌}
 use native.Mathlib.Omega.{arith}
 use lib.ListN.{get_or}
@@ -16,7 +16,7 @@ use Rattle.laws.proofs.Below.{any_false, any-one, any_none, lowest-cases, lowest
 use Rattle.railway.specs.declared.Railway.{Railway}
 use Rattle.railway.specs.Bounds.{most_trains}
 use Rattle.game.specs.Placement.{at_home}
-use Rattle.game.specs.Setting.{Setting, free}
+use Rattle.game.specs.Setting.{free}
 use Rattle.game.specs.Game.{may}
 use Rattle.game.specs.Moves.{game_of}
 use Rattle.game_tables.specs.Entries.{train_bits, setting_at}

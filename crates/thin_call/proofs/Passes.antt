@@ -2,7 +2,7 @@
 use mathlib.Core.Path.{◌≡◌, refl, sym, ◌∙◌, ap, subst}
 use mathlib.Core.List.{List, [], ◌∷◌, ◌++◌, append_assoc}
 use mathlib.Core.Option.{Option, none, some}
-use Prim.Native.Nat.{ℕ, zero, suc, ◌+◌, ◌≤◌, ◌<◌}
+use Prim.Native.Nat.{ℕ, suc, ◌+◌, ◌≤◌, ◌<◌}
 use native.Mathlib.Omega.{arith}
 use native.Mathlib.Numerals.{add-one}
 use lib.ListN.{length, get_or, set, drop, length-set}
@@ -15,18 +15,14 @@ use Rattle.railway.specs.Refusals.{first, number_of}
 use Rattle.railway.specs.Rows.{record_refusal}
 use Rattle.game.specs.Placement.{placements}
 use Rattle.game_tables.specs.Tables.{figure_in}
-use Rattle.plan.specs.declared.CheckerState.{CheckerState}
 use Rattle.plan.specs.declared.TestAnswer.{TestAnswer}
 use Rattle.plan.specs.declared.TestAnswer.TheVariants.{Pass, Refused as TestRefused}
 use Rattle.plan.specs.Checker.{Checking, test_rows, test_plan}
 use Rattle.plan.specs.Promises.{TestPost}
-use Rattle.plan_checker.specs.declared.Checker.{Checker}
-use Rattle.plan_checker.specs.Answers.{checking}
 use Rattle.thin.specs.declared.ThinAnswer.{ThinAnswer}
 use Rattle.thin.specs.declared.ThinAnswer.TheVariants.{Thinned, Refused}
 use Rattle.thin.specs.Thinning.{thinned_if, thinned_entry, thinned_table, thin_number, thinned_checking, thin_leaves, thin_plan, ThinPost}
-use Rattle.thin.specs.Claims.{ThinClaims}
-use Rattle.thin.proofs.Claims.{Passed, passed, claims}
+use Rattle.thin.proofs.Claims.{passed, claims}
 
 -- THE LOOP: the entries before i are thinned, and the rest is as it was
 pub record ThinnedTo (r : Railway) (figs old new : List ℕ) (i : ℕ) : Type 0 where

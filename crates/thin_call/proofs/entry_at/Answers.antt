@@ -1,6 +1,5 @@
 -- `thin_call::entry_at` meets its contract: not listed, at home, and else thinned.
 -- Assumes nothing.
-use borrow.Author.Rules.{rules}
 use Rattle.thin_call.proofs.Entries.{entry-unlisted, entry-home, entry-lean}
 use Rattle.thin_call.proofs.entry_at.Goals as goal
 

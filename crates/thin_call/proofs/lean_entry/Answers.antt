@@ -1,7 +1,6 @@
 -- `thin_call::lean_entry` meets its contract, by whether some train is free.
 -- Assumes nothing.
 use native.Mathlib.Omega.{arith}
-use borrow.Author.Rules.{rules}
 use Rattle.thin_call.proofs.Entries.{lean-free, lean-held}
 use Rattle.thin_call.proofs.lean_entry.Goals as goal
 

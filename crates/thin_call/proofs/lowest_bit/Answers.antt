@@ -1,18 +1,10 @@
 -- `thin_call::lowest_bit` meets its contract. The loop's invariant: no train before t may move.
 -- Assumes nothing.
 use native.Mathlib.Omega.{arith}
-use borrow.Author.Rules.{rules}
-use mathlib.Core.Path.{◌≡◌, refl, sym, ◌∙◌}
-use mathlib.Core.Bool.{false}
-use Prim.Native.Nat.{ℕ, ◌-◌, ◌≤◌}
+use mathlib.Core.Path.{refl, sym, ◌∙◌}
 use Rattle.laws.specs.Below.{any_below}
 use Rattle.laws.proofs.Below.{any_next}
-use Rattle.railway.specs.declared.Railway.{Railway}
-use Rattle.game.specs.Game.{may}
-use Rattle.game.specs.Moves.{game_of}
 use Rattle.game.proofs.Accepted.{facts}
-use Rattle.game_tables.specs.Entries.{setting_at}
-use Rattle.game_moves.specs.Steps.{On}
 use Rattle.thin_call.proofs.Entries.{first_bit, no-bit}
 use Rattle.thin_call.proofs.lowest_bit.Goals as goal
 
@@ -21,26 +13,23 @@ unfolding any_below
 loop-t-init c = (omega arith, λ r p on. refl)
 
 pub returns-then-may_in : goal.returns-then-may_in
-returns-then-may_in c =
-    (
-      c.train_bit.ensures.0,
-      λ r p on.
-          first_bit _ (c.trains_in-k.ensures r on.compiled) (facts r on.compiled.accepted).few-trains
-          c.loop-t.t (c.loop-t.invariant.1 r p on) c.loop-t-test.true
-          (sym (c.may_in.ensures r p on) ∙ c.if-may_in.true) _ c.train_bit.ensures.1,
-    )
+returns-then-may_in c = (
+  c.train_bit.ensures.0,
+  λ r p on.
+      first_bit _ (c.trains_in-k.ensures r on.compiled) (facts r on.compiled.accepted).few-trains
+      c.loop-t.t (c.loop-t.invariant.1 r p on) c.loop-t-test.true
+      (sym (c.may_in.ensures r p on) ∙ c.if-may_in.true) _ c.train_bit.ensures.1,
+)
 
 pub loop-t-preserved : goal.loop-t-preserved
-loop-t-preserved c =
-    (
-      omega arith,
-      λ r p on. any_next _ _ (c.loop-t.invariant.1 r p on) (sym (c.may_in.ensures r p on) ∙ c.if-may_in.false),
-    )
+loop-t-preserved c = (
+  omega arith,
+  λ r p on. any_next _ _ (c.loop-t.invariant.1 r p on) (sym (c.may_in.ensures r p on) ∙ c.if-may_in.false),
+)
 
 pub returns : goal.returns
-returns c =
-    (
-      omega arith,
-      λ r p on.
-          no-bit _ (c.trains_in-k.ensures r on.compiled) (facts r on.compiled.accepted).few-trains c.loop-t.t (c.loop-t.invariant.1 r p on) c.loop-t.invariant.0 c.loop-t-test.false,
-    )
+returns c = (
+  omega arith,
+  λ r p on.
+      no-bit _ (c.trains_in-k.ensures r on.compiled) (facts r on.compiled.accepted).few-trains c.loop-t.t (c.loop-t.invariant.1 r p on) c.loop-t.invariant.0 c.loop-t-test.false,
+)

@@ -1,19 +1,14 @@
 -- `thin_call::lowest_bit` meets its contract. The loop's invariant: no train before t may move.
 -- Assumes nothing.
-use native.Mathlib.Omega.{arith}
-use borrow.Author.Rules.{rules}
-use mathlib.Core.Path.{◌≡◌, refl, sym, ◌∙◌}
+use mathlib.Core.Path.{◌≡◌}
 use mathlib.Core.Bool.{false}
 use Prim.Native.Nat.{ℕ, ◌-◌, ◌≤◌}
 use Rattle.laws.specs.Below.{any_below}
-use Rattle.laws.proofs.Below.{any_next}
 use Rattle.railway.specs.declared.Railway.{Railway}
 use Rattle.game.specs.Game.{may}
 use Rattle.game.specs.Moves.{game_of}
-use Rattle.game.proofs.Accepted.{facts}
 use Rattle.game_tables.specs.Entries.{setting_at}
 use Rattle.game_moves.specs.Steps.{On}
-use Rattle.thin_call.proofs.Entries.{first_bit, no-bit}
 use Rattle.thin_call.proofs.lowest_bit.Given as goal
 
 abbrev pub invariant-loop-t : goal.invariant-loop-t

@@ -1,7 +1,6 @@
 -- `thin_call::put` meets its contract: to set an entry past the end changes nothing.
 -- Assumes nothing.
 use mathlib.Core.Path.{sym}
-use borrow.Author.Rules.{rules}
 use lib.Seq.{set_out}
 use Rattle.thin_call.proofs.put.Goals as goal
 

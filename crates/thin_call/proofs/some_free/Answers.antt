@@ -1,15 +1,9 @@
 -- `thin_call::some_free` meets its contract. The loop's invariant: no train before t is free.
 -- Assumes nothing.
 use native.Mathlib.Omega.{arith}
-use borrow.Author.Rules.{rules}
-use mathlib.Core.Path.{◌≡◌, refl, sym, ◌∙◌}
-use mathlib.Core.Bool.{false}
-use Prim.Native.Nat.{ℕ, ◌-◌, ◌≤◌}
+use mathlib.Core.Path.{refl, sym, ◌∙◌}
 use Rattle.laws.specs.Below.{any_below}
 use Rattle.laws.proofs.Below.{any_next}
-use Rattle.railway.specs.declared.Railway.{Railway}
-use Rattle.game.specs.Setting.{free}
-use Rattle.game_moves.specs.Steps.{On}
 use Rattle.game_moves.proofs.Moving.{as-there}
 use Rattle.thin_call.proofs.Entries.{within, one_free, none_free}
 use Rattle.thin_call.proofs.some_free.Goals as goal
@@ -26,15 +20,14 @@ returns-then-free_in c =
     (within e c.loop-t.t c.loop-t-test.true) _ _ (c.free_in.ensures r p on)) ∙ c.if-free_in.true)
 
 pub loop-t-preserved : goal.loop-t-preserved
-loop-t-preserved c =
-    (
-      omega arith,
-      λ r p on.
-          let e = c.trains_in-k.ensures r on.compiled in
-          any_next _ _ (c.loop-t.invariant.1 r p on)
-          (sym (as-there r p _ _ on _ (within e c.loop-t.t c.loop-t-test.true) _ _
-          (c.free_in.ensures r p on)) ∙ c.if-free_in.false),
-    )
+loop-t-preserved c = (
+  omega arith,
+  λ r p on.
+      let e = c.trains_in-k.ensures r on.compiled in
+      any_next _ _ (c.loop-t.invariant.1 r p on)
+      (sym (as-there r p _ _ on _ (within e c.loop-t.t c.loop-t-test.true) _ _
+      (c.free_in.ensures r p on)) ∙ c.if-free_in.false),
+)
 
 pub returns : goal.returns
 returns c =

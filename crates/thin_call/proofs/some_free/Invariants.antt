@@ -1,17 +1,12 @@
 -- `thin_call::some_free` meets its contract. The loop's invariant: no train before t is free.
 -- Assumes nothing.
-use native.Mathlib.Omega.{arith}
-use borrow.Author.Rules.{rules}
-use mathlib.Core.Path.{◌≡◌, refl, sym, ◌∙◌}
+use mathlib.Core.Path.{◌≡◌}
 use mathlib.Core.Bool.{false}
 use Prim.Native.Nat.{ℕ, ◌-◌, ◌≤◌}
 use Rattle.laws.specs.Below.{any_below}
-use Rattle.laws.proofs.Below.{any_next}
 use Rattle.railway.specs.declared.Railway.{Railway}
 use Rattle.game.specs.Setting.{free}
 use Rattle.game_moves.specs.Steps.{On}
-use Rattle.game_moves.proofs.Moving.{as-there}
-use Rattle.thin_call.proofs.Entries.{within, one_free, none_free}
 use Rattle.thin_call.proofs.some_free.Given as goal
 
 abbrev pub invariant-loop-t : goal.invariant-loop-t

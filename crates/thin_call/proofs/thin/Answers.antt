@@ -1,7 +1,6 @@
 -- `thin_call::thin` meets its contract, by the answer of the test: refused with it, or the setting table is thinned. The checker handed back is the one that the test handed back.
 -- Assumes nothing.
 use mathlib.Core.Path.{refl}
-use borrow.Author.Rules.{rules}
 use Rattle.plan_checker.specs.Answers.{checking}
 use Rattle.thin_call.proofs.Passes.{thin-refused, thin-accepted, thin-enough, thin-done}
 use Rattle.thin_call.proofs.thin.Goals as goal

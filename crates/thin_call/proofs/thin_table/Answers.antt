@@ -1,28 +1,21 @@
 -- `thin_call::thin_table` meets its contract. The loop's invariant: the entries before p are thinned, and the rest is as it was.
 -- Assumes nothing.
 use native.Mathlib.Omega.{arith}
-use borrow.Author.Rules.{rules}
-use mathlib.Core.Path.{◌≡◌, refl}
-use Prim.Native.Nat.{◌-◌, ◌≤◌}
-use lib.ListN.{length}
-use Rattle.railway.specs.declared.Railway.{Railway}
-use Rattle.game.specs.Placement.{placements}
-use Rattle.railway_compiled.specs.Table.{Compiled}
-use Rattle.thin_call.proofs.Passes.{ThinnedTo, thin-none, thin-put, put-length, thin-all}
+use mathlib.Core.Path.{refl}
+use Rattle.thin_call.proofs.Passes.{thin-none, thin-put, put-length, thin-all}
 use Rattle.thin_call.proofs.thin_table.Goals as goal
 
 pub loop-p-init : goal.loop-p-init
 loop-p-init c = (omega arith, refl, λ r h l. thin-none r _ _)
 
 pub loop-p-preserved : goal.loop-p-preserved
-loop-p-preserved c =
-    (
-      omega (arith, c.loop-p-test.true),
-      put-length c.args.settings.now c.loop-p.settings c.put.new.0 c.loop-p.p c.entry_at-v.result
-          c.put.ensures c.loop-p.invariant.1,
-      λ r h k. thin-put r _ _ _ c.loop-p.p (c.loop-p.invariant.2 r h k) (c.placements-n.ensures r h) k
-          c.loop-p-test.true _ (c.entry_at-v.ensures r h) _ c.put.ensures,
-    )
+loop-p-preserved c = (
+  omega (arith, c.loop-p-test.true),
+  put-length c.args.settings.now c.loop-p.settings c.put.new.table c.loop-p.p c.entry_at-v.result
+      c.put.ensures c.loop-p.invariant.1,
+  λ r h k. thin-put r _ _ _ c.loop-p.p (c.loop-p.invariant.2 r h k) (c.placements-n.ensures r h) k
+      c.loop-p-test.true _ (c.entry_at-v.ensures r h) _ c.put.ensures,
+)
 
 pub returns : goal.returns
 returns c =

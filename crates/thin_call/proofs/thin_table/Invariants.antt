@@ -1,14 +1,12 @@
 -- `thin_call::thin_table` meets its contract. The loop's invariant: the entries before p are thinned, and the rest is as it was.
 -- Assumes nothing.
-use native.Mathlib.Omega.{arith}
-use borrow.Author.Rules.{rules}
-use mathlib.Core.Path.{◌≡◌, refl}
+use mathlib.Core.Path.{◌≡◌}
 use Prim.Native.Nat.{◌-◌, ◌≤◌}
 use lib.ListN.{length}
 use Rattle.railway.specs.declared.Railway.{Railway}
 use Rattle.game.specs.Placement.{placements}
 use Rattle.railway_compiled.specs.Table.{Compiled}
-use Rattle.thin_call.proofs.Passes.{ThinnedTo, thin-none, thin-put, put-length, thin-all}
+use Rattle.thin_call.proofs.Passes.{ThinnedTo}
 use Rattle.thin_call.proofs.thin_table.Given as goal
 
 abbrev pub invariant-loop-p : goal.invariant-loop-p

@@ -1,6 +1,5 @@
 -- `thin_call::train_bit` meets its contract, by whether a railway can have the train.
 -- Assumes nothing.
-use borrow.Author.Rules.{rules}
 use native.Mathlib.Omega.{arith}
 use Rattle.thin_call.proofs.Entries.{bit-small, bit_is}
 use Rattle.thin_call.proofs.train_bit.Goals as goal
