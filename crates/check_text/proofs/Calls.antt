@@ -1,6 +1,6 @@
 -- A text checked by one call for its lines and one for the test, against a call for each line: the lines in front are all lines, each of which is taken, or
 -- one is refused behind them. A refused railway is refused at the first call, be it for a line or for the test. Assumes nothing.
-use mathlib.Core.Path.{◌≡◌, refl, ◌∙◌, ap}
+use mathlib.Core.Path.{◌≡◌, refl, ap}
 use mathlib.Core.Bool.{true}
 use mathlib.Core.List.{List, [], ◌∷◌, ◌++◌, flatten}
 use mathlib.Core.Logic.{◌⊎◌, inl, inr}

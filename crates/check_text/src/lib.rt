@@ -1,6 +1,7 @@
 // A plan's text checked, whole or piece by piece as it comes: its lines handed to the checker, as many as it takes, then the test; a line that is
 // refused ends it.
 #![tactic(auto)]
+
 ghost use Rattle.std.specs.Prelude.{◌≡◌, drop};
 ghost use Rattle.game_tables.specs.Tables.{case_refusal};
 ghost use Rattle.answer_lines.specs.Lines.{most_answer_bytes, Puts};

@@ -1,0 +1,11 @@
+-- `check_text::check_case` meets its contract: refused by the reader, or what the plan is answered for the railway that was read.
+-- Assumes nothing.
+use mathlib.Core.Path.{refl}
+use Rattle.case_reader.proofs.Answers.{by-refused, by-accepted}
+use Rattle.check_text.proofs.check_case.Goals as goal
+
+pub returns-in-Refused : goal.returns-in-Refused
+returns-in-Refused c = by-refused _ _ _ _ c.read_case-read.ensures _ c.in-Refused.is refl
+
+pub returns-in-Accepted : goal.returns-in-Accepted
+returns-in-Accepted c = by-accepted _ _ _ _ c.read_case-read.ensures c.in-Accepted.is c.check_plan.ensures
