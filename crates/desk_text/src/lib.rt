@@ -1,5 +1,6 @@
 // What program deskrun puts for a state, for the opening of a desk and for a line that is read at one: a text in a lent buffer, the desk behind it, and whether lines are read from there on.
 #![tactic(auto)]
+
 ghost use Rattle.std.specs.Prelude.{◌≡◌, ◌≤◌};
 ghost use Rattle.std.proofs.Math.Option.{none};
 ghost use Rattle.railway.specs.Bounds.{most_points, most_trains};
