@@ -2,6 +2,7 @@
 // Standard input is records (crate test_framing). Behind them records that no text makes, handed to the call itself:
 // what each is, the number that is answered, 0 for none, and whether the table came back as it was.
 #![tactic(auto)]
+
 use railway::{CaseAnswer, End, Railway, SectionNo, Side, Train};
 use runs_tables::{NO_RUN, Runs};
 
