@@ -1,5 +1,6 @@
 // The solver: a record and two lent tables, filled by the rounds of a search, one due round after the other, without a halt.
 #![tactic(auto)]
+
 ghost use Rattle.std.specs.Prelude.{◌≡◌, ◌≤◌, length};
 ghost use Rattle.std.proofs.Math.Option.{none};
 ghost use Rattle.railway.specs.declared.Railway.{Railway};
