@@ -2,6 +2,7 @@
 // frontier, as in `solver_rounds`; the first placement there that would gain settles it. So whoever shows a search round by round knows in time
 // whether more is to come.
 #![tactic(auto)]
+
 ghost use Rattle.std.specs.Prelude.{◌≡◌, true, ◌↔◌, List, ℕ, suc, ◌≤◌, ◌<◌};
 ghost use Rattle.railway.specs.declared.Railway.{Railway};
 ghost use Rattle.railway.specs.Record.{is_closed};
