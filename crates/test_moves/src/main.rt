@@ -2,6 +2,7 @@
 // each: what is asked, a tab, and the answer. A move answers `-` (not allowed), `x` (derails), `c` (collides) or the code it leads
 // to; a search answers `none` or the entry. Sections, points and trains are counted from 0 in the code, from 1 in the text.
 #![tactic(auto)]
+
 use game_moves::Move;
 use game_tables::NO_FIGURE;
 use railway::{CaseAnswer, End, Leg, PointNo, Railway, SectionNo, Side, Train};
