@@ -37,8 +37,8 @@ use Rattle.search.specs.declared.SearchAnswer.{SearchAnswer}
 use Rattle.search.specs.declared.SearchAnswer.TheVariants.{Going, Ended}
 use Rattle.search.proofs.Opening.{none-cleared}
 use Rattle.search.specs.Searching.{State, number_given, going_on, Coming, Standing, OpenLeaves, OpenPost, Rounded, RoundLeaves, SearchPost, Searching, begun, call}
+
 -- (Searching is named so that it is checked before: a wrong definition then shows at what follows from it.)
-use Rattle.search.proofs.Searching as Searching
 
 -- MARKS that are all the same
 marks_of : ℕ → List ℕ

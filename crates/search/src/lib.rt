@@ -1,6 +1,7 @@
 // A search that is looked into between its rounds: what it carries from call to call, and what its calls answer. specs/ has the definitions and the statement over whole lists
 // of calls, proofs/ that it follows from what a call promises. The calls are in crate search_calls.
 #![tactic(auto)]
+
 use railway::Refusal;
 use solver_marks::MARKS;
 
