@@ -23,7 +23,7 @@ solved-by r n figs sets post =
     let leaves : SolverLeaves r (Figure n) blank blank figs sets none = subst (SolverLeaves r (Figure n) blank blank figs sets) fine post.leaves in
     record {
       long = leaves.0.kept-figs.as_long ∙ length-replicate {A = ℕ} entries 0;
-      unrefused = none-refused r figs sets k.0 (rw leaves.0.kept-figs.as_long k.1.figures) (rw leaves.0.Kept-sets.as_long k.1.settings);
+      unrefused = none-refused r figs sets k.0 (rw leaves.0.kept-figs.as_long k.1.figures) (rw leaves.0.kept_sets.as_long k.1.settings);
       bounded = filled-most r k.0 figs sets leaves.0.filled;
       figure = n;
       start = sym leaves.1;

@@ -20,8 +20,8 @@ use Rattle.plan.specs.Several.{emit_lines, EmitLinesPost, WroteWhole}
 use Rattle.plan.proofs.Several.{emits-whole}
 use Rattle.case_file.specs.declared.Written.{Written}
 use Rattle.case_file.specs.declared.Written.TheVariants.{Bytes}
-use Rattle.answer_lines.specs.Lines.{PutPost, FrontIs}
-use Rattle.answer_lines.proofs.Puts.{put_written, front-whole}
+use Rattle.answer_lines.specs.Lines.{PutPost}
+use Rattle.answer_lines.proofs.Puts.{put_written}
 use Rattle.plan_text.specs.Listable.{Listable}
 use Rattle.plan_text.specs.Written.{text_bytes}
 use Rattle.plan_text.proofs.Sizes.{plan-short}

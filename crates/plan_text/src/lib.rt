@@ -1,6 +1,7 @@
 // All that program signalplan writes for a case text, put into a lent buffer: the plan's lines, or `none`, or the line of a refusal. It stands whole at the
 // front of the buffer, or finds no room and is refused for that, and the buffer is as it was.
 #![tactic(auto)]
+
 ghost use Rattle.std.specs.Prelude.{◌≤◌, length, take};
 ghost use Rattle.text.specs.Appending.{Appended};
 ghost use Rattle.plan.specs.Text.{plan_text};
