@@ -5,6 +5,7 @@
 // and if that has none the end is tried again, for its tables. So there are at most as many solvings as ends without
 // a signal, 96, or three. The tables are left as the last of them filled them.
 #![tactic(auto)]
+
 ghost use Rattle.std.specs.Prelude.{◌≡◌, List, ℕ, ◌*◌, ◌≤◌};
 ghost use Rattle.std.proofs.Math.Option.{none};
 ghost use Rattle.railway.specs.Bounds.{most_sections};
