@@ -4,7 +4,7 @@ use mathlib.Core.Path.{◌≡◌, ◌∙◌, ap}
 use mathlib.Core.List.{List, []}
 use Prim.Native.Nat.{ℕ, ◌≤◌}
 use lib.ListN.{length}
-use Rattle.text.specs.Text.{digits, bytes}
+use Rattle.text.specs.Text.{bytes}
 use Rattle.check_text.specs.Verdict.{CheckOutput}
 use Rattle.check_text.proofs.Uses.{writes-form}
 use Rattle.check_io.specs.Answered.{Answered}
