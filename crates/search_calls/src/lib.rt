@@ -3,6 +3,7 @@
 // call. Rounds are those of the solver. Where the very next round is not due, the next that brings figures is looked for, so that rounds between take no time and the end is
 // known as soon as it comes.
 #![tactic(auto)]
+
 ghost use Rattle.std.specs.Prelude.{◌≡◌, true, ℕ, suc, ◌≤◌, ◌<◌, length};
 ghost use Rattle.railway.specs.declared.Railway.{Railway};
 ghost use Rattle.railway.specs.Record.{is_closed};
