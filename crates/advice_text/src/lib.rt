@@ -2,6 +2,7 @@
 // one would help, that none does, or the line of a refusal. It stands whole at the front of the buffer, or finds no
 // room and is refused for that, and the buffer is as it was.
 #![tactic(auto)]
+
 ghost use Rattle.std.specs.Prelude.{◌≡◌};
 ghost use Rattle.text.specs.Appending.{Appended};
 ghost use Rattle.case_file.specs.Form.{side_byte};
