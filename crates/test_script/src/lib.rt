@@ -4,6 +4,7 @@
 // and `n`, n: so many entries of the present tables, or of the new ones, are lent from here on; `f`, code, figure, setting: written into the present tables. Of these `o`, `s`, `r` and
 // `c` are answered, a line each, and the desk that is handed back becomes the present one.
 #![tactic(auto)]
+
 ghost use Rattle.std.specs.Prelude.{◌≡◌, true, false};
 ghost use Rattle.io.specs.Counts.{IsPrefixLen};
 ghost use Rattle.case_reader.specs.Answers.{ByCase};
