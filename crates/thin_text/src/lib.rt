@@ -1,6 +1,7 @@
 // All that program thinplan writes for a case text and a plan's, put into a lent buffer: the text of the lean plan, or the line of a refusal. It stands whole at the front of the buffer, or
 // finds no room and is refused for that, and the buffer is as it was.
 #![tactic(auto)]
+
 ghost use Rattle.std.specs.Prelude.{◌≡◌, length};
 ghost use Rattle.game_tables.specs.Lengths.{entries};
 ghost use Rattle.plan_checker.specs.Answers.{checking};
