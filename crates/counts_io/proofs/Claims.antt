@@ -1,6 +1,6 @@
 -- What is written, by whole plays. The solver's tables have the figures of whole plays, so that the counts are those (counts/Counts), and so are how many entries bear a figure and which is the
 -- largest. Where the tables are too short the solver leaves them as they were, and counting refuses them with 9. Assumes nothing.
-use mathlib.Core.Path.{◌≡◌, refl, sym, ◌∙◌, ap, subst}
+use mathlib.Core.Path.{◌≡◌, refl, ◌∙◌, ap, subst}
 use mathlib.Core.Logic.{inl, inr}
 use mathlib.Core.Bool.{true, not}
 use mathlib.Core.List.{List}

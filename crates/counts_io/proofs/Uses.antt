@@ -35,7 +35,7 @@ use Rattle.game_tables.specs.Solver.{SolverLeaves}
 use Rattle.game_tables.proofs.KnownYards.{figs_a, sets_a, yard_a-accepted, yard_a-filled}
 use Rattle.game_tables.proofs.Unique.{figs-one}
 use Rattle.search_progress.specs.declared.Progress.{Progress}
-use Rattle.search_progress.specs.Telling.{bears, Tells}
+use Rattle.search_progress.specs.Telling.{bears}
 use Rattle.counts.specs.declared.CountAnswer.TheVariants.{Counted}
 use Rattle.counts.specs.declared.CountReply.{CountReply}
 use Rattle.counts.specs.Counts.{classes, in_class, count_of, reply_by, NumberOf, Spread}

@@ -1,6 +1,7 @@
 // What program showcounts does: a case text on standard input; on standard output how many placements there are, how many lead home, the largest figure and how the figures are spread, or
 // `refused`, a tab and the number.
 #![tactic(auto)]
+
 ghost use Rattle.std.specs.Prelude.{◌≡◌, suc, ◌≤◌, length};
 ghost use Rattle.case_file.specs.Rows.{most_bytes};
 ghost use Rattle.answer_lines.specs.Lines.{refusal_line, FrontIs};
