@@ -2,6 +2,7 @@
 // changes are asked for that no script has: from records that are refused, and with tables of which one is too short. A line each: what is asked, a tab, and `changed` or `refused`
 // with the number.
 #![tactic(auto)]
+
 use desk::ChangeAnswer;
 use desk_calls::Desk;
 use game_placement::Placement;
