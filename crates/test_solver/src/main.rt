@@ -4,6 +4,7 @@
 // states that they leave; the answer, then by rising code the figure (`none` for no figure) and the setting; then what comes of tables just long
 // enough and one entry shorter, and of records that are refused. Every entry that the solver is lent holds a mark before the call.
 #![tactic(auto)]
+
 use game_tables::{ENTRIES, NO_FIGURE, SolverAnswer};
 use railway::{CaseAnswer, Railway, Train};
 
