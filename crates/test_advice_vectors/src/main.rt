@@ -3,6 +3,7 @@
 // each placement that has a figure. Behind them come records that no case text is read as, and tables that are too
 // short or longer than they have to be, with every entry as it is left.
 #![tactic(auto)]
+
 use advice::Advice;
 use game_tables::{ENTRIES, NO_FIGURE};
 use railway::{CaseAnswer, Railway, Refusal, SectionNo, Side};
