@@ -1,6 +1,6 @@
 -- Q-8 of the call that runs: its contract computes to its promise, and asks nothing; so does that of the solver, and what counts/Counts says of both promises is said of the calls.
 -- Assumes nothing.
-use mathlib.Core.Path.{◌≡◌, refl}
+use mathlib.Core.Path.{refl}
 use Rattle.counts.specs.Counts.{CountPost}
 use Rattle.counts.proofs.Counts.{counts-hold}
 use Rattle.counts_call.proofs.count_figures.Met as counting

@@ -1,8 +1,6 @@
 -- Q-3 of the calls that run: the contract of the call for a table computes to its promise, and asks nothing; so the statement, which is of promises, is of calls. Assumes nothing.
 use mathlib.Core.Path.{◌≡◌, refl}
-use mathlib.Core.List.{List}
 use mathlib.Core.Option.{none}
-use Prim.Native.Nat.{ℕ}
 use Rattle.railway.specs.declared.Side.{Side}
 use Rattle.railway.specs.declared.Side.TheVariants.{Up, Down}
 use Rattle.railway.specs.declared.Railway.{Railway}

@@ -1,12 +1,11 @@
 -- The statement on thinning, of the calls that run, at work: of any call of `thin`, handed two sidings with a plan that opens both trains, something is drawn from what the call tells; and of
 -- any list of calls in Yard A for a plan by another maker. So a link that were taken away, or that said nothing, would be missed. Assumes nothing.
-use mathlib.Core.Path.{◌≡◌, refl, sym, ◌∙◌, ap, subst}
-use mathlib.Core.Bool.{Bool, true, false}
-use mathlib.Core.List.{List, [], ◌∷◌}
+use mathlib.Core.Path.{◌≡◌, refl, ◌∙◌, ap, subst}
+use mathlib.Core.Bool.{Bool, true}
+use mathlib.Core.List.{List}
 use Prim.Native.Nat.{ℕ, ◌≤◌}
 use native.Mathlib.Omega.{arith}
-use lib.Dec.{eqb}
-use lib.ListN.{length, get_or}
+use lib.ListN.{length}
 use denote.Triple.Clauses.{AtExit}
 use contract.Lifetimes.{Lfts}
 use borrow.Fn.Kinds.{Dens, res_t, ended_of}
@@ -33,7 +32,6 @@ use Rattle.thin_call.proofs.thin.Statement.{statement as ThinMeets}
 use Rattle.plan_checker.proofs.Checker.fresh.Statement.{statement as FreshMeets}
 use Rattle.plan_checker.proofs.Checker.take.Statement.{statement as TakeMeets}
 use Rattle.plan_checker.proofs.Checker.test.Statement.{statement as TestMeets}
-use Rattle.statements.specs.Thins.{ThinsRun}
 use Rattle.statements.proofs.Thins.{thins-run}
 
 same : {A B : Type 0} → A ≡ B → A → B
