@@ -2,6 +2,7 @@
 // for each figure up to 254 that some placement has, with their number, then one for the greater figures and one for none; or the number of the refusal. Behind them come records and
 // tables that no case text gives.
 #![tactic(auto)]
+
 use counts::{CountAnswer, CountReply};
 use game_tables::{ENTRIES, NO_FIGURE};
 use railway::{CaseAnswer, Railway, Refusal};
