@@ -24,7 +24,7 @@ use Rattle.search.specs.Searching.{State, number_given, OpenLeaves, OpenPost, Ro
 use Rattle.search_calls.specs.Steps.{searching}
 use Rattle.search_api.specs.Exported.{search_numbers, search_of, AllStandForThemselves, Lent, lent, state_of, lent_of}
 use Rattle.search_api.specs.Exported.{left_with, OpenedRailway, round_number, RoundedRailway, placement_of}
-use Rattle.search_api.specs.Exported.{shown_number, figure_left, LookedRailway, AllToldApart}
+use Rattle.search_api.specs.Exported.{shown_number, figure_left, LookedRailway, AnswerToldApart, ShownToldApart, AllToldApart}
 
 -- THE SEARCH IN NUMBERS
 ended_so : (b : Bool) → not (eqb (cond b 1 0) 0) ≡ b
@@ -38,13 +38,13 @@ stand-for-themselves s = ap (λ (b : Bool). record { rounds = s.rounds; ended = 
 pub told-apart : AllToldApart
 told-apart = (
   λ (a : SearchAnswer).
-      elim a [
+      elim a as (λ (k : SearchAnswer). AnswerToldApart k) [
         | Going ↦ record { opened = λ e. refl; going = λ e. refl; ended = λ e. absurd (omega (arith, e)) }
         | Ended ↦ record { opened = λ e. refl; going = λ e. absurd (omega (arith, e)); ended = λ e. refl }
         | Refused f ↦ (let b = between f in record { opened = λ e. absurd (omega (arith, e, b.0)); going = λ e. absurd (omega (arith, e, b.0)); ended = λ e. absurd (omega (arith, e, b.1)) })
       ],
   λ (a : Shown) (figure : ℕ).
-      elim a [
+      elim a as (λ (k : Shown). ShownToldApart k figure) [
         | Figure n ↦ record { shown = λ e. refl; not_yet = λ e. absurd (omega (arith, e)); without = λ e. absurd (omega (arith, e)) }
         | NotYet ↦ record { shown = λ e. absurd (omega (arith, e)); not_yet = λ e. refl; without = λ e. absurd (omega (arith, e)) }
         | NoFigure ↦ record { shown = λ e. absurd (omega (arith, e)); not_yet = λ e. absurd (omega (arith, e)); without = λ e. refl }
