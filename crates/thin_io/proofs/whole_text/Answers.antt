@@ -1,0 +1,11 @@
+-- `thin_io::whole_text` meets its contract: there is room for every text, so one is put, whole.
+-- Assumes nothing.
+use native.Mathlib.Omega.{arith}
+use Rattle.answer_lines.proofs.Puts.{puts_whole, puts-never}
+use Rattle.thin_io.proofs.whole_text.Goals as goal
+
+pub returns-in-Bytes : goal.returns-in-Bytes
+returns-in-Bytes c = puts_whole c.lean_text.ensures _ c.in-Bytes.is
+
+pub returns-in-Refused : goal.returns-in-Refused
+returns-in-Refused c = puts-never c.lean_text.ensures (omega (arith, c.requires)) _ c.in-Refused.is
