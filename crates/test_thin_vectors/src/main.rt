@@ -1,6 +1,7 @@
 // Plans thinned. Standard input is records (crate test_framing), two for each: a case text and a plan's. For each the answer of the call, and the tables as it leaves them, a line for each listed
 // code: code, figure, setting; or the refusal of the first line that is refused. Behind them calls on records and tables that the program makes.
 #![tactic(auto)]
+
 use game_tables::{ENTRIES, NO_FIGURE};
 use plan_checker::Checker;
 use railway::{CaseAnswer, Railway};
