@@ -1,5 +1,6 @@
 // What program showruns does: a case text on standard input; on standard output the run of each train and their sum, or `refused`, a tab and the number.
 #![tactic(auto)]
+
 ghost use Rattle.runs_io.specs.Shown.{Shown};
 
 // The descriptor of standard input.
