@@ -1,6 +1,7 @@
 // What program signalplan does, for it and for the program that runs it on another input: a case text on standard input; its plan on standard output, or
 // `none`, or `refused`, a tab and the number.
 #![tactic(auto)]
+
 ghost use Rattle.plan_io.specs.Planned.{Planned};
 
 // The descriptor of standard input.
