@@ -2,6 +2,7 @@
 // each, the section of each train. After the opening, and after each round until the search has ended and one more: every code whose figure has
 // come with it, with the figure and the setting; and what each placement shows.
 #![tactic(auto)]
+
 use game_placement::Placement;
 use game_tables::{ENTRIES, NO_FIGURE};
 use railway::{CaseAnswer, Railway};
