@@ -1,6 +1,7 @@
 // What program searchrun does: a case text on standard input; on standard output a line for each round of its search that brings figures, as soon as the
 // round is finished, and then all that program signalplan writes for the text. Where the case is refused, that alone.
 #![tactic(auto)]
+
 ghost use Rattle.plan_io.specs.Planned.{Planned};
 
 use game_tables::ENTRIES;
