@@ -3,6 +3,7 @@
 // Then the emitter's answer for a buffer that is a byte too short, and that buffer; then the checker's answers to a plan with a wrong figure. Last,
 // tables made fresh that are longer than the case needs, and one that is shorter: the entries at the last code and past it.
 #![tactic(auto)]
+
 use plan::{Emitted, LineAnswer, PlanPlace};
 use plan_checker::Checker;
 use plan_lines::MOST_LINE_BYTES;
