@@ -1,6 +1,7 @@
 // A case text on standard input; on standard output a line: that no signal is needed, the first section end at which
 // a signal would help, that there is no such end, or `refused`, a tab and the number.
 #![tactic(auto)]
+
 ghost use Rattle.advice_text.specs.Lines.{Advised};
 
 // The descriptor of standard input.
