@@ -27,7 +27,7 @@ use Rattle.railway.specs.Record.{is_closed, no_link, joined_by, joined, legs_of,
 use Rattle.railway.specs.Record.{with_join, with_signal, with_legs, with_train}
 use Rattle.railway.specs.Refusals.{number, numbers_in_order, rank, Row, row, Applying, NotApplying, number_of}
 use Rattle.railway.specs.Rows.{known, weight_row, unknown_row, join_row, loose_row, longer, chain_row, place_row}
-use Rattle.railway.specs.Rows.{record_rows, record_refusal}
+use Rattle.railway.specs.Rows.{count_row, double_row, rows_by, record_rows, record_refusal}
 use Rattle.railway.specs.Yards.{yard_a, line_t}
 use Rattle.railway.specs.Same.{SameByte, SameButForNone}
 use Rattle.railway.specs.Claims.{JoinOf}
@@ -43,6 +43,20 @@ shared = line_t 2 Down 2 1 yard_a
 off : {f : Refusal} (xs : List Row) → Every (λ y. Applying y → ⊥) xs → Every (λ y. Applying y → ⊥) (row f false ∷ xs)
 off xs h = every_more (λ y. Applying y → ⊥) _ xs (λ p. clash p refl) h
 
+-- The rows in their order, whatever each says; so of any record. And the row for loose ports is one of them.
+in-order : (a b c d e f g h : Bool) → rows_by a b c d e f g h
+    ≡ row Count a ∷ row Weight b ∷ row Unknown c ∷ row Join d ∷ row Loose e ∷ row Chain f ∷ row Double g ∷ row Place h ∷ []
+in-order a b c d e f g h = refl
+
+of-record : (r : Railway) → record_rows r ≡ row Count (count_row r) ∷ row Weight (weight_row r) ∷ row Unknown (unknown_row r) ∷ row Join (join_row r)
+    ∷ row Loose (loose_row r) ∷ row Chain (chain_row r) ∷ row Double (double_row r) ∷ row Place (place_row r) ∷ []
+of-record r = in-order (count_row r) (weight_row r) (unknown_row r) (join_row r) (loose_row r) (chain_row r) (double_row r) (place_row r)
+
+loose-among : (a b c d e f g h : Bool) → Memᴰ (row Loose e) (rows_by a b c d e f g h)
+loose-among a b c d e f g h =
+    rw (in-order a b c d e f g h)
+    (mathlib.Core.List.Memᴰ.tail (mathlib.Core.List.Memᴰ.tail (mathlib.Core.List.Memᴰ.tail (mathlib.Core.List.Memᴰ.tail (mathlib.Core.List.Memᴰ.head refl)))))
+
 -- It gets 8: row 8 applies, and none before it.
 eight : number_of (record_refusal shared) ≡ some 8
 unfolding any_below end_at joined_by joined legs_of train_of weight_of with_join with_signal with_legs with_train weight_row
@@ -53,7 +67,7 @@ eight =
       before = row Count false ∷ row Weight false ∷ row Unknown false ∷ row Join false ∷ row Loose false ∷ row Chain
           false ∷ row Double false ∷ [];
       after = [];
-      order = refl;
+      order = of-record shared;
       here = refl;
       not-before = off _ (off _ (off _ (off _ (off _ (off _ (off _ (every-none (λ y. Applying y → ⊥))))))));
     })
@@ -107,7 +121,7 @@ yard-a-accepted = (record-numbers.accepted yard_a).1 (none-off _
 ports-joined : (r : Railway) → number_of (record_refusal r) ≡ none → loose_row r ≡ false
 ports-joined r e =
     (record-numbers.accepted r).0 e (row Loose (loose_row r))
-    (mathlib.Core.List.Memᴰ.tail (mathlib.Core.List.Memᴰ.tail (mathlib.Core.List.Memᴰ.tail (mathlib.Core.List.Memᴰ.tail (mathlib.Core.List.Memᴰ.head refl)))))
+    (loose-among (count_row r) (weight_row r) (unknown_row r) (join_row r) (loose_row r) (chain_row r) (double_row r) (place_row r))
 
 -- BYTES FOR ENDS. An end with byte 96 is 1s, and whatever end has it is what the byte says; no end has byte 144, some
 -- end has byte 143; from 144 on no byte says an end, that which is written for no join least of all.
