@@ -21,8 +21,7 @@ use Rattle.game.proofs.Moves.{start-below}
 use Rattle.game_tables.specs.Tables.{case_refusal}
 use Rattle.game_tables.proofs.Refusals.{Enough, case-none}
 use Rattle.game_tables.proofs.Exists.{solution, tables-exist}
-use Rattle.advice.specs.declared.Advice.{Advice}
-use Rattle.advice.specs.declared.Advice.TheVariants.{NotNeeded, Signal, NoneHelps, Refused}
+use Rattle.advice.specs.Advice.{Advice, NotNeeded, Signal, NoneHelps, Refused}
 use Rattle.advice.specs.Advising.{HasFigure, HasNone, ends_of, tries, with_one, NoneBefore, FirstHelp, number_said, Said, last_case, AdvicePost, StillAccepted, AdviceHolds}
 use Rattle.advice.proofs.Accepting.{still-accepted}
 use Rattle.advice.proofs.NeverWorse.{never-worse}

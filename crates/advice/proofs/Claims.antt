@@ -25,8 +25,7 @@ use Rattle.game.proofs.Accepted.{facts}
 use Rattle.game_tables.specs.Tables.{case_refusal, Filled}
 use Rattle.game_tables.specs.Solver.{Kept, SolverTables}
 use Rattle.game_tables.proofs.Refusals.{case-none}
-use Rattle.advice.specs.declared.Advice.{Advice}
-use Rattle.advice.specs.declared.Advice.TheVariants.{NotNeeded, Signal, NoneHelps, Refused}
+use Rattle.advice.specs.Advice.{Advice, NotNeeded, Signal, NoneHelps, Refused}
 use Rattle.advice.specs.Advising.{HasFigure, HasNone, ends_of, tries, with_one, NoneBefore, FirstHelp, last_tried}
 use Rattle.advice.specs.Advising.{case_of, number_said, Said, last_case, AdvicePost, Bare, signalled, AdviceClaims}
 use Rattle.advice.specs.Advising.{StillAccepted}

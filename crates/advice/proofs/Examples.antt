@@ -11,7 +11,7 @@ use Rattle.railway.specs.declared.Refusal.TheVariants.{Space}
 use Rattle.railway.specs.Ends.{end_index, end_at}
 use Rattle.railway.specs.Record.{with_join, with_signal, with_closed, with_legs, with_train}
 use Rattle.railway.specs.Yards.{yard_a, head_on, line_p, line_g, line_x, line_t, line_j, yard_h, sec, port}
-use Rattle.advice.specs.declared.Advice.TheVariants.{NotNeeded, Signal, NoneHelps, Refused}
+use Rattle.advice.specs.Advice.{NotNeeded, Signal, NoneHelps, Refused}
 use Rattle.advice.specs.Advising.{ends_of, tries, last_tried, last_case, number_said}
 
 -- Three sections in a row; train 1 follows train 2, from 1 to 2 and from 2 to 3, and nothing holds it.

@@ -29,8 +29,7 @@ use Rattle.game_tables.specs.Tables.{figure_in, tables_short, case_refusal, Fill
 use Rattle.game_tables.proofs.Refusals.{case-none}
 use Rattle.game_tables.proofs.KnownYards.{figs_a, sets_a, yard_a-accepted, yard_a-filled}
 use Rattle.game_tables.proofs.Unique.{figure-same}
-use Rattle.advice.specs.declared.Advice.{Advice}
-use Rattle.advice.specs.declared.Advice.TheVariants.{NotNeeded, Signal, NoneHelps, Refused}
+use Rattle.advice.specs.Advice.{Advice, NotNeeded, Signal, NoneHelps, Refused}
 use Rattle.advice.specs.Advising.{HasFigure, HasNone, number_said, AdvicePost, There, Bare, Earlier, signalled, FirstHelping, LastBare, AdviceClaims, AdviceHolds}
 use Rattle.advice.proofs.Examples.{following, passing_loop, closed_ring, all_held}
 use Rattle.advice.proofs.Claims.{apart}

@@ -17,8 +17,7 @@ use Rattle.game.specs.Placement.{placements, start_code}
 use Rattle.game.specs.Moves.{game_of}
 use Rattle.game_tables.specs.Tables.{case_refusal, Filled}
 use Rattle.game_tables.specs.Solver.{Kept, SolverTables}
-use Rattle.advice.specs.declared.Advice.{Advice}
-use Rattle.advice.specs.declared.Advice.TheVariants.{NotNeeded, Signal, NoneHelps, Refused}
+use Rattle.advice.specs.Advice.{Advice, NotNeeded, Signal, NoneHelps, Refused}
 
 -- THE START of a case has a figure: home can be forced, over whole plays, and within no smaller total.
 pub record HasFigure (r : Railway) : Type 0 where

@@ -5,9 +5,8 @@ use railway::{Refusal, SectionNo, Side};
 
 // What is advised: no signal is needed, for the start has a figure; the first section end where one signal more gives it one; no single signal does; or a refusal.
 #[derive(Clone, Copy)]
-pub enum Advice {
+pub enum Help {
     NotNeeded,
     Signal(SectionNo, Side),
     NoneHelps,
-    Refused(Refusal),
 }

@@ -9,6 +9,7 @@ use mathlib.Core.Option.{none, some}
 use Prim.Native.Nat.{ℕ, zero, suc, ◌+◌, ◌/◌, ◌%◌, ◌≤◌, ◌<◌}
 use native.Mathlib.Omega.{arith}
 use lib.ListN.{length}
+use Rattle.std.specs.Prelude.{Result, Ok, Err}
 use Rattle.laws.proofs.Bools.{clash, some-none}
 use Rattle.laws.proofs.Below.{upto}
 use Rattle.railway.specs.declared.Side.{Side}
@@ -16,7 +17,6 @@ use Rattle.railway.specs.declared.End.{End}
 use Rattle.railway.specs.declared.End.TheVariants.{Section}
 use Rattle.railway.specs.declared.Railway.{Railway}
 use Rattle.railway.specs.declared.Refusal.{Refusal}
-use Rattle.railway.specs.declared.CaseAnswer.TheVariants.{Accepted, Refused as CaseRefused}
 use Rattle.railway.specs.Bounds.{most_sections}
 use Rattle.railway.specs.Ends.{end_index, side_at, end_at}
 use Rattle.railway.specs.Refusals.{number_of}
@@ -28,15 +28,14 @@ use Rattle.game.specs.Moves.{game_of}
 use Rattle.game.specs.Game.{IsFigure}
 use Rattle.game.proofs.Accepted.{facts}
 use Rattle.game.proofs.Moves.{start-below}
-use Rattle.game_tables.specs.declared.SolverAnswer.{SolverAnswer}
-use Rattle.game_tables.specs.declared.SolverAnswer.TheVariants.{Refused as Refuses, Unsolvable, Figure}
+use Rattle.game_tables.specs.SolverAnswer.{SolverAnswer, Refused as Refuses, Unsolvable, Figure}
 use Rattle.game_tables.specs.Tables.{figure_in, case_refusal}
 use Rattle.game_tables.specs.Solver.{number_given, figure_given, Kept, SolverTables, SolverPost}
 use Rattle.game_tables.proofs.Refusals.{case-none}
-use Rattle.railway_compiled.specs.declared.Compilation.{Compilation}
+use Rattle.railway_compiled.specs.Table.{compilation}
 use Rattle.game_case.specs.Cases.{CasePost}
 use Rattle.game_case.proofs.Cases.{opened-refused, opened-none}
-use Rattle.advice.specs.declared.Advice.TheVariants.{NotNeeded, Signal, NoneHelps, Refused}
+use Rattle.advice.specs.Advice.{NotNeeded, Signal, NoneHelps, Refused}
 use Rattle.advice.specs.Advising.{HasFigure, HasNone, ends_of, tries, with_one, NoneBefore, FirstHelp, last_tried, case_of, AdvicePost, signalled, StillAccepted}
 use Rattle.advice.proofs.Advising.{none-without, none_more}
 use Rattle.advice.proofs.Claims.{still_one, last-accepted, kept-as}
@@ -133,15 +132,18 @@ pub bare-over : (r : Railway) (i : ℕ) → AllSignals r i → i ≤ ends_of r �
 bare-over r i h l m = record { within = l; signals = h; bare = λ n. absurd (omega arith) }
 
 -- THE CASE IS OPENED
-module _ (r : Railway) (figs sets : List ℕ) (c : Compilation) (p : CasePost r figs sets c) where
-  pub told-refused : (f : Refusal) → c.tested ≡ CaseRefused f → AdvicePost r (Refused f) figs sets figs sets
-  told-refused f e = let due : case_refusal r figs sets ≡ some f = opened-refused p e in record { numbered = ap number_of (sym due); leaves = rw due (refl, refl) }
+module _ (r : Railway) (figs sets : List ℕ) (c : Result (List ℕ) Refusal) (p : CasePost r figs sets (compilation c)) where
+  pub told-refused : (f : Refusal) → c ≡ Err f → AdvicePost r (Refused f) figs sets figs sets
+  told-refused f e =
+      let due : case_refusal r figs sets ≡ some f = opened-refused p (ap (λ (x : Result (List ℕ) Refusal). (compilation x).tested) e) in
+      record { numbered = ap number_of (sym due); leaves = rw due (refl, refl) }
 
-  pub told-fine : c.tested ≡ Accepted → case_refusal r figs sets ≡ none
-  told-fine e = opened-none p e
+  module _ (table : List ℕ) (e : c ≡ Ok table) where
+    pub told-fine : case_refusal r figs sets ≡ none
+    told-fine = opened-none p (ap (λ (x : Result (List ℕ) Refusal). (compilation x).tested) e)
 
-  pub few : c.tested ≡ Accepted → r.sections ≤ most_sections
-  few e = (facts r ((case-none r figs sets).0 (told-fine e)).0).few-sections
+    pub few : r.sections ≤ most_sections
+    few = (facts r ((case-none r figs sets).0 told-fine).0).few-sections
 
 -- WHERE IT BEGINS: nothing has been solved; the first end has been tried, and helps; it does not, and then the case has no figure either
 as_lent : (r : Railway) (xs : List ℕ) → Kept r xs xs

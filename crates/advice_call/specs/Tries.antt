@@ -2,8 +2,7 @@
 use Rattle.std.specs.Prelude.{◌≡◌, Bool, true, false, List, ℕ, ◌≤◌, ◌<◌}
 use Rattle.std.proofs.Math.Option.{none}
 use Rattle.railway.specs.declared.Railway.{Railway}
-use Rattle.game_tables.specs.declared.SolverAnswer.{SolverAnswer}
-use Rattle.game_tables.specs.declared.SolverAnswer.TheVariants.{Refused, Unsolvable, Figure}
+use Rattle.game_tables.specs.SolverAnswer.{SolverAnswer, Refused, Unsolvable, Figure}
 use Rattle.game_tables.specs.Tables.{case_refusal}
 use Rattle.game_tables.specs.Solver.{Kept, SolverTables, SolverPost}
 use Rattle.advice.specs.Advising.{HasNone, ends_of, tries, with_one, NoneBefore, last_tried, case_of}

@@ -13,33 +13,25 @@ ghost use Rattle.game_tables.specs.Tables.{case_refusal};
 ghost use Rattle.advice.specs.Advising.{AdvicePost};
 ghost use Rattle.advice_call.specs.Tries.{FirstBare, Untried, TriedTo, TriedPost};
 
-use advice::Advice;
-use game_tables::SolverAnswer;
-use railway::{CaseAnswer, Railway, SectionNo};
+use advice::Help;
+use railway::{Railway, Refusal, SectionNo};
 
 // THE ADVICE.
-pub fn advise(r: Railway, figures: &mut [u32], settings: &mut [u32]) -> Advice
+pub fn advise(r: Railway, figures: &mut [u32], settings: &mut [u32]) -> Result<Help, Refusal>
     ensures { AdvicePost r result figures.old settings.old figures.new settings.new }
 {
-    let c = game_case::open_case(r, figures, settings);
-    let tested = c.tested;
-    match tested {
-        CaseAnswer::Refused(f) => Advice::Refused(f),
-        CaseAnswer::Accepted => advise_case(r, figures, settings),
-    }
+    game_case::open_case(r, figures, settings)?;
+    advise_case(r, figures, settings)
 }
 
 // An accepted case, with tables that are long enough.
-fn advise_case(r: Railway, figures: &mut [u32], settings: &mut [u32]) -> Advice
+fn advise_case(r: Railway, figures: &mut [u32], settings: &mut [u32]) -> Result<Help, Refusal>
     requires { r.sections ≤ most_sections }
     ensures { case_refusal r figures.old settings.old ≡ none → AdvicePost r result
         figures.old settings.old figures.new settings.new }
 {
     let i = first_bare(r);
-    if i >= 2 * r.sections {
-        return solve_case(r, i, figures, settings);
-    }
-    if try_end(r, i, figures, settings) {
+    if 2 * r.sections <= i || try_end(r, i, figures, settings) {
         return solve_case(r, i, figures, settings);
     }
     try_ends(r, i + 1, figures, settings)
@@ -51,42 +43,41 @@ fn first_bare(r: Railway) -> u8
     ensures { FirstBare r result }
 {
     let ends = 2 * r.sections;
-    let mut i: u8 = 0;
-    while i < ends {
+    for i in 0..ends {
         if !r.flag_at(i) {
             return i;
         }
-        i += 1;
     }
-    i
+    ends
 }
 
 // The case itself is solved. If its start has no figure, the ends from this index on are tried; every one before it has a signal.
-fn solve_case(r: Railway, i: u8, figures: &mut [u32], settings: &mut [u32]) -> Advice
+fn solve_case(r: Railway, i: u8, figures: &mut [u32], settings: &mut [u32]) -> Result<Help, Refusal>
     requires { (r.sections ≤ most_sections) × (i ≤ 2 * r.sections) }
     ensures { (figs sets : List ℕ) → Untried r i figs sets figures.old settings.old → AdvicePost r result figs sets figures.new settings.new }
 {
-    match solver::solve(r, figures, settings) {
-        SolverAnswer::Refused(f) => Advice::Refused(f),
-        SolverAnswer::Figure(_) => Advice::NotNeeded,
-        SolverAnswer::Unsolvable => try_ends(r, i, figures, settings),
+    match solver::solve(r, figures, settings)? {
+        Some(_) => Ok(Help::NotNeeded),
+        None => try_ends(r, i, figures, settings),
     }
 }
 
 // End after end from this index on, until one helps. None before it does, and the start of the case has no figure.
-fn try_ends(r: Railway, first: u8, figures: &mut [u32], settings: &mut [u32]) -> Advice
+fn try_ends(
+    r: Railway,
+    first: u8,
+    figures: &mut [u32],
+    settings: &mut [u32],
+) -> Result<Help, Refusal>
     requires { (r.sections ≤ most_sections) × (first ≤ 2 * r.sections) }
     ensures { (figs sets : List ℕ) → TriedTo r first figs sets figures.old settings.old → AdvicePost r result figs sets figures.new settings.new }
 {
-    let ends = 2 * r.sections;
-    let mut i = first;
-    while i < ends {
+    for i in first..2 * r.sections {
         if try_end(r, i, figures, settings) {
-            return Advice::Signal(SectionNo(i / 2), railway::side_at(i % 2));
+            return Ok(Help::Signal(SectionNo(i / 2), railway::side_at(i % 2)));
         }
-        i += 1;
     }
-    Advice::NoneHelps
+    Ok(Help::NoneHelps)
 }
 
 // Whether one signal more, at the end with this index, gives the start a figure; one that stands there already is no more, and nothing is solved.
@@ -97,8 +88,8 @@ fn try_end(r: Railway, i: u8, figures: &mut [u32], settings: &mut [u32]) -> bool
         return false;
     }
     match solver::solve(r.with_signal(railway::end_at(i)), figures, settings) {
-        SolverAnswer::Refused(_) => false,
-        SolverAnswer::Unsolvable => false,
-        SolverAnswer::Figure(_) => true,
+        Ok(Some(_)) => true,
+        Ok(None) => false,
+        Err(_) => false,
     }
 }

@@ -12,17 +12,16 @@ use Rattle.railway.specs.declared.Side.{Side}
 use Rattle.railway.specs.declared.SectionNo.{SectionNo}
 use Rattle.railway.specs.declared.Railway.{Railway}
 use Rattle.railway.specs.declared.Refusal.{Refusal}
-use Rattle.railway.specs.declared.CaseAnswer.TheVariants.{Accepted, Refused as Refuses}
-use Rattle.case_file.specs.declared.CaseRead.{CaseRead}
-use Rattle.case_file.specs.declared.Written.{Written}
+use Rattle.railway.specs.CaseAnswer.{Accepted, Refused as Refuses}
+use Rattle.case_file.specs.CaseRead.{CaseRead}
+use Rattle.case_file.specs.Written.{Written}
 use Rattle.case_file.specs.Form.{side_byte, section_field}
 use Rattle.case_file.specs.Given.{ReaderPost}
 use Rattle.case_reader.proofs.Answers.{by-refused, by-accepted}
 use Rattle.answer_lines.specs.Lines.{refusal_line, PutPost, Puts}
 use Rattle.answer_lines.proofs.Lines.{refusal-short}
 use Rattle.answer_lines.proofs.Puts.{puts-map, puts-refusal}
-use Rattle.advice.specs.declared.Advice.{Advice}
-use Rattle.advice.specs.declared.Advice.TheVariants.{NotNeeded, Signal, NoneHelps, Refused}
+use Rattle.advice.specs.Advice.{Advice, NotNeeded, Signal, NoneHelps, Refused}
 use Rattle.advice.specs.Advising.{AdvicePost}
 use Rattle.advice_text.specs.Lines.{end_line, advice_line, blank, RailwayAdvice, CaseAdvice, advice_bytes, CutWrites}
 use Rattle.case_file.proofs.Cut.{cut-decides}

@@ -14,8 +14,7 @@ use Rattle.railway.specs.declared.Refusal.TheVariants.{Length, Form, Space}
 use Rattle.railway.specs.Refusals.{first}
 use Rattle.railway.specs.Yards.{yard_a}
 use Rattle.game_tables.specs.Lengths.{entries}
-use Rattle.case_file.specs.declared.Written.{Written}
-use Rattle.case_file.specs.declared.Written.TheVariants.{Bytes, Refused}
+use Rattle.case_file.specs.Written.{Written, Bytes, Refused}
 use Rattle.case_file.specs.Rows.{most_bytes}
 use Rattle.case_file.specs.Given.{refused, AcceptedWith}
 use Rattle.case_file.specs.Reading.{header_at, walk, read, case_answer}

@@ -10,8 +10,7 @@ use Rattle.case_file.specs.Rows.{most_bytes}
 use Rattle.case_reader.specs.Answers.{ByCase}
 use Rattle.answer_lines.specs.Lines.{refusal_line}
 use Rattle.answer_lines.specs.Input.{WrittenFor}
-use Rattle.advice.specs.declared.Advice.{Advice}
-use Rattle.advice.specs.declared.Advice.TheVariants.{NotNeeded, Signal, NoneHelps, Refused}
+use Rattle.advice.specs.Advice.{Advice, NotNeeded, Signal, NoneHelps, Refused}
 use Rattle.advice.specs.Advising.{AdvicePost}
 
 -- A section end, in the spelling of the case file.

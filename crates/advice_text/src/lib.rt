@@ -3,35 +3,32 @@
 // room and is refused for that, and the buffer is as it was.
 #![tactic(auto)]
 
-ghost use Rattle.std.specs.Prelude.{◌≡◌};
+ghost use Rattle.std.specs.Prelude.{◌≡◌, Ok};
 ghost use Rattle.text.specs.Appending.{Appended};
 ghost use Rattle.case_file.specs.Form.{side_byte};
 ghost use Rattle.answer_lines.specs.Lines.{PutPost, Puts};
 ghost use Rattle.advice_text.specs.Lines.{end_line, advice_line, RailwayAdvice, CaseAdvice, advice_bytes};
 
-use advice::Advice;
-use case_file::Written;
+use advice::Help;
 use game_tables::ENTRIES;
-use railway::{CaseAnswer, Railway, SectionNo, Side};
+use railway::{Railway, Refusal, SectionNo, Side};
 use text::{LINE_END, append};
 
 // Room for every line.
 pub const LINE: usize = 24;
 
 // A case text: refused by the reader, or read and then tried.
-pub fn case_advice(case: &[u8], text: &mut [u8]) -> Written
+pub fn case_advice(case: &[u8], text: &mut [u8]) -> Result<usize, Refusal>
     ensures { Puts (CaseAdvice case.now) advice_bytes text.old result text.new }
 {
-    let read = case_reader::read_case(case);
-    let answer = read.answer;
-    match answer {
-        CaseAnswer::Refused(f) => answer_lines::refusal_line(f, text),
-        CaseAnswer::Accepted => railway_advice(read.railway, text),
+    match case_reader::read_case(case) {
+        Err(f) => answer_lines::refusal_line(f, text),
+        Ok(r) => railway_advice(r, text),
     }
 }
 
 // A railway: the line for what is advised, with tables of the call's own.
-fn railway_advice(r: Railway, text: &mut [u8]) -> Written
+fn railway_advice(r: Railway, text: &mut [u8]) -> Result<usize, Refusal>
     ensures { Puts (RailwayAdvice r) advice_bytes text.old result text.new }
 {
     let mut figures = [0u32; ENTRIES];
@@ -41,19 +38,28 @@ fn railway_advice(r: Railway, text: &mut [u8]) -> Written
 }
 
 // The line for an answer.
-pub fn advice_line(a: Advice, text: &mut [u8]) -> Written
+pub fn advice_line(a: Result<Help, Refusal>, text: &mut [u8]) -> Result<usize, Refusal>
     ensures { PutPost (advice_line a) text.old result text.new }
 {
     match a {
-        Advice::NotNeeded => answer_lines::put(b"no signal needed\n", text),
-        Advice::Signal(n, s) => end_line(n, s, text),
-        Advice::NoneHelps => answer_lines::put(b"no single signal helps\n", text),
-        Advice::Refused(f) => answer_lines::refusal_line(f, text),
+        Ok(help) => help_line(help, text),
+        Err(f) => answer_lines::refusal_line(f, text),
+    }
+}
+
+// The line for what is advised.
+fn help_line(help: Help, text: &mut [u8]) -> Result<usize, Refusal>
+    ensures { PutPost (advice_line (Ok help)) text.old result text.new }
+{
+    match help {
+        Help::NotNeeded => answer_lines::put(b"no signal needed\n", text),
+        Help::Signal(n, s) => end_line(n, s, text),
+        Help::NoneHelps => answer_lines::put(b"no single signal helps\n", text),
     }
 }
 
 // A section end, made in a buffer of the call's own and put from there.
-fn end_line(n: SectionNo, s: Side, text: &mut [u8]) -> Written
+fn end_line(n: SectionNo, s: Side, text: &mut [u8]) -> Result<usize, Refusal>
     ensures { PutPost (end_line n s) text.old result text.new }
 {
     let mut line = [0u8; LINE];

@@ -10,9 +10,8 @@ use Rattle.text.proofs.Appending.{line-more, line-last, front-text}
 use Rattle.railway.specs.declared.Refusal.{Refusal}
 use Rattle.railway.specs.declared.Refusal.TheVariants.{Length, Form, Count, Weight, Unknown, Join, Loose, Chain, Double, Place, Mismatch, Space, PlanForm, PlanFault, Report, Stranded, Log}
 use Rattle.railway.specs.Refusals.{number}
-use Rattle.case_file.specs.declared.Written.{Written}
-use Rattle.plan.specs.declared.TestAnswer.{TestAnswer}
-use Rattle.plan.specs.declared.TestAnswer.TheVariants.{Pass, Refused}
+use Rattle.case_file.specs.Written.{Written}
+use Rattle.plan.specs.TestAnswer.{TestAnswer, Pass, Refused}
 use Rattle.answer_lines.specs.Lines.{refused_word, refusal_line, pass_line, test_line, PutPost}
 
 pub refusal-made : {o o₁ o₂ : List ℕ} {a a₁ a₂ : ℕ} (f : Refusal) (n : ℕ) → n ≡ number f

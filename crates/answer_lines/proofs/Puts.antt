@@ -17,14 +17,12 @@ use Rattle.text.proofs.Appending.{front-bytes}
 use Rattle.railway.specs.declared.Refusal.{Refusal}
 use Rattle.railway.specs.declared.Refusal.TheVariants.{Space}
 use Rattle.railway.specs.Refusals.{row, first}
-use Rattle.case_file.specs.declared.Written.{Written}
-use Rattle.case_file.specs.declared.Written.TheVariants as written
-use Rattle.case_file.specs.declared.Written.TheVariants.{Bytes}
+use Rattle.case_file.specs.Written.{Written, Bytes}
+use Rattle.case_file.specs.Written as written
 use Rattle.case_file.specs.Rows.{most_bytes}
 use Rattle.case_file.specs.Writing.{writer_answer, writer_buffer, written_count}
 use Rattle.plan.specs.Text.{is_some}
-use Rattle.plan.specs.declared.TestAnswer.{TestAnswer}
-use Rattle.plan.specs.declared.TestAnswer.TheVariants.{Pass, Refused}
+use Rattle.plan.specs.TestAnswer.{TestAnswer, Pass, Refused}
 use Rattle.answer_lines.specs.Lines.{refusal_line, test_line, most_answer_bytes, put_refusal, PutPost, Puts, FrontIs}
 use Rattle.answer_lines.specs.Input.{WrittenFor}
 use Rattle.answer_lines.proofs.Lines.{refusal-short}

@@ -7,10 +7,9 @@ use Prim.Native.Nat.{ℕ}
 use Rattle.text.specs.Text.{digits, line, bytes}
 use Rattle.railway.specs.declared.Refusal.TheVariants.{Form, Weight, Space, PlanFault}
 use Rattle.railway.specs.Refusals.{first}
-use Rattle.case_file.specs.declared.Written.{Written}
-use Rattle.case_file.specs.declared.Written.TheVariants.{Bytes, Refused}
+use Rattle.case_file.specs.Written.{Written, Bytes, Refused}
 use Rattle.case_file.specs.Writing.{written_number}
-use Rattle.plan.specs.declared.TestAnswer.TheVariants as tested
+use Rattle.plan.specs.TestAnswer as tested
 use Rattle.answer_lines.specs.Lines.{refusal_line, none_line, test_line, PutPost}
 
 -- the lines

@@ -6,10 +6,9 @@ use Rattle.text.specs.Text.{decimal, line, bytes}
 use Rattle.railway.specs.declared.Refusal.{Refusal}
 use Rattle.railway.specs.declared.Refusal.TheVariants.{Space}
 use Rattle.railway.specs.Refusals.{number, number_of, row, first}
-use Rattle.case_file.specs.declared.Written.{Written}
+use Rattle.case_file.specs.Written.{Written}
 use Rattle.case_file.specs.Writing.{writer_answer, writer_buffer, written_number}
-use Rattle.plan.specs.declared.TestAnswer.{TestAnswer}
-use Rattle.plan.specs.declared.TestAnswer.TheVariants.{Pass, Refused}
+use Rattle.plan.specs.TestAnswer.{TestAnswer, Pass, Refused}
 
 -- The word of a refusal.
 abbrev pub refused_word : List ℕ

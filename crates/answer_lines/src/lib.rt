@@ -5,8 +5,6 @@
 ghost use Rattle.text.specs.Appending.{Appended};
 ghost use Rattle.answer_lines.specs.Lines.{refusal_line, none_line, test_line, PutPost};
 
-use case_file::Written;
-use plan::TestAnswer;
 use railway::Refusal;
 use text::{LINE_END, append};
 
@@ -14,7 +12,7 @@ use text::{LINE_END, append};
 pub const LINE: usize = 16;
 
 // A refusal, by its number in the table.
-pub fn refusal_line(f: Refusal, out: &mut [u8]) -> Written
+pub fn refusal_line(f: Refusal, out: &mut [u8]) -> Result<usize, Refusal>
     ensures { PutPost (refusal_line f) out.old result out.new }
 {
     let mut line = [0u8; LINE];
@@ -23,31 +21,31 @@ pub fn refusal_line(f: Refusal, out: &mut [u8]) -> Written
 }
 
 // There is no plan.
-pub fn none_line(out: &mut [u8]) -> Written
+pub fn none_line(out: &mut [u8]) -> Result<usize, Refusal>
     ensures { PutPost none_line out.old result out.new }
 {
     put(b"none\n", out)
 }
 
 // The answer to the call for the test.
-pub fn test_line(a: TestAnswer, out: &mut [u8]) -> Written
+pub fn test_line(a: Result<(), Refusal>, out: &mut [u8]) -> Result<usize, Refusal>
     ensures { PutPost (test_line a) out.old result out.new }
 {
     match a {
-        TestAnswer::Pass => put(b"pass\n", out),
-        TestAnswer::Refused(f) => refusal_line(f, out),
+        Ok(()) => put(b"pass\n", out),
+        Err(f) => refusal_line(f, out),
     }
 }
 
 // Any text.
-pub fn put(text: &[u8], out: &mut [u8]) -> Written
+pub fn put(text: &[u8], out: &mut [u8]) -> Result<usize, Refusal>
     ensures { PutPost text.now out.old result out.new }
 {
     if out.len() < text.len() {
-        return Written::Refused(Refusal::Space);
+        return Err(Refusal::Space);
     }
     append::bytes(out, 0, text);
-    Written::Bytes(text.len())
+    Ok(text.len())
 }
 
 // A refusal in a buffer with room for it: its length is known when it has been written.

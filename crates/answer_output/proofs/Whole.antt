@@ -4,8 +4,7 @@ use mathlib.Core.List.{List}
 use Prim.Native.Nat.{ℕ, ◌≤◌}
 use lib.ListN.{length}
 use borrow.Author.Tests.{le-leb}
-use Rattle.case_file.specs.declared.Written.{Written}
-use Rattle.case_file.specs.declared.Written.TheVariants.{Bytes, Refused}
+use Rattle.case_file.specs.Written.{Written, Bytes, Refused}
 use Rattle.answer_lines.specs.Lines.{Puts, FrontIs}
 use Rattle.answer_lines.proofs.Puts.{puts_whole, puts-never}
 use Rattle.answer_output.specs.Front.{front_bytes}

@@ -1,8 +1,7 @@
 -- What is written out of a buffer that a text was put into. Nothing of document 01 rests on this.
 -- Assumes nothing.
 use Rattle.std.specs.Prelude.{Bool, false, cond, List, ℕ, leb, length}
-use Rattle.case_file.specs.declared.Written.{Written}
-use Rattle.case_file.specs.declared.Written.TheVariants.{Bytes, Refused}
+use Rattle.case_file.specs.Written.{Written, Bytes, Refused}
 
 -- The buffer has a front of as many bytes as the answer counts; a refusal has none.
 abbrev pub has_front : Written → List ℕ → Bool

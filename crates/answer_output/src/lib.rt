@@ -6,8 +6,6 @@ ghost use Rattle.std.specs.Prelude.{◌≡◌, leb, length};
 ghost use Rattle.answer_lines.specs.Lines.{refusal_line, test_line, put_into};
 ghost use Rattle.answer_output.specs.Front.{has_front, front_bytes};
 
-use case_file::Written;
-use plan::TestAnswer;
 use railway::Refusal;
 
 // The descriptor of standard output.
@@ -25,7 +23,7 @@ pub fn refusal(f: Refusal, out: &mut [u8])
 }
 
 // The answer to the call for the test.
-pub fn test_answer(a: TestAnswer, out: &mut [u8])
+pub fn test_answer(a: Result<(), Refusal>, out: &mut [u8])
     ensures { out.new ≡ put_into (test_line a) out.old }
 {
     let put = answer_lines::test_line(a, out);
@@ -33,27 +31,22 @@ pub fn test_answer(a: TestAnswer, out: &mut [u8])
 }
 
 // What was put at the front of a buffer, written on standard output; whether there is such a front: else nothing is written.
-pub fn front(out: &[u8], put: Written) -> bool
+pub fn front(out: &[u8], put: Result<usize, Refusal>) -> bool
     ensures { result ≡ has_front put out.now }
 {
     match put {
-        Written::Bytes(n) => write_first(out, n),
-        Written::Refused(_) => false,
+        Ok(n) => write_first(out, n),
+        Err(_) => false,
     }
 }
 
 // The same, and how many bytes there are to be written: 0 where there is no such front.
-pub fn front_bytes(out: &[u8], put: Written) -> usize
+pub fn front_bytes(out: &[u8], put: Result<usize, Refusal>) -> usize
     ensures { result ≡ front_bytes put out.now }
 {
     match put {
-        Written::Bytes(n) => {
-            if write_first(out, n) {
-                return n;
-            }
-            0
-        }
-        Written::Refused(_) => 0,
+        Ok(n) if write_first(out, n) => n,
+        _ => 0,
     }
 }
 

@@ -19,8 +19,7 @@ use Rattle.laws.proofs.Lists.{any_false, any_none, get_or-member, repeats-apart,
 use Rattle.railway.specs.declared.Leg.{Leg}
 use Rattle.railway.specs.declared.Leg.TheVariants.{Stem, Plus, Minus}
 use Rattle.railway.specs.declared.End.TheVariants.{Port}
-use Rattle.railway.specs.declared.Joined.{Joined}
-use Rattle.railway.specs.declared.Joined.TheVariants.{Nothing, With}
+use Rattle.railway.specs.Joined.{Joined, Nothing, With}
 use Rattle.railway.specs.declared.Train.{Train}
 use Rattle.railway.specs.declared.Railway.{Railway}
 use Rattle.railway.specs.declared.Refusal.{Refusal}

@@ -15,8 +15,7 @@ use Rattle.laws.proofs.Lists.{any_none, repeats-head, repeats-none, every-none, 
 use Rattle.railway.specs.declared.Side.{Side}
 use Rattle.railway.specs.declared.Side.TheVariants.{Up}
 use Rattle.railway.specs.declared.End.{End}
-use Rattle.railway.specs.declared.Joined.{Joined}
-use Rattle.railway.specs.declared.Joined.TheVariants.{Nothing, With}
+use Rattle.railway.specs.Joined.{Joined, Nothing, With}
 use Rattle.railway.specs.declared.Railway.{Railway}
 use Rattle.railway.specs.Bounds.{all_ends}
 use Rattle.railway.specs.Ends.{Numbered, port_side, end_index}

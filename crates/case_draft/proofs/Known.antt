@@ -16,7 +16,7 @@ use Rattle.case_file.specs.Rows.{within, known, unknown_join, unknown_signal, un
 use Rattle.case_file.specs.Recording.{end_of}
 use Rattle.case_file.proofs.Rows.{is-within}
 use Rattle.case_draft.specs.declared.Draft.{Draft}
-use Rattle.case_draft.specs.declared.KnownEnd.TheVariants.{NotThere, There}
+use Rattle.case_draft.specs.KnownEnd.{NotThere, There}
 use Rattle.case_draft.specs.Drafting.{is_there, put_point, put_ends, put_join, put_at, put_signal, put_closed, weighed_in, put_train, with_railway, unknown_in}
 use Rattle.case_draft.proofs.Folding.{put_rising, put_each}
 use Rattle.case_draft.proofs.Sized.{Sized, SizedDraft, sized-rising, sized-each, sized-point, sized-put-join, sized-put-signal, sized-put-closed, sized-put-train}

@@ -10,4 +10,3 @@ pub mod Closing
 pub mod Record
 pub mod Answering
 pub mod Drafting
-pub mod Parts

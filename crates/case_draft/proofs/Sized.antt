@@ -16,8 +16,7 @@ use Rattle.railway.specs.Record.{bare_railway, no_legs, no_link, no_train, is_cl
 use Rattle.case_file.specs.Form.{JoinLine, SignalLine, TrainLine, said_weight, section}
 use Rattle.case_file.specs.Rows.{within}
 use Rattle.case_draft.specs.declared.Draft.{Draft}
-use Rattle.case_draft.specs.declared.KnownEnd.{KnownEnd}
-use Rattle.case_draft.specs.declared.KnownEnd.TheVariants.{NotThere, There}
+use Rattle.case_draft.specs.KnownEnd.{KnownEnd, NotThere, There}
 use Rattle.case_draft.specs.Drafting.{end_in, put_point, put_ends, put_join, put_at, put_signal, put_closed, weighed_in, train_in_byte, put_train, with_railway, unknown_in}
 use Rattle.case_draft.proofs.Folding.{put_rising, put_each}
 use Rattle.case_draft.proofs.Stored.{everywhere-length}

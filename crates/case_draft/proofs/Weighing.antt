@@ -11,8 +11,7 @@ use Rattle.railway.specs.Record.{is_closed, with_closed}
 use Rattle.case_file.specs.Form.{section, JoinLine, SignalLine, TrainLine, Description, said_weight}
 use Rattle.case_file.specs.Rows.{within, wrong_weight_in, weight_row}
 use Rattle.case_draft.specs.declared.Draft.{Draft}
-use Rattle.case_draft.specs.declared.KnownEnd.{KnownEnd}
-use Rattle.case_draft.specs.declared.KnownEnd.TheVariants.{NotThere, There}
+use Rattle.case_draft.specs.KnownEnd.{KnownEnd, NotThere, There}
 use Rattle.case_draft.specs.Drafting.{end_in, put_point, put_ends, put_join, put_at, put_signal, put_closed, weighed_in, put_train, with_railway, unknown_in}
 use Rattle.case_draft.proofs.Folding.{put_rising, put_each}
 use Rattle.case_draft.proofs.Known.{or_nothing, or_assoc, points-keep}

@@ -1,6 +1,6 @@
 -- Reading a case text in one walk: the record is built line by line, beside four flags for what the record cannot show. Contracts cite these
 -- definitions and proofs/ ties them to those of case_file; nothing of document 01 rests on this file. Assumes nothing.
-use Rattle.std.specs.Prelude.{◌≡◌, Bool, true, false, cond, not, ◌&&◌, ◌||◌, List, [], ◌∷◌, ℕ, zero, suc, ◌-◌, ◌%◌, ◌≤◌, ltb, leb, eqb, length, get_or}
+use Rattle.std.specs.Prelude.{Bool, true, false, cond, not, ◌&&◌, ◌||◌, List, [], ◌∷◌, ℕ, zero, suc, ◌-◌, ◌%◌, ltb, leb, eqb, length, get_or}
 use Rattle.std.proofs.Math.Option.{Option, none, some}
 use Rattle.text.specs.Text.{byte}
 use Rattle.text.specs.Reading.{Got, bad, got, then}
@@ -12,7 +12,7 @@ use Rattle.railway.specs.declared.Refusal.{Refusal}
 use Rattle.railway.specs.Refusals.{Row, first}
 use Rattle.railway.specs.Record.{bare_railway, empty_railway, joined, has_signal, is_closed, with_join, with_signal, with_closed, with_legs, with_train}
 use Rattle.railway.specs.Rows.{outside, wrong_weight, tied, wrong_pair, unjoined, count_row, loose_row, chain_row, place_row, rows_by}
-use Rattle.case_file.specs.declared.CaseRead.{CaseRead}
+use Rattle.case_file.specs.CaseRead.{CaseRead}
 use Rattle.case_file.specs.Form.{EndField, section, port, JoinLine, SignalLine, TrainLine, said_weight}
 use Rattle.case_file.specs.Rows.{within}
 use Rattle.case_file.specs.Recording.{end_of}
@@ -21,14 +21,8 @@ use Rattle.case_file.specs.Reading.{Counts, header_at, point_line_at, join_line_
 use Rattle.case_draft.specs.declared.Draft.{Draft}
 use Rattle.case_draft.specs.declared.Kind.{Kind}
 use Rattle.case_draft.specs.declared.Kind.TheVariants.{P, J, G, X, T}
-use Rattle.case_draft.specs.declared.KnownEnd.{KnownEnd}
-use Rattle.case_draft.specs.declared.KnownEnd.TheVariants.{NotThere, There}
-use Rattle.case_draft.specs.declared.Lines.{Lines}
-
--- A test that a number lies within a count, and what a program makes of it.
-pub record WithinCount (n count : ℕ) (b : Bool) : Type 0 where
-  pub is : b ≡ within n count
-  pub small : b ≡ true → (1 ≤ n) × (n ≤ 255)
+use Rattle.case_draft.specs.KnownEnd.{KnownEnd, NotThere, There}
+use Rattle.case_draft.specs.Lines.{Lines, NotInForm, InForm}
 
 -- A number as far as a byte goes.
 abbrev pub cap : ℕ → ℕ
@@ -182,7 +176,8 @@ draft_of s = then (header_at s 0) (λ h c. kinds_into s h kinds c (opened h.sect
 
 -- What lines that were read stand for.
 abbrev pub lines_got : Lines → Got Draft
-lines_got l = cond l.good (got l.draft l.next.at) bad
+lines_got NotInForm = bad
+lines_got (InForm d c) = got d c.at
 
 -- THE ANSWER: rows 3 to 8, 13 and 16, by the record and the flags.
 abbrev pub draft_rows : Draft → List Row

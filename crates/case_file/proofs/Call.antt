@@ -17,8 +17,7 @@ use Rattle.railway.specs.declared.Refusal.TheVariants.{Space}
 use Rattle.railway.specs.Refusals.{row, first, number_of}
 use Rattle.railway.specs.Rows.{record_rows, record_refusal}
 use Rattle.railway.proofs.Refusals.{first-append}
-use Rattle.case_file.specs.declared.Written.{Written}
-use Rattle.case_file.specs.declared.Written.TheVariants.{Bytes, Refused}
+use Rattle.case_file.specs.Written.{Written, Bytes, Refused}
 use Rattle.case_file.specs.Writing.{space_row, written_text, writer_rows, writer_refusal, writer_answer, written, buffer_after, written_number, WriterPost}
 
 -- the number of an answer is that of the refusal which it gives

@@ -16,7 +16,7 @@ use Rattle.railway.specs.declared.Side.TheVariants.{Up, Down}
 use Rattle.railway.specs.declared.Leg.TheVariants.{Stem, Plus, Minus}
 use Rattle.railway.specs.declared.End.{End}
 use Rattle.railway.specs.declared.End.TheVariants.{Section, Port}
-use Rattle.railway.specs.declared.Joined.TheVariants.{Nothing, With}
+use Rattle.railway.specs.Joined.{Nothing, With}
 use Rattle.railway.specs.declared.Railway.{Railway}
 use Rattle.railway.specs.declared.Refusal.TheVariants.{Count, Space}
 use Rattle.railway.specs.Ends.{end_at}
@@ -24,9 +24,8 @@ use Rattle.railway.specs.Refusals.{number, first}
 use Rattle.railway.specs.Record.{is_closed, empty_railway, joined_by, joined, has_signal, legs_of, train_of, weight_of}
 use Rattle.railway.specs.Rows as R
 use Rattle.railway.specs.Rows.{record_refusal}
-use Rattle.railway.specs.declared.CaseAnswer.{CaseAnswer}
-use Rattle.railway.specs.declared.CaseAnswer.TheVariants.{Accepted, Refused}
-use Rattle.case_file.specs.declared.Written.TheVariants as W
+use Rattle.railway.specs.CaseAnswer.{CaseAnswer, Accepted, Refused}
+use Rattle.case_file.specs.Written as W
 use Rattle.case_file.specs.Form.{rising, spell}
 use Rattle.case_file.specs.Rows.{join_ends, weight_row, unknown_row, join_row, loose_row, double_row, place_row}
 use Rattle.case_file.specs.Recording.{partner, railway_of}

@@ -23,9 +23,8 @@ use Rattle.railway.specs.declared.Refusal.TheVariants.{Length, Form}
 use Rattle.railway.specs.Refusals.{number, number_given, Row, row, NotApplying, first, FirstOf, FirstRow}
 use Rattle.railway.specs.Record.{empty_railway}
 use Rattle.railway.proofs.Refusals.{first-is, first-none, none_first, number-one}
-use Rattle.case_file.specs.declared.CaseRead.{CaseRead}
-use Rattle.railway.specs.declared.CaseAnswer.{CaseAnswer}
-use Rattle.railway.specs.declared.CaseAnswer.TheVariants.{Accepted, Refused}
+use Rattle.case_file.specs.CaseRead.{CaseRead}
+use Rattle.railway.specs.CaseAnswer.{CaseAnswer, Accepted, Refused}
 use Rattle.case_file.specs.Form.{Description, Describes}
 use Rattle.case_file.specs.Rows.{most_bytes, count_row, weight_row, unknown_row, join_row, loose_row, chain_row, double_row, place_row, description_rows, description_table}
 use Rattle.case_file.specs.Recording.{railway_of}

@@ -15,8 +15,7 @@ use Rattle.laws.specs.Lists.{Every}
 use Rattle.text.specs.Text.{decimal, line}
 use Rattle.text.proofs.Decimal.{digits-short}
 use Rattle.railway.specs.declared.Side.{Side}
-use Rattle.railway.specs.declared.Joined.{Joined}
-use Rattle.railway.specs.declared.Joined.TheVariants.{Nothing, With}
+use Rattle.railway.specs.Joined.{Joined, Nothing, With}
 use Rattle.railway.specs.declared.Railway.{Railway}
 use Rattle.railway.specs.Bounds.{most_sections, section_ends, all_ends}
 use Rattle.railway.specs.Ends.{end_index, end_at}

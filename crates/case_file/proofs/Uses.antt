@@ -19,7 +19,7 @@ use Rattle.text.specs.Reading.{is_digit, byte_at, digits_at, number_at}
 use Rattle.railway.specs.declared.Side.TheVariants.{Up, Down}
 use Rattle.railway.specs.declared.Leg.TheVariants.{Stem, Plus, Minus}
 use Rattle.railway.specs.declared.End.TheVariants.{Section}
-use Rattle.railway.specs.declared.Joined.TheVariants.{With}
+use Rattle.railway.specs.Joined.{With}
 use Rattle.railway.specs.declared.Train.{Train}
 use Rattle.railway.specs.declared.Railway.{Railway}
 use Rattle.railway.specs.declared.Refusal.TheVariants.{Length, Weight, Chain, Place}

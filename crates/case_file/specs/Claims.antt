@@ -7,7 +7,7 @@ use Rattle.laws.specs.Lists.{Every, rises}
 use Rattle.railway.specs.declared.Side.TheVariants.{Up, Down}
 use Rattle.railway.specs.declared.End.{End}
 use Rattle.railway.specs.declared.End.TheVariants.{Section, Port}
-use Rattle.railway.specs.declared.Joined.TheVariants.{With}
+use Rattle.railway.specs.Joined.{With}
 use Rattle.railway.specs.declared.Train.{Train}
 use Rattle.railway.specs.declared.Railway.{Railway}
 use Rattle.railway.specs.declared.Refusal.{Refusal}
@@ -17,7 +17,7 @@ use Rattle.railway.specs.Record.{joined, has_signal, is_closed, legs_of, train_o
 use Rattle.railway.specs.Rows.{record_refusal}
 use Rattle.railway.specs.Chains.{LongWay, Round}
 use Rattle.railway.specs.Same.{SameRailway}
-use Rattle.case_file.specs.declared.CaseRead.{CaseRead}
+use Rattle.case_file.specs.CaseRead.{CaseRead}
 use Rattle.case_file.specs.Form.{EndField, section, port, JoinLine, SignalLine, TrainLine, Description, said_weight, Describes}
 use Rattle.case_file.specs.Rows.{most_bytes, FormRow, count_row, weight_row, unknown_row, join_row, loose_row}
 use Rattle.case_file.specs.Recording.{no_train_line, railway_of}

@@ -1,17 +1,16 @@
 -- What a case text is answered with (document 01, "Numbers that a desk can get": its third column, and the sentence on which number is given).
 -- The number is that of the earliest row that applies; a text to which none does is accepted. Stated over texts and what they say, not through
 -- any reading. Assumes nothing.
-use Rattle.std.specs.Prelude.{◌≡◌, Bool, true, List, ◌∷◌, ◌↔◌, ℕ, ◌≤◌, length}
+use Rattle.std.specs.Prelude.{◌≡◌, Bool, true, List, ◌∷◌, ◌↔◌, ℕ, ◌≤◌, length, Result, Ok, Err}
 use Rattle.std.proofs.Math.Option.{Option, none, some}
 use Rattle.laws.specs.Lists.{Every}
 use Rattle.railway.specs.declared.Railway.{Railway}
 use Rattle.railway.specs.declared.Refusal.{Refusal}
 use Rattle.railway.specs.declared.Refusal.TheVariants.{Length, Form, Count, Weight, Unknown, Join, Loose, Chain, Double, Place, Mismatch, Space, PlanForm, PlanFault, Report, Stranded, Log}
-use Rattle.railway.specs.declared.CaseAnswer.{CaseAnswer}
-use Rattle.railway.specs.declared.CaseAnswer.TheVariants.{Accepted, Refused}
+use Rattle.railway.specs.CaseAnswer.{CaseAnswer, Accepted, Refused}
 use Rattle.railway.specs.Refusals.{number, number_given, NotApplying, FirstOf}
 use Rattle.railway.specs.Record.{empty_railway}
-use Rattle.case_file.specs.declared.CaseRead.{CaseRead}
+use Rattle.case_file.specs.CaseRead.{CaseRead}
 use Rattle.case_file.specs.Form.{Description, Describes}
 use Rattle.case_file.specs.Rows.{most_bytes, LengthRow, FormRow, count_row, weight_row, unknown_row, join_row, loose_row, chain_row, double_row, place_row, description_rows, description_table}
 use Rattle.case_file.specs.Recording.{railway_of}
@@ -23,6 +22,11 @@ accepted r = record { answer = Accepted; railway = r }
 -- The answer that refuses it, with the empty record, so that nothing else is answered.
 abbrev pub refused : Refusal → CaseRead
 refused f = record { answer = Refused f; railway = empty_railway }
+
+-- What the reader's result says: a railway that is accepted, or a refusal and no railway.
+abbrev pub case_read : Result Railway Refusal → CaseRead
+case_read (Ok r) = accepted r
+case_read (Err f) = refused f
 
 -- The railway that is answered, if one is: a record beside a refusal is none.
 abbrev pub railway_given : CaseAnswer → Railway → Option Railway

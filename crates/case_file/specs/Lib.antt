@@ -6,3 +6,5 @@ pub mod Given
 pub mod Reading
 pub mod Claims
 pub mod YardTexts
+pub mod Written
+pub mod CaseRead

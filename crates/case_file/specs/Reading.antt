@@ -11,7 +11,7 @@ use Rattle.railway.specs.declared.Leg.TheVariants.{Stem, Plus, Minus}
 use Rattle.railway.specs.declared.Refusal.{Refusal}
 use Rattle.railway.specs.declared.Refusal.TheVariants.{Length, Form}
 use Rattle.railway.specs.Refusals.{Row, row, first}
-use Rattle.case_file.specs.declared.CaseRead.{CaseRead}
+use Rattle.case_file.specs.CaseRead.{CaseRead}
 use Rattle.case_file.specs.Form.{EndField, section, port, JoinLine, SignalLine, TrainLine, Description, side_byte, leg_byte}
 use Rattle.case_file.specs.Rows.{most_bytes, description_rows}
 use Rattle.case_file.specs.Recording.{railway_of}

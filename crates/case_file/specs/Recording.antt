@@ -8,8 +8,7 @@ use Rattle.laws.specs.Lists.{any}
 use Rattle.railway.specs.declared.Side.TheVariants.{Up}
 use Rattle.railway.specs.declared.End.{End}
 use Rattle.railway.specs.declared.End.TheVariants.{Section, Port}
-use Rattle.railway.specs.declared.Joined.{Joined}
-use Rattle.railway.specs.declared.Joined.TheVariants.{Nothing, With}
+use Rattle.railway.specs.Joined.{Joined, Nothing, With}
 use Rattle.railway.specs.declared.Train.{Train}
 use Rattle.railway.specs.declared.Railway.{Railway}
 use Rattle.railway.specs.Bounds.{most_sections, most_points, most_trains, section_ends, all_ends}

@@ -3,8 +3,7 @@
 use Rattle.std.specs.Prelude.{◌≡◌, Bool, cond, List, [], ◌∷◌, ◌++◌, ℕ, suc, ltb, eqb, length, drop}
 use Rattle.std.proofs.Math.Option.{Option, none, some}
 use Rattle.laws.specs.Below.{list_below, gather_below}
-use Rattle.railway.specs.declared.Joined.{Joined}
-use Rattle.railway.specs.declared.Joined.TheVariants.{Nothing, With}
+use Rattle.railway.specs.Joined.{Joined, Nothing, With}
 use Rattle.railway.specs.declared.Train.{Train}
 use Rattle.railway.specs.declared.Railway.{Railway}
 use Rattle.railway.specs.declared.Refusal.{Refusal}
@@ -14,8 +13,7 @@ use Rattle.railway.specs.Ends.{end_index, end_at}
 use Rattle.railway.specs.Refusals.{number, number_of, Row, row, first}
 use Rattle.railway.specs.Record.{link_at, flag_at, closed_at, legs_of, train_of}
 use Rattle.railway.specs.Rows.{record_rows}
-use Rattle.case_file.specs.declared.Written.{Written}
-use Rattle.case_file.specs.declared.Written.TheVariants.{Bytes, Refused}
+use Rattle.case_file.specs.Written.{Written, Bytes, Refused}
 use Rattle.case_file.specs.Form.{JoinLine, SignalLine, TrainLine, Description, unsaid_weight, spell}
 use Rattle.case_file.specs.Recording.{field_of, signal_of}
 

@@ -1,36 +1,22 @@
 -- What the answers of the line functions stand for. Contracts cite these; nothing of document 01 rests on them. Assumes nothing.
-use Rattle.std.specs.Prelude.{List, ℕ}
+use Rattle.std.specs.Prelude.{ℕ}
 use Rattle.std.proofs.Math.Option.{Option, none, some}
-use Rattle.text.specs.Text.{tab}
-use Rattle.text.specs.Reading.{Got, bad, got, then, byte_at}
+use Rattle.text.specs.Reading.{Got, bad, got}
 use Rattle.railway.specs.declared.Side.{Side}
 use Rattle.railway.specs.declared.Leg.{Leg}
 use Rattle.case_file.specs.Form.{EndField, section, port, JoinLine, SignalLine, TrainLine}
 use Rattle.case_file.specs.Reading.{Counts}
-use Rattle.case_lines.specs.declared.SideRead.{SideRead}
-use Rattle.case_lines.specs.declared.SideRead.TheVariants.{NoSide, SideIs}
-use Rattle.case_lines.specs.declared.LegRead.{LegRead}
-use Rattle.case_lines.specs.declared.LegRead.TheVariants.{NoLeg, LegIs}
+use Rattle.case_lines.specs.SideRead.{SideRead, NoSide, SideIs}
+use Rattle.case_lines.specs.LegRead.{LegRead, NoLeg, LegIs}
 use Rattle.case_lines.specs.declared.NamedEnd.{NamedEnd}
 use Rattle.case_lines.specs.declared.NamedEnd.TheVariants.{OfSection, OfPoint}
-use Rattle.case_lines.specs.declared.EndRead.{EndRead}
-use Rattle.case_lines.specs.declared.EndRead.TheVariants.{NoEnd, EndIs}
-use Rattle.case_lines.specs.declared.HeaderRead.{HeaderRead}
-use Rattle.case_lines.specs.declared.HeaderRead.TheVariants.{NoHeader, CountsAre}
-use Rattle.case_lines.specs.declared.JoinRead.{JoinRead}
-use Rattle.case_lines.specs.declared.JoinRead.TheVariants.{NoJoin, EndsAre}
-use Rattle.case_lines.specs.declared.SignalRead.{SignalRead}
-use Rattle.case_lines.specs.declared.SignalRead.TheVariants.{NoSignal, SignalIs}
-use Rattle.case_lines.specs.declared.NamedWeight.{NamedWeight}
-use Rattle.case_lines.specs.declared.NamedWeight.TheVariants.{Unsaid, Said}
-use Rattle.case_lines.specs.declared.WeightRead.{WeightRead}
-use Rattle.case_lines.specs.declared.WeightRead.TheVariants.{NoWeight, WeightIs}
-use Rattle.case_lines.specs.declared.TrainRead.{TrainRead}
-use Rattle.case_lines.specs.declared.TrainRead.TheVariants.{NoTrain, TrainIs}
-
--- A tab, and a field behind it.
-abbrev pub behind_tab : {A : Type 0} → List ℕ → (ℕ → Got A) → ℕ → Got A
-behind_tab s field c = then (byte_at s tab c) (λ x c. field c)
+use Rattle.case_lines.specs.EndRead.{EndRead, NoEnd, EndIs}
+use Rattle.case_lines.specs.HeaderRead.{HeaderRead, NoHeader, CountsAre}
+use Rattle.case_lines.specs.JoinRead.{JoinRead, NoJoin, EndsAre}
+use Rattle.case_lines.specs.SignalRead.{SignalRead, NoSignal, SignalIs}
+use Rattle.case_lines.specs.NamedWeight.{NamedWeight, Unsaid, Said}
+use Rattle.case_lines.specs.WeightRead.{WeightRead, NoWeight, WeightIs}
+use Rattle.case_lines.specs.TrainRead.{TrainRead, NoTrain, TrainIs}
 
 -- `u` or `d`, as it was read.
 abbrev pub side_got : SideRead → Got Side

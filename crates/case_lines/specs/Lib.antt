@@ -1,1 +1,10 @@
 pub mod Answers
+pub mod SideRead
+pub mod LegRead
+pub mod EndRead
+pub mod HeaderRead
+pub mod JoinRead
+pub mod SignalRead
+pub mod NamedWeight
+pub mod WeightRead
+pub mod TrainRead

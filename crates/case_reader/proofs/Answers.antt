@@ -7,9 +7,8 @@ use Rattle.railway.specs.declared.Railway.{Railway}
 use Rattle.railway.specs.declared.Refusal.{Refusal}
 use Rattle.railway.specs.Refusals.{number_given}
 use Rattle.railway.proofs.Refusals.{number-one}
-use Rattle.case_file.specs.declared.CaseRead.{CaseRead}
-use Rattle.railway.specs.declared.CaseAnswer.{CaseAnswer}
-use Rattle.railway.specs.declared.CaseAnswer.TheVariants.{Accepted, Refused}
+use Rattle.case_file.specs.CaseRead.{CaseRead}
+use Rattle.railway.specs.CaseAnswer.{CaseAnswer, Accepted, Refused}
 use Rattle.case_file.specs.Given.{railway_given, ReaderPost}
 use Rattle.case_reader.specs.Answers.{ByCase}
 

@@ -4,7 +4,7 @@ use mathlib.Core.Path.{◌≡◌, sym, ◌∙◌}
 use mathlib.Core.List.{List}
 use mathlib.Core.Logic.{inl, inr}
 use Prim.Native.Nat.{ℕ}
-use Rattle.case_file.specs.declared.CaseRead.{CaseRead}
+use Rattle.case_file.specs.CaseRead.{CaseRead}
 use Rattle.case_file.specs.Given.{ReaderPost}
 use Rattle.case_file.specs.Reading.{case_answer}
 use Rattle.case_file.proofs.Given.{accepted-exactly, refused-exactly, always-answered, reader-answers}

@@ -4,14 +4,14 @@ use Prim.Native.Nat.{ℕ, ◌<◌, ◌≤◌}
 use mathlib.Core.Path.{◌≡◌, refl, sym, ◌∙◌, ap}
 use mathlib.Core.Logic.{inl, inr}
 use mathlib.Core.Bool.{Bool, true, false}
-use mathlib.Core.List.{List, ◌∷◌}
+use mathlib.Core.List.{List, [], ◌∷◌}
 use mathlib.Core.Option.{Option, none, some}
 use native.Mathlib.Omega.{arith}
 use lib.Dec.{ltb}
 use lib.ListN.{length}
 use borrow.Author.Tests.{lt-ltb, le-ltb, le-leb, lt-leb}
 use Rattle.text.specs.Reading.{Got, bad, got, then}
-use Rattle.laws.proofs.Bools.{bool?, lt?}
+use Rattle.laws.proofs.Bools.{lt?}
 use Rattle.railway.specs.declared.Railway.{Railway}
 use Rattle.railway.specs.declared.Refusal.{Refusal}
 use Rattle.railway.specs.Refusals.{number_given, first, number_of}
@@ -19,23 +19,19 @@ use Rattle.railway.proofs.Refusals.{number-tells}
 use Rattle.railway.specs.Record.{empty_railway}
 use Rattle.railway.specs.Rows.{outside}
 use Rattle.railway.proofs.Rows.{bounded}
-use Rattle.railway.specs.declared.CaseAnswer.{CaseAnswer}
-use Rattle.railway.specs.declared.CaseAnswer.TheVariants as goal
+use Rattle.railway.specs.CaseAnswer.{CaseAnswer}
+use Rattle.railway.specs.CaseAnswer as goal
 use Rattle.case_file.specs.Given.{accepted, refused}
 use Rattle.case_file.specs.Reading.{Counts, header_at}
-use Rattle.case_walk.specs.Walking.{as_lines}
-use Rattle.case_walk.proofs.Walking.{lines-as}
 use Rattle.case_draft.specs.declared.Draft.{Draft}
 use Rattle.case_draft.specs.declared.Kind.{Kind}
-use Rattle.case_draft.specs.declared.Lines.{Lines}
-use Rattle.case_draft.specs.Drafting.{cap, opened, entry, kinds, lines_into, end_at, kinds_into, draft_of, lines_got, draft_rows, answer_of, draft_answer}
+use Rattle.case_draft.specs.declared.Kind.TheVariants.{P, J, G, X, T}
+use Rattle.case_draft.specs.Lines.{Lines, InForm}
+use Rattle.case_draft.specs.Drafting.{cap, opened, entry, lines_into, end_at, kinds_into, draft_of, lines_got, draft_rows, answer_of, draft_answer}
 
 -- NUMBERS
-pub cap-low : (n : ℕ) → n ≤ 255 → n ≡ cap n
+cap-low : (n : ℕ) → n ≤ 255 → n ≡ cap n
 cap-low n h = rw (le-leb n 255 h)
-
-pub cap-high : (n : ℕ) → 255 < n → 255 ≡ cap n
-cap-high n h = rw (lt-leb n 255 h)
 
 cap-under : (m n : ℕ) → m < 255 → ltb m (cap n) ≡ ltb m n
 cap-under m n h = elim (lt? 255 n) [
@@ -79,49 +75,47 @@ module _ (s p k : ℕ) where
         let t : c ≡ k = hc ∙ sym (cap-low k (omega (arith, m.few-trains))) in
         w ∙ rw (o, u, v, t, q)
 
--- LINES
-module _ (l : Lines) where
-  pub lines-bad : l.good ≡ false → lines_got l ≡ bad
-  lines-bad h = rw h
-
-  pub lines-got : l.good ≡ true → lines_got l ≡ got l.draft l.next.at
-  lines-got h = rw h
-
--- THE END OF THE TEXT
-module _ (s : List ℕ) (l : Lines) where
-  pub more_left : l.next.at < length s → bad ≡ then (lines_got l) (λ d c. end_at s d c)
-  more_left b = elim (bool? l.good) [ inl g ↦ rw (g, lt-ltb l.next.at (length s) b) | inr g ↦ rw g ]
-
-  pub all_read : length s ≤ l.next.at → lines_got l ≡ then (lines_got l) (λ d c. end_at s d c)
-  all_read b = elim (bool? l.good) [ inl g ↦ rw (g, le-ltb l.next.at (length s) b) | inr g ↦ rw g ]
-
 -- THE WHOLE TEXT, kind after kind
 in-turn : {B D E : Type 0} (g : Got B) (f : B → ℕ → Got D) (k : D → ℕ → Got E) → then (then g f) k ≡ then g (λ x c. then (f x c) k)
 in-turn bad f k = refl
 in-turn (got x c) f k = refl
 
 module _ (s : List ℕ) where
-  pub header-bad : header_at s 0 ≡ bad → bad ≡ draft_of s
+  pub header-bad : bad ≡ header_at s 0 → bad ≡ draft_of s
   unfolding draft_of
-  header-bad e = rw e
+  header-bad e = rw (← e)
 
-  module _ (h : Counts) (c : ℕ) (is : header_at s 0 ≡ got h c) where
+  module _ (h : Counts) (c : ℕ) (is : got h c ≡ header_at s 0) where
     -- what the lines behind some others give
-    abbrev pub behind : Lines → List Kind → Got Draft
+    abbrev behind : Lines → List Kind → Got Draft
     behind l rest = then (lines_got l) (λ d c. kinds_into s h rest c d)
 
-    -- the lines of a kind, and those of the kinds behind it
-    pub one-kind : (l m : Lines) (kind : Kind) (rest : List Kind) → m ≡ as_lines l (then (lines_got l) (λ d c. lines_into s kind ((entry kind).count h) c d))
-        → behind m rest ≡ behind l (kind ∷ rest)
-    one-kind l m kind rest e =
-        let g = then (lines_got l) (λ d c. lines_into s kind ((entry kind).count h) c d) in
-        let z : lines_got m ≡ g = ap lines_got e ∙ lines-as l g in
-        rw z (in-turn (lines_got l) _ _)
+    -- the lines of a kind, behind those before them
+    abbrev pub Read : Kind → Lines → Lines → Type 0
+    Read kind l m = lines_got m ≡ then (lines_got l) (λ d c. lines_into s kind ((entry kind).count h) c d)
 
-    pub all_kinds : (w : Draft) → w ≡ opened h.sections h.points h.trains → (l : Lines) → l ≡ record { good = true; draft = w; next = record { at = c } }
-        → behind l kinds ≡ draft_of s
+    -- and those of the kinds behind it
+    one-kind : (l m : Lines) (kind : Kind) (rest : List Kind) → Read kind l m → behind m rest ≡ behind l (kind ∷ rest)
+    one-kind l m kind rest e = rw e (in-turn (lines_got l) _ _)
+
+    pub all_kinds : (w : Draft) → w ≡ opened h.sections h.points h.trains → (p j g x t : Lines)
+        → Read P (InForm w (record { at = c })) p → Read J p j → Read G j g → Read X g x → Read T x t
+        → then (lines_got t) (λ d c. end_at s d c) ≡ draft_of s
     unfolding draft_of
-    all_kinds w hw l e = rw (e, hw, is)
+    all_kinds w hw p j g x t hp hj hg hx ht =
+        one-kind x t T [] ht
+        ∙ one-kind g x X (T ∷ []) hx
+        ∙ one-kind j g G (X ∷ T ∷ []) hg
+        ∙ one-kind p j J (G ∷ X ∷ T ∷ []) hj
+        ∙ one-kind (InForm w (record { at = c })) p P (J ∷ G ∷ X ∷ T ∷ []) hp
+        ∙ rw (hw, ← is)
+
+-- nothing, or bytes, behind the last line
+pub more_left : (s : List ℕ) (d : Draft) (c : ℕ) → c < length s → bad ≡ end_at s d c
+more_left s d c h = rw (lt-ltb c (length s) h)
+
+pub all_read : (s : List ℕ) (d : Draft) (c : ℕ) → length s ≤ c → got d c ≡ end_at s d c
+all_read s d c h = rw (le-ltb c (length s) h)
 
 -- THE ANSWER, by the number that the rows give
 module _ (d : Draft) where

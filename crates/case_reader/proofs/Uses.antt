@@ -17,7 +17,7 @@ use Rattle.railway.specs.Refusals.{number_given, first, number_of}
 use Rattle.railway.specs.Record.{empty_railway, train_of, weight_of, with_join, with_signal, with_train}
 use Rattle.railway.specs.Rows.{record_refusal}
 use Rattle.railway.specs.Yards.{head_on}
-use Rattle.case_file.specs.declared.CaseRead.{CaseRead}
+use Rattle.case_file.specs.CaseRead.{CaseRead}
 use Rattle.case_file.specs.Given.{accepted, refused, Applies, ReaderPost}
 use Rattle.case_file.specs.YardTexts.{YardText, yard_texts, AllAccepted}
 use Rattle.case_file.proofs.Uses.{nothing_said, text_shut_out, shut-out, text_round, round-chain, text_seven, text_with_one, weighing, read-seven, read-with-one, text_zero, text256, weight-zero, weight-256}

@@ -5,7 +5,7 @@ use Rattle.std.proofs.Math.Option.{none}
 use Rattle.railway.specs.declared.Railway.{Railway}
 use Rattle.railway.specs.declared.Refusal.{Refusal}
 use Rattle.railway.specs.Rows.{record_refusal}
-use Rattle.case_file.specs.declared.CaseRead.{CaseRead}
+use Rattle.case_file.specs.CaseRead.{CaseRead}
 use Rattle.case_file.specs.Form.{Description, Describes}
 use Rattle.case_file.specs.Claims.{AsDescribed}
 use Rattle.case_file.specs.Given.{accepted, refused, RefusedWith, AcceptedWith, ReaderPost}

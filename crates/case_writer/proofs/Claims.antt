@@ -10,7 +10,7 @@ use lib.ListN.{length, take, drop}
 use lib.Seq.{take-append_seam, drop-append_seam}
 use Rattle.laws.proofs.Bools.{some-none, some_one}
 use Rattle.railway.specs.declared.Railway.{Railway}
-use Rattle.case_file.specs.declared.Written.{Written}
+use Rattle.case_file.specs.Written.{Written}
 use Rattle.case_file.specs.Writing.{written_text, written, written_number, written_count}
 use Rattle.case_file.proofs.Given.{accepted-exactly, reader-answers}
 use Rattle.case_file.proofs.Lengths.{written-fits}

@@ -16,8 +16,7 @@ use Rattle.railway.specs.declared.SectionNo.{SectionNo}
 use Rattle.railway.specs.declared.PointNo.{PointNo}
 use Rattle.railway.specs.declared.End.{End}
 use Rattle.railway.specs.declared.End.TheVariants.{Section, Port}
-use Rattle.railway.specs.declared.Joined.{Joined}
-use Rattle.railway.specs.declared.Joined.TheVariants.{Nothing, With}
+use Rattle.railway.specs.Joined.{Joined, Nothing, With}
 use Rattle.railway.specs.declared.Train.{Train}
 use Rattle.railway.specs.declared.Railway.{Railway}
 use Rattle.railway.specs.Ends.{end_index, end_at}
@@ -25,9 +24,7 @@ use Rattle.railway.specs.Record.{joined, has_signal, is_closed, legs_of, train_o
 use Rattle.case_file.specs.Form.{side_byte, leg_byte, end_field, weight_field, point_line, train_line}
 use Rattle.case_file.specs.Recording.{field_of}
 use Rattle.case_file.specs.Writing.{written_weight, line_of_train}
-use Rattle.case_writer.specs.declared.Part.{Part}
-use Rattle.case_writer.specs.declared.Part.TheVariants.{Points, Joins, Signals, Closed, Trains}
-use Rattle.case_writer.specs.Pieces.{header_text, join_piece, signal_piece, closed_piece, piece_of}
+use Rattle.case_writer.specs.Pieces.{header_text, join_piece, signal_piece, closed_piece, point_of, join_of, signal_of, closed_of, train_at}
 
 -- AN END and the byte behind it
 module _ {o o₁ o₂ : List ℕ} {a a₁ a₂ : ℕ} (e : End) (b after : ℕ) where
@@ -117,21 +114,18 @@ module _ (i : ℕ) (shut : Bool) {o : List ℕ} {a : ℕ} where
   closed-line h x y = let n = decimal (i + 1) in rw (h, ← add-one i) (line-more (byte "X" ∷ []) n [] x (line-last n y))
 
 -- PIECES of the parts
-module _ (r : Railway) (part : Part) (i : ℕ) {o o₁ : List ℕ} {a a₁ : ℕ} where
-  pub point-piece : part ≡ Points → (s : Side) → s ≡ legs_of r i → Appended o a (point_line (suc i) s) o₁ a₁ → Appended o a (piece_of r part i) o₁ a₁
-  point-piece e s is p = rw (e, ← is) p
+module _ (r : Railway) (i : ℕ) {o o₁ : List ℕ} {a a₁ : ℕ} where
+  pub point-piece : (s : Side) → s ≡ legs_of r i → Appended o a (point_line (suc i) s) o₁ a₁ → Appended o a (point_of r i) o₁ a₁
+  point-piece s is p = rw (← is) p
 
-  pub join-piece : part ≡ Joins → (e : End) (j : Joined) → e ≡ end_at i → j ≡ joined r e
-      → Appended o a (join_piece i j) o₁ a₁ → Appended o a (piece_of r part i) o₁ a₁
-  join-piece e x j at is p = let h : j ≡ joined r (end_at i) = rw at at is in rw (e, ← h) p
+  pub join-piece : (e : End) (j : Joined) → e ≡ end_at i → j ≡ joined r e → Appended o a (join_piece i j) o₁ a₁ → Appended o a (join_of r i) o₁ a₁
+  join-piece x j at is p = let h : j ≡ joined r (end_at i) = rw at at is in rw (← h) p
 
-  pub signal-piece : part ≡ Signals → (e : End) (b : Bool) → e ≡ end_at i → b ≡ has_signal r e
-      → Appended o a (signal_piece i b) o₁ a₁ → Appended o a (piece_of r part i) o₁ a₁
-  signal-piece e x b at is p = let h : b ≡ has_signal r (end_at i) = rw at at is in rw (e, ← h) p
+  pub signal-piece : (e : End) (b : Bool) → e ≡ end_at i → b ≡ has_signal r e → Appended o a (signal_piece i b) o₁ a₁ → Appended o a (signal_of r i) o₁ a₁
+  signal-piece x b at is p = let h : b ≡ has_signal r (end_at i) = rw at at is in rw (← h) p
 
-  pub closed-piece : part ≡ Closed → (b : Bool) → b ≡ is_closed r i → Appended o a (closed_piece i b) o₁ a₁ → Appended o a (piece_of r part i) o₁ a₁
-  closed-piece e b is p = rw (e, ← is) p
+  pub closed-piece : (b : Bool) → b ≡ is_closed r i → Appended o a (closed_piece i b) o₁ a₁ → Appended o a (closed_of r i) o₁ a₁
+  closed-piece b is p = rw (← is) p
 
-  pub train-piece : part ≡ Trains → (t : Train) → t ≡ train_of r i
-      → Appended o a (train_line (suc i) (line_of_train t)) o₁ a₁ → Appended o a (piece_of r part i) o₁ a₁
-  train-piece e t is p = rw (e, ← is) p
+  pub train-piece : (t : Train) → t ≡ train_of r i → Appended o a (train_line (suc i) (line_of_train t)) o₁ a₁ → Appended o a (train_at r i) o₁ a₁
+  train-piece t is p = rw (← is) p

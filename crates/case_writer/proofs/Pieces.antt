@@ -10,8 +10,7 @@ use lib.Dec.{ltb}
 use lib.ListN.{length}
 use Rattle.laws.specs.Below.{list_below, gather_below}
 use Rattle.laws.proofs.Below.{list_length, gather-same}
-use Rattle.railway.specs.declared.Joined.{Joined}
-use Rattle.railway.specs.declared.Joined.TheVariants.{Nothing, With}
+use Rattle.railway.specs.Joined.{Joined, Nothing, With}
 use Rattle.railway.specs.declared.Railway.{Railway}
 use Rattle.railway.specs.Bounds.{most_sections, section_ends, all_ends}
 use Rattle.railway.specs.Ends.{end_index, end_at}
@@ -20,8 +19,7 @@ use Rattle.railway.proofs.Ends.{end-section, index-end}
 use Rattle.railway.proofs.Lookups.{joined-there, signal-there, closed-there}
 use Rattle.case_file.specs.Form.{point_line, join_line, signal_line, closed_line, train_line, rising, spell}
 use Rattle.case_file.specs.Writing.{join_from, join_at, signal_at, closed_line_of, line_of_train, description_of, written_text}
-use Rattle.case_writer.specs.declared.Part.TheVariants.{Points, Joins, Signals, Closed, Trains}
-use Rattle.case_writer.specs.Pieces.{header_text, join_piece, piece_of}
+use Rattle.case_writer.specs.Pieces.{header_text, join_piece, point_of, join_of, signal_of, closed_of, train_at}
 
 -- RISING LINES, and a line for each element
 module _ {A : Type 0} (f : ℕ → A → List ℕ) where
@@ -62,30 +60,30 @@ join-from i Nothing = refl
 join-from i (With f) = each-one join_line (ltb i (end_index f)) _
 
 module _ (r : Railway) where
-  join-piece : (i : ℕ) → i < all_ends → flat_map join_line (join_at r i) ≡ piece_of r Joins i
+  join-piece : (i : ℕ) → i < all_ends → flat_map join_line (join_at r i) ≡ join_of r i
   join-piece i h =
       rw (← joined-there r (end_at i) i (sym (index-end i h)) h) (join-from i (link_at r i))
 
-  signal-piece : (i : ℕ) → i < section_ends → flat_map signal_line (signal_at r i) ≡ piece_of r Signals i
+  signal-piece : (i : ℕ) → i < section_ends → flat_map signal_line (signal_at r i) ≡ signal_of r i
   signal-piece i h =
       rw (← signal-there r (end_at i) i (sym (index-end i (omega arith))) h, end-section i h) (each-one signal_line (flag_at r i) _)
 
-  closed-piece : (x : ℕ) → x < most_sections → flat_map closed_line (closed_line_of r x) ≡ piece_of r Closed x
+  closed-piece : (x : ℕ) → x < most_sections → flat_map closed_line (closed_line_of r x) ≡ closed_of r x
   closed-piece x h = rw (← closed-there r x h) (each-one closed_line (closed_at r x) _)
 
   -- THE WHOLE
   pub text-pieces : written_text r
       ≡ header_text r.sections r.points r.trains
-      ++ (gather_below (piece_of r Points) r.points
-      ++ (gather_below (piece_of r Joins) all_ends
-      ++ (gather_below (piece_of r Signals) section_ends
-      ++ (gather_below (piece_of r Closed) most_sections
-      ++ gather_below (piece_of r Trains) r.trains))))
+      ++ (gather_below (point_of r) r.points
+      ++ (gather_below (join_of r) all_ends
+      ++ (gather_below (signal_of r) section_ends
+      ++ (gather_below (closed_of r) most_sections
+      ++ gather_below (train_at r) r.trains))))
   unfolding written_text spell description_of
   text-pieces =
       let p = rising-pieces point_line (legs_of r) r.points in
-      let j = each-pieces join_line (join_at r) all_ends ∙ gather-same _ (piece_of r Joins) all_ends join-piece in
-      let g = each-pieces signal_line (signal_at r) section_ends ∙ gather-same _ (piece_of r Signals) section_ends signal-piece in
-      let x = each-pieces closed_line (closed_line_of r) most_sections ∙ gather-same _ (piece_of r Closed) most_sections closed-piece in
+      let j = each-pieces join_line (join_at r) all_ends ∙ gather-same _ (join_of r) all_ends join-piece in
+      let g = each-pieces signal_line (signal_at r) section_ends ∙ gather-same _ (signal_of r) section_ends signal-piece in
+      let x = each-pieces closed_line (closed_line_of r) most_sections ∙ gather-same _ (closed_of r) most_sections closed-piece in
       let t = rising-pieces train_line (λ t. line_of_train (train_of r t)) r.trains in
       rw (p, j, g, x, t)

@@ -10,13 +10,13 @@ use native.Mathlib.Omega.{arith}
 use lib.ListN.{length, take, drop, replicate, length-replicate}
 use Rattle.text.specs.Text.{bytes}
 use Rattle.railway.specs.declared.Leg.TheVariants.{Minus}
-use Rattle.railway.specs.declared.Joined.TheVariants.{With}
+use Rattle.railway.specs.Joined.{With}
 use Rattle.railway.specs.declared.Train.{Train}
 use Rattle.railway.specs.declared.Railway.{Railway}
 use Rattle.railway.specs.Ends.{end_at}
 use Rattle.railway.specs.Record.{joined_by, link_at, flag_at, closed_at, train_of, with_join, with_signal, with_closed, with_legs, with_train}
 use Rattle.railway.specs.Yards.{port, yard_a}
-use Rattle.case_file.specs.declared.Written.{Written}
+use Rattle.case_file.specs.Written.{Written}
 use Rattle.case_file.specs.Form.{Description}
 use Rattle.case_file.specs.Writing.{written_text, written_number, written_count, WriterPost}
 use Rattle.case_file.specs.YardTexts.{text_a}

@@ -13,11 +13,11 @@ use Rattle.railway.specs.declared.Refusal.{Refusal}
 use Rattle.railway.specs.declared.Refusal.TheVariants.{Space}
 use Rattle.railway.specs.declared.Railway.{Railway}
 use Rattle.railway.specs.Rows.{record_refusal}
-use Rattle.railway.specs.declared.CaseAnswer.{CaseAnswer}
-use Rattle.railway.specs.declared.CaseAnswer.TheVariants as tested
+use Rattle.railway.specs.CaseAnswer.{CaseAnswer}
+use Rattle.railway.specs.CaseAnswer as tested
 use Rattle.railway_acceptance.specs.Answers.{Judged}
 use Rattle.railway_acceptance.proofs.Answers.{judged-refused, judged-accepted}
-use Rattle.case_file.specs.declared.Written.TheVariants.{Bytes, Refused}
+use Rattle.case_file.specs.Written.{Bytes, Refused}
 use Rattle.case_file.specs.Rows.{most_bytes}
 use Rattle.case_file.specs.Writing.{written_text, writer_refusal, written, buffer_after, WriterPost}
 use Rattle.case_file.proofs.Call.{by-record, by-space, by-none, promised}

@@ -6,9 +6,9 @@ use Rattle.std.proofs.Math.Option.{none, some}
 use Rattle.railway.specs.declared.Railway.{Railway}
 use Rattle.railway.specs.Rows.{record_refusal}
 use Rattle.railway.specs.Same.{SameRailway}
-use Rattle.case_file.specs.declared.Written.{Written}
+use Rattle.case_file.specs.Written.{Written}
 use Rattle.case_file.specs.Rows.{most_bytes}
-use Rattle.case_file.specs.declared.CaseRead.{CaseRead}
+use Rattle.case_file.specs.CaseRead.{CaseRead}
 use Rattle.case_file.specs.Given.{accepted, AcceptedWith, ReaderPost}
 use Rattle.case_file.specs.Writing.{written_text, written_number, written_count, WriterPost}
 

@@ -2,16 +2,13 @@
 -- document 01 rests on it, and proofs/Pieces ties it to the writer's text. Assumes nothing.
 use Rattle.std.specs.Prelude.{Bool, cond, List, [], ◌∷◌, ℕ, suc, ltb}
 use Rattle.text.specs.Text.{byte, decimal, line}
-use Rattle.railway.specs.declared.Joined.{Joined}
-use Rattle.railway.specs.declared.Joined.TheVariants.{Nothing, With}
+use Rattle.railway.specs.Joined.{Joined, Nothing, With}
 use Rattle.railway.specs.declared.Railway.{Railway}
 use Rattle.railway.specs.Ends.{end_index, end_at}
 use Rattle.railway.specs.Record.{joined, has_signal, is_closed, legs_of, train_of}
 use Rattle.case_file.specs.Form.{end_field, point_line, join_line, closed_line, train_line}
 use Rattle.case_file.specs.Recording.{field_of}
 use Rattle.case_file.specs.Writing.{line_of_train}
-use Rattle.case_writer.specs.declared.Part.{Part}
-use Rattle.case_writer.specs.declared.Part.TheVariants.{Points, Joins, Signals, Closed, Trains}
 
 -- The first line.
 abbrev pub header_text : ℕ → ℕ → ℕ → List ℕ
@@ -30,10 +27,18 @@ signal_piece i stands = cond stands (line ((byte "G" ∷ []) ∷ end_field (fiel
 abbrev pub closed_piece : ℕ → Bool → List ℕ
 closed_piece x shut = cond shut (closed_line (suc x)) []
 
--- A piece of each part.
-abbrev pub piece_of : Railway → Part → ℕ → List ℕ
-piece_of r Points i = point_line (suc i) (legs_of r i)
-piece_of r Joins i = join_piece i (joined r (end_at i))
-piece_of r Signals i = signal_piece i (has_signal r (end_at i))
-piece_of r Closed x = closed_piece x (is_closed r x)
-piece_of r Trains i = train_line (suc i) (line_of_train (train_of r i))
+-- The pieces of each part, as a record has them.
+abbrev pub point_of : Railway → ℕ → List ℕ
+point_of r i = point_line (suc i) (legs_of r i)
+
+abbrev pub join_of : Railway → ℕ → List ℕ
+join_of r i = join_piece i (joined r (end_at i))
+
+abbrev pub signal_of : Railway → ℕ → List ℕ
+signal_of r i = signal_piece i (has_signal r (end_at i))
+
+abbrev pub closed_of : Railway → ℕ → List ℕ
+closed_of r x = closed_piece x (is_closed r x)
+
+abbrev pub train_at : Railway → ℕ → List ℕ
+train_at r i = train_line (suc i) (line_of_train (train_of r i))

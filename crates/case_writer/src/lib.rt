@@ -3,81 +3,51 @@
 #![tactic(auto)]
 
 ghost use Rattle.std.specs.Prelude.{◌≡◌, [], ◌∷◌, ◌++◌, suc};
-ghost use Rattle.laws.specs.Below.{gather_below};
 ghost use Rattle.text.specs.Text.{decimal, line};
 ghost use Rattle.text.specs.Appending.{Appended};
 ghost use Rattle.case_file.specs.Form.{side_byte, leg_byte, end_field, weight_field, point_line, train_line};
 ghost use Rattle.case_file.specs.Recording.{field_of};
 ghost use Rattle.case_file.specs.Writing.{written_weight, line_of_train, written_text, WriterPost};
-ghost use Rattle.case_writer.specs.Pieces.{header_text, join_piece, signal_piece, closed_piece, piece_of};
+ghost use Rattle.case_writer.specs.Pieces.{header_text, join_piece, signal_piece, closed_piece};
 
-use case_file::Written;
-use railway::{CaseAnswer, End, Joined, Leg, PointNo, Railway, Refusal, Side, Train};
+use railway::{End, Leg, PointNo, Railway, Refusal, Side, Train};
 use text::{LINE_END, TAB, append};
 
-// The parts of a case text behind its first line.
-#[derive(Clone, Copy)]
-enum Part {
-    Points,
-    Joins,
-    Signals,
-    Closed,
-    Trains,
-}
-
 // Any record, any buffer: the text's length, with the text in front of the buffer; or the first of the record's rows and row 9 that applies.
-pub fn write_case(r: Railway, buffer: &mut [u8]) -> Written
+pub fn write_case(r: Railway, buffer: &mut [u8]) -> Result<usize, Refusal>
     ensures { WriterPost r buffer.old result buffer.new }
 {
-    match railway_acceptance::test_record(r) {
-        CaseAnswer::Refused(f) => Written::Refused(f),
-        CaseAnswer::Accepted => {
-            let mut text: [u8; case_file::MOST_BYTES] = [0; case_file::MOST_BYTES];
-            let n = put_text(&mut text, r);
-            if buffer.len() < n {
-                return Written::Refused(Refusal::Space);
-            }
-            append::bytes(buffer, 0, &text[..n]);
-            Written::Bytes(n)
-        }
+    railway_acceptance::test_record(r)?;
+    let mut text: [u8; case_file::MOST_BYTES] = [0; case_file::MOST_BYTES];
+    let n = put_text(&mut text, r);
+    if buffer.len() < n {
+        return Err(Refusal::Space);
     }
+    append::bytes(buffer, 0, &text[..n]);
+    Ok(n)
 }
 
-// The whole text: its first line, and then part by part.
+// The whole text: its first line, and then part by part what stands for each point, end, section end, section and train.
 fn put_text(out: &mut [u8], r: Railway) -> usize
     ensures { Appended out.old 0 (written_text r) out.new result }
 {
-    let a = put_header(out, 0, r.sections, r.points, r.trains);
-    let b = put_part(out, a, r, Part::Points, r.points);
-    let c = put_part(out, b, r, Part::Joins, Railway::ENDS);
-    let d = put_part(out, c, r, Part::Signals, Railway::SECTION_ENDS);
-    let e = put_part(out, d, r, Part::Closed, Railway::SECTIONS);
-    put_part(out, e, r, Part::Trains, r.trains)
-}
-
-// A part: what stands for each of the first n points, ends, sections or trains.
-fn put_part(out: &mut [u8], at: usize, r: Railway, part: Part, n: u8) -> usize
-    ensures { Appended out.old at (gather_below (piece_of r part) n) out.new result }
-{
-    let mut next = at;
-    let mut i: u8 = 0;
-    while i < n {
-        next = put_piece(out, next, r, part, i);
-        i += 1;
+    let mut at = put_header(out, 0, r.sections, r.points, r.trains);
+    for p in 0..r.points {
+        at = put_point(out, at, p, r.legs_of(PointNo(p)));
     }
-    next
-}
-
-fn put_piece(out: &mut [u8], at: usize, r: Railway, part: Part, i: u8) -> usize
-    ensures { Appended out.old at (piece_of r part i) out.new result }
-{
-    match part {
-        Part::Points => put_point(out, at, i, r.legs_of(PointNo(i))),
-        Part::Joins => put_join(out, at, i, r.joined(railway::end_at(i))),
-        Part::Signals => put_signal(out, at, i, r.has_signal(railway::end_at(i))),
-        Part::Closed => put_closed(out, at, i, r.closed_at(i)),
-        Part::Trains => put_train(out, at, i, r.train_of(i)),
+    for e in 0..Railway::ENDS {
+        at = put_join(out, at, e, r.joined(railway::end_at(e)));
     }
+    for g in 0..Railway::SECTION_ENDS {
+        at = put_signal(out, at, g, r.has_signal(railway::end_at(g)));
+    }
+    for x in 0..Railway::SECTIONS {
+        at = put_closed(out, at, x, r.closed_at(x));
+    }
+    for t in 0..r.trains {
+        at = put_train(out, at, t, r.train_of(t));
+    }
+    at
 }
 
 // The H line.
@@ -100,20 +70,18 @@ fn put_point(out: &mut [u8], at: usize, i: u8, legs: Side) -> usize
 }
 
 // The J line that begins with an end, if the other end comes later.
-fn put_join(out: &mut [u8], at: usize, i: u8, j: Joined) -> usize
+fn put_join(out: &mut [u8], at: usize, i: u8, j: Option<End>) -> usize
     ensures { Appended out.old at (join_piece i j) out.new result }
 {
-    match j {
-        Joined::Nothing => at,
-        Joined::With(f) => {
-            if i < railway::index_of(f) {
-                let a = append::two(out, at, b'J', TAB);
-                let b = put_end(out, a, railway::end_at(i), TAB);
-                put_end(out, b, f, LINE_END)
-            } else {
-                at
-            }
-        }
+    let Some(f) = j else {
+        return at;
+    };
+    if i < railway::index_of(f) {
+        let a = append::two(out, at, b'J', TAB);
+        let b = put_end(out, a, railway::end_at(i), TAB);
+        put_end(out, b, f, LINE_END)
+    } else {
+        at
     }
 }
 
@@ -181,6 +149,7 @@ fn put_end(out: &mut [u8], at: usize, e: End, after: u8) -> usize
     }
 }
 
+// (By a function of this crate: a side has two bytes, its letter and its index, and `From` could give only one.)
 fn side_byte(s: Side) -> u8
     ensures { result ≡ side_byte s }
 {

@@ -11,7 +11,7 @@ use lib.Seq.{length-take-le, take-add, take_at}
 use borrow.Author.Tests.{ltb-true}
 use Rattle.laws.proofs.Bools.{clash, and-true}
 use Rattle.railway.specs.declared.Railway.{Railway}
-use Rattle.plan.specs.declared.TestAnswer.{TestAnswer}
+use Rattle.plan.specs.TestAnswer.{TestAnswer}
 use Rattle.plan.specs.Checker.{Checking}
 use Rattle.check_text.specs.Pieces.{PiecePost, EndPost, Coming, nothing_yet, one_more}
 use Rattle.check_text.proofs.Cut.{drop-take}

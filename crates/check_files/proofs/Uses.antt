@@ -7,8 +7,7 @@ use native.Mathlib.Omega.{arith}
 use lib.ListN.{take, replicate}
 use Rattle.text.specs.Text.{bytes}
 use Rattle.railway.specs.Refusals.{first}
-use Rattle.case_file.specs.declared.Written.{Written}
-use Rattle.case_file.specs.declared.Written.TheVariants.{Bytes}
+use Rattle.case_file.specs.Written.{Written, Bytes}
 use Rattle.answer_lines.specs.Lines.{PutPost}
 use Rattle.check_text.specs.Verdict.{CheckOutput}
 use Rattle.check_text.proofs.Uses.{writes-form}

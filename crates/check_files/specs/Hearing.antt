@@ -3,11 +3,11 @@
 -- refused line is read off the loop, which goes on only as `Turned` says (check_text/Pieces has what the pieces decide). Assumes nothing.
 use Rattle.std.specs.Prelude.{◌≡◌, Bool, not, ◌&&◌, List, ℕ, ◌+◌, ◌-◌, ◌≤◌, ltb, length, take, drop}
 use Rattle.railway.specs.declared.Railway.{Railway}
-use Rattle.railway.specs.declared.CaseAnswer.{CaseAnswer}
+use Rattle.railway.specs.CaseAnswer.{CaseAnswer}
 use Rattle.game_tables.specs.Lengths.{entries}
-use Rattle.plan.specs.declared.TestAnswer.{TestAnswer}
+use Rattle.plan.specs.TestAnswer.{TestAnswer}
 use Rattle.plan.specs.Promises.{FreshPost}
-use Rattle.case_file.specs.declared.Written.{Written}
+use Rattle.case_file.specs.Written.{Written}
 use Rattle.plan.specs.Checker.{Checking}
 use Rattle.answer_lines.specs.Lines.{most_answer_bytes, Puts}
 use Rattle.check_text.specs.Verdict.{PlanPost, CheckOutput}

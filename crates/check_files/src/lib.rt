@@ -8,11 +8,9 @@ ghost use Rattle.plan_checker.specs.Answers.{checking};
 ghost use Rattle.check_text.specs.Verdict.{PlanPost, CasePlanPost};
 ghost use Rattle.check_files.specs.Hearing.{HeardPost, HeardPlan, MoreRead, Turned};
 
-use case_file::Written;
 use check_text::ENTRIES;
-use plan::TestAnswer;
 use plan_checker::Checker;
-use railway::{CaseAnswer, Railway};
+use railway::{Railway, Refusal};
 use std::io::Read;
 
 // So many bytes of a plan are asked for at once at most. A longer one comes in several pieces though all of it is there, so that a run on a file goes
@@ -24,20 +22,20 @@ const PIECE: usize = 4096;
 pub struct Heard {
     pub case: usize,
     pub plan: usize,
-    pub line: Written,
+    pub line: Result<usize, Refusal>,
 }
 
 // What was answered, and how many bytes of the plan were read for it.
 #[derive(Clone, Copy)]
 struct Answered {
-    answer: TestAnswer,
+    answer: Result<(), Refusal>,
     bytes: usize,
 }
 
-// Where a check stands: so many bytes have come, and so many of them were taken; whether it goes on.
+// Where a check stands: so many bytes have come, and so many of them were taken; whether it goes on. Both numbers are read at the end too, so they stand
+// beside the flag.
 #[derive(Clone, Copy)]
 struct Stand {
-    checker: Checker,
     at: usize,
     have: usize,
     going: bool,
@@ -69,14 +67,12 @@ pub fn check_files<C: Read, P: Read>(
 fn answer_to<P: Read>(case: &[u8], file: &mut P, plan: &mut [u8]) -> Answered
     ensures { (result.bytes ≤ length plan.new) × CasePlanPost case.now (take result.bytes plan.new) result.answer }
 {
-    let read = case_reader::read_case(case);
-    let answer = read.answer;
-    match answer {
-        CaseAnswer::Refused(f) => Answered {
-            answer: TestAnswer::Refused(f),
+    match case_reader::read_case(case) {
+        Err(f) => Answered {
+            answer: Err(f),
             bytes: 0,
         },
-        CaseAnswer::Accepted => check_plan(read.railway, file, plan),
+        Ok(r) => check_plan(r, file, plan),
     }
 }
 
@@ -100,31 +96,26 @@ fn listen<P: Read>(
     requires { (length figures.old ≡ entries) × (length settings.old ≡ entries) }
     ensures { (result.bytes ≤ length plan.new) × PlanPost r (take result.bytes plan.new) result.answer }
 {
-    let fresh = Checker::fresh(r, figures, settings);
-    let made = fresh.answer;
-    let going = not_refused(made);
-    hear(fresh.checker, going, r, file, plan, figures, settings)
+    let (checker, made) = Checker::fresh(r, figures, settings);
+    hear(checker, made.is_ok(), r, file, plan, figures, settings)
 }
 
 // They, by a checker that no line has come to yet.
 fn hear<P: Read>(
-    start: Checker,
-    goes: bool,
+    mut checker: Checker,
+    mut going: bool,
     r: Railway,
     file: &mut P,
     plan: &mut [u8],
     figures: &mut [u32],
     settings: &mut [u32],
 ) -> Answered
-    ensures { HeardPlan r (checking start figures.old settings.old) plan.new result.bytes result.answer }
+    ensures { HeardPlan r (checking checker figures.old settings.old) plan.new result.bytes result.answer }
 {
-    let mut checker = start;
     let mut at: usize = 0;
     let mut have: usize = 0;
-    let mut going = goes;
     while going {
-        let stand = turn(checker, r, file, plan, at, have, figures, settings);
-        checker = stand.checker;
+        let stand = turn(&mut checker, r, file, plan, at, have, figures, settings);
         at = stand.at;
         have = stand.have;
         going = stand.going;
@@ -138,7 +129,7 @@ fn hear<P: Read>(
 
 // One piece, and the lines that have come with it. Where nothing comes the text is at its end, or the buffer is full.
 fn turn<P: Read>(
-    checker: Checker,
+    checker: &mut Checker,
     r: Railway,
     file: &mut P,
     plan: &mut [u8],
@@ -149,21 +140,17 @@ fn turn<P: Read>(
 ) -> Stand
     requires { (at ≤ have) × (have ≤ length plan.old) }
     ensures { Turned r plan.old at have
-        (checking checker figures.old settings.old) plan.new result.at result.have
-        result.going (checking result.checker figures.new settings.new) }
+        (checking checker.old figures.old settings.old) plan.new result.at result.have
+        result.going (checking checker.new figures.new settings.new) }
 {
     let n = read_more(file, plan, have);
     let end = have + n;
-    let gone = check_text::go_on(checker, r, &plan[at..end], figures, settings);
-    let next = gone.checker;
-    let taken = gone.bytes;
-    let stopped = gone.stopped;
-    let going = goes_on(n, stopped);
+    let gone = check_text::go_on(*checker, r, &plan[at..end], figures, settings);
+    *checker = gone.checker;
     Stand {
-        checker: next,
-        at: at + taken,
+        at: at + gone.bytes,
         have: end,
-        going: going,
+        going: goes_on(n, gone.stopped),
     }
 }
 
@@ -175,14 +162,6 @@ fn goes_on(n: usize, stopped: bool) -> bool
         return false;
     }
     0 < n
-}
-
-// The case is not refused.
-fn not_refused(made: CaseAnswer) -> bool {
-    match made {
-        CaseAnswer::Refused(_) => false,
-        CaseAnswer::Accepted => true,
-    }
 }
 
 // One read behind the bytes that are there, a piece at most: how many came.

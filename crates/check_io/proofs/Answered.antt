@@ -6,8 +6,7 @@ use Prim.Native.Nat.{ℕ, suc, ◌≤◌}
 use native.Mathlib.Omega.{arith}
 use lib.ListN.{length, take}
 use lib.Seq.{length-take-le}
-use Rattle.case_file.specs.declared.Written.{Written}
-use Rattle.case_file.specs.declared.Written.TheVariants.{Bytes, Refused}
+use Rattle.case_file.specs.Written.{Written, Bytes, Refused}
 use Rattle.case_file.specs.Rows.{most_bytes}
 use Rattle.case_file.specs.Writing.{written_count}
 use Rattle.answer_lines.specs.Lines.{most_answer_bytes}

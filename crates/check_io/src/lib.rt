@@ -10,7 +10,7 @@ ghost use Rattle.answer_lines.specs.Lines.{most_answer_bytes};
 ghost use Rattle.check_text.specs.Claims.{read_bytes};
 ghost use Rattle.check_io.specs.Answered.{Answered};
 
-use case_file::Written;
+use railway::Refusal;
 
 // One byte more than a case text may have: so many bytes decide what is answered (`CutDecides` in case_file/specs/Claims).
 const CASE: usize = case_file::MOST_BYTES + 1;
@@ -37,17 +37,13 @@ fn check_input(rt: &HostRuntime, case: &mut [u8], plan: &mut [u8], line: &mut [u
     let mut file = file_input::open(rt, "case.txt");
     let mut input = rt.stdin();
     let heard = check_files::check_files(&mut file, &mut input, case, plan, line);
-    let put = heard.line;
-    answer_output::front(line, put);
-    bytes_put(put)
+    answer_output::front(line, heard.line);
+    bytes_put(heard.line)
 }
 
 // How many bytes were put; none where they found no room.
-fn bytes_put(put: Written) -> usize
+fn bytes_put(put: Result<usize, Refusal>) -> usize
     ensures { result ≡ get_or (written_count put) 0 }
 {
-    match put {
-        Written::Bytes(n) => n,
-        Written::Refused(_) => 0,
-    }
+    put.unwrap_or(0)
 }

@@ -16,9 +16,8 @@ use Rattle.railway.specs.declared.Refusal.{Refusal}
 use Rattle.railway.specs.declared.Refusal.TheVariants.{PlanForm}
 use Rattle.game_tables.specs.Tables.{case_refusal}
 use Rattle.game_tables.proofs.Refusals.{case-none}
-use Rattle.plan.specs.declared.LineAnswer.{LineAnswer}
-use Rattle.plan.specs.declared.LineAnswer.TheVariants.{Taken, Refused as LineRefused}
-use Rattle.plan.specs.declared.TestAnswer.TheVariants.{Refused as TestRefused}
+use Rattle.plan.specs.LineAnswer.{LineAnswer, Taken, Refused as LineRefused}
+use Rattle.plan.specs.TestAnswer.{Refused as TestRefused}
 use Rattle.plan.specs.Checker.{Checking, take_line, test_plan}
 use Rattle.plan.specs.Several.{front_of}
 use Rattle.plan.proofs.Emitter.{none-refused}

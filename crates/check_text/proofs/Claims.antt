@@ -19,10 +19,8 @@ use Rattle.game.specs.Placement.{placements}
 use Rattle.game_tables.specs.Lengths.{entries}
 use Rattle.game_tables.specs.Tables.{no_figure, case_rows, case_refusal}
 use Rattle.game_tables.proofs.Refusals.{case-then, case-none}
-use Rattle.plan.specs.declared.LineAnswer.{LineAnswer}
-use Rattle.plan.specs.declared.LineAnswer.TheVariants.{Taken, Refused as LineRefused}
-use Rattle.plan.specs.declared.TestAnswer.{TestAnswer}
-use Rattle.plan.specs.declared.TestAnswer.TheVariants.{Pass, Refused as TestRefused}
+use Rattle.plan.specs.LineAnswer.{LineAnswer, Taken, Refused as LineRefused}
+use Rattle.plan.specs.TestAnswer.{TestAnswer, Pass, Refused as TestRefused}
 use Rattle.plan.specs.Lines.{PlacementLine}
 use Rattle.plan.specs.Checker.{test_number, Checking, take_line, nothing_taken, plan_fails, test_rows, test_plan, LineCalls, call_lines, is_taken, taken_texts}
 use Rattle.plan.specs.Checked.{Form, PlanWith, Checked, FreshTables, InForm}

@@ -25,10 +25,9 @@ use Rattle.game_tables.specs.Tables.{no_figure, case_refusal}
 use Rattle.game_tables.proofs.Refusals.{case-none}
 use Rattle.plan.specs.declared.CheckerState.{CheckerState}
 use Rattle.plan.specs.declared.CheckerState.TheVariants.{Fresh, Begun}
-use Rattle.plan.specs.declared.LineAnswer.{LineAnswer}
-use Rattle.plan.specs.declared.LineAnswer.TheVariants.{Taken, Refused as LineRefused}
-use Rattle.plan.specs.declared.FrontAnswer.TheVariants.{Took}
-use Rattle.plan.specs.declared.TestAnswer.TheVariants.{Refused as TestRefused}
+use Rattle.plan.specs.LineAnswer.{LineAnswer, Taken, Refused as LineRefused}
+use Rattle.plan.specs.FrontAnswer.{Took}
+use Rattle.plan.specs.TestAnswer.{Refused as TestRefused}
 use Rattle.plan.specs.Lines.{PlanLine, start_line, placement_line, most_line_bytes, Spells, line_code}
 use Rattle.plan.specs.Reading.{read_line}
 use Rattle.plan.specs.Checker.{Checking, Left, left, fresh_checking, enter, take_line}

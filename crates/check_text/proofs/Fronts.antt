@@ -20,8 +20,7 @@ use Rattle.game_tables.specs.Tables.{case_refusal}
 use Rattle.game_tables.proofs.Refusals.{case-none}
 use Rattle.plan.specs.declared.CheckerState.{CheckerState}
 use Rattle.plan.specs.declared.CheckerState.TheVariants.{Fresh, Begun}
-use Rattle.plan.specs.declared.LineAnswer.{LineAnswer}
-use Rattle.plan.specs.declared.LineAnswer.TheVariants.{Taken, Refused}
+use Rattle.plan.specs.LineAnswer.{LineAnswer, Taken, Refused}
 use Rattle.plan.specs.Lines.{PlanLine, line_fields, spell}
 use Rattle.plan.specs.Reading.{read_line}
 use Rattle.plan.specs.Checker.{Checking, Left, left, take_line, call_lines, is_taken}

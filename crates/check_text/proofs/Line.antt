@@ -2,8 +2,8 @@
 use mathlib.Core.Path.{refl}
 use mathlib.Core.List.{List}
 use Prim.Native.Nat.{ℕ}
-use Rattle.case_file.specs.declared.Written.{Written}
-use Rattle.plan.specs.declared.TestAnswer.{TestAnswer}
+use Rattle.case_file.specs.Written.{Written}
+use Rattle.plan.specs.TestAnswer.{TestAnswer}
 use Rattle.answer_lines.specs.Lines.{test_line, most_answer_bytes, PutPost, Puts}
 use Rattle.answer_lines.proofs.Puts.{test_short}
 use Rattle.check_text.specs.Verdict.{CasePlanPost, CheckOutput}

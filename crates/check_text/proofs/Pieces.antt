@@ -13,17 +13,15 @@ use lib.Seq.{take_all, drop-cons, drop-drop, drop-append-le}
 use Rattle.laws.specs.Lists.{any, all}
 use Rattle.laws.proofs.Bools.{lt?, clash, some-none}
 use Rattle.railway.specs.declared.Railway.{Railway}
-use Rattle.railway.specs.declared.CaseAnswer.{CaseAnswer}
+use Rattle.railway.specs.CaseAnswer.{CaseAnswer}
 use Rattle.railway.specs.declared.Refusal.{Refusal}
 use Rattle.railway.specs.declared.Refusal.TheVariants.{PlanForm, PlanFault}
 use Rattle.railway.specs.Refusals.{Row, row, first, number_of}
 use Rattle.game_tables.specs.Lengths.{entries}
 use Rattle.game_tables.specs.Tables.{no_figure, tables_short, case_refusal}
 use Rattle.game_tables.proofs.Refusals.{case-then, case-none}
-use Rattle.plan.specs.declared.FrontAnswer.{FrontAnswer}
-use Rattle.plan.specs.declared.FrontAnswer.TheVariants.{Took, Refused as FrontRefused}
-use Rattle.plan.specs.declared.TestAnswer.{TestAnswer}
-use Rattle.plan.specs.declared.TestAnswer.TheVariants.{Refused}
+use Rattle.plan.specs.FrontAnswer.{FrontAnswer, Took, Refused as FrontRefused}
+use Rattle.plan.specs.TestAnswer.{TestAnswer, Refused}
 use Rattle.plan.specs.Checker.{Checking, Left, test_number, freshened, nothing_taken, plan_fails, test_answer, test_plan, call_lines, is_taken}
 use Rattle.plan.specs.Several.{lines_of, Front, no_front, front_behind, front_of, front_leaves, take_front, FrontPost}
 use Rattle.plan.specs.Promises.{TestPost, FreshPost}

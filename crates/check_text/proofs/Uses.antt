@@ -13,7 +13,7 @@ use Rattle.laws.specs.Lists.{any, all, rises}
 use Rattle.laws.proofs.Bools.{clash, not-true, some-none}
 use Rattle.text.specs.Text.{digits, line, bytes}
 use Rattle.railway.specs.declared.Railway.{Railway}
-use Rattle.railway.specs.declared.CaseAnswer.{CaseAnswer}
+use Rattle.railway.specs.CaseAnswer.{CaseAnswer}
 use Rattle.railway.specs.declared.Refusal.TheVariants.{Form, Count, Space, PlanForm, PlanFault}
 use Rattle.railway.specs.Refusals.{first, number}
 use Rattle.railway.specs.Ends.{end_at}
@@ -29,10 +29,8 @@ use Rattle.game.specs.Placement.{code_of, sections_in, placements, start_code}
 use Rattle.game_tables.specs.Lengths.{entries}
 use Rattle.game_tables.specs.Tables.{no_figure, figure_in, case_refusal}
 use Rattle.game_tables.proofs.KnownYards.{figs_a, sets_a, yard_a-accepted, yard_a-filled}
-use Rattle.plan.specs.declared.TestAnswer.{TestAnswer}
-use Rattle.plan.specs.declared.TestAnswer.TheVariants.{Pass, Refused}
-use Rattle.plan.specs.declared.LineAnswer.{LineAnswer}
-use Rattle.plan.specs.declared.LineAnswer.TheVariants.{Refused as LineRefused}
+use Rattle.plan.specs.TestAnswer.{TestAnswer, Pass, Refused}
+use Rattle.plan.specs.LineAnswer.{LineAnswer, Refused as LineRefused}
 use Rattle.plan.specs.Lines.{PlanLine, start_line, spell, fits}
 use Rattle.plan.specs.Reading.{guess, read_line}
 use Rattle.plan.specs.Checker.{Checking, Left, take_line, call_lines, is_taken}

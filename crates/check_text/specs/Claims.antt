@@ -9,8 +9,7 @@ use Rattle.railway.specs.declared.Refusal.TheVariants.{PlanForm, PlanFault}
 use Rattle.railway.specs.Rows.{record_refusal}
 use Rattle.game.specs.Placement.{placements}
 use Rattle.game_tables.specs.Lengths.{entries}
-use Rattle.plan.specs.declared.TestAnswer.{TestAnswer}
-use Rattle.plan.specs.declared.TestAnswer.TheVariants.{Pass, Refused}
+use Rattle.plan.specs.TestAnswer.{TestAnswer, Pass, Refused}
 use Rattle.plan.specs.Lines.{most_line_bytes}
 use Rattle.plan.specs.Checked.{InForm, Passing, Failing}
 use Rattle.plan.specs.Several.{lines_of}

@@ -6,16 +6,14 @@ use Rattle.std.proofs.Math.Option.{Option, none, some}
 use Rattle.laws.specs.Lists.{any, all}
 use Rattle.text.specs.Text.{line_end}
 use Rattle.railway.specs.declared.Railway.{Railway}
-use Rattle.railway.specs.declared.CaseAnswer.{CaseAnswer}
+use Rattle.railway.specs.CaseAnswer.{CaseAnswer}
 use Rattle.railway.specs.declared.Refusal.{Refusal}
 use Rattle.railway.specs.declared.Refusal.TheVariants.{PlanForm, PlanFault}
 use Rattle.railway.specs.Refusals.{Row, row, first, number_of}
 use Rattle.game_tables.specs.Lengths.{entries}
 use Rattle.game_tables.specs.Tables.{case_rows, case_refusal}
-use Rattle.plan.specs.declared.FrontAnswer.{FrontAnswer}
-use Rattle.plan.specs.declared.FrontAnswer.TheVariants.{Took, Refused}
-use Rattle.plan.specs.declared.TestAnswer.{TestAnswer}
-use Rattle.plan.specs.declared.TestAnswer.TheVariants.{Refused as TestRefused}
+use Rattle.plan.specs.FrontAnswer.{FrontAnswer, Took, Refused}
+use Rattle.plan.specs.TestAnswer.{TestAnswer, Refused as TestRefused}
 use Rattle.plan.specs.Checker.{Checking, test_number, nothing_taken, plan_fails, test_answer, call_lines, is_taken}
 use Rattle.plan.specs.Several.{lines_of, take_front}
 use Rattle.plan.specs.Promises.{FreshPost}

@@ -11,10 +11,8 @@ use Rattle.case_reader.specs.Answers.{ByCase}
 use Rattle.answer_lines.specs.Lines.{test_line}
 use Rattle.game_tables.specs.Lengths.{entries}
 use Rattle.game_tables.specs.Tables.{case_rows, case_refusal}
-use Rattle.plan.specs.declared.LineAnswer.{LineAnswer}
-use Rattle.plan.specs.declared.LineAnswer.TheVariants.{Taken, Refused as LineRefused}
-use Rattle.plan.specs.declared.TestAnswer.{TestAnswer}
-use Rattle.plan.specs.declared.TestAnswer.TheVariants.{Refused as TestRefused}
+use Rattle.plan.specs.LineAnswer.{LineAnswer, Taken, Refused as LineRefused}
+use Rattle.plan.specs.TestAnswer.{TestAnswer, Refused as TestRefused}
 use Rattle.plan.specs.Several.{lines_of}
 use Rattle.plan.specs.Checker.{test_number, Checking, fresh_checking, take_line, nothing_taken, plan_fails, test_plan, LineCalls, call_lines, is_taken}
 

@@ -26,13 +26,12 @@ use Rattle.game.specs.Game.{IsFigure}
 use Rattle.game.specs.Placement.{placements, start_code}
 use Rattle.game.specs.Moves.{game_of}
 use Rattle.game.proofs.Figures.{figure-one, lost-unforced}
-use Rattle.game_tables.specs.declared.SolverAnswer.{SolverAnswer}
+use Rattle.game_tables.specs.SolverAnswer.{SolverAnswer}
 use Rattle.game_tables.specs.Tables.{no_figure, figure_in, case_refusal}
 use Rattle.game_tables.specs.Solver.{SolverTables, SolverPost, figure_given}
 use Rattle.game_tables.proofs.Refusals.{case-none}
-use Rattle.counts.specs.declared.CountAnswer.TheVariants.{Counted, Refused}
-use Rattle.counts.specs.declared.CountReply.{CountReply}
-use Rattle.counts.specs.Counts.{classes, in_class, count_of, table_short, count_refusal, reply_by, count_number, CountPost, Spread, CountClaims, CountsHold}
+use Rattle.counts.specs.CountAnswer.{Counted, Refused}
+use Rattle.counts.specs.Counts.{CountReply, classes, in_class, count_of, table_short, count_refusal, reply_by, count_number, CountPost, Spread, CountClaims, CountsHold}
 use Rattle.counts.proofs.Spreading.{count_same, number-one, spread-of}
 
 -- no row of a record has the number 9

@@ -20,16 +20,15 @@ use Rattle.game.specs.Game.{IsFigure}
 use Rattle.game.specs.Placement.{placements}
 use Rattle.game.specs.Moves.{game_of}
 use Rattle.game.proofs.Figures.{figure-one}
-use Rattle.game_tables.specs.declared.SolverAnswer.{SolverAnswer}
+use Rattle.game_tables.specs.SolverAnswer.{SolverAnswer}
 use Rattle.game_tables.specs.Tables.{no_figure, figure_in}
 use Rattle.game_tables.specs.Solver.{SolverPost}
 use Rattle.game_tables.proofs.Examples.{weighed, figs_w}
 use Rattle.game_tables.proofs.WeighedYards.{weighed-accepted, weighed-filled}
 use Rattle.game_tables.proofs.KnownYards.{figs_a, yard_a-accepted, yard_a-filled}
 use Rattle.game_tables.proofs.Solver.{Promised, promised}
-use Rattle.counts.specs.declared.CountAnswer.TheVariants.{Counted, Refused}
-use Rattle.counts.specs.declared.CountReply.{CountReply}
-use Rattle.counts.specs.Counts.{in_class, count_refusal, reply_by, count_number, CountPost, NumberOf, Spread, CountsHold}
+use Rattle.counts.specs.CountAnswer.{Counted, Refused}
+use Rattle.counts.specs.Counts.{CountReply, in_class, count_refusal, reply_by, count_number, CountPost, NumberOf, Spread, CountsHold}
 use Rattle.counts.proofs.Examples.{lost-ones}
 use Rattle.counts.proofs.Spreading.{number-each, number-greater, number-none}
 use Rattle.counts.proofs.Counts.{counts-hold}

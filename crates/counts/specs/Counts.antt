@@ -1,6 +1,6 @@
 -- HOW MANY STARTS ARE GOOD (document 02, Q-8): in which count a placement is, the counts of a figure table, what a call for them promises; and the statement that each is the number of
 -- placements with that figure, by whole plays where a solver filled the table, and that they add up. Assumes nothing.
-use Rattle.std.specs.Prelude.{◌≡◌, ◌↔◌, Bool, true, cond, List, [], ◌∷◌, ◌++◌, ℕ, ◌≤◌, ◌<◌, length, get_or, replicate, ltb, eqb}
+use Rattle.std.specs.Prelude.{◌≡◌, ◌↔◌, Bool, true, cond, List, [], ◌∷◌, ◌++◌, ℕ, ◌≤◌, ◌<◌, length, get_or, replicate, ltb, eqb, Result, Ok, Err}
 use Rattle.std.proofs.Math.Option.{Option, none, some}
 use Rattle.laws.specs.Below.{count_below, sum_below, list_below}
 use Rattle.railway.specs.declared.Railway.{Railway}
@@ -11,12 +11,10 @@ use Rattle.railway.specs.Rows.{record_rows, record_refusal}
 use Rattle.game.specs.Game.{IsFigure}
 use Rattle.game.specs.Placement.{placements, shared}
 use Rattle.game.specs.Moves.{game_of}
-use Rattle.game_tables.specs.declared.SolverAnswer.{SolverAnswer}
+use Rattle.game_tables.specs.SolverAnswer.{SolverAnswer}
 use Rattle.game_tables.specs.Tables.{no_figure, figure_in}
 use Rattle.game_tables.specs.Solver.{SolverPost}
-use Rattle.counts.specs.declared.CountAnswer.{CountAnswer}
-use Rattle.counts.specs.declared.CountAnswer.TheVariants.{Counted, Refused}
-use Rattle.counts.specs.declared.CountReply.{CountReply}
+use Rattle.counts.specs.CountAnswer.{CountAnswer, Counted, Refused}
 
 -- THE COUNTS. So many figures have a count of their own: 0 to 254.
 abbrev pub alone : ℕ
@@ -51,7 +49,17 @@ count_rows r figs = record_rows r ++ (row Space (table_short r figs) ∷ [])
 unfoldable pub count_refusal : Railway → List ℕ → Option Refusal
 count_refusal r figs = first (count_rows r figs)
 
--- THE REPLY, by what is refused: all counts beside the answer; or the refusal, with zeros.
+-- THE REPLY: an answer, and the counts.
+pub record CountReply : Type 0 where
+  pub answer : CountAnswer
+  pub counts : List ℕ
+
+-- With the counts; or a refusal, with zeros.
+abbrev pub reply_of : Result (List ℕ) Refusal → CountReply
+reply_of (Ok counts) = record { answer = Counted; counts = counts }
+reply_of (Err f) = record { answer = Refused f; counts = replicate classes 0 }
+
+-- By what is refused: all counts beside the answer; or the refusal, with zeros.
 abbrev pub reply_by : Railway → List ℕ → Option Refusal → CountReply
 reply_by r figs none = record { answer = Counted; counts = list_below (count_of r figs) classes }
 reply_by r figs (some f) = record { answer = Refused f; counts = replicate classes 0 }

@@ -1,34 +1,33 @@
 -- The counts of a figure table, entry after entry: each entry is in one count, to which 1 is added, and the others stay. No count is larger than the number of entries before. And what
 -- follows for the reply. Assumes nothing.
-use mathlib.Core.Path.{◌≡◌, sym, ◌∙◌, ap, subst}
+use mathlib.Core.Path.{◌≡◌, refl, sym, ◌∙◌, ap, subst}
 use mathlib.Core.Logic.{inl, inr}
 use mathlib.Core.Bool.{Bool, true, false, cond}
 use mathlib.Core.List.{List}
 use mathlib.Core.Option.{none, some}
-use Prim.Native.Nat.{ℕ, suc, ◌+◌, ◌≤◌, ◌<◌}
+use Prim.Native.Nat.{ℕ, suc, ◌+◌, ◌≤◌, ◌<◌, min}
 use native.Mathlib.Omega.{arith}
 use native.Mathlib.Numerals.{add-one}
 use lib.ListN.{length, get_or, set, replicate, length-set, length-replicate, get_or-replicate}
 use lib.Seq.{get_or-set_same, get_or-set_other, ext_get_or}
 use borrow.Author.Tests.{eq-eqb, ne_eqb, lt-ltb, le-ltb}
+use Rattle.std.specs.Prelude.{Ok, Err}
 use Rattle.laws.specs.Below.{count_below, list_below}
 use Rattle.laws.proofs.Bools.{eq?, lt?}
 use Rattle.laws.proofs.Below.{count-le, list_get, list_length}
 use Rattle.railway.specs.declared.Railway.{Railway}
 use Rattle.railway.specs.declared.Refusal.{Refusal}
 use Rattle.railway.specs.declared.Refusal.TheVariants.{Space}
-use Rattle.railway.specs.declared.CaseAnswer.{CaseAnswer}
-use Rattle.railway.specs.declared.CaseAnswer.TheVariants.{Refused}
+use Rattle.railway.specs.CaseAnswer.{Accepted, Refused}
 use Rattle.railway.specs.Rows.{record_refusal}
 use Rattle.railway_acceptance.specs.Answers.{Judged}
-use Rattle.railway_acceptance.proofs.Answers.{judged-refused}
+use Rattle.railway_acceptance.proofs.Answers.{judged-refused, judged-accepted}
 use Rattle.game.specs.Placement.{placements}
 use Rattle.game.proofs.Accepted.{facts}
 use Rattle.game_moves.specs.Steps.{stride_of}
 use Rattle.game_moves.proofs.Coding.{stride-is}
 use Rattle.game_tables.specs.Tables.{no_figure, figure_entry, figure_in}
-use Rattle.counts.specs.declared.CountAnswer.TheVariants.{Counted}
-use Rattle.counts.specs.Counts.{classes, class_of, in_class, count_of, count_refusal, reply_by, CountPost}
+use Rattle.counts.specs.Counts.{classes, class_of, in_class, count_of, reply_of, reply_by, CountPost}
 use Rattle.counts.proofs.Counts.{by-record, too_short, enough, reply-made}
 
 -- IN WHICH COUNT an entry is
@@ -37,11 +36,17 @@ module _ (x : ℕ) where
   class-none e = rw (eq-eqb x no_figure e)
 
   module _ (is : x ≡ no_figure → ⊥) where
-    pub class-alone : x < 255 → x ≡ class_of (figure_entry x)
+    class-alone : x < 255 → x ≡ class_of (figure_entry x)
     class-alone l = rw (ne_eqb x no_figure is, lt-ltb x 255 l)
 
-    pub class-greater : 255 ≤ x → 255 ≡ class_of (figure_entry x)
+    class-greater : 255 ≤ x → 255 ≡ class_of (figure_entry x)
     class-greater l = rw (ne_eqb x no_figure is, le-ltb x 255 l)
+
+    pub class-figure : min 255 x ≡ class_of (figure_entry x)
+    class-figure = elim (lt? x 255) [
+      | inl l ↦ (let e : min 255 x ≡ x = omega arith in e ∙ class-alone l)
+      | inr l ↦ (let e : min 255 x ≡ 255 = omega arith in e ∙ class-greater l)
+    ]
 
   pub class-there : (c : ℕ) → c ≡ class_of (figure_entry x) → c < classes
   class-there c e = elim (eq? x no_figure) [
@@ -105,21 +110,22 @@ module _ {figs : List ℕ} {n p : ℕ} {counts : List ℕ} (t : Tallied figs n p
       t.each i b ∙ ap (λ (k : ℕ). count_below (in_class figs i) k) e ∙ sym (list_get (λ i. count_below (in_class figs i) n) classes i 0 b))
 
 -- THE REPLY. The record is refused
-module _ (r : Railway) (figs : List ℕ) (t : CaseAnswer) (judged : Judged r t) where
-  pub record-due : (f : Refusal) → t ≡ Refused f → count_refusal r figs ≡ some f
-  record-due f e = by-record r figs f (judged-refused r judged e)
+pub record-refused : (r : Railway) (figs : List ℕ) (f : Refusal) → Judged r (Refused f) → CountPost r figs (reply_of (Err f))
+record-refused r figs f judged = reply-made r figs (some f) (by-record r figs f (judged-refused r judged {f = f} refl))
 
--- it is accepted: it has so many placements
-pub stride-placements : (r : Railway) → record_refusal r ≡ none → (n : ℕ) → n ≡ stride_of r.sections r.trains → n ≡ placements r
-stride-placements r acc n e = e ∙ stride-is r.sections r.trains (facts r acc).few-trains
+-- it is accepted, and has so many placements: the table is too short, or the counts are there
+module _ (r : Railway) (figs : List ℕ) (judged : Judged r Accepted) (n : ℕ) (power : n ≡ stride_of r.sections r.trains) where
+  acc : record_refusal r ≡ none
+  acc = judged-accepted r judged refl
 
-module _ (r : Railway) (figs : List ℕ) (acc : record_refusal r ≡ none) (n : ℕ) (is : n ≡ placements r) where
-  pub space-due : length figs < n → count_refusal r figs ≡ some Space
-  space-due l = too_short r figs acc (omega (arith, is))
+  is : n ≡ placements r
+  is = power ∙ stride-is r.sections r.trains (facts r acc).few-trains
 
-  -- the counts are there
-  pub all-counted : n ≤ length figs → (counts : List ℕ) → counts ≡ list_below (λ i. count_below (in_class figs i) n) classes → CountPost r figs (record { answer = Counted; counts = counts })
+  pub space-refused : length figs < n → CountPost r figs (reply_of (Err Space))
+  space-refused l = reply-made r figs (some Space) (too_short r figs acc (omega (arith, is)))
+
+  pub all-counted : n ≤ length figs → (counts : List ℕ) → counts ≡ list_below (λ i. count_below (in_class figs i) n) classes → CountPost r figs (reply_of (Ok counts))
   all-counted l counts e =
       let made : CountPost r figs (reply_by r figs none) = reply-made r figs none (enough r figs acc (omega (arith, is))) in
       let same : list_below (count_of r figs) classes ≡ counts = ap (λ (m : ℕ). list_below (λ i. count_below (in_class figs i) m) classes) (sym is) ∙ sym e in
-      subst (λ (xs : List ℕ). CountPost r figs (record { answer = Counted; counts = xs })) same made
+      subst (λ (xs : List ℕ). CountPost r figs (reply_of (Ok xs))) same made

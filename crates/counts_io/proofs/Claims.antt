@@ -27,9 +27,8 @@ use Rattle.case_file.proofs.Again.{accepted-again}
 use Rattle.case_file.proofs.Given.{accepted-exactly}
 use Rattle.answer_lines.specs.Lines.{refusal_line}
 use Rattle.search_progress.specs.Telling.{bears}
-use Rattle.counts.specs.declared.CountAnswer.TheVariants.{Counted}
-use Rattle.counts.specs.declared.CountReply.{CountReply}
-use Rattle.counts.specs.Counts.{reply_by, NumberOf, Spread}
+use Rattle.counts.specs.CountAnswer.{Counted}
+use Rattle.counts.specs.Counts.{CountReply, reply_by, NumberOf, Spread}
 use Rattle.counts.proofs.Counts.{too_short, counts-hold}
 use Rattle.counts_io.specs.Shown.{ToldCounts, Told, blank, RailwayShown}
 use Rattle.counts_io.specs.Claims.{has, CountsOfPlays, ShowsPlays}

@@ -10,16 +10,16 @@ use Rattle.text.specs.Appending.{Appended}
 use Rattle.text.proofs.Appending.{front_fits, front-text}
 use Rattle.railway.specs.declared.Railway.{Railway}
 use Rattle.railway.specs.declared.Refusal.{Refusal}
-use Rattle.railway.specs.declared.CaseAnswer.TheVariants as case
+use Rattle.railway.specs.CaseAnswer as case
 use Rattle.railway.specs.Rows.{record_refusal}
-use Rattle.case_file.specs.declared.CaseRead.{CaseRead}
-use Rattle.case_file.specs.declared.Written.{Written}
-use Rattle.case_file.specs.declared.Written.TheVariants as written
+use Rattle.case_file.specs.CaseRead.{CaseRead}
+use Rattle.case_file.specs.Written.{Written}
+use Rattle.case_file.specs.Written as written
 use Rattle.case_file.specs.Given.{ReaderPost}
 use Rattle.case_file.proofs.Cut.{cut-decides}
 use Rattle.case_file.proofs.Given.{refused-exactly, accepted-exactly}
 use Rattle.case_reader.proofs.Answers.{by-refused, by-accepted}
-use Rattle.game_tables.specs.declared.SolverAnswer.{SolverAnswer}
+use Rattle.game_tables.specs.SolverAnswer.{SolverAnswer}
 use Rattle.game_tables.specs.Solver.{SolverPost}
 use Rattle.game_moves.specs.Steps.{stride_of}
 use Rattle.answer_lines.specs.Lines.{refusal_line, most_answer_bytes, PutPost, Puts, FrontIs}
@@ -27,12 +27,12 @@ use Rattle.answer_lines.proofs.Lines.{refusal-short}
 use Rattle.answer_lines.proofs.Puts.{puts_whole, puts-never}
 use Rattle.search_progress.specs.declared.Progress.{Progress}
 use Rattle.search_progress.specs.Telling.{Tells}
-use Rattle.counts.specs.declared.CountAnswer.{CountAnswer}
-use Rattle.counts.specs.declared.CountAnswer.TheVariants.{Counted, Refused}
-use Rattle.counts.specs.declared.CountReply.{CountReply}
-use Rattle.counts.specs.Counts.{CountPost}
+use Rattle.counts.specs.CountAnswer.{CountAnswer, Counted, Refused}
+use Rattle.counts.specs.Counts.{CountReply, CountPost}
 use Rattle.counts.proofs.Counts.{claims}
-use Rattle.counts_call.proofs.Tallying.{stride-placements}
+use Rattle.game_moves.proofs.Coding.{stride-is}
+use Rattle.game.specs.Placement.{placements}
+use Rattle.game.proofs.Accepted.{facts}
 use Rattle.counts_text.specs.Chart.{counts_text, chart_bytes}
 use Rattle.counts_text.proofs.Chart.{counts-short}
 use Rattle.counts_io.specs.Shown.{ToldCounts, Told, blank, RailwayShown, CaseShown, CutShows}
@@ -40,6 +40,10 @@ use Rattle.counts_io.specs.Shown.{ToldCounts, Told, blank, RailwayShown, CaseSho
 -- the same text, for something else
 front-map : {P Q : List ℕ → Type 0} {n : ℕ} {buffer : List ℕ} → ((text : List ℕ) → P text → Q text) → FrontIs P n buffer → FrontIs Q n buffer
 front-map {P} {Q} {n} {buffer} f h = record { within = h.within; output = f (take n buffer) h.output }
+
+-- an accepted record has so many placements
+stride-placements : (r : Railway) → record_refusal r ≡ none → (n : ℕ) → n ≡ stride_of r.sections r.trains → n ≡ placements r
+stride-placements r acc n e = e ∙ stride-is r.sections r.trains (facts r acc).few-trains
 
 -- A REFUSAL'S LINE has room
 module _ (f : Refusal) {old new : List ℕ} {w : Written} (p : PutPost (refusal_line f) old w new) where

@@ -36,9 +36,8 @@ use Rattle.game_tables.proofs.KnownYards.{figs_a, sets_a, yard_a-accepted, yard_
 use Rattle.game_tables.proofs.Unique.{figs-one}
 use Rattle.search_progress.specs.declared.Progress.{Progress}
 use Rattle.search_progress.specs.Telling.{bears}
-use Rattle.counts.specs.declared.CountAnswer.TheVariants.{Counted}
-use Rattle.counts.specs.declared.CountReply.{CountReply}
-use Rattle.counts.specs.Counts.{classes, in_class, count_of, reply_by, NumberOf, Spread}
+use Rattle.counts.specs.CountAnswer.{Counted}
+use Rattle.counts.specs.Counts.{CountReply, classes, in_class, count_of, reply_by, NumberOf, Spread}
 use Rattle.counts.proofs.Spreading.{count_same, number-one}
 use Rattle.counts.proofs.Counts.{enough, reply-made, claims}
 use Rattle.counts.proofs.Uses.{known-none}

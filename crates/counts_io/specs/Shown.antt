@@ -5,17 +5,15 @@ use Rattle.railway.specs.declared.Railway.{Railway}
 use Rattle.case_file.specs.Rows.{most_bytes}
 use Rattle.case_reader.specs.Answers.{ByCase}
 use Rattle.game.specs.Placement.{placements}
-use Rattle.game_tables.specs.declared.SolverAnswer.{SolverAnswer}
+use Rattle.game_tables.specs.SolverAnswer.{SolverAnswer}
 use Rattle.game_tables.specs.Lengths.{entries}
 use Rattle.game_tables.specs.Solver.{SolverPost}
 use Rattle.answer_lines.specs.Lines.{refusal_line}
 use Rattle.answer_lines.specs.Input.{WrittenFor}
 use Rattle.search_progress.specs.declared.Progress.{Progress}
 use Rattle.search_progress.specs.Telling.{Tells}
-use Rattle.counts.specs.declared.CountAnswer.{CountAnswer}
-use Rattle.counts.specs.declared.CountAnswer.TheVariants.{Counted, Refused}
-use Rattle.counts.specs.declared.CountReply.{CountReply}
-use Rattle.counts.specs.Counts.{CountPost}
+use Rattle.counts.specs.CountAnswer.{CountAnswer, Counted, Refused}
+use Rattle.counts.specs.Counts.{CountReply, CountPost}
 use Rattle.counts_text.specs.Chart.{counts_text}
 
 -- The counts told, of n placements with the figures of a table: how many have a figure, and the largest, are those of the table.

@@ -8,10 +8,8 @@ ghost use Rattle.answer_lines.specs.Lines.{refusal_line, FrontIs};
 ghost use Rattle.counts_text.specs.Chart.{chart_bytes};
 ghost use Rattle.counts_io.specs.Shown.{ToldCounts, RailwayShown, CaseShown, Shown};
 
-use case_file::Written;
-use counts::CountAnswer;
 use game_tables::ENTRIES;
-use railway::{CaseAnswer, Railway, Refusal};
+use railway::{Railway, Refusal};
 
 // The descriptor of standard input.
 const STDIN_FILENO: i32 = 0;
@@ -48,11 +46,9 @@ fn case_text(case: &[u8], text: &mut [u8]) -> usize
     requires { chart_bytes ≤ length text.old }
     ensures { FrontIs (CaseShown case.now) result text.new }
 {
-    let read = case_reader::read_case(case);
-    let answer = read.answer;
-    match answer {
-        CaseAnswer::Refused(f) => refused_text(f, text),
-        CaseAnswer::Accepted => railway_text(read.railway, text),
+    match case_reader::read_case(case) {
+        Err(f) => refused_text(f, text),
+        Ok(r) => railway_text(r, text),
     }
 }
 
@@ -63,13 +59,10 @@ fn railway_text(r: Railway, text: &mut [u8]) -> usize
 {
     let mut figures = [0u32; ENTRIES];
     let mut settings = [0u32; ENTRIES];
-    solver::solve(r, &mut figures, &mut settings);
-    let reply = counts_call::count_figures(r, &figures);
-    let answer = reply.answer;
-    let counts = reply.counts;
-    match answer {
-        CountAnswer::Refused(f) => refused_text(f, text),
-        CountAnswer::Counted => counted_text(
+    let _ = solver::solve(r, &mut figures, &mut settings);
+    match counts_call::count_figures(r, &figures) {
+        Err(f) => refused_text(f, text),
+        Ok(counts) => counted_text(
             game_moves::power(r.sections, r.trains),
             &figures,
             &counts,
@@ -93,7 +86,7 @@ fn refused_text(f: Refusal, text: &mut [u8]) -> usize
     ensures { FrontIs (λ t. t ≡ refusal_line f) result text.new }
 {
     match answer_lines::refusal_line(f, text) {
-        Written::Bytes(n) => n,
-        Written::Refused(_) => 0,
+        Ok(n) => n,
+        Err(_) => 0,
     }
 }

@@ -11,6 +11,8 @@ use native.Mathlib.Numerals.{add-one}
 use lib.ListN.{length, get_or, length-append}
 use lib.Dec.{eqb, ltb}
 use borrow.Author.Tests.{eq-eqb, ne_eqb, lt-ltb, le-ltb, ltb-true}
+use Rattle.std.specs.Prelude.{Result, Ok, Err}
+use Rattle.std.specs.Result.{OkIff, result_unwrap_or}
 use Rattle.laws.specs.Below.{sum_below, gather_below}
 use Rattle.laws.proofs.Bools.{bool?, lt?}
 use Rattle.text.specs.Text.{decimal, tab, line_end, line, bytes}
@@ -92,15 +94,20 @@ sum-next counts first j sum x s e l =
     let z : j + 1 ≡ suc j = add-one j in
     record { is = rw z (omega (arith, s.is, e)); most = omega (arith, s.most) }
 
-module _ (counts : List ℕ) (s first j sum : ℕ) (done : Summed counts first j sum) (up : j ≤ s + 1) (past : s < j) where
+module _ (counts : List ℕ) (s first j sum : ℕ) (done : Summed counts first j sum) (up : j ≤ s + 1) (past : s + 1 ≤ j) where
   all-summed : sum ≡ sum_below (λ i. get_or counts (first + i) 0) (s + 1)
   all-summed = done.is ∙ ap (λ (k : ℕ). sum_below (λ i. get_or counts (first + i) 0) k) (omega arith)
 
-  pub sum-small : sum < 4294967296 → sum ≡ together counts s first
+  sum-small : sum < 4294967296 → sum ≡ together counts s first
   sum-small l = let e : ltb sum 4294967296 ≡ true = lt-ltb sum 4294967296 l in sym (rw (← all-summed, e)) ∙ refl
 
-  pub sum-large : 4294967296 ≤ sum → 4294967295 ≡ together counts s first
+  sum-large : 4294967296 ≤ sum → 4294967295 ≡ together counts s first
   sum-large l = let e : ltb sum 4294967296 ≡ false = le-ltb sum 4294967296 l in rw (← all-summed, e)
+
+  -- or the most that a count can say
+  pub sum-cut : {E : Type 0} (r : Result ℕ E) → OkIff r (sum < 4294967296) sum → result_unwrap_or r 4294967295 ≡ together counts s first
+  sum-cut (Ok x) (l, e) = e ∙ sum-small l
+  sum-cut (Err d) over = elim (lt? sum 4294967296) [ inl l ↦ absurd (over l) | inr l ↦ sum-large l ]
 
 -- HOW MANY FIGURES stand in a row
 pub span_small : (largest : ℕ) → largest < 255 → largest / 17 ≡ span largest

@@ -54,10 +54,8 @@ fn put_rows(out: &mut [u8], at: usize, h: u32, s: u8, counts: &[u32]) -> usize
     ensures { Appended out.old at (gather_below (figure_row h s counts.now) rows) out.new result }
 {
     let mut next = at;
-    let mut b: u8 = 0;
-    while b < ROWS {
+    for b in 0..ROWS {
         next = put_row(out, next, h, s, b as u32 * (s as u32 + 1), counts);
-        b += 1;
     }
     next
 }
@@ -113,16 +111,10 @@ fn together(counts: &[u32], s: u8, first: u32) -> u32
     ensures { result ≡ together counts.now s first }
 {
     let mut sum: u64 = 0;
-    let mut j: u32 = 0;
-    while j <= s as u32 {
+    for j in 0..s as u32 + 1 {
         sum += game_tables::entry_at(counts, first + j, 0) as u64;
-        j += 1;
     }
-    if sum < 4294967296 {
-        sum as u32
-    } else {
-        4294967295
-    }
+    u32::try_from(sum).unwrap_or(u32::MAX)
 }
 
 // How many figures stand in a row behind its first, by the largest.
@@ -139,10 +131,8 @@ fn put_marks(out: &mut [u8], at: usize, n: u64) -> usize
     ensures { Appended out.old at (bar n) out.new result }
 {
     let mut next = at;
-    let mut i: u64 = 0;
-    while i < n {
+    for _i in 0..n {
         next = append::byte(out, next, b'#');
-        i += 1;
     }
     next
 }

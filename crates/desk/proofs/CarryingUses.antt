@@ -12,8 +12,8 @@ use Rattle.railway.specs.Record.{train_of, with_join, with_signal, with_legs, wi
 use Rattle.game.specs.Placement.{sections_in, stands_on, at_home}
 use Rattle.game_tables.proofs.Examples.{weighed, figs_w, sets_w}
 use Rattle.game_placement.specs.ByValue.{section_in}
-use Rattle.desk.specs.declared.OpenAnswer.TheVariants.{Opened}
-use Rattle.desk.specs.declared.SettingAnswer.{SettingAnswer}
+use Rattle.desk.specs.OpenAnswer.{Opened}
+use Rattle.desk.specs.SettingAnswer.{SettingAnswer}
 use Rattle.desk.specs.Desk.{Desk, desk_code, arrivals, desk_row, Opening, Reply, number_setting, number_reported, OpenPost, SettingPost, ReportPost}
 use Rattle.desk.specs.Following.{Reporting, Carries, AfterReports, AnyDesk}
 use Rattle.desk.proofs.Uses.{yard, home-on-three, long-enough, stand-apart}

@@ -26,15 +26,13 @@ use Rattle.game.specs.Placement.{placements, start_code, stands_on, arrived}
 use Rattle.game.specs.Moves.{game_of}
 use Rattle.game.proofs.Accepted.{facts}
 use Rattle.game.proofs.Figures.{figure-one}
-use Rattle.game_tables.specs.declared.SolverAnswer.{SolverAnswer}
+use Rattle.game_tables.specs.SolverAnswer.{SolverAnswer}
 use Rattle.game_tables.specs.Tables.{figure_in, tables_short, case_rows, case_refusal, Filled}
 use Rattle.game_tables.specs.Solver.{figure_given, SolverTables, SolverPost}
 use Rattle.game_tables.proofs.Refusals.{Enough, case-none}
-use Rattle.desk.specs.declared.OpenAnswer.{OpenAnswer}
-use Rattle.desk.specs.declared.OpenAnswer.TheVariants.{Opened}
-use Rattle.desk.specs.declared.ReportAnswer.{ReportAnswer}
-use Rattle.desk.specs.declared.ReportAnswer.TheVariants.{Counted, Refused as ReportRefused}
-use Rattle.desk.specs.declared.ChangeAnswer.TheVariants.{Changed, Refused}
+use Rattle.desk.specs.OpenAnswer.{OpenAnswer, Opened}
+use Rattle.desk.specs.ReportAnswer.{ReportAnswer, Counted, Refused as ReportRefused}
+use Rattle.desk.specs.ChangeAnswer.{Changed, Refused}
 use Rattle.desk.specs.Desk.{Desk, desk_code, arrivals, desk_row, desk_on, start_desk, no_desk, Opening, open_by, open_desk, desk_given, OpenPost, Reply, ReportPost}
 use Rattle.desk.specs.Following.{Reporting, begun, call, refused, AfterReports, Followable, Apart}
 use Rattle.desk.specs.Change.{mismatch, stranded, change_rows, sooner, Changing, change_by, change_to, ChangePost}

@@ -24,9 +24,8 @@ use Rattle.game_tables.specs.Entries.{setting_at}
 use Rattle.game_tables.specs.Tables.{no_figure, tables_short}
 use Rattle.game_tables.proofs.Examples.{weighed}
 use Rattle.game_tables.proofs.KnownYards.{figs_a, sets_a}
-use Rattle.desk.specs.declared.ReportAnswer.TheVariants.{Counted}
-use Rattle.desk.specs.declared.ChangeAnswer.{ChangeAnswer}
-use Rattle.desk.specs.declared.ChangeAnswer.TheVariants.{Changed, Refused}
+use Rattle.desk.specs.ReportAnswer.{Counted}
+use Rattle.desk.specs.ChangeAnswer.{ChangeAnswer, Changed, Refused}
 use Rattle.desk.specs.Desk.{Desk, misplaced, arrivals, miscarries, allows, report_row, report}
 use Rattle.desk.specs.Change.{mismatch, stranded, sooner, Changing, change_to}
 use Rattle.desk.proofs.Examples.{on_in, on, others}

@@ -10,11 +10,11 @@ use Rattle.railway.specs.declared.Refusal.{Refusal}
 use Rattle.railway.specs.Refusals.{number, number_given}
 use Rattle.railway.specs.Rows.{record_refusal}
 use Rattle.railway.proofs.Refusals.{number-one}
-use Rattle.case_file.specs.declared.CaseRead.{CaseRead}
+use Rattle.case_file.specs.CaseRead.{CaseRead}
 use Rattle.case_file.specs.Given.{accepted, refused, RefusedWith, AcceptedWith}
 use Rattle.case_file.specs.Reading.{case_answer}
 use Rattle.case_file.proofs.Given.{accepted-one, refused-exactly, accepted-exactly, always-answered}
-use Rattle.desk.specs.declared.ChangeAnswer.TheVariants.{Refused}
+use Rattle.desk.specs.ChangeAnswer.{Refused}
 use Rattle.desk.specs.Desk.{Desk}
 use Rattle.desk.specs.Change.{sooner, Changing, change_to, ChangePost}
 

@@ -21,7 +21,7 @@ use Rattle.game.specs.Placement.{code_of, sections_in, stands_on, names_none, pl
 use Rattle.game_tables.specs.Tables.{figure_in}
 use Rattle.game_tables.proofs.Examples.{weighed}
 use Rattle.game_tables.proofs.WeighedYards.{weighed-accepted}
-use Rattle.desk.specs.declared.ChangeAnswer.TheVariants.{Changed, Refused}
+use Rattle.desk.specs.ChangeAnswer.{Changed, Refused}
 use Rattle.desk.specs.Desk.{Desk, desk_code, misplaced, desk_row}
 use Rattle.desk.specs.Change.{Changing, number_changed, ChangePost, SameShape, SameBound, ChangeHolds}
 use Rattle.desk.proofs.Examples.{on}

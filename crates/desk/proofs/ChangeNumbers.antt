@@ -21,7 +21,7 @@ use Rattle.railway.proofs.Refusals.{first-append, first-is}
 use Rattle.case_file.specs.Given.{case_table, AcceptedWith}
 use Rattle.game.specs.Placement.{placements}
 use Rattle.game_tables.specs.Tables.{figure_in, tables_short}
-use Rattle.desk.specs.declared.ChangeAnswer.TheVariants.{Refused}
+use Rattle.desk.specs.ChangeAnswer.{Refused}
 use Rattle.desk.specs.Desk.{Desk, desk_code, desk_row}
 use Rattle.desk.specs.Change.{mismatch, is_none, stranded, change_rows, sooner, Changing, change_by, change_to, number_changed, ChangePost, SameShape, BothAccepted, Fitting, Furnished}
 use Rattle.desk.proofs.Sooner.{first-in, in_table, sooner-first}

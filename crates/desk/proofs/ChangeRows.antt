@@ -25,8 +25,7 @@ use Rattle.case_file.proofs.Again.{accepted-again}
 use Rattle.game_tables.specs.Tables.{figure_in, tables_short}
 use Rattle.game_tables.proofs.Refusals.{Enough, case-none, case-accepted}
 use Rattle.game_placement.specs.declared.Placement.{Placement}
-use Rattle.desk.specs.declared.ChangeAnswer.{ChangeAnswer}
-use Rattle.desk.specs.declared.ChangeAnswer.TheVariants.{Changed, Refused}
+use Rattle.desk.specs.ChangeAnswer.{ChangeAnswer, Changed, Refused}
 use Rattle.desk.specs.Desk.{Desk, desk_code, desk_row, desk_on}
 use Rattle.desk.specs.Following.{Carries, Apart}
 use Rattle.desk.specs.Change.{heads_other, mismatch, is_none, stranded, change_rows, Changing, change_by, change_to, number_changed, ChangePost, SameShape, CanChange}

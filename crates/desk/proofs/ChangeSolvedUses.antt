@@ -17,14 +17,14 @@ use Rattle.game.specs.Game.{IsFigure}
 use Rattle.game.specs.Placement.{code_of, placements}
 use Rattle.game.specs.Moves.{game_of}
 use Rattle.game.proofs.Figures.{figure-one}
-use Rattle.game_tables.specs.declared.SolverAnswer.{SolverAnswer}
+use Rattle.game_tables.specs.SolverAnswer.{SolverAnswer}
 use Rattle.game_tables.specs.Tables.{figure_in, Filled}
 use Rattle.game_tables.specs.Solver.{SolverPost}
 use Rattle.game_tables.proofs.Examples.{weighed}
 use Rattle.game_tables.proofs.Certify.{certify}
 use Rattle.game_tables.proofs.KnownYards.{figs_a, sets_a}
 use Rattle.game_tables.proofs.WeighedYards.{weighed-accepted}
-use Rattle.desk.specs.declared.ChangeAnswer.TheVariants.{Changed, Refused}
+use Rattle.desk.specs.ChangeAnswer.{Changed, Refused}
 use Rattle.desk.specs.Desk.{Desk, desk_code}
 use Rattle.desk.specs.Change.{Changing, number_changed, ChangePost, working_on, beginning_with, Works, ChangeSolved, ChangeHolds}
 use Rattle.desk.proofs.Examples.{on}

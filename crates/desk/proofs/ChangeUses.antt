@@ -45,10 +45,9 @@ use Rattle.game_tables.proofs.Examples.{weighed, figs_w, sets_w}
 use Rattle.game_tables.proofs.Certify.{certified, certify}
 use Rattle.game_tables.proofs.KnownYards.{figs_a, sets_a}
 use Rattle.game_tables.proofs.WeighedYards.{weighed-accepted, weighed-filled}
-use Rattle.desk.specs.declared.OpenAnswer.TheVariants.{Opened}
-use Rattle.desk.specs.declared.ReportAnswer.{ReportAnswer}
-use Rattle.desk.specs.declared.ReportAnswer.TheVariants.{Counted, Refused as ReportRefused}
-use Rattle.desk.specs.declared.ChangeAnswer.TheVariants.{Changed, Refused}
+use Rattle.desk.specs.OpenAnswer.{Opened}
+use Rattle.desk.specs.ReportAnswer.{ReportAnswer, Counted, Refused as ReportRefused}
+use Rattle.desk.specs.ChangeAnswer.{Changed, Refused}
 use Rattle.desk.specs.Desk.{Desk, desk_code, misplaced, arrivals, miscarries, desk_row, allows, report_row, Reply, report, Opening, OpenPost, ReportPost}
 use Rattle.desk.specs.Following.{moved_by, total, Followable}
 use Rattle.desk.specs.Change.{mismatch, stranded, change_rows, Changing, change_to, number_changed, ChangePost}

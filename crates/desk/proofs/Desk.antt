@@ -35,11 +35,9 @@ use Rattle.game.proofs.Local.{may-train}
 use Rattle.game_tables.specs.Tables.{figure_in, case_rows, case_refusal}
 use Rattle.game_tables.proofs.Refusals.{case-none, case-then}
 use Rattle.game_placement.specs.ByValue.{section_in}
-use Rattle.desk.specs.declared.OpenAnswer.{OpenAnswer}
-use Rattle.desk.specs.declared.OpenAnswer.TheVariants.{Opened}
-use Rattle.desk.specs.declared.SettingAnswer.TheVariants.{Given, Refused as SettingRefused}
-use Rattle.desk.specs.declared.ReportAnswer.{ReportAnswer}
-use Rattle.desk.specs.declared.ReportAnswer.TheVariants.{Counted, Refused}
+use Rattle.desk.specs.OpenAnswer.{OpenAnswer, Opened}
+use Rattle.desk.specs.SettingAnswer.{Given, Refused as SettingRefused}
+use Rattle.desk.specs.ReportAnswer.{ReportAnswer, Counted, Refused}
 use Rattle.desk.specs.Desk.{Desk, desk_code, misplaced, desk_row, start_desk, no_desk, Opening, open_by, open_desk}
 use Rattle.desk.specs.Desk.{setting_by, give_setting, present, comes_to, allows, report_row, report_rows, moved_desk}
 use Rattle.desk.specs.Desk.{Reply, report_by, report, desk_given, OpenPost, ReportPost}

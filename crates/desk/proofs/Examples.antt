@@ -24,11 +24,9 @@ use Rattle.game.proofs.Examples.{shut_line}
 use Rattle.game_tables.specs.Entries.{setting_at}
 use Rattle.game_tables.specs.Tables.{no_figure, tables_short}
 use Rattle.game_tables.proofs.Examples.{weighed, figs_w, sets_w}
-use Rattle.desk.specs.declared.OpenAnswer.{OpenAnswer}
-use Rattle.desk.specs.declared.OpenAnswer.TheVariants.{Opened, NoFigure, Refused as OpenRefused}
-use Rattle.desk.specs.declared.SettingAnswer.TheVariants.{Given, Refused as SettingRefused}
-use Rattle.desk.specs.declared.ReportAnswer.{ReportAnswer}
-use Rattle.desk.specs.declared.ReportAnswer.TheVariants.{Counted, Refused}
+use Rattle.desk.specs.OpenAnswer.{OpenAnswer, Opened, NoFigure, Refused as OpenRefused}
+use Rattle.desk.specs.SettingAnswer.{Given, Refused as SettingRefused}
+use Rattle.desk.specs.ReportAnswer.{ReportAnswer, Counted, Refused}
 use Rattle.desk.specs.Desk.{Desk, desk_code, misplaced, arrivals, miscarries, desk_row, desk_on, no_desk, Opening, open_desk, give_setting, allows, report_row, Reply, report}
 
 -- A desk, by the document's numbers of the sections of two trains, which carries what is right; the other two places are not looked at.

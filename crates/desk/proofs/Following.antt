@@ -31,9 +31,8 @@ use Rattle.game_tables.specs.Solver.{figure_given, SolverTables}
 use Rattle.game_tables.proofs.Refusals.{case-none}
 use Rattle.game_tables.proofs.Plays.{filled-solved}
 use Rattle.game_placement.specs.ByValue.{section_in}
-use Rattle.desk.specs.declared.OpenAnswer.{OpenAnswer}
-use Rattle.desk.specs.declared.OpenAnswer.TheVariants.{Opened, NoFigure, Refused as OpenRefused}
-use Rattle.desk.specs.declared.ReportAnswer.TheVariants.{Counted, Refused}
+use Rattle.desk.specs.OpenAnswer.{OpenAnswer, Opened, NoFigure, Refused as OpenRefused}
+use Rattle.desk.specs.ReportAnswer.{Counted, Refused}
 use Rattle.desk.specs.Desk.{Desk, desk_code, desk_row, start_desk, Opening, open_by, present, report_row, moved_desk, Reply, setting_given, OpenPost, ReportPost}
 use Rattle.desk.specs.Following.{moved_by, Reporting, begun, call, refused, total, Movers, Played, MoveCounts, AfterReports, RunsFrom, Followable, DescentHolds, DeskRuns, DeskHolds}
 use Rattle.desk.proofs.Carrying.{lamp-home}

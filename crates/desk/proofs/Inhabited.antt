@@ -22,7 +22,7 @@ use Rattle.game.proofs.Moves.{costs}
 use Rattle.game.proofs.Local.{may-train}
 use Rattle.game_tables.specs.Tables.{figure_in, case_rows}
 use Rattle.game_tables.proofs.Exists.{Made, tables-exist}
-use Rattle.desk.specs.declared.ReportAnswer.{ReportAnswer}
+use Rattle.desk.specs.ReportAnswer.{ReportAnswer}
 use Rattle.desk.specs.Desk.{Desk, desk_code, present, Opening, open_by, open_desk, setting_rows, setting_by}
 use Rattle.desk.specs.Desk.{give_setting, report_rows, Reply, report_by, report, number_opening, number_setting}
 use Rattle.desk.specs.Desk.{number_reported, OpenPost, SettingPost, ReportPost}

@@ -32,7 +32,7 @@ use Rattle.game.specs.Setting.{Setting, heads_for, held, free, signal_open, may_
 use Rattle.game.specs.Moves.{occupied, move_of, game_of}
 use Rattle.game.proofs.Local.{may-train, mover-cases, test-keeps}
 use Rattle.game.proofs.Figures.{figure-one}
-use Rattle.game_tables.specs.declared.SolverAnswer.{SolverAnswer}
+use Rattle.game_tables.specs.SolverAnswer.{SolverAnswer}
 use Rattle.game_tables.specs.Entries.{setting_at}
 use Rattle.game_tables.specs.Tables.{no_figure, figure_in, setting_in, case_refusal, tables_short}
 use Rattle.game_tables.specs.Solver.{SolverPost}
@@ -42,12 +42,9 @@ use Rattle.game_tables.proofs.WeighedYards.{weighed-accepted, weighed-filled}
 use Rattle.game_tables.proofs.KnownYards.{one-filled, head_on-filled}
 use Rattle.game_placement.specs.declared.Placement.{Placement}
 use Rattle.game_placement.specs.ByValue.{section_in}
-use Rattle.desk.specs.declared.OpenAnswer.{OpenAnswer}
-use Rattle.desk.specs.declared.OpenAnswer.TheVariants.{Opened, NoFigure, Refused as OpenRefused}
-use Rattle.desk.specs.declared.SettingAnswer.{SettingAnswer}
-use Rattle.desk.specs.declared.SettingAnswer.TheVariants.{Given, Refused as SettingRefused}
-use Rattle.desk.specs.declared.ReportAnswer.{ReportAnswer}
-use Rattle.desk.specs.declared.ReportAnswer.TheVariants.{Counted, Refused}
+use Rattle.desk.specs.OpenAnswer.{OpenAnswer, Opened, NoFigure, Refused as OpenRefused}
+use Rattle.desk.specs.SettingAnswer.{SettingAnswer, Given, Refused as SettingRefused}
+use Rattle.desk.specs.ReportAnswer.{ReportAnswer, Counted, Refused}
 use Rattle.desk.specs.Desk.{Desk, desk_code, misplaced, arrivals, miscarries, desk_row, no_desk, Opening, open_desk}
 use Rattle.desk.specs.Desk.{give_setting, present, allows, report_row, moved_desk, Reply, report, desk_given}
 use Rattle.desk.specs.Desk.{setting_given, number_opening, number_setting, number_reported, OpenPost, SettingPost}

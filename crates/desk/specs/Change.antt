@@ -17,14 +17,13 @@ use Rattle.case_file.specs.Given.{Applies, case_table, RefusedWith, AcceptedWith
 use Rattle.game.specs.Game.{may, IsFigure}
 use Rattle.game.specs.Placement.{placements}
 use Rattle.game.specs.Moves.{game_of}
-use Rattle.game_tables.specs.declared.SolverAnswer.{SolverAnswer}
+use Rattle.game_tables.specs.SolverAnswer.{SolverAnswer}
 use Rattle.game_tables.specs.Tables.{figure_in, tables_short}
 use Rattle.game_tables.specs.Solver.{SolverPost}
 use Rattle.game_placement.specs.ByValue.{section_in}
-use Rattle.desk.specs.declared.OpenAnswer.TheVariants.{Opened}
-use Rattle.desk.specs.declared.ReportAnswer.TheVariants.{Refused as ReportRefused}
-use Rattle.desk.specs.declared.ChangeAnswer.{ChangeAnswer}
-use Rattle.desk.specs.declared.ChangeAnswer.TheVariants.{Changed, Refused}
+use Rattle.desk.specs.OpenAnswer.{Opened}
+use Rattle.desk.specs.ReportAnswer.{Refused as ReportRefused}
+use Rattle.desk.specs.ChangeAnswer.{ChangeAnswer, Changed, Refused}
 use Rattle.desk.specs.Desk.{Desk, desk_code, desk_row, desk_on, present, Opening, OpenPost, Reply, ReportPost}
 use Rattle.desk.specs.Following.{moved_by, Carries, MoveCounts, Followable, AfterReports}
 

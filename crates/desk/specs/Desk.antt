@@ -17,12 +17,9 @@ use Rattle.game.specs.Moves.{occupied, game_of}
 use Rattle.game_tables.specs.Tables.{figure_in, setting_in, case_rows}
 use Rattle.game_placement.specs.declared.Placement.{Placement}
 use Rattle.game_placement.specs.ByValue.{section_in}
-use Rattle.desk.specs.declared.OpenAnswer.{OpenAnswer}
-use Rattle.desk.specs.declared.OpenAnswer.TheVariants.{Opened, NoFigure, Refused as OpenRefused}
-use Rattle.desk.specs.declared.SettingAnswer.{SettingAnswer}
-use Rattle.desk.specs.declared.SettingAnswer.TheVariants.{Given, Refused as SettingRefused}
-use Rattle.desk.specs.declared.ReportAnswer.{ReportAnswer}
-use Rattle.desk.specs.declared.ReportAnswer.TheVariants.{Counted, Refused}
+use Rattle.desk.specs.OpenAnswer.{OpenAnswer, Opened, NoFigure, Refused as OpenRefused}
+use Rattle.desk.specs.SettingAnswer.{SettingAnswer, Given, Refused as SettingRefused}
+use Rattle.desk.specs.ReportAnswer.{ReportAnswer, Counted, Refused}
 
 -- A desk: the section of each train, the code of that placement, and how many trains stand on their destinations. What stands there for trains that the case does not have is not
 -- looked at.

@@ -13,16 +13,14 @@ use Rattle.game.specs.Claim.{Keeps}
 use Rattle.game.specs.Placement.{placements, start_code, at_home}
 use Rattle.game.specs.Setting.{Setting}
 use Rattle.game.specs.Moves.{move_of, game_of}
-use Rattle.game_tables.specs.declared.SolverAnswer.{SolverAnswer}
+use Rattle.game_tables.specs.SolverAnswer.{SolverAnswer}
 use Rattle.game_tables.specs.Tables.{figure_in, setting_in, case_refusal}
 use Rattle.game_tables.specs.Solver.{SolverPost}
 use Rattle.game_placement.specs.declared.Placement.{Placement}
 use Rattle.game_placement.specs.ByValue.{section_in}
-use Rattle.desk.specs.declared.OpenAnswer.TheVariants.{Opened, NoFigure}
-use Rattle.desk.specs.declared.SettingAnswer.{SettingAnswer}
-use Rattle.desk.specs.declared.SettingAnswer.TheVariants.{Refused as SettingRefused}
-use Rattle.desk.specs.declared.ReportAnswer.{ReportAnswer}
-use Rattle.desk.specs.declared.ReportAnswer.TheVariants.{Counted, Refused}
+use Rattle.desk.specs.OpenAnswer.{Opened, NoFigure}
+use Rattle.desk.specs.SettingAnswer.{SettingAnswer, Refused as SettingRefused}
+use Rattle.desk.specs.ReportAnswer.{ReportAnswer, Counted, Refused}
 use Rattle.desk.specs.Desk.{Desk, desk_code, misplaced, arrivals, desk_row, present, allows, moved_desk, Opening, Reply, desk_given, setting_given, OpenPost, SettingPost, ReportPost}
 
 -- The train of a report, by its answer: none, if it does not count.

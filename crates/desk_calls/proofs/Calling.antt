@@ -1,6 +1,6 @@
 -- What the calls answer, by the answer to the case and by what was tested behind it: a law for each return. The rows of
 -- a call are those of the case, then 12, so a refusal of the case is given first. Assumes nothing.
-use mathlib.Core.Path.{◌≡◌, refl, sym, ◌∙◌, ap}
+use mathlib.Core.Path.{◌≡◌, refl, sym, ◌∙◌, ap, subst}
 use mathlib.Core.Bool.{Bool, true, false, not}
 use mathlib.Core.List.{List, [], ◌∷◌, ◌++◌}
 use mathlib.Core.Option.{Option, none, some}
@@ -8,11 +8,12 @@ use Prim.Native.Nat.{ℕ, ◌<◌}
 use native.Mathlib.Omega.{arith}
 use lib.ListN.{length, get_or}
 use borrow.Author.Tests.{ne_eqb}
+use Rattle.std.specs.Prelude.{Some, None, Result, Ok, Err}
 use Rattle.laws.specs.Below.{or_else}
 use Rattle.railway.specs.declared.Railway.{Railway}
 use Rattle.railway.specs.declared.Refusal.{Refusal}
 use Rattle.railway.specs.declared.Refusal.TheVariants.{Report}
-use Rattle.railway.specs.declared.CaseAnswer.TheVariants.{Accepted, Refused as CaseRefused}
+use Rattle.railway.specs.CaseAnswer.{Accepted}
 use Rattle.railway.specs.Bounds.{most_trains}
 use Rattle.railway.specs.Record.{is_closed}
 use Rattle.railway.specs.Refusals.{row, refuse_if, first, number_of}
@@ -20,24 +21,21 @@ use Rattle.game.specs.Placement.{start_code}
 use Rattle.game_tables.specs.Tables.{no_figure, figure_in, case_rows, case_refusal}
 use Rattle.game_tables.proofs.Refusals.{case-then}
 use Rattle.railway_routes.specs.Routes.{Laid}
-use Rattle.railway_compiled.specs.declared.Compilation.{Compilation}
-use Rattle.railway_compiled.specs.Table.{Compiled}
+use Rattle.railway_compiled.specs.Table.{Compiled, compilation}
 use Rattle.game_placement.specs.declared.Placement.{Placement}
 use Rattle.game_placement.specs.ByValue.{section_in}
 use Rattle.game_moves.specs.Steps.{On, put_in}
 use Rattle.game_moves.proofs.Placing.{table-facts}
 use Rattle.game_case.specs.Cases.{CasePost}
 use Rattle.game_case.proofs.Cases.{opened-refused, opened-none, opened-table}
-use Rattle.desk.specs.declared.OpenAnswer.TheVariants.{Opened, NoFigure, Refused as OpenRefused}
-use Rattle.desk.specs.declared.SettingAnswer.{SettingAnswer}
-use Rattle.desk.specs.declared.SettingAnswer.TheVariants.{Given, Refused as SettingRefused}
-use Rattle.desk.specs.declared.ReportAnswer.TheVariants.{Counted, Refused}
+use Rattle.desk.specs.OpenAnswer.{Opened}
+use Rattle.desk.specs.SettingAnswer.{SettingAnswer, Given, Refused as SettingRefused}
+use Rattle.desk.specs.ReportAnswer.{Counted, Refused}
 use Rattle.desk.specs.Desk.{Desk as DeskAt, desk_code, desk_row, desk_on, no_desk, Opening, open_by, open_desk, setting_rows}
 use Rattle.desk.specs.Desk.{setting_by, give_setting, report_row, report_rows, Reply, report_by, report, number_opening}
 use Rattle.desk.specs.Desk.{number_setting, number_reported, OpenPost, SettingPost, ReportPost}
 use Rattle.desk.proofs.Carrying.{sound-exactly}
 use Rattle.desk_calls.specs.declared.Desk.{Desk}
-use Rattle.desk_calls.specs.declared.ReportReply.{ReportReply}
 use Rattle.desk_calls.specs.Answers.{desk_at, opening, replied}
 use Rattle.desk_calls.specs.Steps.{counts_at}
 use Rattle.desk_calls.proofs.Desks.{start-sections, moved-sections}
@@ -98,11 +96,6 @@ module _ (r : Railway) (figs sets : List ℕ) where
           answers = ey ∙ ap (report_by r d t x) (sym e);
         }
 
--- A refused report, as it is handed back.
-handed-back : (r : Railway) (d : Desk) (f : Refusal) (t x : ℕ) (y : ReportReply) → (y.answer ≡ Refused f)
-    × (y.desk ≡ d) → replied y ≡ report_by r (desk_at d) t x (some f)
-handed-back r d f t x y e = rw (e.0, e.1) refl
-
 -- A report that has been heard at a desk which is not stopped: its row is refused unless it counts, and then its train
 -- is there
 pub record Heard (r : Railway) (figs sets table : List ℕ) (d : Desk) (t x : ℕ) (k : Bool) : Type 0 where
@@ -110,61 +103,62 @@ pub record Heard (r : Railway) (figs sets table : List ℕ) (d : Desk) (t x : �
   pub row : first (report_rows r (desk_at d) figs sets t x) ≡ refuse_if (not k) Report none
   pub moves : k ≡ true → t < most_trains
 
-module _ (r : Railway) (figs sets : List ℕ) (c : Compilation) (p : CasePost r figs sets c) where
+module _ (r : Railway) (figs sets : List ℕ) (c : Result (List ℕ) Refusal) (p : CasePost r figs sets (compilation c)) where
   -- THE CASE IS REFUSED
-  module _ (f : Refusal) (e : c.tested ≡ CaseRefused f) where
-    pub open-refused : (d : Desk) → desk_at d ≡ no_desk
-        → OpenPost r figs sets (opening (record { answer = OpenRefused f; desk = d }))
-    open-refused d nowhere =
-        open-post r figs sets (some f) (figure_in figs (start_code r)) _ (opened-refused p e) refl
-        (ap (λ (z : DeskAt). record { answer = OpenRefused f; desk = z }) nowhere)
+  module _ (f : Refusal) (e : c ≡ Err f) where
+    not-taken : case_refusal r figs sets ≡ some f
+    not-taken = opened-refused p (ap (λ (x : Result (List ℕ) Refusal). (compilation x).tested) e)
+
+    pub open-refused : OpenPost r figs sets (opening (Err f))
+    open-refused = open-post r figs sets (some f) (figure_in figs (start_code r)) _ not-taken refl refl
 
     pub setting-refused : (d : Desk) → SettingPost r (desk_at d) figs sets (SettingRefused f)
     setting-refused d =
         setting-post r figs sets (desk_at d) (some f) (SettingRefused f)
-        (then-report r figs sets (desk_row r (desk_at d)) (some f) (opened-refused p e)) refl
+        (then-report r figs sets (desk_row r (desk_at d)) (some f) not-taken) refl
 
-    pub report-refused : (d : Desk) (t x : ℕ) (y : ReportReply) → (y.answer ≡ Refused f) × (y.desk ≡ d)
-        → ReportPost r (desk_at d) figs sets t x (replied y)
-    report-refused d t x y made =
-        let rows = then-report r figs sets (report_row r (desk_at d) sets t x) (some f) (opened-refused p e) in
-        report-post r figs sets (desk_at d) t x (some f) (replied y) rows (handed-back r d f t x y made)
+    pub report-refused : (d : Desk) (t x : ℕ) → ReportPost r (desk_at d) figs sets t x (replied (Refused f) d)
+    report-refused d t x =
+        report-post r figs sets (desk_at d) t x (some f) _
+        (then-report r figs sets (report_row r (desk_at d) sets t x) (some f) not-taken) refl
 
-  module _ (e : c.tested ≡ Accepted) where
+  module _ (table : List ℕ) (e : c ≡ Ok table) where
+    taken : (compilation c).tested ≡ Accepted
+    taken = ap (λ (x : Result (List ℕ) Refusal). (compilation x).tested) e
+
     fine : case_refusal r figs sets ≡ none
-    fine = opened-none p e
+    fine = opened-none p taken
+
+    tabled : Compiled r table
+    tabled = subst (Compiled r) (ap (λ (x : Result (List ℕ) Refusal). (compilation x).table) e) (opened-table p taken)
 
     -- 12, where nothing of the case is refused
     twelve : (b : Bool) → first (case_rows r figs sets ++ (row Report b ∷ [])) ≡ refuse_if b Report none
     twelve b = then-report r figs sets b none fine
 
     -- OPENED
-    module _ (at v : ℕ) (starts : (o : Railway) → Compiled o c.table → at ≡ start_code o)
+    module _ (at v : ℕ) (starts : (o : Railway) → Compiled o table → at ≡ start_code o)
         (read : v ≡ get_or figs at no_figure) where
       entry : get_or figs (start_code r) no_figure ≡ v
-      entry = ap (λ (k : ℕ). get_or figs k no_figure) (sym (starts r (opened-table p e))) ∙ sym read
+      entry = ap (λ (k : ℕ). get_or figs k no_figure) (sym (starts r tabled)) ∙ sym read
 
-      pub open_none : v ≡ no_figure → (d : Desk) → desk_at d ≡ no_desk
-          → OpenPost r figs sets (opening (record { answer = NoFigure; desk = d }))
-      open_none z d nowhere =
-          open-post r figs sets none none _ fine (rw (entry, z) refl)
-          (ap (λ (z : DeskAt). record { answer = NoFigure; desk = z }) nowhere)
+      pub open_none : v ≡ no_figure → OpenPost r figs sets (opening (Ok None))
+      open_none z = open-post r figs sets none none _ fine (rw (entry, z) refl) refl
 
       pub open-stands : (v ≡ no_figure → ⊥) → (q : Placement)
-          → ((o : Railway) → Compiled o c.table → On o at c.table q) → length q.sections ≡ most_trains
-          → (d : Desk) → ((o : Railway) → Compiled o c.table → desk_at d ≡ desk_on o q)
-          → OpenPost r figs sets (opening (record { answer = Opened; desk = d }))
+          → ((o : Railway) → Compiled o table → On o at table q) → length q.sections ≡ most_trains
+          → (d : Desk) → ((o : Railway) → Compiled o table → desk_at d ≡ desk_on o q)
+          → OpenPost r figs sets (opening (Ok (Some d)))
       open-stands z q stands sized d made =
-          let table = opened-table p e in
-          let on : On r (start_code r) c.table q = rw (starts r table) at (stands r table) in
+          let on : On r (start_code r) table q = rw (starts r tabled) at (stands r tabled) in
           open-post r figs sets none (some v) _ fine (rw (entry, ne_eqb v no_figure z) refl)
           (ap (λ (w : DeskAt). record { answer = Opened; desk = w })
-          (made r table
-          ∙ ap (λ (xs : List ℕ). desk_on r (record { sections = xs })) (start-sections r c.table q on sized)))
+          (made r tabled
+          ∙ ap (λ (xs : List ℕ). desk_on r (record { sections = xs })) (start-sections r table q on sized)))
 
-    module _ (d : Desk) (b : Bool) (tests : (o : Railway) → Compiled o c.table → b ≡ desk_row o (desk_at d)) where
+    module _ (d : Desk) (b : Bool) (tests : (o : Railway) → Compiled o table → b ≡ desk_row o (desk_at d)) where
       is-stopped : b ≡ desk_row r (desk_at d)
-      is-stopped = tests r (opened-table p e)
+      is-stopped = tests r tabled
 
       -- STOPPED
       module _ (y : b ≡ true) where
@@ -173,13 +167,12 @@ module _ (r : Railway) (figs sets : List ℕ) (c : Compilation) (p : CasePost r 
             setting-post r figs sets (desk_at d) (some Report) (SettingRefused Report)
             (twelve (desk_row r (desk_at d)) ∙ rw (sym is-stopped ∙ y) refl) refl
 
-        pub report-stopped : (t x : ℕ) (z : ReportReply) → (z.answer ≡ Refused Report) × (z.desk ≡ d)
-            → ReportPost r (desk_at d) figs sets t x (replied z)
+        pub report-stopped : (t x : ℕ) → ReportPost r (desk_at d) figs sets t x (replied (Refused Report) d)
         unfolding report_row
-        report-stopped t x z made =
+        report-stopped t x =
             let row : first (report_rows r (desk_at d) figs sets t x) ≡ some Report =
             twelve (report_row r (desk_at d) sets t x) ∙ rw (sym is-stopped ∙ y) refl in
-            report-post r figs sets (desk_at d) t x (some Report) (replied z) row (handed-back r d Report t x z made)
+            report-post r figs sets (desk_at d) t x (some Report) _ row refl
 
       -- NOT STOPPED: the entry at the code that the desk carries, which is its placement's
       module _ (n : b ≡ false) (v : ℕ) (read : v ≡ get_or sets d.code 0) where
@@ -198,12 +191,12 @@ module _ (r : Railway) (figs sets : List ℕ) (c : Compilation) (p : CasePost r 
 
         -- A REPORT, by whether it counts
         module _ (t x : ℕ) (ways : List ℕ) (laid : Laid r (is_closed r) ways) (q : Placement)
-            (stands : (o : Railway) → Compiled o c.table → On o d.code c.table q)
-            (k : Bool) (counts : (o : Railway) (m : ℕ) → On o m c.table q → Laid o (is_closed o) ways
+            (stands : (o : Railway) → Compiled o table → On o d.code table q)
+            (k : Bool) (counts : (o : Railway) (m : ℕ) → On o m table q → Laid o (is_closed o) ways
             → k ≡ counts_at o m v t x) where
           it-counts : k ≡ counts_at r (desk_code r (desk_at d)) (get_or sets (desk_code r (desk_at d)) 0) t x
           it-counts =
-              counts r d.code (stands r (opened-table p e)) laid
+              counts r d.code (stands r tabled) laid
               ∙ ap (λ (m : ℕ). counts_at r m v t x) code-right
               ∙ ap (λ (u : ℕ). counts_at r (desk_code r (desk_at d)) u t x) entry-there
 
@@ -211,11 +204,11 @@ module _ (r : Railway) (figs sets : List ℕ) (c : Compilation) (p : CasePost r 
           its-row = twelve (report_row r (desk_at d) sets t x) ∙ ap (λ (z : Bool). refuse_if z Report none)
               (report-row r (desk_at d) sets t x sound ∙ ap not (sym it-counts))
 
-          pub report-heard : Heard r figs sets c.table d t x k
+          pub report-heard : Heard r figs sets table d t x k
           report-heard =
-              let few = (table-facts r c.table (opened-table p e)).few-trains in
+              let few = (table-facts r table tabled).few-trains in
               record {
-                tabled = opened-table p e;
+                tabled = tabled;
                 row = its-row;
                 moves = λ y. omega (arith, few, counts-train r _ _ t x (sym it-counts ∙ y));
               }
@@ -226,7 +219,7 @@ module _ {r : Railway} {figs sets table : List ℕ} {d : Desk} {t x : ℕ} {k : 
   pub report-counts : k ≡ true → (o : Placement) → ((u : ℕ) → section_in o u ≡ put_in d.at t x u)
       → length o.sections ≡ most_trains → length d.at.sections ≡ most_trains
       → (next : Desk) → ((a : Railway) → Compiled a table → desk_at next ≡ desk_on a o)
-      → ReportPost r (desk_at d) figs sets t x (replied (record { answer = Counted; desk = next }))
+      → ReportPost r (desk_at d) figs sets t x (replied Counted next)
   report-counts y o put lo ld next made =
       report-post r figs sets (desk_at d) t x none _ (h.row ∙ rw y refl)
       (ap (λ (w : DeskAt). record { answer = Counted; desk = w })
@@ -234,8 +227,5 @@ module _ {r : Railway} {figs sets table : List ℕ} {d : Desk} {t x : ℕ} {k : 
       ∙ ap (λ (xs : List ℕ). desk_on r (record { sections = xs }))
       (moved-sections d.at o t x ld lo (h.moves y) put)))
 
-  pub report-not : k ≡ false → (z : ReportReply) → (z.answer ≡ Refused Report) × (z.desk ≡ d)
-      → ReportPost r (desk_at d) figs sets t x (replied z)
-  report-not y z made =
-      report-post r figs sets (desk_at d) t x (some Report) (replied z) (h.row ∙ rw y refl)
-      (handed-back r d Report t x z made)
+  pub report-not : k ≡ false → ReportPost r (desk_at d) figs sets t x (replied (Refused Report) d)
+  report-not y = report-post r figs sets (desk_at d) t x (some Report) _ (h.row ∙ rw y refl) refl

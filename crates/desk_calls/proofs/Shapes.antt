@@ -1,7 +1,8 @@
--- Two cases side by side: which refusal of two comes sooner, and whether the cases agree in sections, trains and headings. A law for each test that the code makes.
+-- Two cases side by side: which of two refusals comes sooner, and whether the cases agree in sections, trains and headings. A law for each test that the code makes.
 -- Assumes nothing.
 use mathlib.Core.Path.{◌≡◌, refl, sym, ◌∙◌, ap}
 use mathlib.Core.Bool.{true, false, not}
+use mathlib.Core.Option.{some}
 use Prim.Native.Nat.{ℕ, ◌≤◌, ◌<◌}
 use native.Mathlib.Omega.{arith}
 use lib.Dec.{eqb}
@@ -12,21 +13,18 @@ use Rattle.laws.proofs.Below.{any-one, any_none}
 use Rattle.railway.specs.declared.Side.{Side}
 use Rattle.railway.specs.declared.Railway.{Railway}
 use Rattle.railway.specs.declared.Refusal.{Refusal}
-use Rattle.railway.specs.declared.CaseAnswer.{CaseAnswer}
-use Rattle.railway.specs.declared.CaseAnswer.TheVariants.{Refused}
 use Rattle.railway.specs.Ends.{side_index}
 use Rattle.railway.specs.Refusals.{rank}
 use Rattle.railway.specs.Record.{train_of}
-use Rattle.desk.specs.Change.{heads_other, mismatch}
-use Rattle.desk_calls.specs.Steps.{sooner_of}
+use Rattle.desk.specs.Change.{heads_other, mismatch, sooner}
 
--- SOONER, of a refusal and another.
-module _ (a : CaseAnswer) (f g : Refusal) (e : a ≡ Refused f) (m n : ℕ) (own : m ≡ rank f) (other : n ≡ rank g) where
-  pub is-sooner : m < n → f ≡ sooner_of a g
-  is-sooner l = rw (e, lt-ltb (rank f) (rank g) (omega (arith, own, other)))
+-- SOONER, of two refusals.
+module _ (f g : Refusal) (m n : ℕ) (own : m ≡ rank f) (other : n ≡ rank g) where
+  pub is-sooner : m < n → f ≡ sooner (some f) g
+  is-sooner l = rw (lt-ltb (rank f) (rank g) (omega (arith, own, other))) refl
 
-  pub not-sooner : n ≤ m → g ≡ sooner_of a g
-  not-sooner l = rw (e, le-ltb (rank f) (rank g) (omega (arith, own, other)))
+  pub not-sooner : n ≤ m → g ≡ sooner (some f) g
+  not-sooner l = rw (le-ltb (rank f) (rank g) (omega (arith, own, other))) refl
 
 module _ (r s : Railway) where
   -- THE SAME OR NOT: counts, and the heading of a train

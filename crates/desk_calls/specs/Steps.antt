@@ -1,10 +1,6 @@
 -- What the contract of a single step says. Nothing of documents 01 and 02 rests on this file. Assumes nothing.
 use Rattle.std.specs.Prelude.{Bool, not, ◌&&◌, ℕ}
-use Rattle.std.proofs.Math.Option.{none, some}
 use Rattle.railway.specs.declared.Railway.{Railway}
-use Rattle.railway.specs.declared.Refusal.{Refusal}
-use Rattle.railway.specs.declared.CaseAnswer.{CaseAnswer}
-use Rattle.railway.specs.declared.CaseAnswer.TheVariants.{Accepted, Refused}
 use Rattle.railway.specs.Passing.{entered}
 use Rattle.game.specs.Game.{may}
 use Rattle.game.specs.Placement.{at_home}
@@ -12,13 +8,7 @@ use Rattle.game.specs.Setting.{heads_for}
 use Rattle.game.specs.Moves.{occupied, game_of}
 use Rattle.game_tables.specs.Entries.{setting_at}
 use Rattle.desk.specs.Desk.{comes_to}
-use Rattle.desk.specs.Change.{sooner}
 
 -- The report that train t has come to section x counts at placement p under entry v: it is not home, and the move is one that ends there.
 unfoldable pub counts_at : Railway → ℕ → ℕ → ℕ → ℕ → Bool
 counts_at r p v t x = not (at_home r p) && (not (occupied r p t x) && (may (game_of r) p (setting_at r p v) t && comes_to (entered r (setting_at r p v).plus (heads_for r p t)) x))
-
--- Of what the test of a record says and the refusal of a text, the one that comes first.
-abbrev pub sooner_of : CaseAnswer → Refusal → Refusal
-sooner_of Accepted g = sooner none g
-sooner_of (Refused f) g = sooner (some f) g

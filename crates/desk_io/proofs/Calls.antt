@@ -11,22 +11,18 @@ use lib.Dec.{eqb}
 use Rattle.laws.specs.Lists.{Every}
 use Rattle.laws.proofs.Bools.{bool?, option?, some-none}
 use Rattle.railway.specs.declared.Railway.{Railway}
-use Rattle.railway.specs.declared.CaseAnswer.{CaseAnswer}
-use Rattle.railway.specs.declared.CaseAnswer.TheVariants.{Accepted, Refused as CaseRefused}
+use Rattle.railway.specs.CaseAnswer.{CaseAnswer, Accepted, Refused as CaseRefused}
 use Rattle.railway.specs.Refusals.{number_given}
 use Rattle.railway.specs.Rows.{record_refusal}
 use Rattle.case_file.specs.Given.{railway_given, AcceptedWith}
 use Rattle.game.specs.Placement.{start_code}
-use Rattle.game_tables.specs.declared.SolverAnswer.{SolverAnswer}
+use Rattle.game_tables.specs.SolverAnswer.{SolverAnswer}
 use Rattle.game_tables.specs.Tables.{figure_in, tables_short, case_refusal}
 use Rattle.game_tables.specs.Solver.{figure_given, SolverTables, SolverPost}
 use Rattle.game_tables.proofs.Refusals.{case-accepted}
-use Rattle.desk.specs.declared.SettingAnswer.{SettingAnswer}
-use Rattle.desk.specs.declared.SettingAnswer.TheVariants.{Given, Refused as SettingRefused}
-use Rattle.desk.specs.declared.ReportAnswer.{ReportAnswer}
-use Rattle.desk.specs.declared.ReportAnswer.TheVariants.{Counted, Refused as ReportRefused}
-use Rattle.desk.specs.declared.ChangeAnswer.{ChangeAnswer}
-use Rattle.desk.specs.declared.ChangeAnswer.TheVariants.{Changed, Refused}
+use Rattle.desk.specs.SettingAnswer.{SettingAnswer, Given, Refused as SettingRefused}
+use Rattle.desk.specs.ReportAnswer.{ReportAnswer, Counted, Refused as ReportRefused}
+use Rattle.desk.specs.ChangeAnswer.{ChangeAnswer, Changed, Refused}
 use Rattle.desk.specs.Desk.{Desk, give_setting, report}
 use Rattle.desk.specs.Following.{Followable}
 use Rattle.desk.specs.Change.{Changing, change_to, ChangePost, Working, beginning_with, Works, started, reports, changes, change-refused}

@@ -2,31 +2,32 @@
 -- long, and the state is told with them; refused, nothing is altered. Assumes nothing.
 use mathlib.Core.Path.{◌≡◌, refl, sym, ◌∙◌, ap, subst}
 use mathlib.Core.Bool.{Bool, true, false}
-use mathlib.Core.List.{List, [], ◌∷◌, ◌++◌, append_assoc, append-nil}
+use mathlib.Core.List.{List, []}
 use mathlib.Core.Option.{some}
-use Prim.Native.Nat.{ℕ, suc, ◌+◌, ◌≤◌, ◌<◌}
+use Prim.Native.Nat.{ℕ, suc, ◌≤◌}
 use native.Mathlib.Omega.{arith}
-use native.Mathlib.Numerals.{add-one}
-use lib.ListN.{length, get_or, set, take, drop, replicate, length-set, length-replicate, drop_of_length-le}
-use lib.Seq.{drop-cons, set_at, take-suc, take_all, length-take-le}
+use lib.ListN.{length, take, replicate, length-replicate}
+use lib.Seq.{length-take-le}
 use Rattle.laws.proofs.Bools.{clash, some-none, some_one}
 use Rattle.railway.specs.declared.Railway.{Railway}
+use Rattle.std.specs.Prelude.{Result, Ok, Err}
+use Rattle.std.specs.Result.{result_unwrap_or}
 use Rattle.railway.specs.declared.Refusal.{Refusal}
+use Rattle.railway.specs.Record.{empty_railway}
+use Rattle.case_file.specs.Given.{case_read}
 use Rattle.railway.specs.declared.Refusal.TheVariants.{Form}
-use Rattle.railway.specs.declared.CaseAnswer.{CaseAnswer}
-use Rattle.railway.specs.declared.CaseAnswer.TheVariants.{Accepted, Refused as CaseRefused}
+use Rattle.railway.specs.CaseAnswer.{CaseAnswer, Accepted, Refused as CaseRefused}
 use Rattle.railway.specs.Refusals.{number, number_given}
 use Rattle.railway.specs.Rows.{record_refusal}
 use Rattle.railway.proofs.Refusals.{number-one}
-use Rattle.case_file.specs.declared.CaseRead.{CaseRead}
+use Rattle.case_file.specs.CaseRead.{CaseRead}
 use Rattle.case_file.specs.Rows.{most_bytes}
 use Rattle.case_file.specs.Given.{refused, railway_given, ReaderPost}
-use Rattle.game_tables.specs.declared.SolverAnswer.{SolverAnswer}
+use Rattle.game_tables.specs.SolverAnswer.{SolverAnswer}
 use Rattle.game_tables.specs.Solver.{SolverPost}
 use Rattle.answer_lines.specs.Lines.{refusal_line}
 use Rattle.answer_lines.proofs.Lines.{refusal-short}
-use Rattle.desk.specs.declared.ChangeAnswer.{ChangeAnswer}
-use Rattle.desk.specs.declared.ChangeAnswer.TheVariants.{Changed, Refused}
+use Rattle.desk.specs.ChangeAnswer.{ChangeAnswer, Changed, Refused}
 use Rattle.desk.specs.Desk.{Desk}
 use Rattle.desk.specs.Change.{sooner, Changing, number_changed, ChangePost}
 use Rattle.desk_lines.specs.Changes.{is_change}
@@ -51,8 +52,23 @@ module _ (r : Railway) (text : List ℕ) (d : Desk) (figs sets : List ℕ) (y : 
   change-is = change-by a.answer refl
 
 -- A NEW CASE, made or refused
-module _ (text : List ℕ) (p : Panel) (a : CaseRead) (reads : ReaderPost text a) (answer : SolverAnswer) (figs sets : List ℕ) (solved : SolverPost a.railway answer blank blank figs sets)
+read-beside : (x : Result Railway Refusal) (e : Railway) → e ≡ empty_railway → result_unwrap_or x e ≡ (case_read x).railway
+read-beside (Ok r) e is = refl
+read-beside (Err f) e is = is
+
+-- of which the railway that is read is solved, or the empty one
+module _ (text : List ℕ) (p : Panel) (x : Result Railway Refusal) (reads : ReaderPost text (case_read x)) (none-read : Railway) (empty : none-read ≡ empty_railway)
+    (s : Railway) (is : s ≡ result_unwrap_or x none-read) (answer : SolverAnswer) (figs sets : List ℕ) (given : SolverPost s answer blank blank figs sets)
     (y : Changing) (post : ChangePost p.railway text p.desk figs sets y) where
+  abbrev a : CaseRead
+  a = case_read x
+
+  beside : s ≡ a.railway
+  beside = is ∙ read-beside x none-read empty
+
+  solved : SolverPost a.railway answer blank blank figs sets
+  solved = subst (λ (z : Railway). SolverPost z answer blank blank figs sets) beside given
+
   abbrev input : List ℕ → Input
   input l = record { line = l; file = text; read = a; figs = figs; sets = sets }
 
@@ -71,10 +87,11 @@ module _ (text : List ℕ) (p : Panel) (a : CaseRead) (reads : ReaderPost text a
       }
 
   pub new-made : (figs₁ sets₁ : List ℕ) → figs₁ ≡ figs → sets₁ ≡ sets → y.answer ≡ Changed → (q : Railway) (e : Desk) (n : ℕ) (g : Bool)
-      → Wrote (heard_at a.railway figs₁ sets₁ (state_said a.railway figs₁ sets₁ y.desk)) (panel_of q figs₁ sets₁ e) n g → NewCase text p (panel_of q figs₁ sets₁ e) n g
+      → Wrote (heard_at s figs₁ sets₁ (state_said s figs₁ sets₁ y.desk)) (panel_of q figs₁ sets₁ e) n g → NewCase text p (panel_of q figs₁ sets₁ e) n g
   new-made figs₁ sets₁ same-figs same-sets made q e n g w =
-      let v : Wrote (heard_at a.railway figs sets (state_said a.railway figs sets y.desk)) (panel_of q figs sets e) n g = rw (same-figs, same-sets) at w in
-      rw (same-figs, same-sets) (by_answer Changed made (λ l. v))
+      let v : Wrote (heard_at s figs sets (state_said s figs sets y.desk)) (panel_of q figs sets e) n g = rw (same-figs, same-sets) at w in
+      let u = subst (λ (z : Railway). Wrote (heard_at z figs sets (state_said z figs sets y.desk)) (panel_of q figs sets e) n g) beside v in
+      rw (same-figs, same-sets) (by_answer Changed made (λ l. u))
 
   pub new-refused : (f : Refusal) → y.answer ≡ Refused f → (q : Railway) (e : Desk) (n : ℕ) (g : Bool) → q ≡ p.railway → e ≡ y.desk → n ≡ length (refusal_line f) → g ≡ true
       → NewCase text p (panel_of q p.figs p.sets e) n g
@@ -98,44 +115,3 @@ turned-change l text p q n g short w is =
 pub turned-line : (l : List ℕ) (p q : Panel) (n : ℕ) (g : Bool) → is_change l ≡ false
     → Wrote (heard_at p.railway p.figs p.sets (line_said p.railway p.figs p.sets p.desk l)) q n g → Turned p q n g
 turned-line l p q n g is w = heard (record { line = l; file = []; read = refused Form; figs = []; sets = [] }) (λ e. clash e is) (rw is w)
-
--- A TABLE OVER ANOTHER, entry by entry: i of them are the new ones
-pub record CopiedTo (from old new : List ℕ) (i : ℕ) : Type 0 where
-  pub as_long : length from ≡ length old
-  pub sized : length new ≡ length old
-  pub within : i ≤ length old
-  pub front : new ≡ take i from ++ drop i old
-
-module _ (from old : List ℕ) where
-  pub copied_none : length from ≡ length old → CopiedTo from old old 0
-  copied_none e = record { as_long = e; sized = refl; within = omega arith; front = refl }
-
-  module _ (new : List ℕ) (i : ℕ) (h : CopiedTo from old new i) where
-    pub copied-inside : i < length new → i < length from
-    copied-inside l = omega (arith, l, h.as_long, h.sized)
-
-    pub copied_all : length new ≤ i → new ≡ from
-    copied_all l =
-        let t : take i from ≡ from = take_all i from (omega (arith, l, h.as_long, h.sized)) in
-        let e : length old ≤ i = omega (arith, l, h.sized) in
-        let d : drop i old ≡ [] = drop_of_length-le old e in
-        h.front ∙ rw (t, d) (append-nil from)
-
-    pub copied_next : i < length new → CopiedTo from old (set new i (get_or from i 0)) (i + 1)
-    copied_next l =
-        let k : i + 1 ≡ suc i = add-one i in
-        let m : i < length old = omega (arith, l, h.sized) in
-        let n : i < length from = copied-inside l in
-        let v : ℕ = get_or from i 0 in
-        let d : drop i old ≡ get_or old i 0 ∷ drop (suc i) old = drop-cons old i 0 m in
-        let t : take i from ++ (v ∷ []) ≡ take (suc i) from = sym (take-suc from i 0 n) in
-        let s : set (take i from ++ (get_or old i 0 ∷ drop (suc i) old)) i v ≡ take i from ++ (v ∷ drop (suc i) old) =
-        set_at (take i from) (get_or old i 0) (drop (suc i) old) v i (length-take-le i from (omega arith)) in
-        let u : take i from ++ (v ∷ drop (suc i) old) ≡ take (suc i) from ++ drop (suc i) old =
-        sym (append_assoc (take i from) (v ∷ []) (drop (suc i) old)) ∙ ap (λ (z : List ℕ). z ++ drop (suc i) old) t in
-        record {
-          as_long = h.as_long;
-          sized = length-set new i v ∙ h.sized;
-          within = omega arith;
-          front = ap (λ (z : List ℕ). set z i v) (h.front ∙ ap (λ (z : List ℕ). take i from ++ z) d) ∙ s ∙ u ∙ ap (λ (j : ℕ). take j from ++ drop j old) (sym k);
-        }

@@ -8,7 +8,7 @@ use native.Mathlib.Omega.{arith}
 use lib.ListN.{length}
 use Rattle.railway.specs.declared.Railway.{Railway}
 use Rattle.railway.specs.declared.Refusal.{Refusal}
-use Rattle.case_file.specs.declared.Written.{Written}
+use Rattle.case_file.specs.Written.{Written}
 use Rattle.case_file.specs.Writing.{written_count}
 use Rattle.answer_lines.specs.Lines.{refusal_line, PutPost}
 use Rattle.answer_lines.proofs.Lines.{refusal-short}

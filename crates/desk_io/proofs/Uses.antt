@@ -22,7 +22,7 @@ use Rattle.railway.specs.Record.{is_closed, joined_by, joined, has_signal, legs_
 use Rattle.railway.specs.Passing.{follow, passes}
 use Rattle.railway.specs.Rows.{weight_row, unknown_row, join_row, loose_row, longer, chain_row, place_row, record_refusal}
 use Rattle.railway.specs.Yards.{yard_a}
-use Rattle.case_file.specs.declared.CaseRead.{CaseRead}
+use Rattle.case_file.specs.CaseRead.{CaseRead}
 use Rattle.case_file.specs.Given.{accepted, refused, RefusedWith}
 use Rattle.case_file.specs.Reading.{counted, while, header_at, walk, read, case_answer}
 use Rattle.case_file.proofs.Given.{reader-answers}

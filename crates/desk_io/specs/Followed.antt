@@ -2,11 +2,11 @@
 use Rattle.std.specs.Prelude.{◌≡◌, Bool, true, false, List, ℕ, suc, ◌≤◌, ◌<◌, length, take, replicate}
 use Rattle.laws.specs.Lists.{Every}
 use Rattle.railway.specs.declared.Railway.{Railway}
-use Rattle.case_file.specs.declared.CaseRead.{CaseRead}
+use Rattle.case_file.specs.CaseRead.{CaseRead}
 use Rattle.case_file.specs.Rows.{most_bytes}
 use Rattle.case_file.specs.Given.{ReaderPost}
 use Rattle.case_reader.specs.Answers.{ByCase}
-use Rattle.game_tables.specs.declared.SolverAnswer.{SolverAnswer}
+use Rattle.game_tables.specs.SolverAnswer.{SolverAnswer}
 use Rattle.game_tables.specs.Lengths.{entries}
 use Rattle.game_tables.specs.Solver.{SolverPost}
 use Rattle.answer_lines.specs.Lines.{refusal_line}

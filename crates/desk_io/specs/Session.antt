@@ -2,12 +2,10 @@
 -- the opening and for a report is in desk_text/Said. Assumes nothing.
 use Rattle.std.specs.Prelude.{Bool, true, cond, List, [], ◌∷◌, ◌++◌, ℕ}
 use Rattle.railway.specs.declared.Railway.{Railway}
-use Rattle.railway.specs.declared.CaseAnswer.{CaseAnswer}
-use Rattle.railway.specs.declared.CaseAnswer.TheVariants.{Accepted, Refused as CaseRefused}
+use Rattle.railway.specs.CaseAnswer.{CaseAnswer, Accepted, Refused as CaseRefused}
 use Rattle.railway.specs.Rows.{record_refusal}
-use Rattle.case_file.specs.declared.CaseRead.{CaseRead}
-use Rattle.desk.specs.declared.ChangeAnswer.{ChangeAnswer}
-use Rattle.desk.specs.declared.ChangeAnswer.TheVariants.{Changed, Refused}
+use Rattle.case_file.specs.CaseRead.{CaseRead}
+use Rattle.desk.specs.ChangeAnswer.{ChangeAnswer, Changed, Refused}
 use Rattle.desk.specs.Desk.{Desk}
 use Rattle.desk.specs.Change.{sooner, Changing, change_to}
 use Rattle.desk_lines.specs.Changes.{is_change}

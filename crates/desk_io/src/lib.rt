@@ -5,7 +5,7 @@
 // has no figure, and at the end of the input it stops.
 #![tactic(auto)]
 
-ghost use Rattle.std.specs.Prelude.{◌≡◌, true, suc, ◌≤◌, length};
+ghost use Rattle.std.specs.Prelude.{◌≡◌, true, suc, ◌≤◌, length, IfSome};
 ghost use Rattle.std.proofs.Math.Option.{get_or};
 ghost use Rattle.io.specs.Counts.{IsPrefixLen};
 ghost use Rattle.case_file.specs.Rows.{most_bytes};
@@ -18,13 +18,11 @@ ghost use Rattle.desk_lines.specs.Changes.{is_change};
 ghost use Rattle.desk_io.specs.Session.{panel_of, heard_at};
 ghost use Rattle.desk_io.specs.Followed.{Wrote, NewCase, Turned, Ran, Solved, CaseFollowed, Followed};
 
-use case_file::Written;
-use desk::ChangeAnswer;
 use desk_calls::Desk;
 use desk_lines::{INPUT, LINE, NAME};
 use desk_text::Step;
 use game_tables::ENTRIES;
-use railway::{CaseAnswer, Railway, Refusal};
+use railway::{Railway, Refusal};
 use text::{LINE_END, append};
 
 // The descriptor of standard input.
@@ -43,20 +41,6 @@ struct Stand {
     desk: Desk,
     bytes: usize,
     going: bool,
-}
-
-// A line of standard input: whether it came with its end, and how many bytes of it stand in the buffer.
-#[derive(Clone, Copy)]
-struct LineRead {
-    whole: bool,
-    count: usize,
-}
-
-// A byte of standard input.
-#[derive(Clone, Copy)]
-enum Byte {
-    End,
-    Is(u8),
 }
 
 // The answer is how many bytes there are to be written.
@@ -80,11 +64,9 @@ fn follow_file(rt: &HostRuntime, case: &mut [u8]) -> usize
 fn follow_case(rt: &HostRuntime, case: &[u8]) -> usize
     ensures { CaseFollowed case.now result }
 {
-    let read = case_reader::read_case(case);
-    let answer = read.answer;
-    match answer {
-        CaseAnswer::Refused(f) => write_refusal(f),
-        CaseAnswer::Accepted => follow_railway(rt, read.railway),
+    match case_reader::read_case(case) {
+        Err(f) => write_refusal(f),
+        Ok(r) => follow_railway(rt, r),
     }
 }
 
@@ -103,7 +85,7 @@ fn follow_railway(rt: &HostRuntime, r: Railway) -> usize
 {
     let mut figures = [0u32; ENTRIES];
     let mut settings = [0u32; ENTRIES];
-    solver::solve(r, &mut figures, &mut settings);
+    let _ = solver::solve(r, &mut figures, &mut settings);
     follow_plan(rt, r, &mut figures, &mut settings)
 }
 
@@ -156,17 +138,15 @@ fn turn(
         (panel_of result.railway figures.new settings.new (desk_at result.desk)) result.bytes result.going }
 {
     let mut line = [0u8; INPUT];
-    let read = next_line(&mut line);
-    let n = read.count;
-    if read.whole {
-        return hear(rt, desk, &line[..n], r, figures, settings);
-    }
-    Stand {
-        railway: r,
-        desk: desk,
-        bytes: 0,
-        going: false,
-    }
+    let Some(n) = next_line(&mut line) else {
+        return Stand {
+            railway: r,
+            desk,
+            bytes: 0,
+            going: false,
+        };
+    };
+    hear(rt, desk, &line[..n], r, figures, settings)
 }
 
 // A line that came: a change, or what is taken for a report.
@@ -216,25 +196,20 @@ fn tell(desk: Desk, r: Railway, figures: &[u32], settings: &[u32]) -> Stand
 fn write(r: Railway, step: Step, out: &[u8]) -> Stand
     ensures { (result.desk ≡ step.desk) × (result.bytes ≡ get_or (written_count step.put) 0) × (result.going ≡ step.going) × (result.railway ≡ r) }
 {
-    let desk = step.desk;
-    let put = step.put;
-    answer_output::front(out, put);
+    answer_output::front(out, step.put);
     Stand {
         railway: r,
-        desk: desk,
-        bytes: bytes_put(put),
+        desk: step.desk,
+        bytes: bytes_put(step.put),
         going: step.going,
     }
 }
 
 // How many bytes were put; none where they found no room.
-fn bytes_put(put: Written) -> usize
+fn bytes_put(put: Result<usize, Refusal>) -> usize
     ensures { result ≡ get_or (written_count put) 0 }
 {
-    match put {
-        Written::Bytes(n) => n,
-        Written::Refused(_) => 0,
-    }
+    put.unwrap_or(0)
 }
 
 // A CHANGE: the file that a line names is read, as the first case was.
@@ -275,7 +250,7 @@ fn name_of(line: &[u8]) -> &[u8] {
     &line[NAME..n]
 }
 
-// Its text: read, and solved in tables of its own. Of a text that is refused the reader hands out an empty record, for which nothing is solved.
+// Its text: read, and solved in tables of its own. Where the text is refused there is an empty record in place of the railway, for which nothing is solved.
 fn change_text(
     desk: Desk,
     text: &[u8],
@@ -289,19 +264,16 @@ fn change_text(
 {
     let mut next_figures = [0u32; ENTRIES];
     let mut next_settings = [0u32; ENTRIES];
-    let read = case_reader::read_case(text);
-    let s = read.railway;
-    solver::solve(s, &mut next_figures, &mut next_settings);
-    let reply = desk.change(r, text, &next_figures, &next_settings);
-    let answer = reply.answer;
-    let next = reply.desk;
-    match answer {
-        ChangeAnswer::Changed => {
-            copy(&next_figures, figures);
-            copy(&next_settings, settings);
+    let s = case_reader::read_case(text).unwrap_or(Railway::empty());
+    let _ = solver::solve(s, &mut next_figures, &mut next_settings);
+    let mut next = desk;
+    match next.change(r, text, &next_figures, &next_settings) {
+        Ok(()) => {
+            figures.copy_from_slice(&next_figures);
+            settings.copy_from_slice(&next_settings);
             tell(next, s, figures, settings)
         }
-        ChangeAnswer::Refused(f) => refuse(next, r, f),
+        Err(f) => refuse(next, r, f),
     }
 }
 
@@ -311,57 +283,34 @@ fn refuse(desk: Desk, r: Railway, f: Refusal) -> Stand
 {
     Stand {
         railway: r,
-        desk: desk,
+        desk,
         bytes: write_refusal(f),
         going: true,
     }
 }
 
-// A table over another that is as long.
-fn copy(from: &[u32], to: &mut [u32])
-    requires { length from.now ≡ length to.old }
-    ensures { to.new ≡ from.now }
-{
-    let mut i: usize = 0;
-    while i < to.len() {
-        to[i] = from[i];
-        i += 1;
-    }
-}
-
-// A LINE of standard input without its end, at the front of a lent buffer; what finds no room there is lost. It is read byte by byte, so that nothing behind it is waited for.
-fn next_line(line: &mut [u8]) -> LineRead
-    ensures { IsPrefixLen result.count line.new }
+// A LINE of standard input without its end, at the front of a lent buffer: how many bytes of it stand there; what finds no room is lost. None where the input
+// ends before the line does. It is read byte by byte, so that nothing behind it is waited for.
+fn next_line(line: &mut [u8]) -> Option<usize>
+    ensures { IfSome result (λ n. IsPrefixLen n line.new) }
 {
     let mut n: usize = 0;
-    let mut turns: u64 = 0;
-    while turns < 18446744073709551615 {
-        let Byte::Is(b) = next_byte() else {
-            return LineRead {
-                whole: false,
-                count: n,
-            };
-        };
+    for _i in 0..u64::MAX {
+        let b = next_byte()?;
         if b == LINE_END {
-            return LineRead {
-                whole: true,
-                count: n,
-            };
+            return Some(n);
         }
         n = append::byte(line, n, b);
-        turns += 1;
     }
-    LineRead {
-        whole: false,
-        count: n,
-    }
+    None
 }
 
-fn next_byte() -> Byte {
+// A byte of standard input, if one comes.
+fn next_byte() -> Option<u8> {
     let mut byte = [0u8; 1];
     if io::read_full(STDIN_FILENO, &mut byte) == 1 {
-        Byte::Is(byte[0])
+        Some(byte[0])
     } else {
-        Byte::End
+        None
     }
 }

@@ -16,8 +16,7 @@ use Rattle.text.specs.Text.{decimal, tab}
 use Rattle.text.specs.Reading.{is_digit, Got, bad, got, value, byte_at, number_at}
 use Rattle.text.proofs.Reading.{bad-got, Lies, Reads, on, go_on, byte-sound, byte-complete, number-sound, number-complete}
 use Rattle.text.specs.declared.Cursor.{Cursor}
-use Rattle.text.specs.declared.Byte.{Byte}
-use Rattle.text.specs.declared.Byte.TheVariants.{Other, Past}
+use Rattle.text.specs.Byte.{Byte, Other, Past}
 use Rattle.text.specs.Answers.{byte_got, byte_inside}
 use Rattle.text.proofs.Chain.{fails, goes, byte-fails, byte-goes}
 use Rattle.text.proofs.Decimal.{digits-short}

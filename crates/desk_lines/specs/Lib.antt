@@ -1,3 +1,4 @@
 pub mod Panel
 pub mod Reports
 pub mod Changes
+pub mod ReportLine

@@ -4,8 +4,7 @@ use Rattle.std.specs.Prelude.{◌≡◌, ◌↔◌, cond, ◌||◌, List, ◌∷
 use Rattle.std.proofs.Math.Option.{Option, none, some}
 use Rattle.text.specs.Text.{decimal, tab}
 use Rattle.text.specs.Reading.{Got, bad, got, then, value, byte_at, number_at}
-use Rattle.desk_lines.specs.declared.ReportLine.{ReportLine}
-use Rattle.desk_lines.specs.declared.ReportLine.TheVariants.{NoReport, Of}
+use Rattle.desk_lines.specs.ReportLine.{ReportLine, NoReport, Of}
 
 -- A train and a section, by the document's numbers.
 pub record Told : Type 0 where

@@ -8,11 +8,11 @@ ghost use Rattle.text.specs.Appending.{Appended};
 ghost use Rattle.answer_lines.specs.Lines.{PutPost};
 ghost use Rattle.desk_lines.specs.Panel.{train_piece, points_part, state_line, home_line};
 ghost use Rattle.desk_lines.specs.Reports.{place_of, report_in, report_read};
-ghost use Rattle.desk_lines.specs.Changes.{starts_with, is_change};
+ghost use Rattle.desk_lines.specs.Changes.{is_change};
 
-use case_file::Written;
 use game_placement::{Placement, TRAIN_BITS};
-use text::{Byte, Cursor, LINE_END, Number, TAB, Width, append};
+use railway::Refusal;
+use text::{Cursor, LINE_END, TAB, Width, append};
 
 // Room enough for the line of a state, in a case that is accepted.
 pub const LINE: usize = 200;
@@ -25,13 +25,6 @@ pub const NAME: usize = 7;
 
 // A number that no train and no section has, counted from 0.
 const NOWHERE: u8 = 255;
-
-// A line that was read: the train and the section of a report, by the document's numbers.
-#[derive(Clone, Copy)]
-pub enum ReportLine {
-    NoReport,
-    Of(u64, u64),
-}
 
 // The line of a state, at a cursor: k trains at placement q, figure n, and entry v of the setting table over m points. It answers the cursor behind it; a byte that finds no room is
 // lost.
@@ -46,7 +39,7 @@ pub fn state_line(out: &mut [u8], at: usize, k: u8, m: u8, q: Placement, n: u32,
 }
 
 // The trains are home.
-pub fn home_line(out: &mut [u8]) -> Written
+pub fn home_line(out: &mut [u8]) -> Result<usize, Refusal>
     ensures { PutPost home_line out.old result out.new }
 {
     answer_lines::put(b"home\n", out)
@@ -56,10 +49,8 @@ fn put_trains(out: &mut [u8], at: usize, k: u8, q: Placement, v: u32) -> usize
     ensures { Appended out.old at (gather_below (train_piece q v) k) out.new result }
 {
     let mut next = at;
-    let mut t: u8 = 0;
-    while t < k {
+    for t in 0..k {
         next = put_train(out, next, q, v, t);
-        t += 1;
     }
     next
 }
@@ -89,22 +80,16 @@ fn put_points(out: &mut [u8], at: usize, m: u8, v: u32) -> usize
 }
 
 // A report: two numbers and a tab between them, and nothing behind. The line is handed in without its end.
-pub fn report_in(line: &[u8]) -> ReportLine
+pub fn report_in(line: &[u8]) -> Option<(u64, u64)>
     ensures { report_read result ≡ report_in line.now }
 {
-    let Number::Value(t, tab) = text::number_at(line, Cursor { at: 0 }, Width::Three) else {
-        return ReportLine::NoReport;
-    };
-    let Byte::Past(field) = text::byte_at(line, tab, TAB) else {
-        return ReportLine::NoReport;
-    };
-    let Number::Value(x, end) = text::number_at(line, field, Width::Three) else {
-        return ReportLine::NoReport;
-    };
+    let (t, tab) = text::number_at(line, Cursor { at: 0 }, Width::Three)?;
+    let field = text::byte_at(line, tab, TAB)?;
+    let (x, end) = text::number_at(line, field, Width::Three)?;
     if end.at < line.len() {
-        return ReportLine::NoReport;
+        return None;
     }
-    ReportLine::Of(t, x)
+    Some((t, x))
 }
 
 // A train or a section by its number in the document, as the desk counts them, from 0; those that cannot be there are one that is not.
@@ -127,22 +112,5 @@ pub fn is_change(line: &[u8]) -> bool
     if INPUT <= line.len() {
         return false;
     }
-    starts_with(line, b"change\t")
-}
-
-// A word at the front of a line.
-fn starts_with(line: &[u8], word: &[u8]) -> bool
-    ensures { result ≡ starts_with word.now line.now }
-{
-    let mut i: usize = 0;
-    while i < word.len() {
-        if line.len() <= i {
-            return false;
-        }
-        if line[i] != word[i] {
-            return false;
-        }
-        i += 1;
-    }
-    true
+    line.starts_with(b"change\t")
 }

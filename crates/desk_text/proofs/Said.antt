@@ -18,16 +18,15 @@ use Rattle.railway.specs.declared.Refusal.TheVariants.{Report}
 use Rattle.railway.specs.Bounds.{most_points, most_trains}
 use Rattle.railway.specs.Refusals.{row, first}
 use Rattle.railway.specs.Rows.{record_refusal}
-use Rattle.case_file.specs.declared.Written.{Written}
+use Rattle.case_file.specs.Written.{Written}
 use Rattle.game.proofs.Accepted.{facts}
 use Rattle.game_tables.specs.Tables.{no_figure, case_refusal}
 use Rattle.game_tables.proofs.Refusals.{case-then, case-none}
 use Rattle.answer_lines.specs.Lines.{refusal_line, none_line, PutPost}
 use Rattle.answer_lines.proofs.Lines.{refusal-short}
-use Rattle.desk.specs.declared.OpenAnswer.{OpenAnswer}
-use Rattle.desk.specs.declared.SettingAnswer.{SettingAnswer}
-use Rattle.desk.specs.declared.SettingAnswer.TheVariants.{Given}
-use Rattle.desk.specs.declared.ReportAnswer.{ReportAnswer}
+use Rattle.desk.specs.OpenAnswer.{OpenAnswer}
+use Rattle.desk.specs.SettingAnswer.{SettingAnswer, Given}
+use Rattle.desk.specs.ReportAnswer.{ReportAnswer}
 use Rattle.desk.specs.Desk.{Desk, desk_row, Opening, setting_rows, setting_by, give_setting, Reply, OpenPost, SettingPost, ReportPost}
 use Rattle.desk_lines.specs.Panel.{state_line, home_line}
 use Rattle.desk_lines.specs.Reports.{Told, report_in, place_of}
@@ -85,6 +84,11 @@ module _ (r : Railway) (figs sets : List ℕ) where
     opening-said x post a told p =
         subst (λ (z : Opening). SaidPost (opened_said r figs sets z.answer z.desk) old e w g new) post.answers
         (subst (λ (z : OpenAnswer). SaidPost (opened_said r figs sets z x.desk) old e w g new) (sym told) p)
+
+    -- where no desk is opened, beside one that stands nowhere
+    pub nowhere-said : (x : Opening) → OpenPost r figs sets x → (a : OpenAnswer) → x.answer ≡ a → e ≡ x.desk → SaidPost (opened_said r figs sets a e) old e w g new
+        → SaidPost (opening_said r figs sets) old e w g new
+    nowhere-said x post a told is p = opening-said x post a told (subst (λ (z : Desk). SaidPost (opened_said r figs sets a z) old e w g new) is p)
 
     -- A REPORT
     pub reply-said : (d : Desk) (t x : ℕ) (y : Reply) → ReportPost r d figs sets t x y → (a : ReportAnswer) → y.answer ≡ a → SaidPost (replied_said r figs sets a y.desk) old e w g new

@@ -8,8 +8,7 @@ use Rattle.text.specs.Text.{digits, line, bytes}
 use Rattle.text.specs.Reading.{is_digit, number_at}
 use Rattle.railway.specs.declared.Railway.{Railway}
 use Rattle.railway.specs.Refusals.{first}
-use Rattle.case_file.specs.declared.Written.{Written}
-use Rattle.case_file.specs.declared.Written.TheVariants.{Bytes}
+use Rattle.case_file.specs.Written.{Written, Bytes}
 use Rattle.desk.specs.Desk.{Desk}
 use Rattle.desk_lines.specs.Reports.{report_at}
 use Rattle.desk_text.specs.Said.{Said, line_said, SaidPost}

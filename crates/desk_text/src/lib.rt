@@ -10,19 +10,18 @@ ghost use Rattle.desk_calls.specs.Answers.{desk_at};
 ghost use Rattle.desk_lines.specs.Panel.{state_line};
 ghost use Rattle.desk_text.specs.Said.{given_said, state_said, opening_said, moved_said, line_said, SaidPost};
 
-use case_file::Written;
-use desk::{OpenAnswer, ReportAnswer, SettingAnswer};
 use desk_calls::Desk;
-use desk_lines::{LINE, ReportLine};
+use desk_lines::LINE;
 use game_placement::Placement;
 use game_tables::NO_FIGURE;
 use railway::{Railway, Refusal};
 
-// What was put for an opening or for a line, the desk behind it, and whether lines are read from there on.
+// What was put for an opening or for a line, the desk behind it, and whether lines are read from there on. The desk is there also where none are: the contract
+// (`SaidPost`) says which it is.
 #[derive(Clone, Copy)]
 pub struct Step {
     pub desk: Desk,
-    pub put: Written,
+    pub put: Result<usize, Refusal>,
     pub going: bool,
 }
 
@@ -30,18 +29,15 @@ pub struct Step {
 pub fn open_text(r: Railway, figures: &[u32], settings: &[u32], out: &mut [u8]) -> Step
     ensures { SaidPost (opening_said r figures.now settings.now) out.old (desk_at result.desk) result.put result.going out.new }
 {
-    let opened = Desk::open(r, figures, settings);
-    let answer = opened.answer;
-    let desk = opened.desk;
-    match answer {
-        OpenAnswer::Opened => state_text(desk, r, figures, settings, out),
-        OpenAnswer::NoFigure => Step {
-            desk: desk,
+    match Desk::open(r, figures, settings) {
+        Ok(Some(desk)) => state_text(desk, r, figures, settings, out),
+        Ok(None) => Step {
+            desk: Desk::nowhere(),
             put: answer_lines::none_line(out),
             going: false,
         },
-        OpenAnswer::Refused(f) => Step {
-            desk: desk,
+        Err(f) => Step {
+            desk: Desk::nowhere(),
             put: answer_lines::refusal_line(f, out),
             going: false,
         },
@@ -61,12 +57,12 @@ pub fn line_text(
         out.old (desk_at result.desk) result.put result.going out.new }
 {
     match desk_lines::report_in(line) {
-        ReportLine::NoReport => Step {
-            desk: desk,
+        None => Step {
+            desk,
             put: answer_lines::refusal_line(Refusal::Report, out),
             going: true,
         },
-        ReportLine::Of(t, x) => report_text(
+        Some((t, x)) => report_text(
             desk,
             r,
             figures,
@@ -90,12 +86,10 @@ fn report_text(
 ) -> Step
     ensures { SaidPost (moved_said r figures.now settings.now (desk_at desk) t x) out.old (desk_at result.desk) result.put result.going out.new }
 {
-    let reply = desk.report(r, figures, settings, t, x);
-    let answer = reply.answer;
-    let next = reply.desk;
+    let (next, answer) = desk.report(r, figures, settings, t, x);
     match answer {
-        ReportAnswer::Counted => state_text(next, r, figures, settings, out),
-        ReportAnswer::Refused(f) => Step {
+        Ok(()) => state_text(next, r, figures, settings, out),
+        Err(f) => Step {
             desk: next,
             put: answer_lines::refusal_line(f, out),
             going: true,
@@ -108,9 +102,9 @@ pub fn state_text(desk: Desk, r: Railway, figures: &[u32], settings: &[u32], out
     ensures { SaidPost (state_said r figures.now settings.now (desk_at desk)) out.old (desk_at result.desk) result.put result.going out.new }
 {
     match desk.setting(r, figures, settings) {
-        SettingAnswer::Given(v) => given_text(desk, r, figures, v, out),
-        SettingAnswer::Refused(f) => Step {
-            desk: desk,
+        Ok(v) => given_text(desk, r, figures, v, out),
+        Err(f) => Step {
+            desk,
             put: answer_lines::refusal_line(f, out),
             going: false,
         },
@@ -124,21 +118,21 @@ fn given_text(desk: Desk, r: Railway, figures: &[u32], v: u32, out: &mut [u8]) -
     let at = desk.at;
     if desk.arrived == r.trains {
         return Step {
-            desk: desk,
+            desk,
             put: desk_lines::home_line(out),
             going: false,
         };
     }
     let n = game_tables::entry_at(figures, desk.code, NO_FIGURE);
     Step {
-        desk: desk,
+        desk,
         put: put_state(r.trains, r.points, at, n, v, out),
         going: true,
     }
 }
 
 // The line of a state, made in a buffer with room for that of an accepted case.
-fn put_state(k: u8, m: u8, q: Placement, n: u32, v: u32, out: &mut [u8]) -> Written
+fn put_state(k: u8, m: u8, q: Placement, n: u32, v: u32, out: &mut [u8]) -> Result<usize, Refusal>
     ensures { k ≤ most_trains → m ≤ most_points → PutPost (state_line k m q n v) out.old result out.new }
 {
     let mut line = [0u8; LINE];

@@ -8,26 +8,21 @@ use std::fs;
 use std::io::Read;
 use std::rt::Files;
 
-// A file that was asked for by its name.
+// A file that was asked for by its name, if it could be opened.
 #[derive(Drop)]
-pub enum Asked<F> {
-    Open(F),
-    Missing,
-}
+pub struct Asked<F>(Option<F>);
 
 // One that cannot be opened for reading is missing, whatever the reason.
 pub fn open<R: Files>(rt: &R, name: &str) -> Asked<R::File> {
-    match fs::open(rt, name) {
-        Ok(file) => Asked::Open(file),
-        Err(_) => Asked::Missing,
-    }
+    Asked(fs::open(rt, name).ok())
 }
 
+// A missing file is an empty text. The type is one of its own since Option is not ours to read from.
 impl<F: Read> Read for Asked<F> {
     fn read(&mut self, buf: &mut [u8]) -> std::io::Result<usize> {
-        match self {
-            Asked::Open(file) => file.read(buf),
-            Asked::Missing => Ok(0),
+        match &mut self.0 {
+            Some(file) => file.read(buf),
+            None => Ok(0),
         }
     }
 }
@@ -36,10 +31,7 @@ impl<F: Read> Read for Asked<F> {
 pub fn read_some<S: Read>(source: &mut S, buf: &mut [u8]) -> usize
     ensures { IsPrefixLen result buf.new }
 {
-    match source.read(buf) {
-        Ok(n) => n,
-        Err(_) => 0,
-    }
+    source.read(buf).unwrap_or(0)
 }
 
 // Reads until the buffer is full, the text ends or a read fails, and answers how many bytes stand at its start.

@@ -11,8 +11,7 @@ use Rattle.laws.specs.Below.{any_below}
 use Rattle.laws.proofs.Bools.{clash, some-none, not-and}
 use Rattle.laws.proofs.Below.{any_false}
 use Rattle.railway.specs.declared.End.{End}
-use Rattle.railway.specs.declared.Joined.{Joined}
-use Rattle.railway.specs.declared.Joined.TheVariants.{Nothing, With}
+use Rattle.railway.specs.Joined.{Joined, Nothing, With}
 use Rattle.railway.specs.declared.Railway.{Railway}
 use Rattle.railway.specs.declared.Refusal.{Refusal}
 use Rattle.railway.specs.Bounds.{least_weight, most_weight, most_sections, most_points, most_trains, section_ends, all_ends}

@@ -15,8 +15,7 @@ use Rattle.railway.specs.declared.Leg.{Leg}
 use Rattle.railway.specs.declared.PointNo.{PointNo}
 use Rattle.railway.specs.declared.End.{End}
 use Rattle.railway.specs.declared.End.TheVariants.{Section, Port}
-use Rattle.railway.specs.declared.Joined.{Joined}
-use Rattle.railway.specs.declared.Joined.TheVariants.{Nothing, With}
+use Rattle.railway.specs.Joined.{Joined, Nothing, With}
 use Rattle.railway.specs.declared.Railway.{Railway}
 use Rattle.railway.specs.Record.{joined, is_closed, train_of, weight_of}
 use Rattle.railway.specs.Passing.{Passage, through, most_met, nowhere, past_point, past_join, follow, passes, in_use, entered}

@@ -3,13 +3,12 @@ use mathlib.Core.Path.{◌≡◌, ap, ◌∙◌}
 use mathlib.Core.Logic.{inl, inr}
 use mathlib.Core.Bool.{true, false, not}
 use mathlib.Core.List.{List}
-use Prim.Native.Nat.{ℕ, ◌+◌, ◌≤◌, ◌<◌}
-use native.Mathlib.Omega.{arith}
+use Prim.Native.Nat.{ℕ, ◌≤◌, ◌<◌}
 use lib.ListN.{length, get_or}
 use lib.Dec.{ltb}
 use borrow.Author.Tests.{ltb-true, lt-ltb, le-ltb}
 use Rattle.laws.specs.Below.{list_below}
-use Rattle.laws.proofs.Bools.{eq?, bool?, clash, not_is}
+use Rattle.laws.proofs.Bools.{bool?, clash, not_is}
 use Rattle.laws.proofs.Below.{any_at, any_of, any_false, list_length, list_get}
 use Rattle.railway.specs.declared.Railway.{Railway}
 use Rattle.game.specs.Placement.{sections_in, placements, sections_of, stands_on, code_on, names_none}
@@ -52,7 +51,3 @@ module _ (r : Railway) (section : ℕ → ℕ) where
     pub stands-named : 0 < r.sections → (t : ℕ) → t < r.trains → stands_on r (code_on r section) t ≡ section t
     unfolding stands_on
     stands-named one t l = ap (λ (xs : List ℕ). get_or xs t 0) (sections-named one) ∙ list_get section r.trains t 0 l
-
--- one train more
-pub one_more : (section : ℕ → ℕ) (s t : ℕ) → ((u : ℕ) → u < t → section u < s) → section t < s → (u : ℕ) → u < t + 1 → section u < s
-one_more section s t h l u lu = elim (eq? u t) [ inl z ↦ rw z l | inr z ↦ h u (omega (arith, z)) ]

@@ -14,12 +14,12 @@ use Rattle.railway.specs.declared.Railway.{Railway}
 use Rattle.railway.specs.declared.Refusal.{Refusal}
 use Rattle.railway.specs.declared.Refusal.TheVariants.{Space}
 use Rattle.railway.specs.Rows.{record_refusal}
-use Rattle.railway.specs.declared.CaseAnswer.TheVariants.{Accepted, Refused}
+use Rattle.railway.specs.CaseAnswer.{Accepted, Refused}
 use Rattle.railway_acceptance.proofs.Answers.{judged-refused, judged-accepted}
 use Rattle.game.specs.Placement.{placements}
 use Rattle.game_tables.specs.Tables.{tables_short, case_refusal}
 use Rattle.game_tables.proofs.Refusals.{case-record, case-accepted, case-none}
-use Rattle.railway_compiled.specs.declared.Compilation.{Compilation}
+use Rattle.railway_compiled.specs.Compilation.{Compilation}
 use Rattle.railway_compiled.specs.Table.{Compiled, CompilePost, table_bytes}
 use Rattle.game_case.specs.Cases.{CasePost}
 

@@ -13,7 +13,7 @@ use Rattle.railway.specs.Record.{is_closed, joined_by, joined, has_signal, legs_
 use Rattle.railway.specs.Rows.{weight_row, unknown_row, join_row, loose_row, longer, chain_row, place_row}
 use Rattle.railway.specs.Yards.{yard_a}
 use Rattle.game_tables.specs.Tables.{tables_short, case_refusal}
-use Rattle.railway_compiled.specs.declared.Compilation.{Compilation}
+use Rattle.railway_compiled.specs.Compilation.{Compilation}
 use Rattle.railway_compiled.specs.Table.{Compiled}
 use Rattle.game_case.specs.Cases.{CasePost}
 

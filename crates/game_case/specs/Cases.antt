@@ -7,7 +7,7 @@ use Rattle.railway.specs.declared.Railway.{Railway}
 use Rattle.railway.specs.declared.Refusal.{Refusal}
 use Rattle.railway.specs.Refusals.{number_given, number_of}
 use Rattle.game_tables.specs.Tables.{case_refusal}
-use Rattle.railway_compiled.specs.declared.Compilation.{Compilation}
+use Rattle.railway_compiled.specs.Compilation.{Compilation}
 use Rattle.railway_compiled.specs.Table.{Compiled, table_bytes}
 
 -- The first row of the case that applies is given, by its number, with a table that is all zero; where none applies, the railway's table.

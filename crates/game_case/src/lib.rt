@@ -2,46 +2,25 @@
 // apart, for calls that ask where moves lead.
 #![tactic(auto)]
 
-ghost use Rattle.std.specs.Prelude.{◌≡◌, replicate};
-ghost use Rattle.railway.specs.declared.Refusal.TheVariants.{Space};
-ghost use Rattle.railway.specs.declared.CaseAnswer.TheVariants.{Refused};
 ghost use Rattle.railway.specs.Record.{is_closed};
 ghost use Rattle.railway_routes.specs.Routes.{Laid};
-ghost use Rattle.railway_compiled.specs.Table.{table_bytes};
+ghost use Rattle.railway_compiled.specs.Table.{compilation};
 ghost use Rattle.game_case.specs.Cases.{CasePost};
 
-use railway::{CaseAnswer, Railway, Refusal};
-use railway_compiled::{Compilation, TABLE};
+use railway::{Railway, Refusal};
+use railway_compiled::Table;
 use railway_routes::Ways;
 
-// The record is tested first, then the length of the tables. Where anything is refused the compiled table is all zero.
-pub fn open_case(r: Railway, figures: &[u32], settings: &[u32]) -> Compilation
-    ensures { CasePost r figures.now settings.now result }
+// The record is tested first, then the length of the tables.
+pub fn open_case(r: Railway, figures: &[u32], settings: &[u32]) -> Result<Table, Refusal>
+    ensures { CasePost r figures.now settings.now (compilation result) }
 {
-    let c = railway_compiled::compile(r);
-    let tested = c.tested;
-    let CaseAnswer::Accepted = tested else {
-        return c;
-    };
-    let table = c.table;
+    let table = railway_compiled::compile(r)?;
     let n = game_moves::placements(&table) as usize;
-    if figures.len() < n {
-        return short();
+    if figures.len() < n || settings.len() < n {
+        return Err(Refusal::Space);
     }
-    if settings.len() < n {
-        return short();
-    }
-    c
-}
-
-// The tables are too short.
-fn short() -> Compilation
-    ensures { (result.tested ≡ Refused Space) × (result.table ≡ replicate table_bytes 0) }
-{
-    Compilation {
-        tested: CaseAnswer::Refused(Refusal::Space),
-        table: [0u8; TABLE],
-    }
+    Ok(table)
 }
 
 // The ways of a record's railway, into sections that are not closed.

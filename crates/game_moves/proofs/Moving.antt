@@ -14,7 +14,7 @@ use borrow.Author.Tests.{eq-eqb, lt-ltb, le-ltb, ltb-true}
 use Rattle.laws.specs.Below.{any_below, list_below}
 use Rattle.laws.specs.Bits.{bit}
 use Rattle.laws.proofs.Bools.{lt?, and-true, and_both}
-use Rattle.laws.proofs.Below.{any_same, any-one, any_none, none_any, list_length, list_get}
+use Rattle.laws.proofs.Below.{any_same, any-one, none_any, list_length, list_get}
 use Rattle.laws.proofs.Bits.{high_bit, bit-none}
 use Rattle.railway.specs.declared.Side.{Side}
 use Rattle.railway.specs.declared.End.{End}
@@ -38,7 +38,7 @@ use Rattle.game_tables.proofs.Exists.{few-placements}
 use Rattle.railway_routes.specs.Routes.{no_section, section_byte}
 use Rattle.railway_compiled.specs.Table.{parked_on, held_on, free_on}
 use Rattle.game_placement.specs.declared.Placement.{Placement}
-use Rattle.game_moves.specs.declared.Move.{Move}
+use Rattle.game_moves.specs.Move.{Move}
 use Rattle.game_moves.specs.Answers.{ended, move_under}
 use Rattle.game_placement.specs.ByValue.{section_in}
 use Rattle.game_moves.specs.Steps.{no_code, stride_of, code_put, On, moved_to, put_in, held_in, free_in, other_in}
@@ -114,13 +114,9 @@ module _ (r : Railway) (p : ℕ) (table : List ℕ) (q : Placement) (on : On r p
     pub opens-if : (i u j : ℕ) (b : Bool) → b ≡ bit v (16 + u) → b ≡ true → j ≡ end_index (heads_for r p u) → eqb i j ≡ opens_end r p (opens_in v) i u
     opens-if i u j b h y k = rw (sym h ∙ y, ← k)
 
-    pub some-opens : (i k u : ℕ) → k ≡ r.trains → u < k → opens_end r p (opens_in v) i u ≡ true → true ≡ (setting_at r p v).is_open i
+    pub opens-is : (i k : ℕ) → k ≡ r.trains → {b : Bool} → b ≡ any_below (opens_end r p (opens_in v) i) k → b ≡ (setting_at r p v).is_open i
     unfolding setting_at
-    some-opens i k u e l h = any-one (opens_end r p (opens_in v) i) r.trains u (rw (sym e) l) h
-
-    pub none-opens : (i k u : ℕ) → k ≡ r.trains → u ≤ k → k ≤ u → any_below (opens_end r p (opens_in v) i) u ≡ false → false ≡ (setting_at r p v).is_open i
-    unfolding setting_at
-    none-opens i k u e l m h = any_none (opens_end r p (opens_in v) i) r.trains u h (rw (sym e) l) (rw (sym e) m)
+    opens-is i k e h = rw e at h
 
     -- the signal before a train: open by the train's own bit, and closed where no train's is set
     pub own-opens : (t : ℕ) (b : Bool) → t < r.trains → b ≡ bit v (16 + t) → b ≡ true → true ≡ opens_for r p (setting_at r p v) t

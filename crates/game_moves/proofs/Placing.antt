@@ -2,7 +2,7 @@
 -- Assumes nothing.
 use mathlib.Core.Path.{◌≡◌, refl, sym, ◌∙◌, ap}
 use mathlib.Core.Logic.{inl, inr}
-use mathlib.Core.Bool.{Bool, true, false, cond}
+use mathlib.Core.Bool.{Bool, false, cond, not}
 use mathlib.Core.List.{List, [], ◌∷◌}
 use Prim.Native.Nat.{ℕ, ◌+◌, ◌*◌, ◌/◌, ◌%◌, ◌^◌, ◌≤◌, ◌<◌}
 use native.Mathlib.Omega.{arith}
@@ -13,18 +13,17 @@ use borrow.Author.Tests.{lt-ltb, le-ltb, eq-eqb, ne_eqb}
 use Rattle.laws.specs.Below.{all_below, any_below, list_below}
 use Rattle.laws.proofs.Bools.{lt?, eq?}
 use Rattle.laws.proofs.Lists.{of_four}
-use Rattle.laws.proofs.Below.{any_same, any_none, any-one, all-each, all_but, list_length, list_get, list_same}
+use Rattle.laws.proofs.Below.{any_same, list_length, list_get, list_same}
 use Rattle.railway.specs.declared.Railway.{Railway}
 use Rattle.railway.specs.Bounds.{most_trains}
 use Rattle.railway.specs.Record.{train_of}
-use Rattle.game.specs.Placement.{code_of, sections_of, placements, stands_on, arrived, at_home, stands_with, shares_lower, shared, code_on}
+use Rattle.game.specs.Placement.{code_of, sections_of, placements, stands_on, arrived, at_home, stands_with, shares_lower, shared, code_on, names_none}
 use Rattle.game.proofs.Placement.{sections-length}
 use Rattle.game.proofs.Accepted.{Facts, facts}
 use Rattle.railway_compiled.specs.Table.{Compiled}
 use Rattle.game_placement.specs.declared.Placement.{Placement}
 use Rattle.game_placement.specs.ByValue.{section_in}
 use Rattle.game_placement.proofs.ByValue.{section-past}
-use Rattle.game_placement.specs.ByValue.{section_in}
 use Rattle.game_moves.specs.Steps.{On, moved_to, put_in, other_in}
 use Rattle.game_moves.proofs.Coding.{without, section-left, code-of-sections}
 
@@ -119,9 +118,8 @@ module _ (r : Railway) (table : List ℕ) (h : Compiled r table) where
   code_same f g p same e = e ∙ ap (code_of r.sections) (list_same f g r.trains same)
 
   -- The code of a placement whose sections are those of f, train by train.
-  pub code-each : (f : ℕ → ℕ) (a b c d p : ℕ) → a ≡ f 0 → b ≡ f 1 → c ≡ f 2 → d ≡ f 3 → p ≡ code_on r (section_in (record { sections = a ∷ b ∷ c ∷ d ∷ [] })) → p ≡ code_on r f
-  code-each f a b c d p ea eb ec ed =
-      code_same (section_in (record { sections = a ∷ b ∷ c ∷ d ∷ [] })) f p (λ t l. of_four (λ u x. x ≡ f u) 0 a b c d ea eb ec ed t (omega (arith, table-facts.few-trains)))
+  pub code-each : (f : ℕ → ℕ) (q : Placement) (p : ℕ) → ((t : ℕ) → t < most_trains → section_in q t ≡ f t) → p ≡ code_on r (section_in q) → p ≡ code_on r f
+  code-each f q p each = code_same (section_in q) f p (λ t l. each t (omega (arith, table-facts.few-trains)))
 
   -- The code of a placement with train t put on section x.
   pub code-with-is : (q : Placement) (t x s k a b c d p : ℕ) → s ≡ r.sections → k ≡ r.trains
@@ -163,20 +161,16 @@ module _ (r : Railway) (p : ℕ) (table : List ℕ) (q : Placement) (on : On r p
   pub arrived-is : (x y : ℕ) → x ≡ section_in q t → y ≡ (train_of r t).destination.0 → eqb x y ≡ arrived r p t
   arrived-is x y e f = let d : x ≡ stands_on r p t = e ∙ on.stands t in rw (d, f)
 
--- LOST AND HOME, of all trains: what the loops over them answer.
-module _ (r : Railway) (p k t : ℕ) (e : k ≡ r.trains) where
-  pub is-lost : t < k → shares_lower r p t ≡ true → true ≡ shared r p
+-- LOST AND HOME, and whether a section is named that is not there: what is asked of the trains of the table is asked of the railway's.
+module _ (r : Railway) (p k : ℕ) (e : k ≡ r.trains) {b : Bool} where
+  pub lost-is : b ≡ any_below (shares_lower r p) k → b ≡ shared r p
   unfolding shared
-  is-lost l h = any-one (shares_lower r p) r.trains t (rw (sym e) l) h
+  lost-is h = rw e at h
 
-  pub not-lost : t ≤ k → k ≤ t → any_below (shares_lower r p) t ≡ false → false ≡ shared r p
-  unfolding shared
-  not-lost l m h = any_none (shares_lower r p) r.trains t h (rw (sym e) l) (rw (sym e) m)
-
-  pub not_home : t < k → arrived r p t ≡ false → false ≡ at_home r p
+  pub home-is : b ≡ all_below (arrived r p) k → b ≡ at_home r p
   unfolding at_home
-  not_home l h = all_but (arrived r p) r.trains t (rw (sym e) l) h
+  home-is h = rw e at h
 
-  pub is-home : t ≤ k → k ≤ t → all_below (arrived r p) t ≡ true → true ≡ at_home r p
-  unfolding at_home
-  is-home l m h = all-each (arrived r p) r.trains t h (rw (sym e) l) (rw (sym e) m)
+pub names-is : (r : Railway) (section : ℕ → ℕ) (k s : ℕ) → k ≡ r.trains → s ≡ r.sections → {b : Bool} → b ≡ any_below (λ t. not (ltb (section t) s)) k → b ≡ names_none r section
+unfolding names_none
+names-is r section k s ek es h = rw (ek, es) at h

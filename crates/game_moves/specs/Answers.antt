@@ -8,8 +8,7 @@ use Rattle.game.specs.Game.{derailment, collision, Outcome, lost, at, may}
 use Rattle.game.specs.Placement.{code_on}
 use Rattle.game.specs.Moves.{move_of, game_of}
 use Rattle.game_tables.specs.Entries.{setting_at}
-use Rattle.game_moves.specs.declared.Move.{Move}
-use Rattle.game_moves.specs.declared.Move.TheVariants.{NotAllowed, Derails, Collides, At}
+use Rattle.game_moves.specs.Move.{Move, NotAllowed, Derails, Collides, At}
 
 -- Home's code: all trains on their destinations.
 unfoldable pub home_code : Railway → ℕ

@@ -22,24 +22,21 @@ ghost use Rattle.game_placement.specs.ByValue.{section_in};
 ghost use Rattle.game_moves.specs.Answers.{home_code, ended, move_under};
 ghost use Rattle.game_moves.specs.Steps.{stride_of, code_put, On, moved_to, put_in, held_in, free_in, other_in};
 
-use game_placement::{Placement, TRAIN_BITS, bit_at, section_at};
+use game_placement::{FIRST_TRAIN, Placement, TRAIN_BITS, bit_at, section_at};
 use railway::{End, Railway, SectionNo};
 use railway_compiled::Table;
 use railway_routes::Ways;
-
-// The bit of the first train in an entry of the setting table, as a number: points have the bits below.
-const FIRST_TRAIN: u32 = 1u32 << Railway::POINTS;
+use std::array;
 
 // What stands for no code: no railway has so many placements.
 pub const NO_CODE: u32 = 4294967295;
 
-// What comes of a move: it is not allowed, loses, or leads to the next placement.
-#[derive(Clone, Copy)]
-pub enum Move {
+// Why a move leads to no placement: it is not allowed, or it loses.
+#[derive(Clone, Copy, PartialEq, Eq)]
+pub enum Fault {
     NotAllowed,
     Derails,
     Collides,
-    At(u32),
 }
 
 // PLACEMENTS. How many there are: s to the power k.
@@ -79,13 +76,14 @@ pub fn placement_of(table: &Table, p: u32) -> Placement
     let b = without_first(s, p);
     let c = without_first(s, b);
     let d = without_first(s, c);
+    // Written out: by `array::from_fn`, here and in `put_on`, the solver takes a tenth longer.
     let sections = [
         first_section(s, k, p, 0),
         first_section(s, k, b, 1),
         first_section(s, k, c, 2),
         first_section(s, k, d, 3),
     ];
-    Placement { sections: sections }
+    Placement { sections }
 }
 
 // What is left of a code without its first train.
@@ -124,10 +122,7 @@ fn code_with(table: &Table, q: Placement, t: u8, x: u8) -> u32
 {
     let s = railway_compiled::sections_in(table);
     let k = railway_compiled::trains_in(table);
-    let a = moved_to(q, k, t, x, 0);
-    let b = moved_to(q, k, t, x, 1);
-    let c = moved_to(q, k, t, x, 2);
-    let d = moved_to(q, k, t, x, 3);
+    let [a, b, c, d]: [u8; 4] = array::from_fn(|u| moved_to(q, k, t, x, u as u8));
     code_of_sections(s, a, b, c, d)
 }
 
@@ -157,13 +152,14 @@ fn code_of_sections(s: u8, a: u8, b: u8, c: u8, d: u8) -> u32
 pub fn put_on(q: Placement, t: u8, x: u8) -> Placement
     ensures { (u : ℕ) → section_in result u ≡ put_in q t x u }
 {
+    // Written out: by `array::from_fn`, here and in `placement_of`, the solver takes a tenth longer.
     let sections = [
         moved_to(q, Railway::TRAINS, t, x, 0),
         moved_to(q, Railway::TRAINS, t, x, 1),
         moved_to(q, Railway::TRAINS, t, x, 2),
         moved_to(q, Railway::TRAINS, t, x, 3),
     ];
-    Placement { sections: sections }
+    Placement { sections }
 }
 
 // The code of a placement whose code is c, with a train of this stride put from section x on section y; `NO_CODE`, if that is none.
@@ -188,26 +184,16 @@ pub fn code_put(c: u32, stride: u32, x: u8, y: u8) -> u32
 pub fn start_code(table: &Table) -> u32
     ensures { (r : Railway) → Compiled r table.now → result ≡ start_code r }
 {
-    let sections = [
-        railway_compiled::start_in(table, 0),
-        railway_compiled::start_in(table, 1),
-        railway_compiled::start_in(table, 2),
-        railway_compiled::start_in(table, 3),
-    ];
-    code_of(table, Placement { sections: sections })
+    let sections = array::from_fn(|t| railway_compiled::start_in(table, t as u8));
+    code_of(table, Placement { sections })
 }
 
 // Home's code: each train on its destination.
 pub fn home_code(table: &Table) -> u32
     ensures { (r : Railway) → Compiled r table.now → result ≡ home_code r }
 {
-    let sections = [
-        railway_compiled::destination_in(table, 0),
-        railway_compiled::destination_in(table, 1),
-        railway_compiled::destination_in(table, 2),
-        railway_compiled::destination_in(table, 3),
-    ];
-    code_of(table, Placement { sections: sections })
+    let sections = array::from_fn(|t| railway_compiled::destination_in(table, t as u8));
+    code_of(table, Placement { sections })
 }
 
 // The placement names a section that is not there. What stands for trains past the last is not looked at.
@@ -216,28 +202,14 @@ pub fn names_none(table: &Table, q: Placement) -> bool
 {
     let s = railway_compiled::sections_in(table);
     let k = railway_compiled::trains_in(table);
-    let mut t: u8 = 0;
-    while t < k {
-        if s <= section_at(q, t) {
-            return true;
-        }
-        t += 1;
-    }
-    false
+    (0..k).any(|t| s <= section_at(q, t))
 }
 
 // Another train than t, of the first n, stands on section x.
 pub fn other_in(q: Placement, t: u8, x: u8, n: u8) -> bool
     ensures { result ≡ any_below (other_in q t x) n }
 {
-    let mut u: u8 = 0;
-    while u < n {
-        if is_other(q, t, x, u) {
-            return true;
-        }
-        u += 1;
-    }
-    false
+    (0..n).any(|u| is_other(q, t, x, u))
 }
 
 // Train u is another than t and stands on section x.
@@ -262,14 +234,7 @@ pub fn lost_in(table: &Table, q: Placement) -> bool
     ensures { (r : Railway) (p : ℕ) → On r p table.now q → result ≡ shared r p }
 {
     let k = railway_compiled::trains_in(table);
-    let mut t: u8 = 0;
-    while t < k {
-        if other_in(q, t, section_at(q, t), t) {
-            return true;
-        }
-        t += 1;
-    }
-    false
+    (0..k).any(|t| other_in(q, t, section_at(q, t), t))
 }
 
 // Home: each train stands on its destination.
@@ -284,15 +249,7 @@ pub fn home_in(table: &Table, q: Placement) -> bool
     ensures { (r : Railway) (p : ℕ) → On r p table.now q → result ≡ at_home r p }
 {
     let k = railway_compiled::trains_in(table);
-    let mut t: u8 = 0;
-    while t < k {
-        if section_at(q, t) == railway_compiled::destination_in(table, t) {
-            t += 1;
-        } else {
-            return false;
-        }
-    }
-    true
+    (0..k).all(|t| section_at(q, t) == railway_compiled::destination_in(table, t))
 }
 
 // MOVES. The end that a train heads for.
@@ -375,14 +332,7 @@ fn open_in(table: &Table, q: Placement, v: u32, i: u8) -> bool
     ensures { (r : Railway) (p : ℕ) → On r p table.now q → result ≡ (setting_at r p v).is_open i }
 {
     let k = railway_compiled::trains_in(table);
-    let mut u: u8 = 0;
-    while u < k {
-        if opens_end(table, q, v, i, u) {
-            return true;
-        }
-        u += 1;
-    }
-    false
+    (0..k).any(|u| opens_end(table, q, v, i, u))
 }
 
 // Entry v opens train u, and train u heads for the section end of index i.
@@ -397,20 +347,20 @@ fn opens_end(table: &Table, q: Placement, v: u32, i: u8, u: u8) -> bool
 }
 
 // What moving a train ends in under an entry of the setting table.
-pub fn move_of(table: &Table, ways: &Ways, p: u32, v: u32, t: u8) -> Move
+pub fn move_of(table: &Table, ways: &Ways, p: u32, v: u32, t: u8) -> Result<u32, Fault>
     ensures { (r : Railway) → Compiled r table.now → Laid r (is_closed r) ways.now → ended result ≡ move_under r p v t }
 {
     move_in(table, ways, placement_of(table, p), v, t)
 }
 
 // What moving a train of a placement by value ends in.
-pub fn move_in(table: &Table, ways: &Ways, q: Placement, v: u32, t: u8) -> Move
+pub fn move_in(table: &Table, ways: &Ways, q: Placement, v: u32, t: u8) -> Result<u32, Fault>
     ensures { (r : Railway) (p : ℕ) → On r p table.now q → Laid r (is_closed r) ways.now → ended result ≡ move_under r p v t }
 {
     if may_in(table, q, v, t) {
         outcome_of(table, ways, q, v, t)
     } else {
-        Move::NotAllowed
+        Err(Fault::NotAllowed)
     }
 }
 
@@ -422,15 +372,15 @@ pub fn leads_to(table: &Table, ways: &Ways, q: Placement, v: u32, t: u8) -> u8
 }
 
 // What a move ends in, the points lying by entry v.
-fn outcome_of(table: &Table, ways: &Ways, q: Placement, v: u32, t: u8) -> Move
+fn outcome_of(table: &Table, ways: &Ways, q: Placement, v: u32, t: u8) -> Result<u32, Fault>
     ensures { (r : Railway) (p : ℕ) → On r p table.now q → Laid r (is_closed r) ways.now → t < r.trains → ended result ≡ some (move_of r p (setting_at r p v) t) }
 {
     let x = leads_to(table, ways, q, v, t);
     if x == railway_routes::NO_SECTION {
-        return Move::Derails;
+        return Err(Fault::Derails);
     }
     if other_in(q, t, x, railway_compiled::trains_in(table)) {
-        return Move::Collides;
+        return Err(Fault::Collides);
     }
-    Move::At(code_with(table, q, t, x))
+    Ok(code_with(table, q, t, x))
 }

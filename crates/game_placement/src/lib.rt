@@ -17,16 +17,14 @@ pub struct Placement {
 // The bit of the first train in an entry of the setting table: points have the bits below.
 pub const TRAIN_BITS: u32 = Railway::POINTS as u32;
 
+// That bit as a number.
+pub const FIRST_TRAIN: u32 = 1u32 << TRAIN_BITS;
+
 // The section of a train; 0 past the last.
 pub fn section_at(q: Placement, t: u8) -> u8
     ensures { result ≡ section_in q t }
 {
-    let at = t as usize;
-    if t < Railway::TRAINS {
-        q.sections[at]
-    } else {
-        0
-    }
+    q.sections.get(t as usize).copied().unwrap_or(0)
 }
 
 // Bit n of a number.

@@ -25,7 +25,7 @@ use Rattle.game.specs.Placement.{code_of, sections_in, stands_on}
 use Rattle.game.specs.Setting.{Setting, heads_for, held, free, signal_open, may_move}
 use Rattle.game.specs.Moves.{occupied, move_of}
 use Rattle.railway.specs.Yards.{yard_h, line_p, line_j, line_g, line_t, line_tw, sec, port, yard_a, head_on}
-use Rattle.game_tables.specs.declared.SolverAnswer.TheVariants.{Refused, Unsolvable, Figure}
+use Rattle.game_tables.specs.SolverAnswer.{Refused, Unsolvable, Figure}
 use Rattle.game_tables.specs.Entries.{setting_at, entry_from, entry_of}
 use Rattle.game_tables.specs.Tables.{no_figure, figure_in, tables_short, case_refusal, open_signals, lowest_open, point_bits, no_later}
 use Rattle.game_tables.specs.Find.{entry_keeps, ends_good, is_good, try_open, first_found, find}

@@ -13,8 +13,7 @@ use Rattle.railway.proofs.Refusals.{number-one, number-tells}
 use Rattle.game.specs.Placement.{start_code}
 use Rattle.game.proofs.Accepted.{facts}
 use Rattle.game.proofs.Moves.{start-below}
-use Rattle.game_tables.specs.declared.SolverAnswer.{SolverAnswer}
-use Rattle.game_tables.specs.declared.SolverAnswer.TheVariants.{Refused, Unsolvable, Figure}
+use Rattle.game_tables.specs.SolverAnswer.{SolverAnswer, Refused, Unsolvable, Figure}
 use Rattle.game_tables.specs.Tables.{figure_in, case_refusal}
 use Rattle.game_tables.specs.Solver.{number_given, figure_given, SolverTables, SolverPost}
 use Rattle.game_tables.proofs.Refusals.{case-none}

@@ -29,7 +29,7 @@ use Rattle.game.proofs.Accepted.{facts}
 use Rattle.game.proofs.Figures.{figure-one}
 use Rattle.game.proofs.ByTurns.{one-as-before}
 use Rattle.game.proofs.Inhabited.{yard-ones}
-use Rattle.game_tables.specs.declared.SolverAnswer.{SolverAnswer}
+use Rattle.game_tables.specs.SolverAnswer.{SolverAnswer}
 use Rattle.game_tables.specs.Entries.{setting_at, entry_of}
 use Rattle.game_tables.specs.Tables.{no_figure, figure_in, tables_short, case_refusal, Planned, Exact, Filled}
 use Rattle.game_tables.specs.Solver.{number_given, SolverPost}

@@ -7,3 +7,4 @@ pub mod KnownYards
 pub mod Find
 pub mod Rounds
 pub mod Lengths
+pub mod SolverAnswer

@@ -6,8 +6,7 @@ use Rattle.railway.specs.declared.Railway.{Railway}
 use Rattle.railway.specs.declared.Refusal.{Refusal}
 use Rattle.railway.specs.Refusals.{number, number_of}
 use Rattle.game.specs.Placement.{placements, start_code}
-use Rattle.game_tables.specs.declared.SolverAnswer.{SolverAnswer}
-use Rattle.game_tables.specs.declared.SolverAnswer.TheVariants.{Refused, Unsolvable, Figure}
+use Rattle.game_tables.specs.SolverAnswer.{SolverAnswer, Refused, Unsolvable, Figure}
 use Rattle.game_tables.specs.Tables.{figure_in, case_refusal, Filled}
 
 -- The number, in the table, of the refusal that an answer gives, if it does.

@@ -5,16 +5,6 @@ ghost use Rattle.std.specs.Prelude.{◌≡◌, get_or};
 ghost use Rattle.game.specs.Local.{is_within};
 ghost use Rattle.game_tables.specs.Tables.{figure_entry};
 
-use railway::Refusal;
-
-// What the solver answers: a refusal; that the start has no figure; the start's figure. Both tables are filled in the last two.
-#[derive(Clone, Copy)]
-pub enum SolverAnswer {
-    Refused(Refusal),
-    Unsolvable,
-    Figure(u32),
-}
-
 // The figure table's entry for none.
 pub const NO_FIGURE: u32 = 4294967295;
 
@@ -25,12 +15,7 @@ pub const ENTRIES: usize = 8192;
 pub fn entry_at(entries: &[u32], p: u32, past: u32) -> u32
     ensures { result ≡ get_or entries.now p past }
 {
-    let at = p as usize;
-    if at < entries.len() {
-        entries[at]
-    } else {
-        past
-    }
+    entries.get(p as usize).copied().unwrap_or(past)
 }
 
 // Whether an entry is a figure that is smaller than n by this weight at least. The weight is taken from n, so that nothing overflows.

@@ -21,7 +21,7 @@ use Rattle.railway.specs.Refusals.{row, first, refuse_if, number_of}
 use Rattle.railway.specs.Rows.{record_rows, record_refusal}
 use Rattle.railway.proofs.Refusals.{first-append, refuse-none}
 use Rattle.logs.specs.declared.Entry.{Entry}
-use Rattle.logs.specs.declared.LogAnswer.TheVariants.{Refused}
+use Rattle.logs.specs.LogAnswer.{Refused}
 use Rattle.logs.specs.Logs.{most_entries, sections_for, SameFor, lacking, faulty, log_rows, Taken, number_said, train_named, Found, LogPost}
 use Rattle.logs.specs.Computed.{same_list, differs, answer_by, compare}
 

@@ -21,8 +21,7 @@ use Rattle.railway.specs.Refusals.{number, Row, row, first, refuse_if, number_of
 use Rattle.railway.specs.Rows.{record_rows, record_refusal}
 use Rattle.railway.proofs.Refusals.{first-is, number-one, number-tells}
 use Rattle.logs.specs.declared.Entry.{Entry}
-use Rattle.logs.specs.declared.LogAnswer.{LogAnswer}
-use Rattle.logs.specs.declared.LogAnswer.TheVariants.{Agree, Differ, Refused}
+use Rattle.logs.specs.LogAnswer.{LogAnswer, Agree, Differ, Refused}
 use Rattle.logs.specs.Logs.{most_entries, Agreeing, LowestDiffering, lacking, faulty, log_rows, Taken, number_said, train_named, Found, LogPost, AtFault, LogClaims, LogsHold}
 use Rattle.logs.specs.Computed.{compare}
 use Rattle.logs.proofs.Computed.{by-record, by-logs, past_same, compare-keeps}

@@ -19,8 +19,7 @@ use Rattle.railway.specs.Record.{empty_railway, is_closed, joined_by, joined, ha
 use Rattle.railway.specs.Rows.{weight_row, unknown_row, join_row, loose_row, longer, chain_row, place_row, record_refusal}
 use Rattle.railway.specs.Yards.{yard_a}
 use Rattle.logs.specs.declared.Entry.{Entry}
-use Rattle.logs.specs.declared.LogAnswer.{LogAnswer}
-use Rattle.logs.specs.declared.LogAnswer.TheVariants.{Agree, Differ, Refused}
+use Rattle.logs.specs.LogAnswer.{LogAnswer, Agree, Differ, Refused}
 use Rattle.logs.specs.Logs.{sections_for, SameFor, Agreeing, LowestDiffering, Swaps, done, swap, faulty, Taken, number_said, LogPost, AtFault}
 use Rattle.logs.proofs.Examples.{entered, panel, axles, crossed, many}
 use Rattle.logs.proofs.Swapping.{agreeing}

@@ -7,8 +7,7 @@ use Rattle.railway.specs.declared.Railway.{Railway}
 use Rattle.railway.specs.declared.Refusal.{Refusal}
 use Rattle.railway.specs.Refusals.{first}
 use Rattle.logs.specs.declared.Entry.{Entry}
-use Rattle.logs.specs.declared.LogAnswer.{LogAnswer}
-use Rattle.logs.specs.declared.LogAnswer.TheVariants.{Agree, Differ, Refused}
+use Rattle.logs.specs.LogAnswer.{LogAnswer, Agree, Differ, Refused}
 use Rattle.logs.specs.Logs.{sections_for, log_rows}
 
 -- Two lists of numbers are the same.

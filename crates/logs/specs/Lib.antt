@@ -1,2 +1,3 @@
 pub mod Logs
 pub mod Computed
+pub mod LogAnswer

@@ -10,8 +10,7 @@ use Rattle.railway.specs.declared.Refusal.TheVariants.{Log}
 use Rattle.railway.specs.Refusals.{number, number_of, Row, row, first}
 use Rattle.railway.specs.Rows.{record_rows, record_refusal}
 use Rattle.logs.specs.declared.Entry.{Entry}
-use Rattle.logs.specs.declared.LogAnswer.{LogAnswer}
-use Rattle.logs.specs.declared.LogAnswer.TheVariants.{Agree, Differ, Refused}
+use Rattle.logs.specs.LogAnswer.{LogAnswer, Agree, Differ, Refused}
 
 -- A LOG is a list of entries; so many at most.
 abbrev pub most_entries : ℕ

@@ -13,8 +13,7 @@ pub struct Entry {
 
 // What a comparison answers: the logs agree; the lowest train that differs, counted from 0; or a refusal.
 #[derive(Clone, Copy)]
-pub enum LogAnswer {
+pub enum Verdict {
     Agree,
     Differ(u8),
-    Refused(Refusal),
 }

@@ -1,3 +1,2 @@
-pub mod Places
-pub mod Passes
 pub mod Judging
+pub mod Comparing

@@ -12,8 +12,7 @@ use Rattle.railway.specs.declared.Refusal.{Refusal}
 use Rattle.railway.specs.Refusals.{number_of}
 use Rattle.game_tables.specs.Tables.{case_refusal}
 use Rattle.plan.specs.declared.PlanPlace.{PlanPlace}
-use Rattle.plan.specs.declared.Emitted.{Emitted}
-use Rattle.plan.specs.declared.Emitted.TheVariants.{Line, End, NoPlan, Refused}
+use Rattle.plan.specs.Emitted.{Emitted, Line, End, NoPlan, Refused}
 use Rattle.plan.specs.Emitter.{is_line, Wrote, emit_line}
 use Rattle.plan.specs.Checker.{Checking, take_line, LineCalls, call_lines}
 use Rattle.plan.specs.Promises.{EmitterPost}

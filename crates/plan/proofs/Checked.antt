@@ -29,10 +29,8 @@ use Rattle.game_tables.specs.Tables.{no_figure, figure_entry, case_refusal}
 use Rattle.game_tables.proofs.Entries.{entry-plus, entry-opens}
 use Rattle.plan.specs.declared.CheckerState.{CheckerState}
 use Rattle.plan.specs.declared.CheckerState.TheVariants.{Fresh, Begun}
-use Rattle.plan.specs.declared.LineAnswer.{LineAnswer}
-use Rattle.plan.specs.declared.LineAnswer.TheVariants.{Taken, Refused as LineRefused}
-use Rattle.plan.specs.declared.TestAnswer.{TestAnswer}
-use Rattle.plan.specs.declared.TestAnswer.TheVariants.{Pass, Refused as TestRefused}
+use Rattle.plan.specs.LineAnswer.{LineAnswer, Taken, Refused as LineRefused}
+use Rattle.plan.specs.TestAnswer.{TestAnswer, Pass, Refused as TestRefused}
 use Rattle.plan.specs.Lines.{PlacementLine, PlanLine, start_line, placement_line, spell, fits, Spells, line_code}
 use Rattle.plan.specs.Reading.{read_line}
 use Rattle.plan.specs.Test.{Test, line_on, figure_on, opens_on, plus_on, by_lines, by_tables}

@@ -24,7 +24,7 @@ use Rattle.game_tables.specs.Tables.{no_figure, figure_in, case_refusal}
 use Rattle.game_tables.proofs.Refusals.{case-none}
 use Rattle.plan.specs.declared.PlanPlace.{PlanPlace}
 use Rattle.plan.specs.declared.PlanPlace.TheVariants.{Top, From}
-use Rattle.plan.specs.declared.Emitted.TheVariants.{Line, End, NoPlan, Refused}
+use Rattle.plan.specs.Emitted.{Line, End, NoPlan, Refused}
 use Rattle.plan.specs.Lines.{start_line, placement_line, spell}
 use Rattle.plan.specs.Text.{has_figure, line_for, plan_lines, plan_texts}
 use Rattle.plan.specs.Emitter.{is_line, Wrote, leaves, next_code, due, emit_line}

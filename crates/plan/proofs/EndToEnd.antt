@@ -12,7 +12,7 @@ use borrow.Author.Tests.{le-leb, leb-true}
 use Rattle.laws.specs.Lists.{all}
 use Rattle.laws.proofs.Bools.{clash, and-true, and_both}
 use Rattle.railway.specs.declared.Railway.{Railway}
-use Rattle.railway.specs.declared.CaseAnswer.{CaseAnswer}
+use Rattle.railway.specs.CaseAnswer.{CaseAnswer}
 use Rattle.railway.specs.Refusals.{number_of}
 use Rattle.railway.specs.Rows.{record_refusal}
 use Rattle.game.specs.Placement.{placements, start_code}
@@ -20,9 +20,9 @@ use Rattle.game_tables.specs.Tables.{figure_in, case_refusal, Filled}
 use Rattle.game_tables.specs.Solver.{SolverLeaves}
 use Rattle.game_tables.proofs.Plays.{filled-whole}
 use Rattle.plan.specs.declared.PlanPlace.TheVariants.{Top}
-use Rattle.plan.specs.declared.Emitted.TheVariants.{End, NoPlan}
-use Rattle.plan.specs.declared.LineAnswer.{LineAnswer}
-use Rattle.plan.specs.declared.TestAnswer.{TestAnswer}
+use Rattle.plan.specs.Emitted.{End, NoPlan}
+use Rattle.plan.specs.LineAnswer.{LineAnswer}
+use Rattle.plan.specs.TestAnswer.{TestAnswer}
 use Rattle.plan.specs.Lines.{PlanLine, spell, fits, most_line_bytes}
 use Rattle.plan.specs.Text.{plan_lines, plan_texts, plan_text}
 use Rattle.plan.specs.Emitter.{Wrote}

@@ -33,7 +33,7 @@ use Rattle.game_tables.proofs.KnownYards.{figs_a, sets_a}
 use Rattle.game_tables.proofs.Examples.{ladder, weighed}
 use Rattle.plan.specs.declared.PlanPlace.{PlanPlace}
 use Rattle.plan.specs.declared.PlanPlace.TheVariants.{Top, From}
-use Rattle.plan.specs.declared.Emitted.TheVariants.{Line, End, NoPlan, Refused}
+use Rattle.plan.specs.Emitted.{Line, End, NoPlan, Refused}
 use Rattle.plan.specs.Lines.{PlacementLine, placement_line, spell, fits}
 use Rattle.plan.specs.Text.{line_for}
 use Rattle.plan.specs.Emitter.{number_given, Wrote, leaves, emit_line}

@@ -7,7 +7,7 @@ use Prim.Native.Nat.{ℕ, ◌-◌, ◌≤◌, ◌<◌}
 use native.Mathlib.Omega.{arith}
 use lib.ListN.{length, get_or, replicate, drop, length-append, length-drop, length-replicate, get_or-replicate, get_or-append}
 use Rattle.railway.specs.declared.Railway.{Railway}
-use Rattle.railway.specs.declared.CaseAnswer.{CaseAnswer}
+use Rattle.railway.specs.CaseAnswer.{CaseAnswer}
 use Rattle.railway.specs.Rows.{record_refusal}
 use Rattle.game.specs.Placement.{placements}
 use Rattle.game_tables.specs.Tables.{no_figure}

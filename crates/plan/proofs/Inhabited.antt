@@ -15,8 +15,7 @@ use Rattle.laws.specs.Bits.{from_bits}
 use Rattle.laws.specs.Lists.{any, all}
 use Rattle.text.specs.Text.{digits, line, bytes}
 use Rattle.text.specs.Reading.{fields, value_of, same_text}
-use Rattle.railway.specs.declared.CaseAnswer.{CaseAnswer}
-use Rattle.railway.specs.declared.CaseAnswer.TheVariants.{Accepted}
+use Rattle.railway.specs.CaseAnswer.{CaseAnswer, Accepted}
 use Rattle.railway.specs.declared.Refusal.TheVariants.{PlanFault}
 use Rattle.railway.specs.Ends.{end_at}
 use Rattle.railway.specs.Refusals.{first, number_of}
@@ -28,15 +27,15 @@ use Rattle.game.specs.Placement.{code_of, sections_in, placements, stands_on, st
 use Rattle.game.specs.Setting.{heads_for, held, may_move, free, signal_open}
 use Rattle.game.specs.Moves.{occupied, move_of}
 use Rattle.railway.specs.Yards.{yard_a}
-use Rattle.game_tables.specs.declared.SolverAnswer.TheVariants.{Figure}
+use Rattle.game_tables.specs.SolverAnswer.{Figure}
 use Rattle.game_tables.specs.Entries.{entry_from}
 use Rattle.game_tables.specs.Tables.{no_figure, figure_in, tables_short, case_refusal}
 use Rattle.game_tables.specs.Solver.{Kept, SolverPost}
 use Rattle.game_tables.proofs.KnownYards.{figs_a, sets_a, yard_a-accepted, yard_a-filled}
 use Rattle.plan.specs.declared.PlanPlace.TheVariants.{Top, From}
-use Rattle.plan.specs.declared.Emitted.TheVariants.{Line, End}
+use Rattle.plan.specs.Emitted.{Line, End}
 use Rattle.plan.specs.declared.CheckerState.TheVariants.{Fresh}
-use Rattle.plan.specs.declared.TestAnswer.TheVariants.{Pass, Refused}
+use Rattle.plan.specs.TestAnswer.{Pass, Refused}
 use Rattle.plan.specs.Lines.{spell, fits, most_line_bytes}
 use Rattle.plan.specs.Text.{line_for, plan_lines, plan_texts}
 use Rattle.plan.specs.Emitter.{emit_line}

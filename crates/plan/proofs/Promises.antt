@@ -9,10 +9,8 @@ use Rattle.railway.specs.declared.Railway.{Railway}
 use Rattle.railway.specs.declared.Refusal.{Refusal}
 use Rattle.game_tables.specs.Tables.{case_refusal}
 use Rattle.plan.specs.declared.PlanPlace.{PlanPlace}
-use Rattle.plan.specs.declared.LineAnswer.{LineAnswer}
-use Rattle.plan.specs.declared.LineAnswer.TheVariants.{Refused as LineRefused}
-use Rattle.plan.specs.declared.TestAnswer.{TestAnswer}
-use Rattle.plan.specs.declared.TestAnswer.TheVariants.{Refused as TestRefused}
+use Rattle.plan.specs.LineAnswer.{LineAnswer, Refused as LineRefused}
+use Rattle.plan.specs.TestAnswer.{TestAnswer, Refused as TestRefused}
 use Rattle.plan.specs.Emitter.{number_given, Wrote, emit_line}
 use Rattle.plan.specs.Checker.{line_number, test_number, Checking, Left, take_line, test_plan}
 use Rattle.plan.specs.Promises.{EmitterPost, LinePost, TestPost}

@@ -21,7 +21,7 @@ use Rattle.railway.specs.declared.Railway.{Railway}
 use Rattle.railway.specs.declared.Refusal.{Refusal}
 use Rattle.railway.specs.declared.Refusal.TheVariants.{Space, PlanForm, PlanFault}
 use Rattle.railway.specs.Ends.{end_at}
-use Rattle.railway.specs.declared.CaseAnswer.{CaseAnswer}
+use Rattle.railway.specs.CaseAnswer.{CaseAnswer}
 use Rattle.railway.specs.Refusals.{first, number_given as caseNumber}
 use Rattle.railway.specs.Record.{is_closed, joined_by, joined, has_signal, legs_of, train_of, weight_of, with_join, with_signal, with_legs, with_train}
 use Rattle.railway.specs.Passing.{follow, passes, entered}
@@ -40,14 +40,11 @@ use Rattle.game_tables.specs.ByTurns.{FilledInTurns}
 use Rattle.game_tables.proofs.KnownYards.{figs_a, sets_a, yard_a-accepted, yard_a-filled}
 use Rattle.plan.specs.declared.PlanPlace.{PlanPlace}
 use Rattle.plan.specs.declared.PlanPlace.TheVariants.{Top, From}
-use Rattle.plan.specs.declared.Emitted.{Emitted}
-use Rattle.plan.specs.declared.Emitted.TheVariants.{Line, Refused as EmitRefused}
+use Rattle.plan.specs.Emitted.{Emitted, Line, Refused as EmitRefused}
 use Rattle.plan.specs.declared.CheckerState.{CheckerState}
 use Rattle.plan.specs.declared.CheckerState.TheVariants.{Fresh, Begun}
-use Rattle.plan.specs.declared.LineAnswer.{LineAnswer}
-use Rattle.plan.specs.declared.LineAnswer.TheVariants.{Taken, Refused as LineRefused}
-use Rattle.plan.specs.declared.TestAnswer.{TestAnswer}
-use Rattle.plan.specs.declared.TestAnswer.TheVariants.{Pass, Refused as TestRefused}
+use Rattle.plan.specs.LineAnswer.{LineAnswer, Taken, Refused as LineRefused}
+use Rattle.plan.specs.TestAnswer.{TestAnswer, Pass, Refused as TestRefused}
 use Rattle.plan.specs.Lines.{PlacementLine, start_line, placement_line, spell, fits, Spells, line_code}
 use Rattle.plan.specs.Text.{has_figure, line_for, plan_texts}
 use Rattle.plan.specs.Emitter.{number_given, is_line, Wrote, Due, due}

@@ -23,14 +23,11 @@ use Rattle.game_tables.specs.Tables.{figure_in, case_refusal}
 use Rattle.game_tables.specs.Solver.{Kept}
 use Rattle.game_tables.proofs.Refusals.{Enough, case-none}
 use Rattle.plan.specs.declared.PlanPlace.{PlanPlace}
-use Rattle.plan.specs.declared.Emitted.{Emitted}
-use Rattle.plan.specs.declared.Emitted.TheVariants.{Line, End, NoPlan, Refused as EmitRefused}
+use Rattle.plan.specs.Emitted.{Emitted, Line, End, NoPlan, Refused as EmitRefused}
 use Rattle.plan.specs.declared.CheckerState.{CheckerState}
 use Rattle.plan.specs.declared.CheckerState.TheVariants.{Fresh, Begun}
-use Rattle.plan.specs.declared.LineAnswer.{LineAnswer}
-use Rattle.plan.specs.declared.LineAnswer.TheVariants.{Taken, Refused as LineRefused}
-use Rattle.plan.specs.declared.TestAnswer.{TestAnswer}
-use Rattle.plan.specs.declared.TestAnswer.TheVariants.{Pass, Refused as TestRefused}
+use Rattle.plan.specs.LineAnswer.{LineAnswer, Taken, Refused as LineRefused}
+use Rattle.plan.specs.TestAnswer.{TestAnswer, Pass, Refused as TestRefused}
 use Rattle.plan.specs.Lines.{PlacementLine, PlanLine, start_line, placement_line, Spells, line_code}
 use Rattle.plan.specs.Text.{is_some, has_figure}
 use Rattle.plan.specs.Emitter.{is_line, leaves, Due, due}

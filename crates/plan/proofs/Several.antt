@@ -20,8 +20,7 @@ use Rattle.game_tables.specs.Tables.{no_figure, figure_in, case_refusal}
 use Rattle.game.specs.Placement.{start_code}
 use Rattle.plan.specs.declared.PlanPlace.{PlanPlace}
 use Rattle.plan.specs.declared.PlanPlace.TheVariants.{Top, From}
-use Rattle.plan.specs.declared.Emitted.{Emitted}
-use Rattle.plan.specs.declared.Emitted.TheVariants.{Line, End, NoPlan, Refused}
+use Rattle.plan.specs.Emitted.{Emitted, Line, End, NoPlan, Refused}
 use Rattle.plan.specs.Lines.{PlanLine, start_line, placement_line, spell, line_fields}
 use Rattle.plan.specs.Text.{line_for, plan_text}
 use Rattle.plan.specs.Emitter.{number_given, line_given, is_line, Wrote, leaves, next_code, due_for, due, emit_line}

@@ -18,18 +18,16 @@ use Rattle.laws.proofs.Lists.{all-weaken}
 use Rattle.text.specs.Text.{tab, line_end, line}
 use Rattle.text.specs.Reading.{is_plain}
 use Rattle.railway.specs.declared.Railway.{Railway}
-use Rattle.railway.specs.declared.CaseAnswer.{CaseAnswer}
+use Rattle.railway.specs.CaseAnswer.{CaseAnswer}
 use Rattle.railway.specs.Rows.{record_refusal}
 use Rattle.game_tables.specs.Tables.{figure_in, case_refusal}
 use Rattle.game.specs.Placement.{placements, start_code}
 use Rattle.plan.specs.declared.PlanPlace.{PlanPlace}
 use Rattle.plan.specs.declared.PlanPlace.TheVariants.{Top}
-use Rattle.plan.specs.declared.Emitted.TheVariants.{Line, End}
-use Rattle.plan.specs.declared.FrontAnswer.{FrontAnswer}
-use Rattle.plan.specs.declared.FrontAnswer.TheVariants.{Took}
-use Rattle.plan.specs.declared.TestAnswer.{TestAnswer}
-use Rattle.plan.specs.declared.LineAnswer.{LineAnswer}
-use Rattle.plan.specs.declared.LineAnswer.TheVariants.{Taken, Refused as LineRefused}
+use Rattle.plan.specs.Emitted.{Line, End}
+use Rattle.plan.specs.FrontAnswer.{FrontAnswer, Took}
+use Rattle.plan.specs.TestAnswer.{TestAnswer}
+use Rattle.plan.specs.LineAnswer.{LineAnswer, Taken, Refused as LineRefused}
 use Rattle.plan.specs.Lines.{PlanLine, spell, line_fields}
 use Rattle.plan.specs.Text.{plan_lines, plan_texts, plan_text}
 use Rattle.plan.specs.Emitter.{is_line, Wrote, leaves}

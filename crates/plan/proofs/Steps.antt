@@ -22,7 +22,7 @@ use Rattle.game_tables.proofs.Refusals.{case-rows, case-then}
 use Rattle.plan.specs.declared.PlanPlace.{PlanPlace}
 use Rattle.plan.specs.declared.CheckerState.{CheckerState}
 use Rattle.plan.specs.declared.CheckerState.TheVariants.{Fresh, Begun}
-use Rattle.plan.specs.declared.LineAnswer.{LineAnswer}
+use Rattle.plan.specs.LineAnswer.{LineAnswer}
 use Rattle.plan.specs.Lines.{PlanLine, start_line, placement_line, line_code}
 use Rattle.plan.specs.Text.{is_some}
 use Rattle.plan.specs.Emitter.{Wrote, Due, due, due_too_long, buffer_short, emitter_rows, emitter_leaves, emit_line}

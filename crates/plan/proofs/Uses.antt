@@ -13,7 +13,7 @@ use Rattle.laws.specs.Lists.{any, all}
 use Rattle.laws.proofs.Bools.{clash, some-none, some_one}
 use Rattle.text.specs.Text.{digits, line, bytes}
 use Rattle.text.specs.Reading.{fields, value_of, same_text}
-use Rattle.railway.specs.declared.CaseAnswer.{CaseAnswer}
+use Rattle.railway.specs.CaseAnswer.{CaseAnswer}
 use Rattle.railway.specs.Ends.{end_at}
 use Rattle.railway.specs.Refusals.{first}
 use Rattle.railway.specs.Record.{is_closed, joined_by, joined, has_signal, legs_of, train_of, weight_of, with_join, with_signal, with_legs, with_train}
@@ -29,20 +29,17 @@ use Rattle.game.proofs.Figures.{figure-one, ended}
 use Rattle.game.proofs.Setting.{agreeing-alike}
 use Rattle.game.proofs.ByTurns.{one-as-before}
 use Rattle.game.proofs.Inhabited.{yard-ones}
-use Rattle.game_tables.specs.declared.SolverAnswer.{SolverAnswer}
-use Rattle.game_tables.specs.declared.SolverAnswer.TheVariants.{Refused, Unsolvable, Figure}
+use Rattle.game_tables.specs.SolverAnswer.{SolverAnswer, Refused, Unsolvable, Figure}
 use Rattle.game_tables.specs.Tables.{figure_in, setting_in, tables_short, Filled}
 use Rattle.game_tables.specs.Solver.{number_given, figure_given}
 use Rattle.game_tables.proofs.Unique.{sets-one}
 use Rattle.game_tables.proofs.KnownYards.{figs_a, sets_a, yard_a-accepted, yard_a-filled, head_on-filled}
 use Rattle.plan.specs.declared.PlanPlace.{PlanPlace}
 use Rattle.plan.specs.declared.PlanPlace.TheVariants.{Top}
-use Rattle.plan.specs.declared.Emitted.{Emitted}
-use Rattle.plan.specs.declared.Emitted.TheVariants.{End, NoPlan}
-use Rattle.plan.specs.declared.LineAnswer.{LineAnswer}
-use Rattle.plan.specs.declared.FrontAnswer.TheVariants.{Took}
-use Rattle.plan.specs.declared.TestAnswer.{TestAnswer}
-use Rattle.plan.specs.declared.TestAnswer.TheVariants.{Pass}
+use Rattle.plan.specs.Emitted.{Emitted, End, NoPlan}
+use Rattle.plan.specs.LineAnswer.{LineAnswer}
+use Rattle.plan.specs.FrontAnswer.{Took}
+use Rattle.plan.specs.TestAnswer.{TestAnswer, Pass}
 use Rattle.plan.specs.Lines.{spell, fits}
 use Rattle.plan.specs.Text.{plan_texts, plan_text}
 use Rattle.plan.specs.Reading.{guess, read_line}

@@ -4,10 +4,9 @@ use Rattle.std.specs.Prelude.{◌≡◌, Bool, true, false, ◌&&◌, List, [], 
 use Rattle.std.proofs.Math.Option.{Option, none, some}
 use Rattle.railway.specs.declared.Railway.{Railway}
 use Rattle.plan.specs.declared.PlanPlace.{PlanPlace}
-use Rattle.plan.specs.declared.Emitted.{Emitted}
-use Rattle.plan.specs.declared.Emitted.TheVariants.{Line}
-use Rattle.plan.specs.declared.LineAnswer.{LineAnswer}
-use Rattle.plan.specs.declared.FrontAnswer.{FrontAnswer}
+use Rattle.plan.specs.Emitted.{Emitted, Line}
+use Rattle.plan.specs.LineAnswer.{LineAnswer}
+use Rattle.plan.specs.FrontAnswer.{FrontAnswer}
 use Rattle.plan.specs.Emitter.{is_line}
 use Rattle.plan.specs.Checker.{Checking, LineCalls, onward}
 use Rattle.plan.specs.Promises.{EmitterPost, LinePost}

@@ -13,9 +13,8 @@ use Rattle.game.specs.Setting.{Setting}
 use Rattle.game.specs.Moves.{game_of}
 use Rattle.game_tables.specs.Tables.{no_figure}
 use Rattle.plan.specs.declared.CheckerState.TheVariants.{Fresh}
-use Rattle.plan.specs.declared.LineAnswer.{LineAnswer}
-use Rattle.plan.specs.declared.LineAnswer.TheVariants.{Taken, Refused as LineRefused}
-use Rattle.plan.specs.declared.TestAnswer.TheVariants.{Pass, Refused as TestRefused}
+use Rattle.plan.specs.LineAnswer.{LineAnswer, Taken, Refused as LineRefused}
+use Rattle.plan.specs.TestAnswer.{Pass, Refused as TestRefused}
 use Rattle.plan.specs.Lines.{PlacementLine, PlanLine, spell, fits, Spells, line_code, plan_of}
 use Rattle.plan.specs.Test.{Listing, listed_setting, Test, by_lines}
 use Rattle.plan.specs.Reading.{read_line}

@@ -12,10 +12,8 @@ use Rattle.game_tables.specs.Entries.{entry_from}
 use Rattle.game_tables.specs.Tables.{no_figure, case_rows}
 use Rattle.plan.specs.declared.CheckerState.{CheckerState}
 use Rattle.plan.specs.declared.CheckerState.TheVariants.{Fresh, Begun}
-use Rattle.plan.specs.declared.LineAnswer.{LineAnswer}
-use Rattle.plan.specs.declared.LineAnswer.TheVariants.{Taken, Refused as LineRefused}
-use Rattle.plan.specs.declared.TestAnswer.{TestAnswer}
-use Rattle.plan.specs.declared.TestAnswer.TheVariants.{Pass, Refused as TestRefused}
+use Rattle.plan.specs.LineAnswer.{LineAnswer, Taken, Refused as LineRefused}
+use Rattle.plan.specs.TestAnswer.{TestAnswer, Pass, Refused as TestRefused}
 use Rattle.plan.specs.Lines.{PlacementLine, PlanLine, start_line, placement_line, line_code}
 use Rattle.plan.specs.Test.{by_tables}
 use Rattle.plan.specs.Reading.{read_line}

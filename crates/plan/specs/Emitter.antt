@@ -12,8 +12,7 @@ use Rattle.game.specs.Placement.{placements, start_code}
 use Rattle.game_tables.specs.Tables.{no_figure, figure_in, tables_short}
 use Rattle.plan.specs.declared.PlanPlace.{PlanPlace}
 use Rattle.plan.specs.declared.PlanPlace.TheVariants.{Top, From}
-use Rattle.plan.specs.declared.Emitted.{Emitted}
-use Rattle.plan.specs.declared.Emitted.TheVariants.{Line, End, NoPlan, Refused}
+use Rattle.plan.specs.Emitted.{Emitted, Line, End, NoPlan, Refused}
 use Rattle.plan.specs.Lines.{start_line, placement_line, spell}
 use Rattle.plan.specs.Text.{is_some, has_figure, line_for}
 

@@ -5,23 +5,20 @@ use Rattle.std.proofs.Math.Option.{none, some}
 use Rattle.laws.specs.Lists.{all}
 use Rattle.text.specs.Text.{line_end}
 use Rattle.railway.specs.declared.Railway.{Railway}
-use Rattle.railway.specs.declared.CaseAnswer.{CaseAnswer}
+use Rattle.railway.specs.CaseAnswer.{CaseAnswer}
 use Rattle.railway.specs.Rows.{record_refusal}
 use Rattle.game.specs.Claim.{Whole}
 use Rattle.game.specs.Placement.{placements, start_code}
 use Rattle.game.specs.Moves.{game_of}
-use Rattle.game_tables.specs.declared.SolverAnswer.{SolverAnswer}
+use Rattle.game_tables.specs.SolverAnswer.{SolverAnswer}
 use Rattle.game_tables.specs.Tables.{figure_in, setting_in, IsPlanEntry}
 use Rattle.game_tables.specs.Solver.{number_given, figure_given, SolverPost}
 use Rattle.plan.specs.declared.PlanPlace.{PlanPlace}
 use Rattle.plan.specs.declared.PlanPlace.TheVariants.{Top}
-use Rattle.plan.specs.declared.Emitted.{Emitted}
-use Rattle.plan.specs.declared.Emitted.TheVariants.{End, NoPlan}
-use Rattle.plan.specs.declared.LineAnswer.{LineAnswer}
-use Rattle.plan.specs.declared.FrontAnswer.{FrontAnswer}
-use Rattle.plan.specs.declared.FrontAnswer.TheVariants.{Took, Refused}
-use Rattle.plan.specs.declared.TestAnswer.{TestAnswer}
-use Rattle.plan.specs.declared.TestAnswer.TheVariants.{Pass}
+use Rattle.plan.specs.Emitted.{Emitted, End, NoPlan}
+use Rattle.plan.specs.LineAnswer.{LineAnswer}
+use Rattle.plan.specs.FrontAnswer.{FrontAnswer, Took, Refused}
+use Rattle.plan.specs.TestAnswer.{TestAnswer, Pass}
 use Rattle.plan.specs.Lines.{most_line_bytes}
 use Rattle.plan.specs.Text.{plan_texts, plan_text}
 use Rattle.plan.specs.Checker.{Checking, LineCalls, is_taken}

@@ -15,3 +15,7 @@ pub mod Reading
 pub mod FirstLine
 pub mod Computed
 pub mod Steps
+pub mod LineAnswer
+pub mod FrontAnswer
+pub mod TestAnswer
+pub mod Emitted

@@ -3,13 +3,13 @@
 -- which they hold: part of what is to be believed. Assumes nothing.
 use Rattle.std.specs.Prelude.{◌≡◌, List, ℕ}
 use Rattle.railway.specs.declared.Railway.{Railway}
-use Rattle.railway.specs.declared.CaseAnswer.{CaseAnswer}
+use Rattle.railway.specs.CaseAnswer.{CaseAnswer}
 use Rattle.railway.specs.Refusals.{first, number_of, number_given as caseNumber}
 use Rattle.game_tables.specs.Tables.{case_refusal}
 use Rattle.plan.specs.declared.PlanPlace.{PlanPlace}
-use Rattle.plan.specs.declared.Emitted.{Emitted}
-use Rattle.plan.specs.declared.LineAnswer.{LineAnswer}
-use Rattle.plan.specs.declared.TestAnswer.{TestAnswer}
+use Rattle.plan.specs.Emitted.{Emitted}
+use Rattle.plan.specs.LineAnswer.{LineAnswer}
+use Rattle.plan.specs.TestAnswer.{TestAnswer}
 use Rattle.plan.specs.Emitter.{number_given, emitter_rows, emit_line}
 use Rattle.plan.specs.Checker.{line_number, test_number, Checking, freshened, line_rows, take_line, test_rows, test_plan}
 

@@ -10,11 +10,10 @@ use Rattle.game.specs.Placement.{start_code}
 use Rattle.game_tables.specs.Tables.{case_refusal}
 use Rattle.game_tables.specs.Solver.{Kept}
 use Rattle.plan.specs.declared.PlanPlace.{PlanPlace}
-use Rattle.plan.specs.declared.Emitted.TheVariants.{Line, Refused as EmitRefused}
+use Rattle.plan.specs.Emitted.{Line, Refused as EmitRefused}
 use Rattle.plan.specs.declared.CheckerState.TheVariants.{Fresh}
-use Rattle.plan.specs.declared.LineAnswer.{LineAnswer}
-use Rattle.plan.specs.declared.LineAnswer.TheVariants.{Taken, Refused as LineRefused}
-use Rattle.plan.specs.declared.TestAnswer.TheVariants.{Refused as TestRefused}
+use Rattle.plan.specs.LineAnswer.{LineAnswer, Taken, Refused as LineRefused}
+use Rattle.plan.specs.TestAnswer.{Refused as TestRefused}
 use Rattle.plan.specs.Lines.{PlacementLine, start_line, placement_line, Spells, line_code}
 use Rattle.plan.specs.Text.{has_figure}
 use Rattle.plan.specs.Emitter.{is_line, Wrote, Due, due, emit_line}

@@ -11,12 +11,9 @@ use Rattle.game.specs.Placement.{start_code}
 use Rattle.game_tables.specs.Tables.{figure_in, case_refusal}
 use Rattle.plan.specs.declared.PlanPlace.{PlanPlace}
 use Rattle.plan.specs.declared.PlanPlace.TheVariants.{Top}
-use Rattle.plan.specs.declared.Emitted.{Emitted}
-use Rattle.plan.specs.declared.Emitted.TheVariants.{Line, End, NoPlan, Refused}
-use Rattle.plan.specs.declared.LineAnswer.{LineAnswer}
-use Rattle.plan.specs.declared.LineAnswer.TheVariants.{Taken, Refused as LineRefused}
-use Rattle.plan.specs.declared.FrontAnswer.{FrontAnswer}
-use Rattle.plan.specs.declared.FrontAnswer.TheVariants.{Took, Refused as FrontRefused}
+use Rattle.plan.specs.Emitted.{Emitted, Line, End, NoPlan, Refused}
+use Rattle.plan.specs.LineAnswer.{LineAnswer, Taken, Refused as LineRefused}
+use Rattle.plan.specs.FrontAnswer.{FrontAnswer, Took, Refused as FrontRefused}
 use Rattle.plan.specs.Text.{plan_text}
 use Rattle.plan.specs.Emitter.{number_given, line_given, Wrote, leaves, emitter_rows, emit_line}
 use Rattle.plan.specs.Checker.{Checking, Left, left, take_line}

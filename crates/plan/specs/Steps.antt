@@ -8,13 +8,11 @@ use Rattle.railway.specs.declared.Refusal.TheVariants.{Space, PlanForm, PlanFaul
 use Rattle.game.specs.Placement.{start_code}
 use Rattle.game_tables.specs.Tables.{figure_in, case_refusal}
 use Rattle.plan.specs.declared.PlanPlace.{PlanPlace}
-use Rattle.plan.specs.declared.Emitted.TheVariants.{Line, End, NoPlan, Refused}
+use Rattle.plan.specs.Emitted.{Line, End, NoPlan, Refused}
 use Rattle.plan.specs.declared.CheckerState.{CheckerState}
 use Rattle.plan.specs.declared.CheckerState.TheVariants.{Fresh, Begun}
-use Rattle.plan.specs.declared.LineAnswer.{LineAnswer}
-use Rattle.plan.specs.declared.LineAnswer.TheVariants.{Taken, Refused as LineRefused}
-use Rattle.plan.specs.declared.TestAnswer.{TestAnswer}
-use Rattle.plan.specs.declared.TestAnswer.TheVariants.{Pass, Refused as TestRefused}
+use Rattle.plan.specs.LineAnswer.{LineAnswer, Taken, Refused as LineRefused}
+use Rattle.plan.specs.TestAnswer.{TestAnswer, Pass, Refused as TestRefused}
 use Rattle.plan.specs.Lines.{PlanLine, start_line, placement_line, line_code}
 use Rattle.plan.specs.Test.{by_tables}
 use Rattle.plan.specs.Reading.{read_line}

@@ -11,14 +11,13 @@ use Rattle.railway.specs.declared.Railway.{Railway}
 use Rattle.railway.specs.declared.Refusal.{Refusal}
 use Rattle.railway.specs.declared.Refusal.TheVariants.{PlanForm, PlanFault}
 use Rattle.railway.specs.Rows.{record_refusal}
-use Rattle.railway.specs.declared.CaseAnswer.TheVariants.{Accepted, Refused}
+use Rattle.railway.specs.CaseAnswer.{Accepted, Refused}
 use Rattle.game.proofs.Accepted.{Facts, facts}
 use Rattle.game_tables.proofs.Exists.{few-placements}
 use Rattle.plan.specs.declared.CheckerState.{CheckerState}
 use Rattle.plan.specs.declared.CheckerState.TheVariants.{Fresh, Begun}
-use Rattle.plan.specs.declared.LineAnswer.{LineAnswer}
-use Rattle.plan.specs.declared.TestAnswer.{TestAnswer}
-use Rattle.plan.specs.declared.TestAnswer.TheVariants.{Pass, Refused as TestRefused}
+use Rattle.plan.specs.LineAnswer.{LineAnswer}
+use Rattle.plan.specs.TestAnswer.{TestAnswer, Pass, Refused as TestRefused}
 use Rattle.plan.specs.Lines.{PlanLine, start_line, placement_line, line_code}
 use Rattle.plan.specs.Reading.{read_line}
 use Rattle.plan.specs.Test.{by_tables}
@@ -30,12 +29,10 @@ use Rattle.plan.proofs.Reading.{reads-line}
 use Rattle.plan.proofs.Checked.{code_in}
 use Rattle.plan.proofs.Steps.{line-steps, test-steps}
 use Rattle.plan.proofs.Promises.{takes-so, tests-so}
-use Rattle.railway_compiled.specs.declared.Compilation.{Compilation}
+use Rattle.railway_compiled.specs.Compilation.{Compilation}
 use Rattle.game_case.specs.Cases.{CasePost}
 use Rattle.game_case.proofs.Cases.{opened-refused, opened-none}
 use Rattle.plan_reader.specs.Answers.{answer_for}
-use Rattle.plan_checker.specs.declared.Checker.{Checker}
-use Rattle.plan_checker.specs.Answers.{checking}
 use Rattle.plan_checker.specs.Steps.{takes_read, CodeSmall}
 
 -- WHAT A LINE READ SAYS is what the line says
@@ -68,11 +65,6 @@ module _ (r : Railway) (c : Checking) (k : Compilation) (case : CasePost r c.fig
 
   pub test-judged : k.tested ≡ Accepted → (a : TestAnswer) → a ≡ tests r c none c.state → TestPost r c a c
   test-judged e a h = tests-so r c a (h ∙ sym (test-steps r c (opened-none case e)))
-
--- what is handed back is an equal answer and checker
-pub test-handed : (r : Railway) (k : Checker) (figs sets : List ℕ) (a b : TestAnswer) (j : Checker) → b ≡ a → j.state ≡ k.state
-    → TestPost r (checking k figs sets) a (checking k figs sets) → TestPost r (checking k figs sets) b (checking j figs sets)
-test-handed r k figs sets a b j e h p = rw (e, h) p
 
 -- THE VERDICT: before the first line, and after it
 module _ (r : Railway) (c : Checking) (s : CheckerState) where

@@ -7,13 +7,11 @@ use native.Mathlib.Omega.{arith}
 use lib.ListN.{length, drop, drop_of_length-le}
 use Rattle.railway.specs.declared.Railway.{Railway}
 use Rattle.railway.specs.declared.Refusal.{Refusal}
-use Rattle.railway.specs.declared.CaseAnswer.TheVariants as tested
+use Rattle.railway.specs.CaseAnswer as tested
 use Rattle.game_tables.specs.Tables.{case_refusal}
 use Rattle.game_tables.proofs.Refusals.{case-none}
-use Rattle.plan.specs.declared.LineAnswer.{LineAnswer}
-use Rattle.plan.specs.declared.LineAnswer.TheVariants.{Taken, Refused as LineRefused}
-use Rattle.plan.specs.declared.FrontAnswer.{FrontAnswer}
-use Rattle.plan.specs.declared.FrontAnswer.TheVariants.{Took, Refused}
+use Rattle.plan.specs.LineAnswer.{LineAnswer, Taken, Refused as LineRefused}
+use Rattle.plan.specs.FrontAnswer.{FrontAnswer, Took, Refused}
 use Rattle.plan.specs.Reading.{read_line}
 use Rattle.plan.specs.Checker.{Checking, Left, left, take_line}
 use Rattle.plan.specs.FirstLine.{line_bytes, first_of}
@@ -24,11 +22,11 @@ use Rattle.plan.proofs.Rules.{check-rule}
 use Rattle.plan.proofs.Steps.{line-steps}
 use Rattle.plan.proofs.Promises.{takes-so}
 use Rattle.plan.specs.Promises.{LinePost}
-use Rattle.railway_compiled.specs.declared.Compilation.{Compilation}
+use Rattle.railway_compiled.specs.Compilation.{Compilation}
 use Rattle.railway_compiled.specs.Table.{Compiled}
 use Rattle.game_case.specs.Cases.{CasePost}
 use Rattle.game_case.proofs.Cases.{opened-refused, opened-none, opened-table}
-use Rattle.plan_reader.specs.declared.LineRead.{LineRead}
+use Rattle.plan_reader.specs.LineRead.{LineRead}
 use Rattle.plan_reader.specs.Answers.{answer_for}
 use Rattle.plan_checker.specs.Steps.{takes_read, CodeSmall, SomeTable, front_taken}
 use Rattle.plan_checker.proofs.Lines.{LineAt}

@@ -1,23 +1,21 @@
--- The line at a place inside a text: it is not empty, it lies within the text, and the lines from the place on are it and those behind it. What is entered
--- of it says where it ends, if it is taken. Assumes nothing.
-use mathlib.Core.Path.{◌≡◌, ◌∙◌, ap}
+-- The line at a place inside a text: it is not empty, it lies within the text, and the lines from the place on are it and those behind it. Where it is
+-- read, so is its end. Assumes nothing.
+use mathlib.Core.Path.{◌≡◌, sym, ◌∙◌, ap}
 use mathlib.Core.List.{List, ◌∷◌}
 use Prim.Native.Nat.{ℕ, suc, ◌+◌, ◌-◌, ◌≤◌, ◌<◌}
 use native.Mathlib.Omega.{arith}
 use lib.ListN.{length, get_or, drop, length-drop}
 use lib.Seq.{drop-cons, drop-drop}
 use Rattle.railway.specs.declared.Railway.{Railway}
-use Rattle.railway.specs.declared.Refusal.{Refusal}
-use Rattle.plan.specs.declared.CheckerState.{CheckerState}
-use Rattle.plan.specs.declared.LineAnswer.{LineAnswer}
-use Rattle.plan.specs.declared.LineAnswer.TheVariants.{Taken, Refused}
-use Rattle.plan.specs.Checker.{Checking, Left}
+use Rattle.std.specs.Prelude.{Some}
+use Rattle.plan.specs.Reading.{read_line}
 use Rattle.plan.specs.FirstLine.{line_bytes, first_of}
 use Rattle.plan.specs.Several.{lines_of}
 use Rattle.plan.proofs.FirstLine.{first-line, line-within, line-not-empty}
-use Rattle.plan_reader.specs.declared.LineAt.{LineAt as ReadLine}
+use Rattle.plan_reader.specs.declared.PlanLine.{PlanLine as Read}
+use Rattle.plan_reader.specs.LineRead.{LineAt as ReadAtPlace, line_of}
+use Rattle.plan_reader.specs.Answers.{answer_for}
 use Rattle.plan_reader.specs.Places.{ReadAt}
-use Rattle.plan_checker.specs.Steps.{takes_read}
 
 pub record LineAt (text : List ℕ) (at : ℕ) : Type 0 where
   pub some : 0 < line_bytes (drop at text)
@@ -35,10 +33,10 @@ line_at text at inside =
       lines = first ∙ ap (λ (t : List ℕ). first_of (drop at text) ∷ lines_of t) (drop-drop (line_bytes (drop at text)) at text);
     }
 
--- what is taken was read, so that its end is known
-pub taken-end : {r : Railway} {text : List ℕ} {at : ℕ} {x : ReadLine} → ReadAt r text at x → (c : Checking) (s : CheckerState) (w : Left LineAnswer) → w ≡ takes_read c s x.line → w.answer ≡ Taken
-    → x.end ≡ at + line_bytes (drop at text)
-taken-end {x} h c s w is e = h.end (λ n. not-refused (ap (λ (y : Left LineAnswer). y.answer) (is ∙ ap (takes_read c s) n)) e)
-  where
-    not-refused : {a : LineAnswer} {f : Refusal} → a ≡ Refused f → a ≡ Taken → ⊥
-    not-refused p q = let z : ◌≡◌ {A = ℕ} 0 1 = cc in omega arith
+-- what was read is the first line from the place on, and its end is known
+module _ {r : Railway} {text : List ℕ} {at : ℕ} {x : ReadAtPlace} (h : ReadAt r text at x) {line : Read} {end : ℕ} (e : x ≡ Some (line, end)) where
+  pub read-says : Some line ≡ answer_for r (read_line r (first_of (drop at text)))
+  read-says = sym (ap line_of e) ∙ h.line
+
+  pub read-end : end ≡ at + line_bytes (drop at text)
+  read-end = rw e at h.end

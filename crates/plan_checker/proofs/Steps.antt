@@ -8,11 +8,10 @@ use borrow.Author.Tests.{lt-ltb, le-ltb}
 use Rattle.railway.specs.declared.Refusal.TheVariants.{PlanForm}
 use Rattle.plan.specs.declared.CheckerState.{CheckerState}
 use Rattle.plan.specs.declared.CheckerState.TheVariants.{Fresh, Begun}
-use Rattle.plan.specs.declared.LineAnswer.{LineAnswer}
+use Rattle.plan.specs.LineAnswer.{LineAnswer}
 use Rattle.plan.specs.Checker.{Checking, Left}
 use Rattle.plan.specs.Steps.{refuse}
-use Rattle.plan_reader.specs.declared.LineRead.{LineRead}
-use Rattle.plan_reader.specs.declared.LineRead.TheVariants.{NoLine, Start, Placed}
+use Rattle.plan_reader.specs.LineRead.{LineRead, Start, Placed}
 use Rattle.plan_checker.specs.Steps.{taken_with, takes_start, takes_placement, takes_read, CodeSmall}
 
 -- A LINE, w being what the call leaves
@@ -38,9 +37,6 @@ module _ (c : Checking) (s : CheckerState) (w : Left LineAnswer) where
 
   -- any line
   module _ (line : LineRead) where
-    pub read-nothing : line ≡ NoLine → w ≡ refuse c PlanForm → w ≡ takes_read c s line
-    read-nothing e h = rw e h
-
     pub read-start : (n : ℕ) → line ≡ Start n → w ≡ takes_start c s n → w ≡ takes_read c s line
     read-start n e h = rw e h
 

@@ -6,16 +6,13 @@ use Rattle.railway.specs.declared.Refusal.TheVariants.{PlanForm}
 use Rattle.game_moves.specs.Steps.{no_code}
 use Rattle.plan.specs.declared.CheckerState.{CheckerState}
 use Rattle.plan.specs.declared.CheckerState.TheVariants.{Fresh, Begun}
-use Rattle.plan.specs.declared.LineAnswer.{LineAnswer}
-use Rattle.plan.specs.declared.LineAnswer.TheVariants.{Taken}
-use Rattle.plan.specs.declared.FrontAnswer.{FrontAnswer}
-use Rattle.plan.specs.declared.FrontAnswer.TheVariants.{Took}
+use Rattle.plan.specs.LineAnswer.{LineAnswer, Taken}
+use Rattle.plan.specs.FrontAnswer.{FrontAnswer, Took}
 use Rattle.plan.specs.Checker.{Checking, Left, left}
 use Rattle.plan.specs.Steps.{refuse}
 use Rattle.plan.specs.Several.{Front}
 use Rattle.railway_compiled.specs.Table.{Compiled}
-use Rattle.plan_reader.specs.declared.LineRead.{LineRead}
-use Rattle.plan_reader.specs.declared.LineRead.TheVariants.{NoLine, Start, Placed}
+use Rattle.plan_reader.specs.LineRead.{LineRead, NoLine, Start, Placed}
 
 -- A line was taken: the first line's figure, and the lowest code that may come next.
 abbrev pub taken_with : ℕ → ℕ → List ℕ → List ℕ → Left LineAnswer

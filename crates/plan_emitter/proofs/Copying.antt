@@ -12,7 +12,7 @@ use Rattle.text.proofs.Appending.{front-bytes, front-text}
 use Rattle.text.proofs.Decimal.{digits-length}
 use Rattle.railway.specs.declared.Refusal.TheVariants.{Space}
 use Rattle.plan.specs.declared.PlanPlace.{PlanPlace}
-use Rattle.plan.specs.declared.Emitted.TheVariants.{Line, Refused}
+use Rattle.plan.specs.Emitted.{Line, Refused}
 use Rattle.plan.specs.Lines.{start_line, spell, most_line_bytes}
 use Rattle.plan.specs.Emitter.{Wrote, leaves}
 use Rattle.plan.specs.Steps.{line_written}

@@ -1,27 +1,23 @@
 -- What a call of the emitter answers and leaves, by what it has found: a refusal, no plan, the end, or the line that is due.
 -- Assumes nothing.
-use Prim.Native.Nat.{ℕ, suc, ◌+◌, ◌<◌, ◌≤◌}
+use Prim.Native.Nat.{ℕ, suc, ◌<◌, ◌≤◌}
 use mathlib.Core.Path.{◌≡◌, refl, sym, ◌∙◌}
 use mathlib.Core.Bool.{true}
 use mathlib.Core.List.{List}
-use mathlib.Core.Option
 use mathlib.Core.Option.{none, some}
 use native.Mathlib.Omega.{arith}
-use native.Mathlib.Numerals.{add-one}
-use lib.ListN.{length, get_or, take, replicate}
+use lib.ListN.{length, get_or}
 use borrow.Author.Tests.{eq-eqb, ne_eqb}
 use Rattle.laws.specs.Below.{lowest, list_below}
-use Rattle.text.specs.Appending.{Appended}
 use Rattle.railway.specs.declared.Railway.{Railway}
 use Rattle.railway.specs.declared.Refusal.{Refusal}
-use Rattle.railway.specs.declared.CaseAnswer.TheVariants as tested
+use Rattle.railway.specs.CaseAnswer as tested
 use Rattle.game.specs.Placement.{sections_of, stands_on, placements, start_code}
 use Rattle.game.proofs.Placement.{sections-length}
 use Rattle.game_tables.specs.Tables.{no_figure, figure_in}
 use Rattle.plan.specs.declared.PlanPlace.{PlanPlace}
 use Rattle.plan.specs.declared.PlanPlace.TheVariants.{Top, From}
-use Rattle.plan.specs.declared.Emitted.{Emitted}
-use Rattle.plan.specs.declared.Emitted.TheVariants.{End, NoPlan, Refused}
+use Rattle.plan.specs.Emitted.{Emitted, End, NoPlan, Refused}
 use Rattle.plan.specs.Lines.{start_line, placement_line, spell, most_line_bytes}
 use Rattle.plan.specs.Text.{has_figure, line_for}
 use Rattle.plan.specs.Emitter.{Wrote, figure_from, next_code, due_for, emit_line, leaves}
@@ -32,7 +28,7 @@ use Rattle.plan.proofs.Lines.{lines-short}
 use Rattle.plan.proofs.Listing.{line-fits}
 use Rattle.plan.proofs.Steps.{emit-steps}
 use Rattle.plan.proofs.Promises.{emits-so}
-use Rattle.railway_compiled.specs.declared.Compilation.{Compilation}
+use Rattle.railway_compiled.specs.Compilation.{Compilation}
 use Rattle.railway_compiled.specs.Table.{Compiled}
 use Rattle.game_placement.specs.declared.Placement.{Placement}
 use Rattle.game_placement.specs.ByValue.{section_in}
@@ -40,8 +36,7 @@ use Rattle.game_moves.specs.Steps.{On}
 use Rattle.game_case.specs.Cases.{CasePost}
 use Rattle.game_case.proofs.Cases.{opened-refused, opened-none, opened-table}
 use Rattle.plan_lines.specs.Spelling.{line_of}
-use Rattle.plan_emitter.proofs.Next.{found_at, found_none, from-figure}
-use Rattle.plan_emitter.proofs.Copying.{own-written}
+use Rattle.plan_emitter.proofs.Next.{found-passes, from-figure}
 
 -- THE LINE OF A PLACEMENT is what its parts spell
 module _ (r : Railway) (figs sets : List ℕ) (p : ℕ) where
@@ -67,26 +62,17 @@ module _ (r : Railway) (figs sets : List ℕ) (p : ℕ) where
         short = lines-short r compiled.accepted (placement_line (line_for r figs sets p)) (line-fits r compiled.accepted figs sets p (omega (arith, en)) has);
       }
 
-  pub placement-written : {k m len : ℕ} {n v : ℕ} {q : Placement} {own text table : List ℕ} {w : Wrote} (old : List ℕ) → Compiled r table → has_figure figs p ≡ true
-      → n ≡ get_or figs p no_figure → n < 4294967296 → v ≡ get_or sets p 0 → On r p table q → k ≡ r.trains → m ≡ r.points
-      → own ≡ replicate most_line_bytes 0 → Appended own 0 (spell (placement_line (line_of k m q n v))) text len
-      → w ≡ line_written (take len text) (From (p + 1)) old → w ≡ line_written (spell (placement_line (line_for r figs sets p))) (From (suc p)) old
-  placement-written {k} {m} {len} {n} {v} {q} {own} {text} {table} {w} old compiled has en small ev on ek em blank made e =
-      let is : PlacementIs k m q n v = placement-is compiled has en small ev on ek em in
-      let made' : Appended own 0 (spell (placement_line (line_for r figs sets p))) text len = rw is.same at made in
-      own-written blank made' (From (suc p)) old is.short (rw (add-one p) at e)
-
 -- WHAT IS DUE from a code on
-module _ (r : Railway) (figs sets : List ℕ) (c p total : ℕ) (old : List ℕ) (is : p ≡ Option.get_or (lowest (figure_from figs c) total) total) (all : total ≡ placements r) where
-  pub due-placement : {w : Wrote} → p < total → (has_figure figs p ≡ true → w ≡ line_written (spell (placement_line (line_for r figs sets p))) (From (suc p)) old)
+module _ (r : Railway) (figs sets : List ℕ) (c total : ℕ) (old : List ℕ) (all : total ≡ placements r) where
+  pub due-placement : (p : ℕ) → lowest (figure_from figs c) total ≡ some p → {w : Wrote}
+      → (has_figure figs p ≡ true → w ≡ line_written (spell (placement_line (line_for r figs sets p))) (From (suc p)) old)
       → w ≡ due_written old (due_for r figs sets (next_code r figs c))
-  due-placement l line =
-      let found = found_at (figure_from figs c) total p is l in
-      let e : next_code r figs c ≡ some p = rw all at found.first in
-      line (from-figure figs c p found.passes) ∙ rw e
+  due-placement p first line =
+      let e : next_code r figs c ≡ some p = rw all at first in
+      line (from-figure figs c p (found-passes (figure_from figs c) total p first)) ∙ rw e
 
-  pub due-end : total ≤ p → leaves End old ≡ due_written old (due_for r figs sets (next_code r figs c))
-  due-end l = let e : next_code r figs c ≡ none = rw all at (found_none (figure_from figs c) total p is l) in rw e
+  pub due-end : lowest (figure_from figs c) total ≡ none → leaves End old ≡ due_written old (due_for r figs sets (next_code r figs c))
+  due-end l = let e : next_code r figs c ≡ none = rw all at l in rw e
 
 -- WHAT IS EMITTED at a place, by the start's figure
 module _ (r : Railway) (figs sets : List ℕ) (place : PlanPlace) (old : List ℕ) (p n : ℕ) (at : p ≡ start_code r) (is : n ≡ get_or figs p no_figure) where

@@ -5,26 +5,15 @@ use mathlib.Core.Path.{◌≡◌, sym, ◌∙◌}
 use mathlib.Core.Logic.{inl, inr}
 use mathlib.Core.Bool.{Bool, true, false}
 use mathlib.Core.List.{List}
-use mathlib.Core.Option
 use mathlib.Core.Option.{none, some}
 use native.Mathlib.Omega.{arith}
-use lib.ListN.{get_or}
 use lib.Dec.{leb}
-use borrow.Author.Tests.{le-leb, lt-leb, ne_eqb}
+use borrow.Author.Tests.{le-leb, lt-leb}
 use Rattle.laws.specs.Below.{any_below, lowest}
-use Rattle.laws.proofs.Bools.{lt?, clash, and-true}
+use Rattle.laws.proofs.Bools.{lt?, clash, and-true, some-none, some_one}
 use Rattle.laws.proofs.Below.{any_false, any_next, none_any, lowest-cases, lowest-least}
-use Rattle.game_tables.specs.Tables.{no_figure}
 use Rattle.plan.specs.Text.{has_figure}
 use Rattle.plan.specs.Emitter.{figure_from}
-
--- AN ENTRY stands for a figure or for none
-module _ (figs : List ℕ) (p x : ℕ) (is : x ≡ get_or figs p no_figure) where
-  pub none-there : x ≡ no_figure → false ≡ has_figure figs p
-  none-there e = rw (← is, e)
-
-  pub figure-there : (x ≡ no_figure → ⊥) → true ≡ has_figure figs p
-  figure-there e = rw (← is, ne_eqb x no_figure e)
 
 -- THE LOWEST by a loop
 module _ (f : ℕ → Bool) (total : ℕ) where
@@ -45,24 +34,11 @@ module _ (f : ℕ → Bool) (total : ℕ) where
     | inr r ↦ r.0
   ]
 
-  -- what an answer says
-  pub record FoundAt (p : ℕ) : Type 0 where
-    pub first : lowest f total ≡ some p
-    pub passes : f p ≡ true
-
-  pub found_at : (p : ℕ) → p ≡ Option.get_or (lowest f total) total → p < total → FoundAt p
-  found_at p is l = elim (lowest-cases f total) [
-    | inl r ↦
-        let e : Option.get_or (lowest f total) total ≡ r.0 = rw r.1 in
-        let z : r.0 ≡ p = sym (is ∙ e) in
-        record { first = r.1 ∙ rw z; passes = rw z at r.3 }
-    | inr r ↦ let e : Option.get_or (lowest f total) total ≡ total = rw r.0 in absurd (omega (arith, is ∙ e))
-  ]
-
-  pub found_none : (p : ℕ) → p ≡ Option.get_or (lowest f total) total → total ≤ p → lowest f total ≡ none
-  found_none p is l = elim (lowest-cases f total) [
-    | inl r ↦ let e : Option.get_or (lowest f total) total ≡ r.0 = rw r.1 in absurd (omega (arith, is ∙ e, r.2))
-    | inr r ↦ r.0
+  -- what is found passes
+  pub found-passes : (p : ℕ) → lowest f total ≡ some p → f p ≡ true
+  found-passes p e = elim (lowest-cases f total) [
+    | inl r ↦ let z : r.0 ≡ p = some_one (sym r.1 ∙ e) in rw z at r.3
+    | inr r ↦ some-none e r.0
   ]
 
 -- THE LOOP from c on
@@ -78,11 +54,11 @@ module _ (figs : List ℕ) (c : ℕ) where
       pub next-step : b ≡ false → any_below (figure_from figs c) (p + 1) ≡ false
       next-step e = any_next (figure_from figs c) p before (here ∙ e)
 
-      pub next-found : (total : ℕ) → b ≡ true → p < total → p ≡ Option.get_or (lowest (figure_from figs c) total) total
-      next-found total e l = rw (lowest-found (figure_from figs c) total p before (here ∙ e) l)
+      pub next-found : (total : ℕ) → b ≡ true → p < total → lowest (figure_from figs c) total ≡ some p
+      next-found total e l = lowest-found (figure_from figs c) total p before (here ∙ e) l
 
-    pub next-none : (total : ℕ) → total ≤ p → total ≡ Option.get_or (lowest (figure_from figs c) total) total
-    next-none total l = rw (lowest-none (figure_from figs c) total p before l)
+    pub next-none : (total : ℕ) → total ≤ p → lowest (figure_from figs c) total ≡ none
+    next-none total l = lowest-none (figure_from figs c) total p before l
 
 pub from-figure : (figs : List ℕ) (c p : ℕ) → figure_from figs c p ≡ true → has_figure figs p ≡ true
 from-figure figs c p e = (and-true (leb c p) (has_figure figs p) e).1

@@ -4,7 +4,7 @@ use mathlib.Core.Path.{◌≡◌, refl, sym, ◌∙◌, ap, subst}
 use mathlib.Core.Bool.{Bool, true, false}
 use mathlib.Core.Logic.{inl, inr}
 use mathlib.Core.List.{List, ◌++◌}
-use mathlib.Core.Option.{none, some, get_or}
+use mathlib.Core.Option.{none, some}
 use native.Mathlib.Omega.{arith}
 use native.Mathlib.Numerals.{add-one}
 use lib.Dec.{leb}
@@ -16,29 +16,29 @@ use Rattle.text.specs.Appending.{Appended}
 use Rattle.text.proofs.Appending.{appended-bytes, appended-cursor, front-text}
 use Rattle.railway.specs.declared.Railway.{Railway}
 use Rattle.railway.specs.declared.Refusal.{Refusal}
-use Rattle.railway.specs.declared.CaseAnswer.TheVariants as tested
+use Rattle.railway.specs.declared.Refusal.TheVariants.{Space}
+use Rattle.railway.specs.CaseAnswer as tested
 use Rattle.game.specs.Placement.{placements, start_code}
 use Rattle.game_tables.specs.Tables.{figure_in, case_refusal}
 use Rattle.plan.specs.declared.PlanPlace.{PlanPlace}
 use Rattle.plan.specs.declared.PlanPlace.TheVariants.{Top, From}
-use Rattle.plan.specs.declared.Emitted.{Emitted}
-use Rattle.plan.specs.declared.Emitted.TheVariants.{Line, Refused}
+use Rattle.plan.specs.Emitted.{Emitted, Line, Refused}
 use Rattle.plan.specs.Lines.{placement_line, spell, most_line_bytes}
 use Rattle.plan.specs.Text.{has_figure, line_for}
 use Rattle.plan.specs.Emitter.{Wrote, is_line, figure_from, next_code, leaves, emit_line}
 use Rattle.plan.specs.Several.{Run, run_from, emit_lines, EmitLinesPost}
-use Rattle.plan.specs.Steps.{emitted, PutAt, put_so, put_at, Planned, Underway, ran_whole}
+use Rattle.plan.specs.Steps.{line_written, emitted, PutAt, put_so, put_at, Planned, Underway, ran_whole}
 use Rattle.plan.proofs.Rules.{emit-rule}
 use Rattle.plan.proofs.Steps.{emit-steps}
 use Rattle.plan.proofs.Several.{WroteLine, wrote-line, lines-so, lines_none, lines-some, underway-first, placement-over, placement-full, placement-put}
-use Rattle.railway_compiled.specs.declared.Compilation.{Compilation}
+use Rattle.railway_compiled.specs.Compilation.{Compilation}
 use Rattle.railway_compiled.specs.Table.{Compiled}
 use Rattle.game_case.specs.Cases.{CasePost}
 use Rattle.game_case.proofs.Cases.{opened-refused, opened-none, opened-table}
 use Rattle.game_placement.specs.declared.Placement.{Placement}
 use Rattle.plan_lines.specs.Spelling.{line_of}
 use Rattle.plan_emitter.proofs.Emitting.{PlacementIs}
-use Rattle.plan_emitter.proofs.Next.{found_at, found_none, from-figure}
+use Rattle.plan_emitter.proofs.Next.{found-passes, from-figure}
 
 -- ROOM FOR ANY LINE behind a cursor
 pub room-past : (long at : ℕ) → long < at → false ≡ leb (at + most_line_bytes) long
@@ -93,22 +93,45 @@ module _ (r : Railway) (figs sets : List ℕ) (p : ℕ) (out : List ℕ) (at : �
       let made' : Appended own 0 (spell (placement_line (line_for r figs sets p))) text len = rw is.same at made in
       put-copied (spell (placement_line (line_for r figs sets p))) out at blank made' is.short e
 
+-- A LINE AT THE FRONT: no byte is written where it has no room, and some where it has
+module _ (l old : List ℕ) (place : PlanPlace) {new : List ℕ} {n : ℕ} (some-byte : 1 ≤ length l) (put : put_so new n ≡ put_at l old 0) where
+  out-of-room : length old < length l → put_so new n ≡ put_so old 0
+  out-of-room h = put ∙ rw (lt-ltb (length old) (0 + length l) (omega arith))
+
+  in-room : length l ≤ length old → put_so new n ≡ put_so (l ++ drop (length l) old) (length l)
+  in-room h = let z : 0 + length l ≡ length l = omega arith in put ∙ (rw (z, le-ltb (length old) (length l) h))
+
+  pub front-refused : n ≡ 0 → leaves (Refused Space) new ≡ line_written l place old
+  front-refused e = elim (lt? (length old) (length l)) [
+    | inl h ↦ let b : new ≡ old = ap (λ (x : PutAt). x.buffer) (out-of-room h) in rw (lt-ltb (length old) (length l) h, b)
+    | inr h ↦ absurd (omega (arith, e, ap (λ (x : PutAt). x.at) (in-room h)))
+  ]
+
+  pub front-written : (n ≡ 0 → ⊥) → leaves (Line n place) new ≡ line_written l place old
+  front-written e = elim (lt? (length old) (length l)) [
+    | inl h ↦ absurd (e (ap (λ (x : PutAt). x.at) (out-of-room h)))
+    | inr h ↦
+        let b : new ≡ l ++ drop (length l) old = ap (λ (x : PutAt). x.buffer) (in-room h) in
+        let k : n ≡ length l = ap (λ (x : PutAt). x.at) (in-room h) in
+        rw (le-ltb (length old) (length l) h, b, k)
+  ]
+
 -- THE LOOP
-pub next-behind : (figs : List ℕ) (c total p : ℕ) → p ≡ get_or (lowest (figure_from figs c) total) total → p < total → c ≤ p
-next-behind figs c total p is l = leb-true c p (and-true (leb c p) (has_figure figs p) (found_at (figure_from figs c) total p is l).passes).0
+pub next-behind : (figs : List ℕ) (c total p : ℕ) → lowest (figure_from figs c) total ≡ some p → c ≤ p
+next-behind figs c total p first = leb-true c p (and-true (leb c p) (has_figure figs p) (found-passes (figure_from figs c) total p first)).0
 
 module _ (r : Railway) (figs sets : List ℕ) (planned : Planned r figs sets) (whole : Run) (c at : ℕ) (b : List ℕ) (u : Underway r figs sets whole (From c) at b)
-    (total p : ℕ) (is : p ≡ get_or (lowest (figure_from figs c) total) total) (all : total ≡ placements r) where
-  pub lines-over : total ≤ p → leaves (Line at (From c)) b ≡ ran_whole whole
-  lines-over l = let e : next_code r figs c ≡ none = rw all at (found_none (figure_from figs c) total p is l) in placement-over r figs sets planned whole c at b u e
+    (total : ℕ) (all : total ≡ placements r) where
+  pub lines-over : lowest (figure_from figs c) total ≡ none → leaves (Line at (From c)) b ≡ ran_whole whole
+  lines-over l = let e : next_code r figs c ≡ none = rw all at l in placement-over r figs sets planned whole c at b u e
 
-  module _ (l : p < total) {new : List ℕ} {next : ℕ}
+  module _ (p : ℕ) (first : lowest (figure_from figs c) total ≡ some p) {new : List ℕ} {next : ℕ}
       (put : has_figure figs p ≡ true → put_so new next ≡ put_at (spell (placement_line (line_for r figs sets p))) b at) where
     found : next_code r figs c ≡ some p
-    found = rw all at (found_at (figure_from figs c) total p is l).first
+    found = rw all at first
 
     put-there : put_so new next ≡ put_at (spell (placement_line (line_for r figs sets p))) b at
-    put-there = put (from-figure figs c p (found_at (figure_from figs c) total p is l).passes)
+    put-there = put (from-figure figs c p (found-passes (figure_from figs c) total p first))
 
     pub lines-full : next ≡ at → leaves (Line at (From c)) new ≡ ran_whole whole
     lines-full e = placement-full r figs sets planned whole c at b u p found new next put-there e

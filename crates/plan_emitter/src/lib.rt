@@ -3,7 +3,8 @@
 #![tactic(auto)]
 
 ghost use Rattle.std.specs.Prelude.{◌≡◌, true, suc, ◌+◌, ◌<◌, leb};
-ghost use Rattle.std.proofs.Math.Option.{none, get_or};
+ghost use Rattle.std.specs.Option.{MatchOption};
+ghost use Rattle.std.proofs.Math.Option.{none, some};
 ghost use Rattle.laws.specs.Below.{lowest};
 ghost use Rattle.railway.specs.declared.Railway.{Railway};
 ghost use Rattle.game.specs.Placement.{start_code};
@@ -18,9 +19,9 @@ ghost use Rattle.plan.specs.Promises.{EmitterPost};
 ghost use Rattle.railway_compiled.specs.Table.{Compiled};
 
 use game_tables::NO_FIGURE;
-use plan::{Emitted, PlanPlace};
+use plan::{Emission, PlanPlace};
 use plan_lines::MOST_LINE_BYTES;
-use railway::{CaseAnswer, Railway, Refusal};
+use railway::{Railway, Refusal};
 use railway_compiled::Table;
 use text::append;
 
@@ -31,36 +32,27 @@ pub fn emit_line(
     settings: &[u32],
     place: PlanPlace,
     out: &mut [u8],
-) -> Emitted
+) -> Result<Emission, Refusal>
     ensures { EmitterPost r figures.now settings.now place out.old result out.new }
 {
-    let case = game_case::open_case(r, figures, settings);
-    let table = case.table;
-    let tested = case.tested;
-    match tested {
-        CaseAnswer::Refused(f) => Emitted::Refused(f),
-        CaseAnswer::Accepted => emit_due(&table, figures, settings, place, out),
-    }
+    let table = game_case::open_case(r, figures, settings)?;
+    emit_due(&table, figures, settings, place, out)
 }
 
 // As many whole lines as have room in the buffer, one behind the other, and the place behind them: what as many calls for a line each would write there.
-// The case is judged once. Where not even one line is written, the answer is that of the call for one.
+// The case is judged once. Where not even one line is written, the answer is that of the call for one. (One function with the step as a closure would be no
+// shorter: each of the two is the call for the case and the call for the step.)
 pub fn emit_lines(
     r: Railway,
     figures: &[u32],
     settings: &[u32],
     place: PlanPlace,
     out: &mut [u8],
-) -> Emitted
+) -> Result<Emission, Refusal>
     ensures { EmitLinesPost r figures.now settings.now place out.old result out.new }
 {
-    let case = game_case::open_case(r, figures, settings);
-    let table = case.table;
-    let tested = case.tested;
-    match tested {
-        CaseAnswer::Refused(f) => Emitted::Refused(f),
-        CaseAnswer::Accepted => due_lines(&table, figures, settings, place, out),
-    }
+    let table = game_case::open_case(r, figures, settings)?;
+    due_lines(&table, figures, settings, place, out)
 }
 
 // What is due at a place, and all lines behind it that have room.
@@ -70,16 +62,16 @@ fn due_lines(
     settings: &[u32],
     place: PlanPlace,
     out: &mut [u8],
-) -> Emitted
+) -> Result<Emission, Refusal>
     ensures { (r : Railway) → Compiled r table.now → case_refusal r figures.now settings.now ≡ none
         → leaves result out.new ≡ emit_lines r figures.now settings.now place out.old }
 {
-    let first = emit_due(table, figures, settings, place, out);
-    let Emitted::Line(n, next) = first else {
-        return first;
+    let first = emit_due(table, figures, settings, place, out)?;
+    let Emission::Line(n, next) = first else {
+        return Ok(first);
     };
     let PlanPlace::From(c) = next else {
-        return first;
+        return Ok(first);
     };
     more_lines(table, figures, settings, c, n, out)
 }
@@ -92,7 +84,7 @@ fn more_lines(
     from: u32,
     behind: usize,
     out: &mut [u8],
-) -> Emitted
+) -> Result<Emission, Refusal>
     ensures { (r : Railway) (whole : Run) → Compiled r table.now → Planned r figures.now settings.now
         → Underway r figures.now settings.now whole (From from) behind out.old → leaves result out.new ≡ ran_whole whole }
 {
@@ -100,13 +92,12 @@ fn more_lines(
     let mut c = from;
     let mut at = behind;
     loop {
-        let p = next_code(figures, c, total);
-        if total <= p {
-            return Emitted::Line(at, PlanPlace::From(c));
-        }
+        let Some(p) = next_code(figures, c, total) else {
+            return Ok(Emission::Line(at, PlanPlace::From(c)));
+        };
         let next = put_placement(table, figures, settings, p, out, at);
         if next == at {
-            return Emitted::Line(at, PlanPlace::From(c));
+            return Ok(Emission::Line(at, PlanPlace::From(c)));
         }
         at = next;
         c = p + 1;
@@ -169,13 +160,13 @@ fn emit_due(
     settings: &[u32],
     place: PlanPlace,
     out: &mut [u8],
-) -> Emitted
+) -> Result<Emission, Refusal>
     ensures { (r : Railway) → Compiled r table.now
         → leaves result out.new ≡ emitted r figures.now settings.now place out.old none (figure_in figures.now (start_code r)) }
 {
     let n = game_tables::entry_at(figures, game_moves::start_code(table), NO_FIGURE);
     if n == NO_FIGURE {
-        return Emitted::NoPlan;
+        return Ok(Emission::NoPlan);
     }
     match place {
         PlanPlace::Top => emit_start(n, out),
@@ -184,7 +175,7 @@ fn emit_due(
 }
 
 // The first line.
-fn emit_start(n: u32, out: &mut [u8]) -> Emitted
+fn emit_start(n: u32, out: &mut [u8]) -> Result<Emission, Refusal>
     ensures { leaves result out.new ≡ line_written (spell (start_line n)) (From 0) out.old }
 {
     let mut text: [u8; MOST_LINE_BYTES] = [0; MOST_LINE_BYTES];
@@ -193,16 +184,20 @@ fn emit_start(n: u32, out: &mut [u8]) -> Emitted
 }
 
 // The line of the next placement with a figure, from code c on.
-fn emit_from(table: &Table, figures: &[u32], settings: &[u32], c: u32, out: &mut [u8]) -> Emitted
+fn emit_from(
+    table: &Table,
+    figures: &[u32],
+    settings: &[u32],
+    c: u32,
+    out: &mut [u8],
+) -> Result<Emission, Refusal>
     ensures { (r : Railway) → Compiled r table.now
         → leaves result out.new ≡ due_written out.old (due_for r figures.now settings.now (next_code r figures.now c)) }
 {
-    let total = game_moves::placements(table);
-    let p = next_code(figures, c, total);
-    if p < total {
-        return emit_placement(table, figures, settings, p, out);
+    match next_code(figures, c, game_moves::placements(table)) {
+        Some(p) => emit_placement(table, figures, settings, p, out),
+        None => Ok(Emission::End),
     }
-    Emitted::End
 }
 
 // The line of a placement that has a figure.
@@ -212,51 +207,44 @@ fn emit_placement(
     settings: &[u32],
     p: u32,
     out: &mut [u8],
-) -> Emitted
+) -> Result<Emission, Refusal>
     requires { p < no_figure }
     ensures { (r : Railway) → Compiled r table.now → has_figure figures.now p ≡ true
         → leaves result out.new ≡ line_written (spell (placement_line (line_for r figures.now settings.now p))) (From (suc p)) out.old }
 {
-    let n = game_tables::entry_at(figures, p, NO_FIGURE);
-    let v = game_tables::entry_at(settings, p, 0);
-    let q = game_moves::placement_of(table, p);
-    let k = railway_compiled::trains_in(table);
-    let m = railway_compiled::points_in(table);
-    let mut text: [u8; MOST_LINE_BYTES] = [0; MOST_LINE_BYTES];
-    let len = plan_lines::placement_line(&mut text, 0, k, m, q, n, v);
-    put_line(out, &text[..len], PlanPlace::From(p + 1))
+    let n = put_placement(table, figures, settings, p, out, 0);
+    if n == 0 {
+        return Err(Refusal::Space);
+    }
+    Ok(Emission::Line(n, PlanPlace::From(p + 1)))
 }
 
 // A line into the lent buffer, if it has room for it.
-fn put_line(out: &mut [u8], line: &[u8], next: PlanPlace) -> Emitted
+fn put_line(out: &mut [u8], line: &[u8], next: PlanPlace) -> Result<Emission, Refusal>
     ensures { leaves result out.new ≡ line_written line.now next out.old }
 {
     if out.len() < line.len() {
-        return Emitted::Refused(Refusal::Space);
+        return Err(Refusal::Space);
     }
     append::bytes(out, 0, line);
-    Emitted::Line(line.len(), next)
+    Ok(Emission::Line(line.len(), next))
 }
 
-// The lowest code from c on whose placement has a figure; the number of placements where there is none.
-fn next_code(figures: &[u32], c: u32, total: u32) -> u32
-    ensures { result ≡ get_or (lowest (figure_from figures.now c) total) total }
+// The lowest code from c on whose placement has a figure, of so many.
+fn next_code(figures: &[u32], c: u32, total: u32) -> Option<u32>
+    ensures { MatchOption result (lowest (figure_from figures.now c) total ≡ none)
+        (λ p. (p < total) × (lowest (figure_from figures.now c) total ≡ some p)) }
 {
-    let mut p = c;
-    while p < total {
+    for p in c..total {
         if has_figure(figures, p) {
-            return p;
+            return Some(p);
         }
-        p += 1;
     }
-    total
+    None
 }
 
 fn has_figure(figures: &[u32], p: u32) -> bool
     ensures { result ≡ has_figure figures.now p }
 {
-    if game_tables::entry_at(figures, p, NO_FIGURE) == NO_FIGURE {
-        return false;
-    }
-    true
+    game_tables::entry_at(figures, p, NO_FIGURE) != NO_FIGURE
 }

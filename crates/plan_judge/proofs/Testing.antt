@@ -1,30 +1,29 @@
 -- The test of a plan by the tests that code makes, one law for each return. Assumes nothing.
-use mathlib.Core.Path.{◌≡◌, sym, ◌∙◌, ap}
+use mathlib.Core.Path.{◌≡◌, refl, sym, ◌∙◌, ap}
 use mathlib.Core.Logic.{inl, inr}
 use mathlib.Core.Bool.{Bool, true, false, cond}
 use mathlib.Core.List.{List}
 use mathlib.Core.Option.{none, some}
-use Prim.Native.Nat.{ℕ, ◌≤◌, ◌<◌}
+use Prim.Native.Nat.{ℕ, ◌<◌}
 use lib.Dec.{eqb}
 use lib.ListN.{get_or}
 use borrow.Author.Tests.{eq-eqb, ne_eqb}
 use Rattle.laws.specs.Below.{all_below, any_below}
-use Rattle.laws.proofs.Bools.{bool?, some-none}
-use Rattle.laws.proofs.Below.{any-one, any_none, all_but, all-each}
+use Rattle.laws.proofs.Bools.{bool?, some-none, some_one}
+use Rattle.laws.proofs.Below.{any-one, all_but}
 use Rattle.railway.specs.declared.Railway.{Railway}
 use Rattle.railway.specs.Record.{weight_of}
-use Rattle.game.specs.Game.{Outcome, may}
+use Rattle.game.specs.Game.{derailment, collision, Outcome, lost, at, may}
 use Rattle.game.specs.Claim.{figure_of}
 use Rattle.game.specs.Local.{is_within, goes_within, keeps_test}
 use Rattle.game.specs.Placement.{placements, start_code, at_home, shared}
 use Rattle.game.specs.Setting.{held}
 use Rattle.game.specs.Moves.{move_of, game_of}
 use Rattle.game_tables.specs.Entries.{opens_in, setting_at}
-use Rattle.game_tables.specs.Tables.{no_figure, figure_in}
+use Rattle.game_tables.specs.Tables.{no_figure, figure_entry, figure_in}
 use Rattle.plan.specs.Test.{by_tables, listed_setting}
 use Rattle.plan.specs.Computed.{train_signalled, listed_passes, passes_if, placement_passes, test_holds}
-use Rattle.game_moves.specs.declared.Move.{Move}
-use Rattle.game_moves.specs.declared.Move.TheVariants.{NotAllowed}
+use Rattle.game_moves.specs.Move.{Move, NotAllowed, Derails, Collides, At}
 use Rattle.game_moves.specs.Answers.{ended, move_under}
 use Rattle.plan_judge.specs.Steps.{signalled_in}
 
@@ -36,14 +35,8 @@ module _ {n k : ℕ} (e : k ≡ n) (f : ℕ → Bool) (i : ℕ) where
   pub one-of : i < k → f i ≡ true → true ≡ any_below f n
   one-of l h = any-one f n i (rw (← e) l) h
 
-  pub none_of : i ≤ k → k ≤ i → any_below f i ≡ false → false ≡ any_below f n
-  none_of l m h = any_none f n i h (rw (← e) l) (rw (← e) m)
-
   pub but-one : i < k → f i ≡ false → false ≡ all_below f n
   but-one l h = all_but f n i (rw (← e) l) h
-
-  pub every_one : i ≤ k → k ≤ i → all_below f i ≡ true → true ≡ all_below f n
-  every_one l m h = all-each f n i h (rw (← e) l) (rw (← e) m)
 
 -- ONE TRAIN: open without a signal
 module _ (r : Railway) (p v t : ℕ) (o : Bool) (is : o ≡ opens_in v t) where
@@ -62,13 +55,25 @@ module _ (r : Railway) (figs : List ℕ) (p v n t : ℕ) (o : Move) (is : ended 
     | inr y ↦ rw y
   ]
 
-  pub moves-within : (w : ℕ) → w ≡ weight_of r t → (b : Bool) → ¬ (ended o ≡ none) → ((x : Outcome) → ended o ≡ some x → b ≡ is_within n w (figure_of (figure_in figs) x))
+  -- it ends in an outcome, whose figure decides
+  moves-within : (x : Outcome) → ended o ≡ some x → (b : Bool) → b ≡ is_within n (weight_of r t) (figure_of (figure_in figs) x)
       → b ≡ goes_within (game_of r) (figure_in figs) p (setting_at r p v) n t
   unfolding move_under
-  moves-within w weighs b moved h = elim (bool? (may (game_of r) p (setting_at r p v) t)) [
-    | inl y ↦ let z : move_under r p v t ≡ some (move_of r p (setting_at r p v) t) = rw y in rw (y, ← weighs) (h (move_of r p (setting_at r p v) t) (is ∙ z))
-    | inr y ↦ let z : move_under r p v t ≡ none = rw y in absurd (moved (is ∙ z))
+  moves-within x e b h = elim (bool? (may (game_of r) p (setting_at r p v) t)) [
+    | inl y ↦ let z : move_under r p v t ≡ some (move_of r p (setting_at r p v) t) = rw y in
+        let q : x ≡ move_of r p (setting_at r p v) t = some_one (sym e ∙ is ∙ z) in rw (y, ← q) h
+    | inr y ↦ let z : move_under r p v t ≡ none = rw y in some-none e (is ∙ z)
   ]
+
+  pub derailed-within : o ≡ Derails → false ≡ goes_within (game_of r) (figure_in figs) p (setting_at r p v) n t
+  derailed-within e = moves-within (lost derailment) (ap ended e) false refl
+
+  pub collided-within : o ≡ Collides → false ≡ goes_within (game_of r) (figure_in figs) p (setting_at r p v) n t
+  collided-within e = moves-within (lost collision) (ap ended e) false refl
+
+  pub at-within : (q f : ℕ) → o ≡ At q → f ≡ get_or figs q no_figure → (w : ℕ) → w ≡ weight_of r t → (b : Bool) → b ≡ is_within n w (figure_entry f)
+      → b ≡ goes_within (game_of r) (figure_in figs) p (setting_at r p v) n t
+  at-within q f e listed w weighs b h = moves-within (at q) (ap ended e) b (rw (← weighs, ← listed) h)
 
 -- A SETTING THAT KEEPS the figure
 module _ (r : Railway) (figs : List ℕ) (p v n : ℕ) (s : Bool) (is : s ≡ any_below (may (game_of r) p (setting_at r p v)) r.trains) where

@@ -4,13 +4,11 @@
 #![tactic(auto)]
 
 ghost use Rattle.std.specs.Prelude.{◌≡◌, ℕ, ◌<◌};
-ghost use Rattle.std.proofs.Math.Option.{some};
 ghost use Rattle.laws.specs.Below.{all_below, any_below};
 ghost use Rattle.railway.specs.declared.Railway.{Railway};
 ghost use Rattle.railway.specs.Record.{is_closed};
-ghost use Rattle.game.specs.Game.{Outcome, may};
-ghost use Rattle.game.specs.Claim.{figure_of};
-ghost use Rattle.game.specs.Local.{is_within, goes_within, keeps_test};
+ghost use Rattle.game.specs.Game.{may};
+ghost use Rattle.game.specs.Local.{goes_within, keeps_test};
 ghost use Rattle.game.specs.Placement.{placements};
 ghost use Rattle.game.specs.Moves.{game_of};
 ghost use Rattle.game_tables.specs.Entries.{setting_at};
@@ -19,11 +17,10 @@ ghost use Rattle.plan.specs.Test.{by_tables};
 ghost use Rattle.plan.specs.Computed.{listed_passes, placement_passes, test_holds};
 ghost use Rattle.railway_routes.specs.Routes.{Laid};
 ghost use Rattle.railway_compiled.specs.Table.{Compiled};
-ghost use Rattle.game_moves.specs.Answers.{ended};
 ghost use Rattle.game_moves.specs.Steps.{On};
 ghost use Rattle.plan_judge.specs.Steps.{signalled_in};
 
-use game_moves::Move;
+use game_moves::Fault;
 use game_placement::{Placement, TRAIN_BITS};
 use game_tables::NO_FIGURE;
 use railway_compiled::Table;
@@ -49,12 +46,8 @@ fn all_pass(table: &Table, ways: &Ways, figures: &[u32], settings: &[u32]) -> bo
     ensures { (r : Railway) → Compiled r table.now → Laid r (is_closed r) ways.now
         → result ≡ all_below (placement_passes r (by_tables figures.now settings.now)) (placements r) }
 {
-    let m = game_moves::placements(table);
-    let mut p: u32 = 0;
-    while p < m {
-        if placement_passes(table, ways, figures, settings, p) {
-            p += 1;
-        } else {
+    for p in 0..game_moves::placements(table) {
+        if !placement_passes(table, ways, figures, settings, p) {
             return false;
         }
     }
@@ -102,12 +95,8 @@ fn listed_passes(
 fn opens_signalled(table: &Table, q: Placement, v: u32) -> bool
     ensures { (r : Railway) (p : ℕ) → On r p table.now q → result ≡ all_below (signalled_in r p v) r.trains }
 {
-    let k = railway_compiled::trains_in(table);
-    let mut t: u8 = 0;
-    while t < k {
-        if train_signalled(table, q, v, t) {
-            t += 1;
-        } else {
+    for t in 0..railway_compiled::trains_in(table) {
+        if !train_signalled(table, q, v, t) {
             return false;
         }
     }
@@ -139,13 +128,10 @@ fn keeps(table: &Table, ways: &Ways, figures: &[u32], q: Placement, v: u32, n: u
 fn some_may(table: &Table, q: Placement, v: u32) -> bool
     ensures { (r : Railway) (p : ℕ) → On r p table.now q → result ≡ any_below (may (game_of r) p (setting_at r p v)) r.trains }
 {
-    let k = railway_compiled::trains_in(table);
-    let mut t: u8 = 0;
-    while t < k {
+    for t in 0..railway_compiled::trains_in(table) {
         if game_moves::may_in(table, q, v, t) {
             return true;
         }
-        t += 1;
     }
     false
 }
@@ -154,12 +140,8 @@ fn all_within(table: &Table, ways: &Ways, figures: &[u32], q: Placement, v: u32,
     ensures { (r : Railway) (p : ℕ) → On r p table.now q → Laid r (is_closed r) ways.now
         → result ≡ all_below (goes_within (game_of r) (figure_in figures.now) p (setting_at r p v) n) r.trains }
 {
-    let k = railway_compiled::trains_in(table);
-    let mut t: u8 = 0;
-    while t < k {
-        if goes_within(table, ways, figures, q, v, n, t) {
-            t += 1;
-        } else {
+    for t in 0..railway_compiled::trains_in(table) {
+        if !goes_within(table, ways, figures, q, v, n, t) {
             return false;
         }
     }
@@ -179,25 +161,13 @@ fn goes_within(
     ensures { (r : Railway) (p : ℕ) → On r p table.now q → Laid r (is_closed r) ways.now
         → result ≡ goes_within (game_of r) (figure_in figures.now) p (setting_at r p v) n t }
 {
-    let m = game_moves::move_in(table, ways, q, v, t);
-    let Move::NotAllowed = m else {
-        return is_within(figures, m, railway_compiled::weight_in(table, t), n);
-    };
-    true
-}
-
-// What a move ends in has a figure smaller than n by this weight at least.
-fn is_within(figures: &[u32], m: Move, weight: u8, n: u32) -> bool
-    ensures { (o : Outcome) → ended m ≡ some o → result ≡ is_within n weight (figure_of (figure_in figures.now) o) }
-{
-    match m {
-        Move::NotAllowed => false,
-        Move::Derails => false,
-        Move::Collides => false,
-        Move::At(q) => game_tables::is_within(
-            game_tables::entry_at(figures, q, NO_FIGURE),
-            weight,
-            n,
-        ),
+    match game_moves::move_in(table, ways, q, v, t) {
+        Err(Fault::NotAllowed) => true,
+        Err(Fault::Derails) => false,
+        Err(Fault::Collides) => false,
+        Ok(next) => {
+            let weight = railway_compiled::weight_in(table, t);
+            game_tables::is_within(game_tables::entry_at(figures, next, NO_FIGURE), weight, n)
+        }
     }
 }

@@ -49,10 +49,8 @@ fn put_sections(out: &mut [u8], at: usize, k: u8, q: Placement) -> usize
     ensures { Appended out.old at (gather_below (section_piece q) k) out.new result }
 {
     let mut next = at;
-    let mut t: u8 = 0;
-    while t < k {
+    for t in 0..k {
         next = append::number(out, next, game_placement::section_at(q, t) as u32 + 1, TAB);
-        t += 1;
     }
     next
 }
@@ -71,24 +69,15 @@ fn put_open(out: &mut [u8], at: usize, k: u8, v: u32) -> usize
 fn any_open(k: u8, v: u32) -> bool
     ensures { result ≡ any_below (opens_in v) k }
 {
-    let mut t: u8 = 0;
-    while t < k {
-        if game_placement::bit_at(v, TRAIN_BITS + (t as u32)) {
-            return true;
-        }
-        t += 1;
-    }
-    false
+    (0..k).any(|t| game_placement::bit_at(v, TRAIN_BITS + (t as u32)))
 }
 
 fn put_trains(out: &mut [u8], at: usize, k: u8, v: u32) -> usize
     ensures { Appended out.old at (gather_below (open_piece (opens_in v)) k) out.new result }
 {
     let mut next = at;
-    let mut t: u8 = 0;
-    while t < k {
+    for t in 0..k {
         next = put_train(out, next, t, v);
-        t += 1;
     }
     next
 }
@@ -119,10 +108,8 @@ pub fn put_signs(out: &mut [u8], at: usize, m: u8, v: u32) -> usize
     ensures { Appended out.old at (gather_below (point_piece (bit v)) m) out.new result }
 {
     let mut next = at;
-    let mut n: u8 = 0;
-    while n < m {
+    for n in 0..m {
         next = append::byte(out, next, sign(game_placement::bit_at(v, n as u32)));
-        n += 1;
     }
     next
 }

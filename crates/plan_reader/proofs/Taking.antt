@@ -11,48 +11,23 @@ use native.Mathlib.Numerals.{add-one}
 use lib.Dec.{eqb, ltb}
 use lib.ListN.{length, get_or, drop, drop_of_length-le, get_or-eq_default}
 use lib.Seq.{drop-cons}
-use borrow.Author.Tests.{lt-ltb, le-ltb, ltb-true, eq-eqb, ne_eqb}
+use borrow.Author.Tests.{lt-ltb, ltb-true, eq-eqb, ne_eqb}
 use Rattle.laws.proofs.Bools.{lt?}
 use Rattle.laws.proofs.Lists.{of_four}
 use Rattle.text.specs.declared.Cursor.{Cursor}
-use Rattle.text.specs.declared.Byte.{Byte}
-use Rattle.text.specs.declared.Byte.TheVariants.{Other, Past}
+use Rattle.text.specs.Byte.{Byte, Other, Past}
 use Rattle.text.specs.Text.{byte}
-use Rattle.text.specs.Reading.{Got, bad, got, then, byte_at, number_at}
+use Rattle.text.specs.Reading.{Got, bad, got, then, number_at}
 use Rattle.text.specs.Answers.{byte_got, byte_inside}
 use Rattle.text.proofs.Reading.{bad-got, steps, on}
 use Rattle.railway.specs.Bounds.{most_points, most_trains}
 use Rattle.game_tables.specs.Entries.{train_bits}
 use Rattle.game_tables.specs.Tables.{no_figure}
 use Rattle.plan.specs.Lines.{train_digit}
-use Rattle.plan_reader.specs.Walk.{word_at, number_tab, to_section, section_at, sections_at, to_figure, figure_at, trains_at, to_opens, opens_at, signs_at, points_at, fields_at, entry_at}
+use Rattle.plan_reader.specs.Walk.{word_at, number_tab, to_section, section_at, sections_at, to_figure, figure_at, trains_at, to_opens, opens_at, signs_at}
 use Rattle.plan_reader.proofs.Fields.{next_bit}
 
 -- SECTIONS
-module _ (text : List ℕ) (s k t c : ℕ) where
-  pub section-skip : k ≤ t → got 0 c ≡ section_at text s k t c
-  unfolding section_at
-  section-skip h = rw (le-ltb t k h)
-
-  module _ (h : t < k) where
-    pub section-none : number_tab text 2 c ≡ bad → bad ≡ section_at text s k t c
-    unfolding section_at
-    section-none e = rw (lt-ltb t k h, e)
-
-    module _ {n b : ℕ} (e : number_tab text 2 c ≡ got n b) where
-      pub section-zero : n ≡ 0 → bad ≡ section_at text s k t c
-      unfolding section_at
-      section-zero z = rw (lt-ltb t k h, e, eq-eqb n 0 z)
-
-      module _ (z : n ≡ 0 → ⊥) where
-        pub section-there : n - 1 < s → got (n - 1) b ≡ section_at text s k t c
-        unfolding section_at
-        section-there l = rw (lt-ltb t k h, e, ne_eqb n 0 z, lt-ltb (n - 1) s l)
-
-        pub section-past : s ≤ n - 1 → bad ≡ section_at text s k t c
-        unfolding section_at
-        section-past l = rw (lt-ltb t k h, e, ne_eqb n 0 z, le-ltb (n - 1) s l)
-
 -- a section that was read is there
 of-below : (s n c x b : ℕ) (p q : Bool) → ltb (n - 1) s ≡ q → cond p bad (cond q (got (n - 1) c) bad) ≡ got x b → x < s
 of-below s n c x b true q h e = bad-got refl e
@@ -67,14 +42,6 @@ module _ (text : List ℕ) (s k t c x b : ℕ) where
   unfolding section_at
   section-below e h = then-below s x b (number_tab text 2 c) (rw (lt-ltb t k h) at e)
 
-  pub section-byte : section_at text s k t c ≡ got x b → s < 256 → x < 256
-  unfolding section_at
-  section-byte e l = go (ltb t k) e
-    where
-      go : (p : Bool) → cond p (then (number_tab text 2 c) (to_section s)) (got 0 c) ≡ got x b → x < 256
-      go true e = let h = then-below s x b (number_tab text 2 c) e in omega arith
-      go false e = let z : 0 ≡ x = cc in omega arith
-
 pub sections-below : (text : List ℕ) (s k at c : ℕ) (qs : List ℕ) → sections_at text s k at ≡ got qs c → k ≤ most_trains → (t : ℕ) → t < k → get_or qs t 0 < s
 unfolding sections_at
 sections-below text s k at c qs e l t h =
@@ -88,21 +55,24 @@ sections-below text s k at c qs e l t h =
     (section-below text s k 1 c₁ y c₂ ey) (section-below text s k 2 c₂ z c₃ ez)
     (section-below text s k 3 c₃ w c₄ ew) t (omega arith) h)))))
 
+-- the sections that were read are four
+pub record Four (qs : List ℕ) : Type 0 where
+  pub x : ℕ
+  pub y : ℕ
+  pub z : ℕ
+  pub w : ℕ
+  pub is : qs ≡ x ∷ y ∷ z ∷ w ∷ []
+
+pub four-sections : (text : List ℕ) (s k at c : ℕ) (qs : List ℕ) → sections_at text s k at ≡ got qs c → Four qs
+unfolding sections_at
+four-sections text s k at c qs e =
+    on (section_at text s k 0 at) _ qs c e (λ x c₁ ex e.
+    on (section_at text s k 1 c₁) _ qs c e (λ y c₂ ey e.
+    on (section_at text s k 2 c₂) _ qs c e (λ z c₃ ez e.
+    on (section_at text s k 3 c₃) _ qs c e (λ w c₄ ew e.
+    record { x = x; y = y; z = z; w = w; is = cc }))))
+
 -- FIGURES
-module _ (text : List ℕ) (c : ℕ) where
-  pub figure-none : number_at text 9 c ≡ bad → bad ≡ figure_at text c
-  unfolding figure_at
-  figure-none e = rw e
-
-  module _ {n b : ℕ} (e : number_at text 9 c ≡ got n b) where
-    pub figure-there : n < no_figure → got n b ≡ figure_at text c
-    unfolding figure_at
-    figure-there l = rw (e, lt-ltb n no_figure l)
-
-    pub figure-high : no_figure ≤ n → bad ≡ figure_at text c
-    unfolding figure_at
-    figure-high l = rw (e, le-ltb n no_figure l)
-
 figure-cases : (n c x b : ℕ) (p : Bool) → ltb n no_figure ≡ p → cond p (got n c) bad ≡ got x b → x < no_figure
 figure-cases n c x b true h e = let z : n ≡ x = cc in rw z at (ltb-true n no_figure h)
 figure-cases n c x b false h e = bad-got refl e
@@ -117,11 +87,10 @@ byte-inside text c b e pos = elim (lt? c (length text)) [ inl l ↦ l | inr l �
 
 -- A WORD: the bytes from i on are still to be read
 pub record WordTo (text word : List ℕ) (from at i : ℕ) : Type 0 where
-  pub few : i ≤ length word
   pub same : word_at text word from ≡ word_at text (drop i word) at
 
 pub word-start : (text word : List ℕ) (from : ℕ) → WordTo text word from from 0
-word-start text word from = record { few = omega arith; same = refl }
+word-start text word from = record { same = refl }
 
 module _ (text word : List ℕ) (from at i : ℕ) (w : WordTo text word from at i) where
   module _ (l : i < length word) (r : Byte) (looked : byte_got (get_or word i 0) r ≡ byte_inside text (get_or word i 0) at) where
@@ -133,7 +102,7 @@ module _ (text word : List ℕ) (from at i : ℕ) (w : WordTo text word from at 
     word_next next e =
         let g : byte_inside text (get_or word i 0) at ≡ got (get_or word i 0) next.at = sym looked ∙ ap (byte_got (get_or word i 0)) e in
         let z : i + 1 ≡ suc i = add-one i in
-        record { few = omega arith; same = word-here ∙ (rw (g, z)) }
+        record { same = word-here ∙ (rw (g, z)) }
 
     pub word-other : r ≡ Other → bad ≡ word_at text word from
     word-other e =
@@ -156,24 +125,13 @@ doubled t = let e : t + 1 ≡ suc t = add-one t in rw e (next_bit t)
 
 -- THE LOOP OVER TRAINS: those from t on are still to be read, and the bits so far are below theirs
 pub record OpensTo (text : List ℕ) (k from at v t : ℕ) : Type 0 where
-  pub few : t ≤ k
   pub small : v < 2 ^ (train_bits + t)
   pub same : trains_at text k 0 0 from ≡ trains_at text (k - t) t v at
-
-pub opens-start : (text : List ℕ) (k from : ℕ) → OpensTo text k from from 0 0
-opens-start text k from = let z : k - 0 ≡ k = omega arith in record { few = omega arith; small = omega arith; same = rw z }
 
 module _ (text : List ℕ) (k from at v t : ℕ) (o : OpensTo text k from at v t) (few : k ≤ most_trains) where
   module _ (l : t < k) where
     opens-bit : (1 * 2 ^ (train_bits + t)) % 2 ^ 64 ≡ 2 ^ (train_bits + t)
     opens-bit = shifted (train_bits + t) (omega arith)
-
-    -- what is added is small
-    pub opens-room : v + (1 * 2 ^ (train_bits + t)) % 2 ^ 64 < 2 ^ 64
-    opens-room =
-        let p = pow-le-pow_right {n = 2} (omega arith) {i = train_bits + t} {j = train_bits + most_trains}
-        (omega arith) in
-        rw opens-bit (omega (arith, o.small))
 
     left_one : k - t ≡ suc (k - (t + 1))
     left_one = omega arith
@@ -183,7 +141,6 @@ module _ (text : List ℕ) (k from at v t : ℕ) (o : OpensTo text k from at v t
     opens-yes e =
         let z : suc t ≡ t + 1 = omega arith in
         record {
-          few = omega arith;
           small = rw (opens-bit, doubled t) (omega (arith, o.small));
           same = o.same ∙ (rw (left_one, eq-eqb (get_or text at 0) (train_digit t) e, opens-bit, z));
         }
@@ -193,7 +150,6 @@ module _ (text : List ℕ) (k from at v t : ℕ) (o : OpensTo text k from at v t
     opens_not e =
         let z : suc t ≡ t + 1 = omega arith in
         record {
-          few = omega arith;
           small = rw (doubled t) (omega (arith, o.small));
           same = o.same ∙ (rw (left_one, ne_eqb (get_or text at 0) (train_digit t) e, z));
         }
@@ -215,20 +171,13 @@ opens-zero text k c e = rw e
 
 -- THE LOOP OVER POINTS, in the same way
 pub record SignsTo (text : List ℕ) (m from at v i : ℕ) : Type 0 where
-  pub few : i ≤ m
   pub small : v < 2 ^ i
   pub same : signs_at text m 0 0 from ≡ signs_at text (m - i) i v at
-
-pub signs-start : (text : List ℕ) (m from : ℕ) → SignsTo text m from from 0 0
-signs-start text m from = let z : m - 0 ≡ m = omega arith in record { few = omega arith; small = omega arith; same = rw z }
 
 module _ (text : List ℕ) (m from at v i : ℕ) (o : SignsTo text m from at v i) where
   module _ (l : i < m) (few : m ≤ most_points) where
     signs-bit : (1 * 2 ^ i) % 2 ^ 64 ≡ 2 ^ i
     signs-bit = shifted i (omega arith)
-
-    pub signs-room : v + (1 * 2 ^ i) % 2 ^ 64 < 2 ^ 64
-    signs-room = let p = pow-le-pow_right {n = 2} (omega arith) {i = i} {j = most_points} (omega arith) in rw signs-bit (omega (arith, o.small))
 
     one_left : m - i ≡ suc (m - (i + 1))
     one_left = omega arith
@@ -240,13 +189,13 @@ module _ (text : List ℕ) (m from at v i : ℕ) (o : SignsTo text m from at v i
     unfolding signs_at
     signs-plus e =
         let z : suc i ≡ i + 1 = omega arith in
-        record { few = omega arith; small = rw (signs-bit, twice) (omega (arith, o.small)); same = o.same ∙ (rw (one_left, e, signs-bit, z)) }
+        record { small = rw (signs-bit, twice) (omega (arith, o.small)); same = o.same ∙ (rw (one_left, e, signs-bit, z)) }
 
     pub signs-minus : get_or text at 0 ≡ byte "-" → SignsTo text m from (at + 1) v (i + 1)
     unfolding signs_at
     signs-minus e =
         let z : suc i ≡ i + 1 = omega arith in
-        record { few = omega arith; small = rw twice (omega (arith, o.small)); same = o.same ∙ (rw (one_left, e, z)) }
+        record { small = rw twice (omega (arith, o.small)); same = o.same ∙ (rw (one_left, e, z)) }
 
     pub signs-none : (get_or text at 0 ≡ byte "+" → ⊥) → (get_or text at 0 ≡ byte "-" → ⊥) → bad ≡ signs_at text m 0 0 from
     unfolding signs_at
@@ -255,28 +204,3 @@ module _ (text : List ℕ) (m from at v i : ℕ) (o : SignsTo text m from at v i
   pub signs-end : m ≤ i → got v at ≡ signs_at text m 0 0 from
   unfolding signs_at
   signs-end l = let z : m - i ≡ 0 = omega arith in sym (o.same ∙ (rw z))
-
--- POINTS
-module _ (text : List ℕ) (m c : ℕ) where
-  pub points_none : {g : Got ℕ} → m ≡ 0 → g ≡ then (byte_at text (byte ".") c) (λ b c. got 0 c) → g ≡ points_at text m c
-  unfolding points_at
-  points_none z e = rw (eq-eqb m 0 z) e
-
-  pub points-some : {g : Got ℕ} → (m ≡ 0 → ⊥) → g ≡ signs_at text m 0 0 c → g ≡ points_at text m c
-  unfolding points_at
-  points-some z e = rw (ne_eqb m 0 z) e
-
--- THE ENTRY
-module _ (text : List ℕ) (k m c : ℕ) where
-  pub entry-trains : most_trains < k → bad ≡ entry_at text k m c
-  unfolding entry_at
-  entry-trains h = rw (lt-ltb most_trains k h)
-
-  module _ (few : k ≤ most_trains) where
-    pub entry-points : most_points < m → bad ≡ entry_at text k m c
-    unfolding entry_at
-    entry-points h = rw (le-ltb most_trains k few, lt-ltb most_points m h)
-
-    pub entry-few : m ≤ most_points → {g : Got ℕ} → g ≡ fields_at text k m c → g ≡ entry_at text k m c
-    unfolding entry_at
-    entry-few h e = rw (le-ltb most_trains k few, le-ltb most_points m h) e

@@ -4,8 +4,7 @@ use Rattle.std.proofs.Math.Option.{Option, none, some}
 use Rattle.railway.specs.declared.Railway.{Railway}
 use Rattle.plan.specs.Lines.{PlanLine, start_line, placement_line, line_code}
 use Rattle.plan.specs.Checker.{line_entry}
-use Rattle.plan_reader.specs.declared.LineRead.{LineRead}
-use Rattle.plan_reader.specs.declared.LineRead.TheVariants.{NoLine, Start, Placed}
+use Rattle.plan_reader.specs.LineRead.{LineRead, NoLine, Start, Placed}
 
 -- The answer for the line that a text spells: the first line's figure; or the code, the figure and the entry that the checker puts into its
 -- tables. For a text that spells none: that it is no line.

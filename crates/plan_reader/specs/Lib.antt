@@ -1,3 +1,5 @@
 pub mod Answers
 pub mod Places
 pub mod Walk
+pub mod LineRead
+pub mod Sections

@@ -1,8 +1,7 @@
 -- Reading a line of a plan at a cursor, field by field, as the code does it. Contracts cite this file; nothing of document 01 rests on it: the laws in
 -- proofs/ say that what is read so is how a line is spelled. Assumes nothing.
 use Rattle.std.specs.Prelude.{◌≡◌, cond, List, [], ◌∷◌, ℕ, zero, suc, ◌+◌, ◌-◌, ◌^◌, eqb, ltb, get_or}
-use Rattle.text.specs.declared.Byte.{Byte}
-use Rattle.text.specs.declared.Byte.TheVariants.{Other, Past}
+use Rattle.text.specs.Byte.{Byte, Other, Past}
 use Rattle.text.specs.Text.{byte, tab, line_end}
 use Rattle.text.specs.Reading.{Got, bad, got, then, byte_at, number_at}
 use Rattle.text.specs.Answers.{byte_inside}
@@ -10,8 +9,7 @@ use Rattle.railway.specs.Bounds.{most_points, most_trains}
 use Rattle.game_tables.specs.Entries.{train_bits}
 use Rattle.game_tables.specs.Tables.{no_figure}
 use Rattle.plan.specs.Lines.{train_digit}
-use Rattle.plan_reader.specs.declared.Sections.{Sections}
-use Rattle.plan_reader.specs.declared.Sections.TheVariants.{NoSections, SectionsAre}
+use Rattle.plan_reader.specs.Sections.{Sections, NoSections, SectionsAre}
 
 -- A section from 1 to s, less one.
 abbrev pub to_section : ℕ → ℕ → ℕ → Got ℕ
@@ -92,7 +90,7 @@ module _ (text : List ℕ) where
 -- What the answer on the sections stands for.
 abbrev pub sections_got : Sections → Got (List ℕ)
 sections_got NoSections = bad
-sections_got (SectionsAre x y z w c) = got (x ∷ y ∷ z ∷ w ∷ []) c.at
+sections_got (SectionsAre q c) = got q.sections c.at
 
 -- What passing a word stands for.
 abbrev pub word_got : Byte → Got ℕ

@@ -4,9 +4,9 @@ use mathlib.Core.List.{List}
 use Prim.Native.Nat.{ℕ}
 use native.Mathlib.Omega.{arith}
 use Rattle.railway.specs.declared.Refusal.{Refusal}
-use Rattle.case_file.specs.declared.CaseRead.{CaseRead}
-use Rattle.railway.specs.declared.CaseAnswer.TheVariants.{Accepted, Refused}
-use Rattle.case_file.specs.declared.Written.{Written}
+use Rattle.case_file.specs.CaseRead.{CaseRead}
+use Rattle.railway.specs.CaseAnswer.{Accepted, Refused}
+use Rattle.case_file.specs.Written.{Written}
 use Rattle.case_file.specs.Given.{ReaderPost}
 use Rattle.case_reader.proofs.Answers.{by-refused, by-accepted}
 use Rattle.answer_lines.specs.Lines.{refusal_line, PutPost, Puts}

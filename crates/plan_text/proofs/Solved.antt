@@ -5,8 +5,7 @@ use mathlib.Core.Option.{none}
 use Prim.Native.Nat.{ℕ}
 use lib.ListN.{length-replicate}
 use Rattle.railway.specs.declared.Railway.{Railway}
-use Rattle.game_tables.specs.declared.SolverAnswer.{SolverAnswer}
-use Rattle.game_tables.specs.declared.SolverAnswer.TheVariants.{Figure}
+use Rattle.game_tables.specs.SolverAnswer.{SolverAnswer, Figure}
 use Rattle.game_tables.specs.Lengths.{entries}
 use Rattle.game_tables.specs.Solver.{SolverLeaves, SolverPost}
 use Rattle.game_tables.proofs.Refusals.{case-none}

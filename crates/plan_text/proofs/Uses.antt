@@ -21,8 +21,7 @@ use Rattle.railway.specs.Record.{train_of, with_join, with_signal, with_legs, wi
 use Rattle.railway.specs.Rows.{record_refusal}
 use Rattle.railway.specs.Yards.{yard_a, up_two_one}
 use Rattle.game_tables.specs.KnownYards.{started, Holds, plan_a}
-use Rattle.case_file.specs.declared.Written.{Written}
-use Rattle.case_file.specs.declared.Written.TheVariants.{Bytes, Refused}
+use Rattle.case_file.specs.Written.{Written, Bytes, Refused}
 use Rattle.case_file.specs.Rows.{most_bytes}
 use Rattle.case_file.specs.Given.{refused, AcceptedWith}
 use Rattle.case_file.specs.Reading.{header_at, walk, read, case_answer}
@@ -35,8 +34,8 @@ use Rattle.game.specs.Moves.{game_of}
 use Rattle.game.proofs.Accepted.{facts}
 use Rattle.game.proofs.Figures.{figure-one}
 use Rattle.game.proofs.Moves.{start-below}
-use Rattle.game_tables.specs.declared.SolverAnswer.{SolverAnswer}
-use Rattle.game_tables.specs.declared.SolverAnswer.TheVariants as solver
+use Rattle.game_tables.specs.SolverAnswer.{SolverAnswer}
+use Rattle.game_tables.specs.SolverAnswer as solver
 use Rattle.game_tables.specs.Lengths.{entries}
 use Rattle.game_tables.specs.Tables.{figure_in, tables_short, case_refusal}
 use Rattle.game_tables.specs.Solver.{number_given, figure_given, SolverLeaves}

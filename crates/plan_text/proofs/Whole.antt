@@ -12,14 +12,12 @@ use Rattle.text.proofs.Appending.{front-bytes, front-cursor, front-text, front_f
 use Rattle.railway.specs.declared.Railway.{Railway}
 use Rattle.plan.specs.declared.PlanPlace.{PlanPlace}
 use Rattle.plan.specs.declared.PlanPlace.TheVariants.{Top}
-use Rattle.plan.specs.declared.Emitted.{Emitted}
-use Rattle.plan.specs.declared.Emitted.TheVariants.{Line}
+use Rattle.plan.specs.Emitted.{Emitted, Line}
 use Rattle.plan.specs.Text.{is_some, plan_text}
 use Rattle.plan.specs.Emitter.{line_given, is_line}
 use Rattle.plan.specs.Several.{emit_lines, EmitLinesPost, WroteWhole}
 use Rattle.plan.proofs.Several.{emits-whole}
-use Rattle.case_file.specs.declared.Written.{Written}
-use Rattle.case_file.specs.declared.Written.TheVariants.{Bytes}
+use Rattle.case_file.specs.Written.{Written, Bytes}
 use Rattle.answer_lines.specs.Lines.{PutPost}
 use Rattle.answer_lines.proofs.Puts.{put_written}
 use Rattle.plan_text.specs.Listable.{Listable}

@@ -7,11 +7,10 @@ use native.Mathlib.Omega.{arith}
 use lib.ListN.{length, take}
 use Rattle.text.specs.Text.{line, bytes}
 use Rattle.railway.specs.declared.Railway.{Railway}
-use Rattle.game_tables.specs.declared.SolverAnswer.{SolverAnswer}
-use Rattle.game_tables.specs.declared.SolverAnswer.TheVariants.{Refused, Unsolvable, Figure}
+use Rattle.game_tables.specs.SolverAnswer.{SolverAnswer, Refused, Unsolvable, Figure}
 use Rattle.game_tables.specs.Solver.{SolverPost}
 use Rattle.plan.specs.Lines.{most_line_bytes}
-use Rattle.case_file.specs.declared.Written.{Written}
+use Rattle.case_file.specs.Written.{Written}
 use Rattle.answer_lines.specs.Lines.{none_line, PutPost, Puts}
 use Rattle.answer_lines.proofs.Lines.{refusal-short}
 use Rattle.plan_text.specs.Written.{output_text, blank, RailwayOutput, text_bytes, CutWrites}

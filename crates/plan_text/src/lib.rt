@@ -9,42 +9,44 @@ ghost use Rattle.answer_lines.specs.Lines.{PutPost, Puts};
 ghost use Rattle.plan_text.specs.Written.{RailwayOutput, CaseOutput, text_bytes};
 ghost use Rattle.plan_text.specs.Listable.{Listable};
 
-use case_file::Written;
-use game_tables::{ENTRIES, SolverAnswer};
-use plan::{Emitted, PlanPlace};
+use game_tables::ENTRIES;
+use plan::{Emission, PlanPlace};
 use plan_lines::MOST_LINE_BYTES;
-use railway::{CaseAnswer, Railway, Refusal};
+use railway::{Railway, Refusal};
 
 // Room for every text: a first line, and one for each entry of a table.
 pub const TEXT: usize = (ENTRIES + 1) * MOST_LINE_BYTES;
 
 // A case text: refused by the reader, or read and then solved.
-pub fn case_text(case: &[u8], text: &mut [u8]) -> Written
+pub fn case_text(case: &[u8], text: &mut [u8]) -> Result<usize, Refusal>
     ensures { Puts (CaseOutput case.now) text_bytes text.old result text.new }
 {
-    let read = case_reader::read_case(case);
-    let answer = read.answer;
-    match answer {
-        CaseAnswer::Refused(f) => answer_lines::refusal_line(f, text),
-        CaseAnswer::Accepted => railway_text(read.railway, text),
+    match case_reader::read_case(case) {
+        Err(refused) => answer_lines::refusal_line(refused, text),
+        Ok(r) => railway_text(r, text),
     }
 }
 
 // A railway: the text for what the solver answers that is lent tables of the call's own.
-fn railway_text(r: Railway, text: &mut [u8]) -> Written
+fn railway_text(r: Railway, text: &mut [u8]) -> Result<usize, Refusal>
     ensures { Puts (RailwayOutput r) text_bytes text.old result text.new }
 {
     let mut figures = [0u32; ENTRIES];
     let mut settings = [0u32; ENTRIES];
     match solver::solve(r, &mut figures, &mut settings) {
-        SolverAnswer::Refused(f) => answer_lines::refusal_line(f, text),
-        SolverAnswer::Unsolvable => answer_lines::none_line(text),
-        SolverAnswer::Figure(_) => plan_text(r, &figures, &settings, text),
+        Err(f) => answer_lines::refusal_line(f, text),
+        Ok(None) => answer_lines::none_line(text),
+        Ok(Some(_)) => plan_text(r, &figures, &settings, text),
     }
 }
 
 // The text of two tables that a plan can be written of, whoever filled them: written where it is to stand, if there is room for every text. Of other tables nothing is promised.
-pub fn plan_text(r: Railway, figures: &[u32], settings: &[u32], text: &mut [u8]) -> Written
+pub fn plan_text(
+    r: Railway,
+    figures: &[u32],
+    settings: &[u32],
+    text: &mut [u8],
+) -> Result<usize, Refusal>
     ensures { Listable r figures.now settings.now
         → PutPost (plan_text r figures.now settings.now) text.old result text.new }
 {
@@ -52,11 +54,16 @@ pub fn plan_text(r: Railway, figures: &[u32], settings: &[u32], text: &mut [u8])
         return own_text(r, figures, settings, text);
     }
     let n = plan_lines(r, figures, settings, text);
-    Written::Bytes(n)
+    Ok(n)
 }
 
 // The text, made in a buffer of the call's own and put from there.
-fn own_text(r: Railway, figures: &[u32], settings: &[u32], text: &mut [u8]) -> Written
+fn own_text(
+    r: Railway,
+    figures: &[u32],
+    settings: &[u32],
+    text: &mut [u8],
+) -> Result<usize, Refusal>
     ensures { Listable r figures.now settings.now
         → PutPost (plan_text r figures.now settings.now) text.old result text.new }
 {
@@ -66,11 +73,11 @@ fn own_text(r: Railway, figures: &[u32], settings: &[u32], text: &mut [u8]) -> W
 }
 
 // The first n bytes of a buffer that has so many.
-fn put_first(own: &[u8], n: usize, text: &mut [u8]) -> Written
+fn put_first(own: &[u8], n: usize, text: &mut [u8]) -> Result<usize, Refusal>
     ensures { n ≤ length own.now → PutPost (take n own.now) text.old result text.new }
 {
     if own.len() < n {
-        return Written::Refused(Refusal::Space);
+        return Err(Refusal::Space);
     }
     answer_lines::put(&own[..n], text)
 }
@@ -81,9 +88,9 @@ fn plan_lines(r: Railway, figures: &[u32], settings: &[u32], out: &mut [u8]) -> 
         → Appended out.old 0 (plan_text r figures.now settings.now) out.new result }
 {
     match plan_emitter::emit_lines(r, figures, settings, PlanPlace::Top, out) {
-        Emitted::Line(n, _) => n,
-        Emitted::End => 0,
-        Emitted::NoPlan => 0,
-        Emitted::Refused(_) => 0,
+        Ok(Emission::Line(n, _)) => n,
+        Ok(Emission::End) => 0,
+        Ok(Emission::NoPlan) => 0,
+        Err(_) => 0,
     }
 }

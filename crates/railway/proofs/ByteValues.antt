@@ -6,7 +6,7 @@ use Rattle.railway.specs.declared.Side.TheVariants.{Up, Down}
 use Rattle.railway.specs.declared.Leg.TheVariants.{Stem, Plus, Minus}
 use Rattle.railway.specs.declared.End.{End}
 use Rattle.railway.specs.declared.End.TheVariants.{Section, Port}
-use Rattle.railway.specs.declared.Joined.TheVariants.{Nothing, With}
+use Rattle.railway.specs.Joined.{Nothing, With}
 use Rattle.railway.specs.Ends.{end_index, end_at}
 use Rattle.railway.specs.Record.{joined_by}
 

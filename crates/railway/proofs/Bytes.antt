@@ -8,8 +8,7 @@ use native.Mathlib.Omega.{arith}
 use lib.Dec.{ltb}
 use borrow.Author.Tests.{ltb-true, lt-ltb, le-ltb}
 use Rattle.railway.specs.declared.End.{End}
-use Rattle.railway.specs.declared.Joined.{Joined}
-use Rattle.railway.specs.declared.Joined.TheVariants.{Nothing, With}
+use Rattle.railway.specs.Joined.{Joined, Nothing, With}
 use Rattle.railway.specs.Bounds.{all_ends}
 use Rattle.railway.specs.Ends.{Numbered, end_index, end_at}
 use Rattle.railway.specs.Record.{joined_by, link_byte}

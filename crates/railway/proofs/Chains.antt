@@ -24,8 +24,7 @@ use Rattle.railway.specs.declared.SectionNo.{SectionNo}
 use Rattle.railway.specs.declared.Side.{Side}
 use Rattle.railway.specs.declared.End.{End}
 use Rattle.railway.specs.declared.End.TheVariants.{Section, Port}
-use Rattle.railway.specs.declared.Joined.{Joined}
-use Rattle.railway.specs.declared.Joined.TheVariants.{Nothing, With}
+use Rattle.railway.specs.Joined.{Joined, Nothing, With}
 use Rattle.railway.specs.declared.Railway.{Railway}
 use Rattle.railway.specs.Bounds.{most_points}
 use Rattle.railway.specs.Record.{joined}

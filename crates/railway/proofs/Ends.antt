@@ -34,15 +34,9 @@ module _ (e : End) where
       → 2 * n.0 + i ≡ end_index e
   section-index n s i is l h = rw (is, h, lt-ltb n.0 most_sections l)
 
-  pub section-past : (n : SectionNo) (s : Side) → e ≡ Section n s → most_sections ≤ n.0 → all_ends ≡ end_index e
-  section-past n s is l = rw (is, le-ltb n.0 most_sections l)
-
   pub port-index : (n : PointNo) (p : Leg) (i : ℕ) → e ≡ Port n p → n.0 < most_points → i ≡ leg_index p
       → section_ends + 3 * n.0 + i ≡ end_index e
   port-index n p i is l h = rw (is, h, lt-ltb n.0 most_points l)
-
-  pub port-past : (n : PointNo) (p : Leg) → e ≡ Port n p → most_points ≤ n.0 → all_ends ≡ end_index e
-  port-past n p is l = rw (is, le-ltb n.0 most_points l)
 
 -- THERE AND BACK
 section-back : (n : ℕ) (s : Side) → n < most_sections → end_at (2 * n + side_index s) ≡ Section (record { 0 = n }) s

@@ -13,18 +13,16 @@ use Rattle.laws.proofs.Bools.{clash, lt?}
 use Rattle.laws.proofs.Lists.{get_or-inside}
 use Rattle.railway.specs.declared.Side.TheVariants.{Up}
 use Rattle.railway.specs.declared.End.{End}
-use Rattle.railway.specs.declared.Legs.{Legs}
 use Rattle.railway.specs.declared.Train.{Train}
-use Rattle.railway.specs.declared.Joined.{Joined}
-use Rattle.railway.specs.declared.Joined.TheVariants.{Nothing}
+use Rattle.railway.specs.Joined.{Nothing}
 use Rattle.railway.specs.declared.Railway.{Railway}
 use Rattle.railway.specs.Bounds.{most_sections, section_ends, all_ends}
 use Rattle.railway.specs.Ends.{end_index}
-use Rattle.railway.specs.Lent.{LinksOf, SignalsOf, ClosedOf}
+use Rattle.railway.specs.Lent.{ClosedOf}
 use Rattle.railway.specs.Record.{closed_at, is_closed, no_legs, no_link, no_train, joined_by, link_at, flag_at, joined}
 use Rattle.railway.specs.Record.{has_signal, legs_of, train_of}
 
--- within a count, beyond it, where what would be read is what stands for nothing, and where it is so beyond the count
+-- within a count, beyond it, and where what would be read beyond it is what stands for nothing
 module _ {A : Type 0} (n k : ℕ) (x d : A) where
   pub within : n < k → x ≡ cond (ltb n k) x d
   within h = rw (lt-ltb n k h)
@@ -32,42 +30,17 @@ module _ {A : Type 0} (n k : ℕ) (x d : A) where
   pub beyond : k ≤ n → d ≡ cond (ltb n k) x d
   beyond h = rw (le-ltb n k h)
 
-  pub either_way : x ≡ d → d ≡ cond (ltb n k) x d
-  either_way h = cases (ltb n k)
-    where
-      cases : (b : Bool) → d ≡ cond b x d
-      cases true = sym h
-      cases false = refl
-
   pub unasked : (k ≤ n → d ≡ x) → x ≡ cond (ltb n k) x d
   unasked h = elim (lt? n k) [ inl l ↦ within l | inr l ↦ sym (h l) ∙ beyond l ]
 
--- within its table a link is what its byte says, and past its table an index has nothing
+-- past its table an index has nothing
 module _ (r : Railway) (n : ℕ) where
-  pub link-read : n < length r.links → (j : Joined) → j ≡ joined_by (get_or r.links n 0) → j ≡ link_at r n
-  link-read h j e = e ∙ ap joined_by (get_or-inside r.links n 0 no_link h)
-
   pub link-past : length r.links ≤ n → Nothing ≡ link_at r n
   unfolding joined_by
   link-past h = sym (ap joined_by (get_or-eq_default r.links no_link h))
 
   pub flag-past : length r.signals ≤ n → false ≡ flag_at r n
   flag-past h = sym (get_or-eq_default r.signals false h)
-
--- lent links and signals, read within and past their ends
-module _ (r : Railway) (links : List ℕ) (i : ℕ) (h : LinksOf r links) where
-  pub lent-link : i < all_ends → get_or links i 0 ≡ get_or r.links i no_link
-  lent-link l = rw h.are (get_or-inside links i 0 no_link (omega (arith, h.many)))
-
-  pub lent-no-link : all_ends ≤ i → no_link ≡ get_or r.links i no_link
-  lent-no-link l = rw h.are (sym (get_or-eq_default links no_link (omega (arith, h.many))))
-
-module _ (r : Railway) (signals : List Bool) (i : ℕ) (h : SignalsOf r signals) where
-  pub lent-flag : get_or signals i false ≡ flag_at r i
-  lent-flag = rw h.are
-
-  pub lent-no-flag : section_ends ≤ i → false ≡ flag_at r i
-  lent-no-flag l = rw h.are (sym (get_or-eq_default signals false (omega (arith, h.many))))
 
 module _ (r : Railway) (e : End) (i : ℕ) (is : i ≡ end_index e) where
   pub joined-there : i < all_ends → link_at r i ≡ joined r e
@@ -108,22 +81,16 @@ module _ (r : Railway) (x : ℕ) where
   unfolding is_closed
   closed_none h = beyond x most_sections (closed_at r x) false h
 
-  pub lent-closed : (closed : List Bool) → ClosedOf r closed → x < most_sections → get_or closed x false ≡ is_closed r x
-  lent-closed closed h l = ap (λ (flags : List Bool). get_or flags x false) (sym h.are) ∙ closed-there l
+  pub lent-closed : (closed : List Bool) → ClosedOf r closed → get_or closed x false ≡ is_closed r x
+  unfolding is_closed
+  lent-closed closed h =
+      ap (λ (flags : List Bool). get_or flags x false) (sym h.are)
+      ∙ unasked x most_sections (closed_at r x) false (λ l. sym (rw h.are (get_or-eq_default closed false (omega (arith, h.many)))))
 
 module _ (r : Railway) (n : ℕ) where
-  pub legs-there : n < r.points → (get_or r.legs n no_legs).side ≡ legs_of r n
-  unfolding legs_of
-  legs-there h = within n r.points (get_or r.legs n no_legs).side Up h
-
   pub legs-none : r.points ≤ n → Up ≡ legs_of r n
   unfolding legs_of
   legs-none h = beyond n r.points (get_or r.legs n no_legs).side Up h
-
-  pub legs-past : length r.legs ≤ n → Up ≡ legs_of r n
-  unfolding legs_of
-  legs-past h = either_way n r.points (get_or r.legs n no_legs).side Up
-      (ap (λ (l : Legs). l.side) (get_or-eq_default r.legs no_legs h))
 
   pub roster-there : (d : Train) → n < r.trains → n < length r.roster → get_or r.roster n d ≡ train_of r n
   unfolding train_of
@@ -133,8 +100,3 @@ module _ (r : Railway) (n : ℕ) where
   pub roster-none : r.trains ≤ n → no_train ≡ train_of r n
   unfolding train_of
   roster-none h = beyond n r.trains (get_or r.roster n no_train) no_train h
-
-  pub roster-past : length r.roster ≤ n → no_train ≡ train_of r n
-  unfolding train_of
-  roster-past h =
-      either_way n r.trains (get_or r.roster n no_train) no_train (get_or-eq_default r.roster no_train h)

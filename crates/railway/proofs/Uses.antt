@@ -17,7 +17,7 @@ use Rattle.railway.specs.declared.Side.TheVariants.{Up, Down}
 use Rattle.railway.specs.declared.Leg.TheVariants.{Stem, Plus}
 use Rattle.railway.specs.declared.End.{End}
 use Rattle.railway.specs.declared.End.TheVariants.{Section, Port}
-use Rattle.railway.specs.declared.Joined.TheVariants.{Nothing, With}
+use Rattle.railway.specs.Joined.{Nothing, With}
 use Rattle.railway.specs.declared.Railway.{Railway}
 use Rattle.railway.specs.declared.Refusal.{Refusal}
 use Rattle.railway.specs.declared.Refusal.TheVariants.{Count, Weight, Unknown, Join, Loose, Chain, Double, Place}

@@ -9,3 +9,5 @@ pub mod Same
 pub mod Lent
 pub mod Yards
 pub mod Claims
+pub mod Joined
+pub mod CaseAnswer

@@ -14,13 +14,13 @@ ghost use Rattle.railway.specs.Record.{with_legs, with_train, with_closed};
 ghost use Rattle.railway.specs.Refusals.{number, rank};
 ghost use Rattle.railway.specs.Lent.{LinksOf, SignalsOf, ClosedOf};
 
-#[derive(Clone, Copy)]
+#[derive(Clone, Copy, PartialEq, Eq)]
 pub enum Side {
-    Up,
-    Down,
+    Up = 1,
+    Down = 0,
 }
 
-#[derive(Clone, Copy)]
+#[derive(Clone, Copy, PartialEq, Eq)]
 pub enum Leg {
     Stem,
     Plus,
@@ -28,33 +28,26 @@ pub enum Leg {
 }
 
 // The document's number less one.
-#[derive(Clone, Copy)]
+#[derive(Clone, Copy, PartialEq, Eq)]
 pub struct SectionNo(pub u8);
 
 // The document's number less one.
-#[derive(Clone, Copy)]
+#[derive(Clone, Copy, PartialEq, Eq)]
 pub struct PointNo(pub u8);
 
-#[derive(Clone, Copy)]
+#[derive(Clone, Copy, PartialEq, Eq)]
 pub enum End {
     Section(SectionNo, Side),
     Port(PointNo, Leg),
 }
 
-// What an end is joined to.
-#[derive(Clone, Copy)]
-pub enum Joined {
-    Nothing,
-    With(End),
-}
-
 // The side that a point's legs lie on.
-#[derive(Clone, Copy)]
+#[derive(Clone, Copy, PartialEq, Eq)]
 pub struct Legs {
     pub side: Side,
 }
 
-#[derive(Clone, Copy)]
+#[derive(Clone, Copy, PartialEq, Eq)]
 pub struct Train {
     pub heading: Side,
     pub start: SectionNo,
@@ -64,7 +57,7 @@ pub struct Train {
 
 // Why a case, a record, a table, a plan or a report is refused, in the order in which they are given. Each variant is the word that the
 // table of numbers has for it in its second column (docs/FORMATS.md); `number` gives the number.
-#[derive(Clone, Copy)]
+#[derive(Clone, Copy, PartialEq, Eq, PartialOrd, Ord)]
 pub enum Refusal {
     Length,
     Form,
@@ -83,13 +76,6 @@ pub enum Refusal {
     Report,
     Stranded,
     Log,
-}
-
-// What a case is answered with, as a record or as a text: it is accepted, or refused with the first row that applies.
-#[derive(Clone, Copy)]
-pub enum CaseAnswer {
-    Accepted,
-    Refused(Refusal),
 }
 
 // Legs by point; links by end, in the order of `index_of`; signals by section end; closed sections; the roster by train. A link is the byte of the
@@ -163,25 +149,21 @@ impl Railway {
     }
 
     // What an end is joined to.
-    pub fn joined(self, e: End) -> Joined
+    pub fn joined(self, e: End) -> Option<End>
         ensures { result ≡ joined self e }
     {
         self.link_at(index_of(e))
     }
 
     // What the end with this index is joined to; nothing past the last.
-    pub fn link_at(self, i: u8) -> Joined
+    pub fn link_at(self, i: u8) -> Option<End>
         ensures { result ≡ link_at self i }
     {
-        let at = i as usize;
-        if i < Railway::ENDS {
-            joined_by(self.links[at])
-        } else {
-            Joined::Nothing
-        }
+        joined_by(link_in(&self.links, i))
     }
 
     // Whether a signal stands at this section end.
+    #[tactic(auto, unfolding(crate::specs::Record::has_signal))]
     pub fn has_signal(self, e: End) -> bool
         ensures { result ≡ has_signal self e }
     {
@@ -192,56 +174,37 @@ impl Railway {
     pub fn flag_at(self, i: u8) -> bool
         ensures { result ≡ flag_at self i }
     {
-        let at = i as usize;
-        if i < Railway::SECTION_ENDS {
-            self.signals[at]
-        } else {
-            false
-        }
+        signal_in(&self.signals, i)
     }
 
     // Whether a section is closed; one that no railway can have is not.
     pub fn closed_at(self, x: u8) -> bool
         ensures { result ≡ is_closed self x }
     {
-        let at = x as usize;
-        if x < Railway::SECTIONS {
-            self.closed[at]
-        } else {
-            false
-        }
+        closed_in(&self.closed, x)
     }
 
     // The side of a point's legs; up for a point that is not there.
+    #[tactic(auto, unfolding(crate::specs::Record::legs_of))]
     pub fn legs_of(self, n: PointNo) -> Side
         ensures { result ≡ legs_of self n.0 }
     {
-        let i = n.0;
-        let at = i as usize;
-        if self.points <= i {
+        if self.points <= n.0 {
             return Side::Up;
         }
-        if i < Railway::POINTS {
-            let l = self.legs[at];
-            l.side
-        } else {
-            Side::Up
-        }
+        let none = Legs { side: Side::Up };
+        self.legs.get(n.0 as usize).copied().unwrap_or(none).side
     }
 
     // A train, counted from 0; up from section 1 to 1, of weight 1, for one that is not there.
+    #[tactic(auto, unfolding(crate::specs::Record::train_of))]
     pub fn train_of(self, t: u8) -> Train
         ensures { result ≡ train_of self t }
     {
-        let at = t as usize;
         if self.trains <= t {
             return no_train();
         }
-        if t < Railway::TRAINS {
-            self.roster[at]
-        } else {
-            no_train()
-        }
+        self.roster.get(t as usize).copied().unwrap_or(no_train())
     }
 
     // The side that an end lies on.
@@ -255,6 +218,7 @@ impl Railway {
     }
 
     // The record with a join added, found from both its ends; unchanged where an end is none that a railway can have.
+    #[tactic(auto, unfolding(crate::specs::Record::with_join))]
     pub fn with_join(self, a: End, b: End) -> Railway
         ensures { result ≡ with_join self a b }
     {
@@ -273,6 +237,7 @@ impl Railway {
     }
 
     // The record with a signal added at a section end; unchanged where the end is none that a railway can have, or a port.
+    #[tactic(auto, unfolding(crate::specs::Record::with_signal))]
     pub fn with_signal(self, e: End) -> Railway
         ensures { result ≡ with_signal self e }
     {
@@ -286,6 +251,7 @@ impl Railway {
     }
 
     // The record with a section closed; unchanged for a section that no railway can have.
+    #[tactic(auto, unfolding(crate::specs::Record::with_closed))]
     pub fn with_closed(self, x: u8) -> Railway
         ensures { result ≡ with_closed self x }
     {
@@ -298,6 +264,7 @@ impl Railway {
     }
 
     // The record with the side of a point's legs set; unchanged for a point that no railway can have.
+    #[tactic(auto, unfolding(crate::specs::Record::with_legs))]
     pub fn with_legs(self, n: PointNo, side: Side) -> Railway
         ensures { result ≡ with_legs self n.0 side }
     {
@@ -312,6 +279,7 @@ impl Railway {
     }
 
     // The record with a train set, counted from 0; unchanged for a train that no railway can have.
+    #[tactic(auto, unfolding(crate::specs::Record::with_train))]
     pub fn with_train(self, t: u8, train: Train) -> Railway
         ensures { result ≡ with_train self t train }
     {
@@ -325,7 +293,7 @@ impl Railway {
 }
 
 impl Refusal {
-    // The document's number.
+    // The document's number. (One number after the other, for the variants stand in the order of `rank`, and a derived order goes by the discriminants.)
     pub fn number(self) -> u8
         ensures { result ≡ number self }
     {
@@ -354,25 +322,7 @@ impl Refusal {
     pub fn rank(self) -> u8
         ensures { result ≡ rank self }
     {
-        match self {
-            Refusal::Length => 0,
-            Refusal::Form => 1,
-            Refusal::Count => 2,
-            Refusal::Weight => 3,
-            Refusal::Unknown => 4,
-            Refusal::Join => 5,
-            Refusal::Loose => 6,
-            Refusal::Chain => 7,
-            Refusal::Double => 8,
-            Refusal::Place => 9,
-            Refusal::Mismatch => 10,
-            Refusal::Space => 11,
-            Refusal::PlanForm => 12,
-            Refusal::PlanFault => 13,
-            Refusal::Report => 14,
-            Refusal::Stranded => 15,
-            Refusal::Log => 16,
-        }
+        self as u8
     }
 }
 
@@ -392,8 +342,7 @@ fn port_side(legs: Side, l: Leg) -> Side
 {
     match l {
         Leg::Stem => opposite(legs),
-        Leg::Plus => legs,
-        Leg::Minus => legs,
+        Leg::Plus | Leg::Minus => legs,
     }
 }
 
@@ -409,7 +358,8 @@ fn no_train() -> Train
     }
 }
 
-// The index of an end: 1d, 1u, 2d, .. and behind the section ends 1s, 1+, 1-, 2s, ..; past them all for an end that no railway can have.
+// The index of an end: 1d, 1u, 2d, .. and behind the section ends 1s, 1+, 1-, 2s, ..; past them all for an end that no railway can have. (Not From: `u8::from(e)` would not
+// say that the byte is an index, and back from that past the last comes another end. So with sides and legs.)
 pub fn index_of(e: End) -> u8
     ensures { result ≡ end_index e }
 {
@@ -437,23 +387,17 @@ pub fn index_of(e: End) -> u8
 pub fn side_index(s: Side) -> u8
     ensures { result ≡ side_index s }
 {
-    match s {
-        Side::Down => 0,
-        Side::Up => 1,
-    }
+    s as u8
 }
 
 fn leg_index(l: Leg) -> u8
     ensures { result ≡ leg_index l }
 {
-    match l {
-        Leg::Stem => 0,
-        Leg::Plus => 1,
-        Leg::Minus => 2,
-    }
+    l as u8
 }
 
 // The end of an index. (A number past the last index gives a port that no railway can have.)
+#[tactic(auto, unfolding(crate::specs::Ends::end_at))]
 pub fn end_at(i: u8) -> End
     ensures { result ≡ end_at i }
 {
@@ -466,13 +410,14 @@ pub fn end_at(i: u8) -> End
 }
 
 // What a byte of the links says: the end whose byte it is; nothing past the last end's.
-pub fn joined_by(b: u8) -> Joined
+#[tactic(auto, unfolding(crate::specs::Record::joined_by))]
+pub fn joined_by(b: u8) -> Option<End>
     ensures { result ≡ joined_by b }
 {
     if b < Railway::ENDS {
-        Joined::With(end_at(b))
+        Some(end_at(b))
     } else {
-        Joined::Nothing
+        None
     }
 }
 
@@ -480,36 +425,22 @@ pub fn joined_by(b: u8) -> Joined
 pub fn link_in(links: &Links, i: u8) -> u8
     ensures { (r : Railway) → LinksOf r links.now → result ≡ get_or r.links i no_link }
 {
-    let at = i as usize;
-    if i < Railway::ENDS {
-        links[at]
-    } else {
-        Railway::NO_LINK
-    }
+    links.get(i as usize).copied().unwrap_or(Railway::NO_LINK)
 }
 
 // Whether a signal stands at a section end, from the signals of a record; none past the last.
 pub fn signal_in(signals: &Signals, i: u8) -> bool
     ensures { (r : Railway) → SignalsOf r signals.now → result ≡ flag_at r i }
 {
-    let at = i as usize;
-    if i < Railway::SECTION_ENDS {
-        signals[at]
-    } else {
-        false
-    }
+    signals.get(i as usize).copied().unwrap_or(false)
 }
 
 // Whether a section is closed, from the closed sections of a record; one that no railway can have is not.
+#[tactic(auto, unfolding(crate::specs::Record::is_closed))]
 pub fn closed_in(closed: &Closed, x: u8) -> bool
     ensures { (r : Railway) → ClosedOf r closed.now → result ≡ is_closed r x }
 {
-    let at = x as usize;
-    if x < Railway::SECTIONS {
-        closed[at]
-    } else {
-        false
-    }
+    closed.get(x as usize).copied().unwrap_or(false)
 }
 
 // The side of such an index; up for any other number.
@@ -522,11 +453,9 @@ pub fn side_at(i: u8) -> Side
 fn leg_at(i: u8) -> Leg
     ensures { result ≡ leg_at i }
 {
-    if i == 0 {
-        Leg::Stem
-    } else if i == 1 {
-        Leg::Plus
-    } else {
-        Leg::Minus
+    match i {
+        0 => Leg::Stem,
+        1 => Leg::Plus,
+        _ => Leg::Minus,
     }
 }

@@ -6,8 +6,7 @@ use Rattle.railway.specs.declared.Refusal.{Refusal}
 use Rattle.railway.specs.Refusals.{number_given}
 use Rattle.railway.specs.Rows.{record_refusal}
 use Rattle.railway.proofs.Refusals.{number-tells}
-use Rattle.railway.specs.declared.CaseAnswer.{CaseAnswer}
-use Rattle.railway.specs.declared.CaseAnswer.TheVariants.{Accepted, Refused}
+use Rattle.railway.specs.CaseAnswer.{CaseAnswer, Accepted, Refused}
 use Rattle.railway_acceptance.specs.Answers.{Judged}
 
 module _ (r : Railway) {t : CaseAnswer} (judged : Judged r t) where

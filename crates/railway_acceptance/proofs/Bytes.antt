@@ -13,7 +13,7 @@ use lib.ListN.{get_or}
 use borrow.Author.Tests.{ltb-true, leb-true, lt-ltb, eqb-true, eqb-false, eq-eqb, ne_eqb, le-leb, lt-leb, le-ltb}
 use Rattle.laws.specs.Below.{any_below}
 use Rattle.laws.proofs.Bools.{lt?, bool?, same_bool, and-true, either}
-use Rattle.laws.proofs.Below.{any_of, none_any}
+use Rattle.laws.proofs.Below.{any_of}
 use Rattle.laws.proofs.Filling.{FilledTo}
 use Rattle.railway.specs.declared.Side.{Side}
 use Rattle.railway.specs.declared.Side.TheVariants.{Up, Down}
@@ -21,7 +21,7 @@ use Rattle.railway.specs.declared.Leg.{Leg}
 use Rattle.railway.specs.declared.Leg.TheVariants.{Stem, Plus, Minus}
 use Rattle.railway.specs.declared.SectionNo.{SectionNo}
 use Rattle.railway.specs.declared.End.TheVariants.{Section, Port}
-use Rattle.railway.specs.declared.Joined.TheVariants.{Nothing, With}
+use Rattle.railway.specs.Joined.{Nothing, With}
 use Rattle.railway.specs.declared.Legs.{Legs}
 use Rattle.railway.specs.declared.Railway.{Railway}
 use Rattle.railway.specs.Bounds.{most_points, section_ends, all_ends}
@@ -114,15 +114,6 @@ module _ (r : Railway) (i : ℕ) where
     leg-of m = rw (end-port i above)
         (legs-there ∙ ap side_index (sym (leg-side (legs_of r ((i - section_ends) / 3)) ((i - section_ends) % 3) m)))
 
--- two ends that no join may tie
-module _ (r : Railway) (i j : ℕ) (b : Bool) (is : b ≡ OneOwner i j) where
-  pub pair-wrong : b ≡ true → true ≡ wrong_pair (tied r (end_at i)) (tied r (end_at j))
-  pair-wrong e = rw (← is, e)
-
-  pub pair-sides : b ≡ false → (m n : ℕ) → m ≡ side_index (side_of r (end_at i)) → n ≡ side_index (side_of r (end_at j))
-      → eqb m n ≡ wrong_pair (tied r (end_at i)) (tied r (end_at j))
-  pair-sides e m n hm hn = rw (← is, e, hm, hn) (same_index (side_of r (end_at i)) (side_of r (end_at j)))
-
 -- LINKS BY THEIR BYTES
 leads-byte : (k i : ℕ) → i < all_ends → leads_to (joined_by k) (end_at i) ≡ eqb k i
 leads-byte k i h = elim (lt? k all_ends) [
@@ -161,17 +152,6 @@ module _ (r : Railway) (i j : ℕ) (is : j ≡ get_or r.links i no_link) where
         rw (linked, e, leads-byte k i h)
 
 -- A LINK THAT IS MET AGAIN is as it was
-module _ (r : Railway) (i j : ℕ) (is : j ≡ get_or r.links i no_link) where
-  pub none_seen : all_ends ≤ j → true ≡ seen_at r i
-  none_seen h = rw (← is, le-leb all_ends j h)
-
-  module _ (there : j < all_ends) where
-    pub seen-byte : (k : ℕ) → k ≡ get_or r.links j no_link → j < i → eqb k i ≡ seen_at r i
-    seen-byte k his l = rw (← is, ← his, lt-ltb j i l, lt-leb all_ends j there)
-
-    pub unseen-byte : i ≤ j → false ≡ seen_at r i
-    unseen-byte l = rw (← is, le-ltb j i l, lt-leb all_ends j there)
-
 eqb-turned : (m n : ℕ) → eqb m n ≡ eqb n m
 eqb-turned m n =
     same_bool (eqb m n) (eqb n m) (λ h. eq-eqb n m (sym (eqb-true m n h))) (λ h. eq-eqb m n (sym (eqb-true n m h)))
@@ -315,10 +295,6 @@ module _ (r : Railway) (j : ℕ) where
         cases true q = q
         cases false q = q
 
-pub long-link : (r : Railway) (i j : ℕ) → j ≡ get_or r.links i no_link → (b : Bool)
-    → b ≡ longer r most_behind (joined_by j) → b ≡ longer r most_behind (link_at r i)
-long-link r i j is b h = h ∙ ap (λ (m : ℕ). longer r most_behind (joined_by m)) is
-
 module _ (r : Railway) (n : ℕ) where
   pub port-chained : n < most_points → (a b c : Bool) → a ≡ longer r most_behind (link_at r (section_ends + 3 * n))
       → b ≡ longer r most_behind (link_at r (section_ends + 3 * n + 1))
@@ -376,50 +352,23 @@ module _ (f : ℕ → Bool) (i : ℕ) (u : Bool) (h : u ≡ any_below f i) where
     | inr t ↦ noted-not (e ∙ t)
   ]
 
-  noted-all : (k : ℕ) → i ≤ k → k ≤ i → u ≡ any_below f k
-  noted-all k l g = let e : i ≡ k = omega arith in rw e at h
-
--- A LOOP THAT ONLY NOTES has noted, for every record that is as it was told, whether something shows before i
-pub record NotedTo (Told : Railway → Type 0) (at : Railway → ℕ → Bool) (k i : ℕ) (found : Bool) : Type 0 where
-  pub within : i ≤ k
-  pub noted : (r : Railway) → Told r → found ≡ any_below (at r) i
-
-module _ {Told : Railway → Type 0} {at : Railway → ℕ → Bool} {k : ℕ} where
-  pub noted-start : NotedTo Told at k 0 false
-  unfolding any_below
-  noted-start = record { within = omega arith; noted = λ r h. refl }
-
-  module _ {i : ℕ} {found : Bool} (n : NotedTo Told at k i found) where
-    pub noted_more : i < k → {x : Bool} → ((r : Railway) → Told r → x ≡ at r i) → NotedTo Told at k (i + 1) (found || x)
-    noted_more l is = record {
-      within = omega arith;
-      noted = λ r h. noted-next (at r) i found (n.noted r h) _ (is r h);
-    }
-
-    pub noted-end : k ≤ i → (r : Railway) → Told r → found ≡ any_below (at r) k
-    noted-end g r h = noted-all (at r) i found (n.noted r h) k n.within g
-
 -- PAST THE COUNTS: signals and closed sections that are there tell nothing, and all others are unknown
 section-end-known : (r : Railway) (i : ℕ) → i < section_ends → ltb i (2 * r.sections) ≡ known r (end_at i)
 section-end-known r i h =
     known-section r (2 * r.sections) (section_ends + 3 * r.points) i (record { sections = refl; points = refl }) h
 
 module _ (r : Railway) (ends : ℕ) (c : 2 * r.sections ≡ ends) where
-  pub signals-known : ends ≤ section_ends → false ≡ any_below (unknown_signal_at r) ends
-  signals-known h = sym (none_any (unknown_signal_at r) ends (λ i l. known-here i (omega arith) l))
-    where
-      known-here : (i : ℕ) → i < section_ends → i < ends → unknown_signal_at r i ≡ false
-      known-here i g l =
-          rw (← section-end-known r i g, lt-ltb i (2 * r.sections) (omega arith)) (and-never (flag_at r i))
+  pub signals-known : ends ≤ section_ends → (i : ℕ) → i < ends → unknown_signal_at r i ≡ false
+  signals-known h i l =
+      rw (← section-end-known r i (omega arith), lt-ltb i (2 * r.sections) (omega arith)) (and-never (flag_at r i))
 
   pub signal-past : (i : ℕ) → ends ≤ i → i < section_ends → (b : Bool) → b ≡ flag_at r i → b ≡ unknown_signal_at r i
   signal-past i h g b e =
       rw (← section-end-known r i g, le-ltb i (2 * r.sections) (omega arith)) (e ∙ sym (and-always (flag_at r i)))
 
 module _ (r : Railway) (s : ℕ) (c : r.sections ≡ s) where
-  pub closed-known : false ≡ any_below (unknown_closed_at r) s
-  closed-known =
-      sym (none_any (unknown_closed_at r) s (λ x l. rw (lt-ltb x r.sections (omega arith)) (and-never (is_closed r x))))
+  pub closed-known : (x : ℕ) → x < s → unknown_closed_at r x ≡ false
+  closed-known x l = rw (lt-ltb x r.sections (omega arith)) (and-never (is_closed r x))
 
   pub closed-past : (x : ℕ) → s ≤ x → (b : Bool) → b ≡ is_closed r x → b ≡ unknown_closed_at r x
   closed-past x h b e = rw (le-ltb x r.sections (omega arith)) (e ∙ sym (and-always (is_closed r x)))
@@ -467,6 +416,3 @@ module _ (r : Railway) where
             wrong = noted-before (wrong_link_at r) i w h.wrong s.other s.before s.wrong;
             unreturned = noted-not (unreturned_at r) i b h.unreturned s.returned;
           }
-
-  pub looked-all : (i : ℕ) (u w b : Bool) → Looked r i u w b → i ≤ all_ends → all_ends ≤ i → Looked r all_ends u w b
-  looked-all i u w b h l g = let e : i ≡ all_ends = omega arith in rw e at h

@@ -1,3 +1,4 @@
 pub mod Answers
 pub mod Testing
 pub mod Bytes
+pub mod Ranges

@@ -10,6 +10,7 @@ use lib.Dec.{ltb, eqb}
 use lib.ListN.{length, drop, get_or}
 use borrow.Author.Tests.{le-ltb}
 use Rattle.laws.specs.Below.{any_below}
+use Rattle.railway.specs.declared.Side.TheVariants.{Up}
 use Rattle.railway.specs.declared.Train.{Train}
 use Rattle.railway.specs.declared.Railway.{Railway}
 use Rattle.railway.specs.declared.Refusal.{Refusal}
@@ -29,6 +30,10 @@ use Rattle.railway_acceptance.proofs.Bytes.{or_nothing}
 pub own-roster : (r : Railway) → length r.roster ≡ most_trains → r.trains ≤ most_trains
     → RosterOf r r.roster r.trains
 own-roster r n h = record { are = refl; count = refl; room = omega arith }
+
+-- what an index past the trains would read
+abbrev pub unread : Train
+unread = record { heading = Up; start = record { 0 = 0 }; destination = record { 0 = 0 }; weight = 0 }
 
 -- one by one
 module _ (r : Railway) (roster : List Train) (k : ℕ) (h : RosterOf r roster k) where
@@ -74,13 +79,6 @@ module _ (r : Railway) (roster : List Train) (k : ℕ) (h : RosterOf r roster k)
 -- a byte is no weight where it is less than the least
 pub light : (w : ℕ) → w ≤ most_weight → ltb w least_weight ≡ wrong_weight w
 light w h = rw (le-ltb most_weight w h) (sym (or_nothing (ltb w least_weight)))
-
--- tests by their parts
-pub first_holds : (a b : Bool) → a ≡ true → true ≡ (a || b)
-first_holds a b p = rw p
-
-pub then-second : (a b x : Bool) → a ≡ false → x ≡ b → x ≡ (a || b)
-then-second a b x p h = rw p h
 
 -- the rows, one after the other: those before these have been asked and do not apply, so what is given is given by
 -- these

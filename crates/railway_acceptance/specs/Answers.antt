@@ -3,7 +3,7 @@
 use Rattle.std.specs.Prelude.{◌≡◌, Bool, ◌&&◌, ◌||◌, List, ℕ, ◌+◌, ◌*◌, ◌<◌, ◌≤◌, ltb, leb, eqb, length, get_or}
 use Rattle.laws.specs.Below.{any_below}
 use Rattle.railway.specs.declared.Railway.{Railway}
-use Rattle.railway.specs.declared.CaseAnswer.{CaseAnswer}
+use Rattle.railway.specs.CaseAnswer.{CaseAnswer}
 use Rattle.railway.specs.declared.Train.{Train}
 use Rattle.railway.specs.Bounds.{most_points, section_ends, all_ends}
 use Rattle.railway.specs.Ends.{side_index}

@@ -18,9 +18,7 @@ ghost use Rattle.railway.specs.Rows.{chained_at, chain_row, shares_at, shut_out_
 ghost use Rattle.railway.specs.Lent.{LinksOf, SignalsOf, ClosedOf};
 ghost use Rattle.railway_acceptance.specs.Answers.{Judged, Counts, Sided, Lent, seen_at, Looked, RosterOf};
 
-use railway::{
-    CaseAnswer, Closed, End, Joined, Legs, Links, Railway, Refusal, Side, Signals, Train,
-};
+use railway::{Closed, End, Legs, Links, Railway, Refusal, Signals, Train};
 
 // The side of each point's legs, by its index.
 type Sides = [u8; Railway::POINTS as usize];
@@ -29,6 +27,7 @@ type Sides = [u8; Railway::POINTS as usize];
 type Roster = [Train; Railway::TRAINS as usize];
 
 // What rows 4 and 5 find in the links: one at or to an end that is not there, one that ties ends which no join may tie, one that is not returned.
+// (Three flags, not a Result: one walk tells all three, and a record may have each fault without the others.)
 #[derive(Clone, Copy)]
 struct Found {
     unknown: bool,
@@ -37,14 +36,14 @@ struct Found {
 }
 
 // The test of a record, rows 3 to 8 with 16 behind 3 and 13 behind 6, the order in which they are given. (Row 7 cannot apply: a record has one flag a signal and one a section.)
-pub fn test_record(r: Railway) -> CaseAnswer
+pub fn test_record(r: Railway) -> Result<(), Refusal>
     ensures { Judged r result }
 {
     let s = r.sections;
     let p = r.points;
     let k = r.trains;
     if counts_outside(s, p, k) {
-        return CaseAnswer::Refused(Refusal::Count);
+        return Err(Refusal::Count);
     }
     let links = r.links;
     let signals = r.signals;
@@ -64,37 +63,43 @@ pub fn test_record(r: Railway) -> CaseAnswer
 }
 
 // The first of these rows that applies, given what rows 16, 4, 5 and 7 say.
-pub fn first_row(r: Railway, weight: bool, unknown: bool, wrong: bool, double: bool) -> CaseAnswer
+pub fn first_row(
+    r: Railway,
+    weight: bool,
+    unknown: bool,
+    wrong: bool,
+    double: bool,
+) -> Result<(), Refusal>
     ensures { number_given result ≡ number_of (first (rows_by (count_row r) weight unknown wrong (loose_row r) (chain_row r) double (place_row r))) }
 {
     if counts_outside(r.sections, r.points, r.trains) {
-        return CaseAnswer::Refused(Refusal::Count);
+        return Err(Refusal::Count);
     }
     if weight {
-        return CaseAnswer::Refused(Refusal::Weight);
+        return Err(Refusal::Weight);
     }
     if unknown {
-        return CaseAnswer::Refused(Refusal::Unknown);
+        return Err(Refusal::Unknown);
     }
     if wrong {
-        return CaseAnswer::Refused(Refusal::Join);
+        return Err(Refusal::Join);
     }
     let links = r.links;
     if loose_ports(&links, r.points) {
-        return CaseAnswer::Refused(Refusal::Loose);
+        return Err(Refusal::Loose);
     }
     if chained(&links, r.points) {
-        return CaseAnswer::Refused(Refusal::Chain);
+        return Err(Refusal::Chain);
     }
     if double {
-        return CaseAnswer::Refused(Refusal::Double);
+        return Err(Refusal::Double);
     }
     let closed = r.closed;
     let roster = r.roster;
     if misplaced(roster, &closed, r.trains) {
-        return CaseAnswer::Refused(Refusal::Place);
+        return Err(Refusal::Place);
     }
-    CaseAnswer::Accepted
+    Ok(())
 }
 
 // Row 3.
@@ -124,15 +129,11 @@ fn look(links: &Links, sides: &Sides, ends: u8, ports: u8) -> Found
     let mut unknown = false;
     let mut wrong = false;
     let mut unreturned = false;
-    let mut i: u8 = 0;
-    while i < Railway::ENDS {
-        if is_seen(links, i) {
-            i += 1;
-        } else {
+    for i in 0..Railway::ENDS {
+        if !is_seen(links, i) {
             unknown = unknown | unknown_link(links, ends, ports, i);
             wrong = wrong | wrong_link(links, sides, i);
             unreturned = unreturned | is_unreturned(links, i);
-            i += 1;
         }
     }
     Found {
@@ -257,12 +258,9 @@ fn sides_of(legs: [Legs; Railway::POINTS as usize], p: u8) -> Sides
     ensures { (r : Railway) → r.legs ≡ legs → r.points ≡ p → Sided r result }
 {
     let mut sides = [1u8; Railway::POINTS as usize];
-    let mut n: u8 = 0;
-    while n < Railway::POINTS {
+    for n in 0..Railway::POINTS {
         let at = n as usize;
-        let b = legs_index(legs[at], n < p);
-        sides[at] = b;
-        n += 1;
+        sides[at] = legs_index(legs[at], n < p);
     }
     sides
 }
@@ -284,13 +282,7 @@ fn unknown_signals(signals: &Signals, ends: u8) -> bool
     requires { ends ≤ section_ends }
     ensures { (r : Railway) → SignalsOf r signals.now → 2 * r.sections ≡ ends → result ≡ any_below (unknown_signal_at r) section_ends }
 {
-    let mut found = false;
-    let mut i = ends;
-    while i < Railway::SECTION_ENDS {
-        found = found | railway::signal_in(signals, i);
-        i += 1;
-    }
-    found
+    (ends..Railway::SECTION_ENDS).any(|i| railway::signal_in(signals, i))
 }
 
 // Row 4 at the closed sections: past those that are there none may be closed.
@@ -298,26 +290,14 @@ fn unknown_closed(closed: &Closed, s: u8) -> bool
     requires { s ≤ most_sections }
     ensures { (r : Railway) → ClosedOf r closed.now → r.sections ≡ s → result ≡ any_below (unknown_closed_at r) most_sections }
 {
-    let mut found = false;
-    let mut x = s;
-    while x < Railway::SECTIONS {
-        found = found | railway::closed_in(closed, x);
-        x += 1;
-    }
-    found
+    (s..Railway::SECTIONS).any(|x| railway::closed_in(closed, x))
 }
 
 // Row 6.
 fn loose_ports(links: &Links, p: u8) -> bool
     ensures { (r : Railway) → LinksOf r links.now → r.points ≡ p → result ≡ loose_row r }
 {
-    let mut found = false;
-    let mut n: u8 = 0;
-    while n < p {
-        found = found | loose_port(links, n);
-        n += 1;
-    }
-    found
+    (0..p).any(|n| loose_port(links, n))
 }
 
 fn loose_port(links: &Links, n: u8) -> bool
@@ -342,13 +322,7 @@ fn is_loose(links: &Links, i: u8) -> bool
 fn chained(links: &Links, p: u8) -> bool
     ensures { (r : Railway) → LinksOf r links.now → r.points ≡ p → result ≡ chain_row r }
 {
-    let mut found = false;
-    let mut n: u8 = 0;
-    while n < p {
-        found = found | chained_at(links, n);
-        n += 1;
-    }
-    found
+    (0..p).any(|n| chained_at(links, n))
 }
 
 fn chained_at(links: &Links, n: u8) -> bool
@@ -396,14 +370,7 @@ fn wrong_weights(roster: Roster, k: u8) -> bool
     requires { k ≤ most_trains }
     ensures { (r : Railway) → RosterOf r roster k → result ≡ weight_row r }
 {
-    let mut found = false;
-    let mut t: u8 = 0;
-    while t < k {
-        let at = t as usize;
-        found = found | is_wrong(roster[at]);
-        t += 1;
-    }
-    found
+    (0..k).any(|t| is_wrong(roster[t as usize]))
 }
 
 // A train has a weight that none may have. (A byte is never too large.)
@@ -418,14 +385,7 @@ fn unknown_trains(roster: Roster, k: u8, s: u8) -> bool
     requires { k ≤ most_trains }
     ensures { (r : Railway) → RosterOf r roster k → r.sections ≡ s → result ≡ any_below (unknown_train_at r) k }
 {
-    let mut found = false;
-    let mut t: u8 = 0;
-    while t < k {
-        let at = t as usize;
-        found = found | is_unknown(roster[at], s);
-        t += 1;
-    }
-    found
+    (0..k).any(|t| is_unknown(roster[t as usize], s))
 }
 
 // A train's start or destination is not there.
@@ -448,13 +408,7 @@ fn places_shared(roster: Roster, k: u8) -> bool
     requires { k ≤ most_trains }
     ensures { (r : Railway) → RosterOf r roster k → result ≡ any_below (shares_at r) k }
 {
-    let mut found = false;
-    let mut t: u8 = 0;
-    while t < k {
-        found = found | shares_before(roster, t);
-        t += 1;
-    }
-    found
+    (0..k).any(|t| shares_before(roster, t))
 }
 
 // A train shares its start or its destination with one before it.
@@ -462,23 +416,15 @@ fn shares_before(roster: Roster, t: u8) -> bool
     requires { t < most_trains }
     ensures { (r : Railway) (k : ℕ) → RosterOf r roster k → t < k → result ≡ shares_at r t }
 {
-    let at = t as usize;
-    let x = roster[at];
-    let mut found = false;
-    let mut u: u8 = 0;
-    while u < t {
-        let before = u as usize;
-        found = found | shares(roster[before], x);
-        u += 1;
-    }
-    found
+    let x = roster[t as usize];
+    (0..t).any(|u| shares(roster[u as usize], x))
 }
 
 // Two trains have one start, or one destination.
 fn shares(x: Train, y: Train) -> bool
     ensures { result ≡ (eqb x.start.0 y.start.0 || eqb x.destination.0 y.destination.0) }
 {
-    (x.start.0 == y.start.0) | (x.destination.0 == y.destination.0)
+    (x.start == y.start) | (x.destination == y.destination)
 }
 
 // Some train starts or ends on a closed section.
@@ -486,14 +432,7 @@ fn shut_out(roster: Roster, closed: &Closed, k: u8) -> bool
     requires { k ≤ most_trains }
     ensures { (r : Railway) → RosterOf r roster k → ClosedOf r closed.now → result ≡ any_below (shut_out_at r) k }
 {
-    let mut found = false;
-    let mut t: u8 = 0;
-    while t < k {
-        let at = t as usize;
-        found = found | is_shut(roster[at], closed);
-        t += 1;
-    }
-    found
+    (0..k).any(|t| is_shut(roster[t as usize], closed))
 }
 
 // A train's start or destination is closed.
@@ -510,46 +449,23 @@ pub fn wrong_pair(r: Railway, e: End, f: End) -> bool
     if one_owner(e, f) {
         return true;
     }
-    same_side(r.side_of(e), r.side_of(f))
+    r.side_of(e) == r.side_of(f)
 }
 
 // Two ends of one section, or of one point.
 fn one_owner(e: End, f: End) -> bool
     ensures { result ≡ one_owner (owner_of e) (owner_of f) }
 {
-    match e {
-        End::Section(m, _) => match f {
-            End::Section(n, _) => m.0 == n.0,
-            End::Port(_, _) => false,
-        },
-        End::Port(m, _) => match f {
-            End::Section(_, _) => false,
-            End::Port(n, _) => m.0 == n.0,
-        },
-    }
-}
-
-fn same_side(a: Side, b: Side) -> bool
-    ensures { result ≡ same_side a b }
-{
-    match a {
-        Side::Up => match b {
-            Side::Up => true,
-            Side::Down => false,
-        },
-        Side::Down => match b {
-            Side::Up => false,
-            Side::Down => true,
-        },
+    match (e, f) {
+        (End::Section(m, _), End::Section(n, _)) => m == n,
+        (End::Port(m, _), End::Port(n, _)) => m == n,
+        _ => false,
     }
 }
 
 // Whether nothing is joined there.
-pub fn is_unjoined(j: Joined) -> bool
+pub fn is_unjoined(j: Option<End>) -> bool
     ensures { result ≡ unjoined j }
 {
-    match j {
-        Joined::Nothing => true,
-        Joined::With(_) => false,
-    }
+    j.is_none()
 }

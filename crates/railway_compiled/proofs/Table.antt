@@ -2,79 +2,33 @@
 -- reading finds the byte of a train and a section by its index, which determines them. Assumes nothing.
 use mathlib.Core.Path.{◌≡◌, refl, sym, ◌∙◌, ap}
 use mathlib.Core.Logic.{inl, inr}
-use mathlib.Core.Bool.{Bool, true, false, cond, not, ◌&&◌}
-use mathlib.Core.List.{List, [], ◌∷◌}
-use Prim.Native.Nat.{ℕ, zero, suc, ◌+◌, ◌-◌, ◌*◌, ◌/◌, ◌%◌, ◌≤◌, ◌<◌}
+use mathlib.Core.Bool.{Bool}
+use mathlib.Core.List.{List}
+use Prim.Native.Nat.{ℕ, ◌+◌, ◌-◌, ◌*◌, ◌/◌, ◌%◌, ◌≤◌, ◌<◌}
 use native.Mathlib.Omega.{arith}
 use lib.Dec.{eqb}
 use lib.ListN.{length, get_or, set, replicate, length-replicate}
 use borrow.Author.Tests.{lt-ltb, le-ltb, eqb-false, eq-eqb, ne_eqb}
 use Rattle.laws.proofs.Filling.{FilledTo, fill-next}
 use Rattle.laws.proofs.Bools.{bool?, some-none}
-use Rattle.railway.specs.declared.Side.{Side}
-use Rattle.railway.specs.declared.Side.TheVariants.{Up, Down}
 use Rattle.railway.specs.declared.Train.{Train}
 use Rattle.railway.specs.declared.Railway.{Railway}
 use Rattle.railway.specs.declared.Refusal.{Refusal}
-use Rattle.railway.specs.declared.CaseAnswer.{CaseAnswer}
-use Rattle.railway.specs.declared.CaseAnswer.TheVariants.{Accepted, Refused}
+use Rattle.railway.specs.CaseAnswer.{CaseAnswer, Accepted, Refused}
 use Rattle.railway.specs.Bounds.{most_sections, most_trains}
-use Rattle.railway.specs.Ends.{side_index, side_at}
+use Rattle.railway.specs.Ends.{side_index}
 use Rattle.railway.specs.Record.{no_train, flag_at, has_signal, train_of, weight_of}
 use Rattle.railway.proofs.Ends.{side-small, section-index}
 use Rattle.railway.proofs.Lookups.{signal-there}
 use Rattle.railway.proofs.Rows.{accepted-facts}
 use Rattle.railway_acceptance.specs.Answers.{Judged}
 use Rattle.railway_acceptance.proofs.Answers.{judged-refused, judged-accepted}
-use Rattle.railway_compiled.specs.Table.{stand_bytes, count_bytes, table_bytes, stand_byte, end_on, parked_on, within, stand_on}
-use Rattle.railway_compiled.specs.Table.{held_on, free_on, count_byte, roster_byte, compiled_byte, Compiled, CompilePost}
-use Rattle.railway_compiled.specs.Table.{Counted, Rostered, FilledBefore}
+use Rattle.railway_compiled.specs.Table.{stand_bytes, count_bytes, table_bytes, stand_byte, end_on, stand_on}
+use Rattle.railway_compiled.specs.Table.{count_byte, roster_byte, compiled_byte, Compiled, CompilePost}
+use Rattle.railway_compiled.specs.Table.{FilledBefore}
 
--- WRITING. The counts
-module _ (r : Railway) (s p k i : ℕ) (h : Counted r s p k) where
-  pub count-sections : i ≡ 0 → s ≡ count_byte r i
-  unfolding count_byte
-  count-sections e = rw (eq-eqb i 0 e, h.sections)
-
-  pub count-points : (i ≡ 0 → ⊥) → i ≡ 1 → p ≡ count_byte r i
-  unfolding count_byte
-  count-points n e = rw (ne_eqb i 0 n, eq-eqb i 1 e, h.points)
-
-  pub count-trains : (i ≡ 0 → ⊥) → (i ≡ 1 → ⊥) → k ≡ count_byte r i
-  unfolding count_byte
-  count-trains n e = rw (ne_eqb i 0 n, ne_eqb i 1 e, h.trains)
-
+-- WRITING. The byte at an index
 module _ (r : Railway) where
-  -- a train's four
-  module _ (i t : ℕ) (train : Train) (is : train ≡ train_of r t) where
-    pub roster-heading : (x : ℕ) → i ≡ 0 → x ≡ side_index train.heading → x ≡ roster_byte r i t
-    unfolding roster_byte
-    roster-heading x p h = rw (eq-eqb i 0 p, ← is) h
-
-    pub roster-start : (i ≡ 0 → ⊥) → i ≡ 1 → train.start.0 ≡ roster_byte r i t
-    unfolding roster_byte
-    roster-start p q = rw (ne_eqb i 0 p, eq-eqb i 1 q, ← is)
-
-    pub roster-destination : (i ≡ 0 → ⊥) → (i ≡ 1 → ⊥) → i ≡ 2 → train.destination.0 ≡ roster_byte r i t
-    unfolding roster_byte
-    roster-destination p q n = rw (ne_eqb i 0 p, ne_eqb i 1 q, eq-eqb i 2 n, ← is)
-
-    pub roster-weight : (i ≡ 0 → ⊥) → (i ≡ 1 → ⊥) → (i ≡ 2 → ⊥) → train.weight ≡ roster_byte r i t
-    unfolding roster_byte weight_of
-    roster-weight p q n = rw (ne_eqb i 0 p, ne_eqb i 1 q, ne_eqb i 2 n) (ap (λ (x : Train). x.weight) is)
-
-  -- all trains
-  pub rostered : (a b c d : Train) → a ≡ train_of r 0 → b ≡ train_of r 1 → c ≡ train_of r 2 → d ≡ train_of r 3 → Rostered r (a ∷ b ∷ c ∷ d ∷ [])
-  rostered a b c d ha hb hc hd = record { each = λ t x l. go t x l }
-    where
-      go : (t : ℕ) (x : Train) → t < most_trains → get_or (a ∷ b ∷ c ∷ d ∷ []) t x ≡ train_of r t
-      go zero x l = ha
-      go (suc zero) x l = hb
-      go (suc (suc zero)) x l = hc
-      go (suc (suc (suc zero))) x l = hd
-      go (suc (suc (suc (suc t)))) x l = absurd (omega arith)
-
-  -- the byte at an index
   module _ (i x : ℕ) where
     pub for-count : stand_bytes ≤ i → i < count_bytes → x ≡ count_byte r (i - stand_bytes) → x ≡ compiled_byte r i
     unfolding compiled_byte
@@ -157,47 +111,6 @@ module _ (r : Railway) (table : List ℕ) (h : Compiled r table) where
   unfolding count_byte
   trains-there = count-there 2 (omega arith)
 
--- a train's sections and weight, by name
-module _ (r : Railway) (t x : ℕ) where
-  pub start_is : x ≡ roster_byte r 1 t → x ≡ (train_of r t).start.0
-  unfolding roster_byte
-  start_is h = h
-
-  pub destination-is : x ≡ roster_byte r 2 t → x ≡ (train_of r t).destination.0
-  unfolding roster_byte
-  destination-is h = h
-
-  pub weight_is : x ≡ roster_byte r 3 t → x ≡ weight_of r t
-  unfolding roster_byte
-  weight_is h = h
-
--- how a train stands: as if parked, for what no railway can have
-module _ (r : Railway) (t x : ℕ) where
-  pub stand-no-train : most_trains ≤ t → 2 ≡ stand_on r t x
-  stand-no-train l = rw (le-ltb t most_trains l)
-
-  module _ (lt : t < most_trains) where
-    pub stand-no-section : most_sections ≤ x → 2 ≡ stand_on r t x
-    stand-no-section l = rw (lt-ltb t most_trains lt, le-ltb x most_sections l)
-
-  pub held-is : (b : ℕ) → b ≡ stand_on r t x → eqb b 1 ≡ held_on r t x
-  held-is b h = rw h (go (within t x) (parked_on r t x) (has_signal r (end_on r t x)))
-    where
-      go : (w a v : Bool) → eqb (cond w (stand_byte a v) 2) 1 ≡ (w && (not a && v))
-      go true true v = refl
-      go true false true = refl
-      go true false false = refl
-      go false a v = refl
-
-  pub free-is : (b : ℕ) → b ≡ stand_on r t x → eqb b 0 ≡ free_on r t x
-  free-is b h = rw h (go (within t x) (parked_on r t x) (has_signal r (end_on r t x)))
-    where
-      go : (w a v : Bool) → eqb (cond w (stand_byte a v) 2) 0 ≡ (w && (not a && not v))
-      go true true v = refl
-      go true false true = refl
-      go true false false = refl
-      go false a v = refl
-
 -- a train that is not there
 module _ (r : Railway) (table : List ℕ) (i t : ℕ) (h : Compiled r table) (past : most_trains ≤ t) where
   no-train : train_of r t ≡ no_train
@@ -218,15 +131,6 @@ module _ (r : Railway) (table : List ℕ) (i t : ℕ) (h : Compiled r table) (pa
     | inl e ↦ rw (ne_eqb i 0 p, e, no-train)
     | inr e ↦ let n = eqb-false i 1 e in rw (ne_eqb i 0 p, e, eq-eqb i 2 (omega arith), no-train)
   ]
-
--- the side of a number
-pub heading-is : (r : Railway) (t x : ℕ) → x ≡ roster_byte r 0 t → side_at x ≡ (train_of r t).heading
-unfolding roster_byte
-heading-is r t x h = rw h (go (train_of r t).heading)
-  where
-    go : (s : Side) → side_at (side_index s) ≡ s
-    go Down = refl
-    go Up = refl
 
 -- THE ANSWER, the table filled byte after byte
 module _ (r : Railway) where

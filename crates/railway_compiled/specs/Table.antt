@@ -1,19 +1,20 @@
 -- A railway compiled into bytes, for loops that ask the same things of it many times. Nothing of document 01 rests on this file but
 -- for `CompilePost`, what compiling a record promises: contracts cite it, and the laws in proofs/Table say that the bytes give what the record gives.
 -- Assumes nothing.
-use Rattle.std.specs.Prelude.{◌≡◌, Bool, true, false, cond, not, ◌&&◌, List, ℕ, ◌+◌, ◌-◌, ◌*◌, ◌/◌, ◌%◌, ◌<◌, ltb, eqb, length, get_or, replicate}
+use Rattle.std.specs.Prelude.{◌≡◌, Bool, true, false, cond, not, ◌&&◌, List, ℕ, ◌+◌, ◌-◌, ◌*◌, ◌/◌, ◌%◌, ◌<◌, ltb, eqb, length, get_or, replicate, Result, Ok, Err}
 use Rattle.std.proofs.Math.Option.{none, some}
 use Rattle.railway.specs.declared.End.{End}
 use Rattle.railway.specs.declared.End.TheVariants.{Section}
 use Rattle.railway.specs.declared.Train.{Train}
 use Rattle.railway.specs.declared.Railway.{Railway}
 use Rattle.railway.specs.declared.Refusal.{Refusal}
+use Rattle.railway.specs.CaseAnswer.{Accepted, Refused}
 use Rattle.railway.specs.Bounds.{most_sections, most_trains}
 use Rattle.railway.specs.Ends.{side_index}
 use Rattle.railway.specs.Record.{has_signal, train_of, weight_of}
 use Rattle.railway.specs.Rows.{record_refusal}
 use Rattle.railway_acceptance.specs.Answers.{Judged}
-use Rattle.railway_compiled.specs.declared.Compilation.{Compilation}
+use Rattle.railway_compiled.specs.Compilation.{Compilation}
 
 -- Where the counts begin: behind a byte for each train and section.
 abbrev pub stand_bytes : ℕ
@@ -77,6 +78,11 @@ compiled_byte r i =
 pub record Compiled (r : Railway) (table : List ℕ) : Type 0 where
   pub accepted : record_refusal r ≡ none
   pub bytes : (i : ℕ) → i < table_bytes → get_or table i 0 ≡ compiled_byte r i
+
+-- What the result of a call says: the table of a record that is accepted, or a refusal and a table that is all zero.
+abbrev pub compilation : Result (List ℕ) Refusal → Compilation
+compilation (Ok table) = record { tested = Accepted; table = table }
+compilation (Err f) = record { tested = Refused f; table = replicate table_bytes 0 }
 
 -- What compiling a record gives: it is judged by rows 3 to 8, 13 and 16; accepted, the table is the railway's; refused, it is all zero.
 pub record CompilePost (r : Railway) (c : Compilation) : Type 0 where

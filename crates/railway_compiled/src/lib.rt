@@ -10,10 +10,10 @@ ghost use Rattle.railway.specs.Bounds.{most_trains};
 ghost use Rattle.railway.specs.Record.{train_of, weight_of};
 ghost use Rattle.railway.specs.Lent.{SignalsOf};
 ghost use Rattle.railway_compiled.specs.Table.{stand_bytes, table_bytes, stand_byte, stand_on, held_on, free_on};
-ghost use Rattle.railway_compiled.specs.Table.{count_byte, roster_byte, compiled_byte, Compiled, CompilePost};
+ghost use Rattle.railway_compiled.specs.Table.{count_byte, roster_byte, compiled_byte, Compiled, CompilePost, compilation};
 ghost use Rattle.railway_compiled.specs.Table.{Counted, Rostered, FilledBefore};
 
-use railway::{CaseAnswer, Railway, Side, Signals, Train};
+use railway::{Railway, Refusal, Side, Signals, Train};
 
 const SECTIONS: usize = Railway::SECTIONS as usize;
 
@@ -27,64 +27,40 @@ const ROSTER: usize = COUNTS + 3;
 // Bytes of a table: four more for each train.
 pub const TABLE: usize = ROSTER + 4 * TRAINS;
 
-// A railway's table. Of every function that takes one, the promise is about the railways whose table it is.
+// A railway's table. Of every function that takes one, the promise is about the railways whose table it is. (Bytes, not a struct with arrays: definition `Compiled` states it byte
+// by byte. So `count_byte` and `roster_byte` go by the number of a byte.)
 pub type Table = [u8; TABLE];
 
-// How a train stands on a section: free, held by a signal, or parked, for it is its destination.
-const FREE: u8 = 0;
-
-const HELD: u8 = 1;
-
-const PARKED: u8 = 2;
-
-// What compiling a record gives: the answer of its test, and the table; all zero where the record is refused.
+// How a train stands on a section: free, held by a signal, or parked, for it is its destination. The table has the variant's number.
 #[derive(Clone, Copy)]
-pub struct Compilation {
-    pub tested: CaseAnswer,
-    pub table: Table,
+enum Stand {
+    Free,
+    Held,
+    Parked,
 }
 
 // A record is tested, and where it is accepted compiled.
-pub fn compile(r: Railway) -> Compilation
-    ensures { CompilePost r result }
+pub fn compile(r: Railway) -> Result<Table, Refusal>
+    ensures { CompilePost r (compilation result) }
 {
+    railway_acceptance::test_record(r)?;
     let mut table = [0u8; TABLE];
-    let tested = railway_acceptance::test_record(r);
-    let CaseAnswer::Accepted = tested else {
-        return Compilation {
-            tested: tested,
-            table: table,
-        };
-    };
     let signals = r.signals;
     let trains = trains_of(r);
-    let mut t: u8 = 0;
-    while t < Railway::TRAINS {
-        let at = t as usize;
-        fill_stands(&mut table, &signals, trains[at], t);
-        t += 1;
+    for t in 0..Railway::TRAINS {
+        fill_stands(&mut table, &signals, trains[t as usize], t);
     }
-    let mut i: usize = COUNTS;
-    while i < TABLE {
-        let b = tail_byte(r.sections, r.points, r.trains, trains, i);
-        table[i] = b;
-        i += 1;
+    for i in COUNTS..TABLE {
+        table[i] = tail_byte(r.sections, r.points, r.trains, trains, i);
     }
-    Compilation {
-        tested: tested,
-        table: table,
-    }
+    Ok(table)
 }
 
 // All trains that a railway can have, one after the other.
 fn trains_of(r: Railway) -> [Train; TRAINS]
     ensures { Rostered r result }
 {
-    let a = r.train_of(0);
-    let b = r.train_of(1);
-    let c = r.train_of(2);
-    let d = r.train_of(3);
-    [a, b, c, d]
+    [r.train_of(0), r.train_of(1), r.train_of(2), r.train_of(3)]
 }
 
 // How one train stands on each section, behind those of the trains before it: of every record with these signals in which it is train t.
@@ -92,15 +68,14 @@ fn fill_stands(table: &mut Table, signals: &Signals, train: Train, t: u8)
     requires { t < most_trains }
     ensures { (r : Railway) → SignalsOf r signals.now → train ≡ train_of r t → FilledBefore r t table.old → FilledBefore r (t + 1) table.new }
 {
-    let h = train.heading;
-    let side = railway::side_index(h);
+    let side = railway::side_index(train.heading);
     let home = train.destination.0;
     let first = SECTIONS * (t as usize);
-    let mut x: u8 = 0;
-    while x < Railway::SECTIONS {
-        let at = first + x as usize;
-        table[at] = stand_byte(x == home, railway::signal_in(signals, 2 * x + side));
-        x += 1;
+    for x in 0..Railway::SECTIONS {
+        table[first + x as usize] = stand_byte(
+            x == home,
+            railway::signal_in(signals, 2 * x + side),
+        );
     }
 }
 
@@ -108,13 +83,12 @@ fn fill_stands(table: &mut Table, signals: &Signals, train: Train, t: u8)
 fn stand_byte(parked: bool, signal: bool) -> u8
     ensures { result ≡ stand_byte parked signal }
 {
-    if parked {
-        PARKED
-    } else if signal {
-        HELD
-    } else {
-        FREE
-    }
+    let stand = match (parked, signal) {
+        (true, _) => Stand::Parked,
+        (false, true) => Stand::Held,
+        (false, false) => Stand::Free,
+    };
+    stand as u8
 }
 
 // The bytes behind those: the counts, then the trains' own.
@@ -127,34 +101,29 @@ fn tail_byte(s: u8, p: u8, k: u8, trains: [Train; TRAINS], i: usize) -> u8
         return count_byte(s, p, k, i - COUNTS);
     }
     let j = i - ROSTER;
-    let at = j % TRAINS;
-    roster_byte(trains[at], j / TRAINS)
+    roster_byte(trains[j % TRAINS], j / TRAINS)
 }
 
+#[tactic(auto, unfolding(crate::specs::Table::count_byte))]
 fn count_byte(s: u8, p: u8, k: u8, i: usize) -> u8
     ensures { (r : Railway) → Counted r s p k → result ≡ count_byte r i }
 {
-    if i == 0 {
-        s
-    } else if i == 1 {
-        p
-    } else {
-        k
+    match i {
+        0 => s,
+        1 => p,
+        _ => k,
     }
 }
 
+#[tactic(auto, unfolding(crate::specs::Table::roster_byte, railway::specs::Record::weight_of))]
 fn roster_byte(train: Train, i: usize) -> u8
     ensures { (r : Railway) (t : ℕ) → train ≡ train_of r t → result ≡ roster_byte r i t }
 {
-    if i == 0 {
-        let h = train.heading;
-        railway::side_index(h)
-    } else if i == 1 {
-        train.start.0
-    } else if i == 2 {
-        train.destination.0
-    } else {
-        train.weight
+    match i {
+        0 => railway::side_index(train.heading),
+        1 => train.start.0,
+        2 => train.destination.0,
+        _ => train.weight,
     }
 }
 
@@ -180,6 +149,7 @@ pub fn trains_in(table: &Table) -> u8
 }
 
 // Which way a train heads.
+#[tactic(auto, unfolding(crate::specs::Table::roster_byte))]
 pub fn heading_in(table: &Table, t: u8) -> Side
     ensures { (r : Railway) → Compiled r table.now → result ≡ (train_of r t).heading }
 {
@@ -187,6 +157,7 @@ pub fn heading_in(table: &Table, t: u8) -> Side
 }
 
 // The section where a train starts.
+#[tactic(auto, unfolding(crate::specs::Table::roster_byte))]
 pub fn start_in(table: &Table, t: u8) -> u8
     ensures { (r : Railway) → Compiled r table.now → result ≡ (train_of r t).start.0 }
 {
@@ -194,6 +165,7 @@ pub fn start_in(table: &Table, t: u8) -> u8
 }
 
 // The section that a train is bound for.
+#[tactic(auto, unfolding(crate::specs::Table::roster_byte))]
 pub fn destination_in(table: &Table, t: u8) -> u8
     ensures { (r : Railway) → Compiled r table.now → result ≡ (train_of r t).destination.0 }
 {
@@ -201,6 +173,7 @@ pub fn destination_in(table: &Table, t: u8) -> u8
 }
 
 // What a move of a train costs.
+#[tactic(auto, unfolding(crate::specs::Table::roster_byte))]
 pub fn weight_in(table: &Table, t: u8) -> u8
     ensures { (r : Railway) → Compiled r table.now → result ≡ weight_of r t }
 {
@@ -213,14 +186,12 @@ fn roster_in(table: &Table, i: u8, t: u8) -> u8
     ensures { (r : Railway) → Compiled r table.now → result ≡ roster_byte r i t }
 {
     if t < Railway::TRAINS {
-        let at = ROSTER + TRAINS * (i as usize) + (t as usize);
-        table[at]
-    } else if i == 0 {
-        1
-    } else if i == 3 {
-        Railway::LEAST_WEIGHT
-    } else {
-        0
+        return table[ROSTER + TRAINS * (i as usize) + (t as usize)];
+    }
+    match i {
+        0 => 1,
+        3 => Railway::LEAST_WEIGHT,
+        _ => 0,
     }
 }
 
@@ -228,26 +199,22 @@ fn roster_in(table: &Table, i: u8, t: u8) -> u8
 pub fn held_on(table: &Table, t: u8, x: u8) -> bool
     ensures { (r : Railway) → Compiled r table.now → result ≡ held_on r t x }
 {
-    stand_in(table, t, x) == HELD
+    stand_in(table, t, x) == Stand::Held as u8
 }
 
 // Whether a train is free on a section: no signal stands at the end that it heads for, and it is not parked there.
 pub fn free_on(table: &Table, t: u8, x: u8) -> bool
     ensures { (r : Railway) → Compiled r table.now → result ≡ free_on r t x }
 {
-    stand_in(table, t, x) == FREE
+    stand_in(table, t, x) == Stand::Free as u8
 }
 
 // How a train stands on a section. Where no railway can have the train or the section, nothing moves.
 fn stand_in(table: &Table, t: u8, x: u8) -> u8
     ensures { (r : Railway) → Compiled r table.now → result ≡ stand_on r t x }
 {
-    if Railway::TRAINS <= t {
-        return PARKED;
+    if Railway::TRAINS <= t || Railway::SECTIONS <= x {
+        return Stand::Parked as u8;
     }
-    if Railway::SECTIONS <= x {
-        return PARKED;
-    }
-    let at = SECTIONS * (t as usize) + (x as usize);
-    table[at]
+    table[SECTIONS * (t as usize) + (x as usize)]
 }

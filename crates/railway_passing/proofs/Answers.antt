@@ -10,18 +10,17 @@ use native.Mathlib.Nat.{div-eq_of_lt, pow-le-pow_right}
 use lib.ListN.{length, get_or}
 use Rattle.laws.specs.Bits.{bit}
 use Rattle.laws.proofs.Bools.{some-none}
+use Rattle.std.specs.Prelude.{Ok, Err}
 use Rattle.railway.specs.declared.Leg.{Leg}
 use Rattle.railway.specs.declared.Side.{Side}
 use Rattle.railway.specs.declared.PointNo.{PointNo}
 use Rattle.railway.specs.declared.SectionNo.{SectionNo}
 use Rattle.railway.specs.declared.End.{End}
 use Rattle.railway.specs.declared.End.TheVariants.{Section, Port}
-use Rattle.railway.specs.declared.Joined.{Joined}
-use Rattle.railway.specs.declared.Joined.TheVariants.{Nothing, With}
+use Rattle.railway.specs.Joined.{Joined, Nothing, With}
 use Rattle.railway.specs.declared.Railway.{Railway}
 use Rattle.railway.specs.declared.Refusal.{Refusal}
-use Rattle.railway.specs.declared.CaseAnswer.{CaseAnswer}
-use Rattle.railway.specs.declared.CaseAnswer.TheVariants.{Accepted, Refused}
+use Rattle.railway.specs.CaseAnswer.{Accepted, Refused}
 use Rattle.railway.specs.Record.{no_link, joined_by, joined}
 use Rattle.railway.specs.Ends.{end_index}
 use Rattle.railway.specs.Lent.{LinksOf}
@@ -30,8 +29,7 @@ use Rattle.railway.proofs.Lookups.{joined-read}
 use Rattle.railway_acceptance.specs.Answers.{Judged}
 use Rattle.railway_acceptance.proofs.Answers.{judged-refused, judged-accepted}
 use Rattle.railway_passing.specs.declared.Passed.{Passed}
-use Rattle.railway_passing.specs.declared.Onward.{Onward}
-use Rattle.railway_passing.specs.declared.Onward.TheVariants.{Derails, By}
+use Rattle.railway_passing.specs.Onward.{Onward, Derails, By}
 use Rattle.railway_passing.specs.Answers.{padded, answer_of, arriving, onward, PassPost}
 
 -- A POINT MET BEFORE ALL ELSE moves the others on by one
@@ -80,10 +78,6 @@ pub bit_high : (v n : ℕ) → v < 4294967296 → 32 ≤ n → false ≡ bit v n
 bit_high v n l h =
     let e : v / (2 ^ n) ≡ 0 = div-eq_of_lt (omega (arith, pow-le-pow_right {n = 2} (omega arith) {i = 32} {j = n} h)) in
     rw e
-
--- THROUGH A POINT
-pub through-is : (l m : Leg) (b c : Bool) (o : Option Leg) → l ≡ m → b ≡ c → o ≡ through m c → o ≡ through l b
-through-is l m b c o p q h = rw (p, q) h
 
 -- A JOIN, by its link
 pub join_is : (r : Railway) (links : List ℕ) (e : End) (i b : ℕ) (j : Joined) → LinksOf r links → i ≡ end_index e
@@ -151,18 +145,17 @@ module _ (r : Railway) (points : ℕ) where
         ∙ sym (ap (λ (x : Option Leg). answer_of (past_point r (λ i. follow r (bit points) k i) n x)) t)
 
 -- THE ANSWER
-module _ (r : Railway) (e : End) (points : ℕ) (t : CaseAnswer) (judged : Judged r t) (a : Passed) where
-  pub post-refused : (f : Refusal) → t ≡ Refused f → a ≡ answer_of nowhere
-      → PassPost r e points (record { tested = t; passed = a })
-  post-refused f is h =
-      record { judged = judged; accepted = λ x. some-none (judged-refused r judged is) x; refused = λ g x. h }
+module _ (r : Railway) (e : End) (points : ℕ) where
+  pub post-refused : (f : Refusal) → Judged r (Refused f) → PassPost r e points (Err f)
+  post-refused f judged =
+      record { judged = judged; accepted = λ x. some-none (judged-refused r judged refl) x; refused = λ g x. refl }
 
-  pub post-accepted : (j : Joined) → t ≡ Accepted → j ≡ joined r e → a ≡ answer_of (follow r (bit points) 4 j)
-      → PassPost r e points (record { tested = t; passed = a })
+  pub post-accepted : (j : Joined) (a : Passed) → Judged r Accepted → j ≡ joined r e → a ≡ answer_of (follow r (bit points) 4 j)
+      → PassPost r e points (Ok a)
   unfolding passes
-  post-accepted j is p h =
+  post-accepted j a judged p h =
       record {
         judged = judged;
         accepted = λ x. h ∙ ap (λ (i : Joined). answer_of (follow r (bit points) 4 i)) p;
-        refused = λ f x. some-none x (judged-accepted r judged is);
+        refused = λ f x. some-none x (judged-accepted r judged refl);
       }

@@ -19,9 +19,8 @@ use Rattle.railway.specs.Record.{with_join, with_legs, with_train}
 use Rattle.railway.specs.Passing.{follow, passes}
 use Rattle.railway.specs.Rows.{weight_row, unknown_row, join_row, loose_row, longer, chain_row, place_row, record_refusal}
 use Rattle.railway.specs.Yards.{yard_h, line_p, line_j, line_t, sec, port}
-use Rattle.railway_passing.specs.declared.Reached.TheVariants.{Nowhere, Section}
-use Rattle.railway_passing.specs.declared.Passing.{Passing}
-use Rattle.railway_passing.specs.Answers.{padded, PassPost}
+use Rattle.railway_passing.specs.Reached.{Nowhere, Section}
+use Rattle.railway_passing.specs.Answers.{padded, Passing, tested, passed, PassPost}
 
 abbrev crossover : Railway
 crossover =
@@ -40,16 +39,16 @@ unfolding record_refusal first weight_row weight_of unknown_row join_row loose_r
 taken = refl
 
 over-both : (a : Passing) → PassPost crossover (sec 1 Up) 0 a
-    → a.passed ≡ record { reached = Section (record { 0 = 3 }); count = 2; points = 0 ∷ 1 ∷ 0 ∷ 0 ∷ [] }
+    → passed a ≡ record { reached = Section (record { 0 = 3 }); count = 2; points = 0 ∷ 1 ∷ 0 ∷ 0 ∷ [] }
 unfolding passes follow end_at joined_by joined with_join with_legs with_train padded
 over-both a p = p.accepted taken
 
 derails-last : (a : Passing) → PassPost crossover (sec 1 Up) 2 a
-    → a.passed ≡ record { reached = Nowhere; count = 2; points = 0 ∷ 1 ∷ 0 ∷ 0 ∷ [] }
+    → passed a ≡ record { reached = Nowhere; count = 2; points = 0 ∷ 1 ∷ 0 ∷ 0 ∷ [] }
 unfolding passes follow end_at joined_by joined with_join with_legs with_train padded
 derails-last a p = p.accepted taken
 
-refused-three : (a : Passing) (e : End) (b : ℕ) → PassPost empty_railway e b a → number_given a.tested ≡ some 3
+refused-three : (a : Passing) (e : End) (b : ℕ) → PassPost empty_railway e b a → number_given (tested a) ≡ some 3
 unfolding record_refusal first
 refused-three a e b p = p.judged
 
@@ -58,6 +57,6 @@ unfolding record_refusal first
 counted = refl
 
 nothing-told : (a : Passing) (e : End) (b : ℕ) → PassPost empty_railway e b a
-    → a.passed ≡ record { reached = Nowhere; count = 0; points = 0 ∷ 0 ∷ 0 ∷ 0 ∷ [] }
+    → passed a ≡ record { reached = Nowhere; count = 0; points = 0 ∷ 0 ∷ 0 ∷ 0 ∷ [] }
 unfolding padded
 nothing-told a e b p = p.refused Count counted

@@ -11,70 +11,37 @@ ghost use Rattle.railway.specs.Record.{joined};
 ghost use Rattle.railway.specs.Passing.{Passage, through, most_met, nowhere, meeting, past_point, follow};
 ghost use Rattle.railway_passing.specs.Answers.{answer_of, arriving, onward, PassPost};
 
-use railway::{CaseAnswer, End, Joined, Leg, Links, PointNo, Railway, SectionNo};
+use railway::{End, Leg, Links, PointNo, Railway, Refusal, SectionNo};
 
 // The most points that a train meets from one section end to the next.
 pub const MOST_MET: u8 = 4;
-
-// Where a train comes to: it derails, or comes to a section.
-#[derive(Clone, Copy)]
-pub enum Reached {
-    Nowhere,
-    Section(SectionNo),
-}
 
 // Where it comes to, how many points it meets, and these in order, the one that it derails at last; 0 behind them. Points and sections count from 0, as in
 // the record.
 #[derive(Clone, Copy)]
 pub struct Passed {
-    pub reached: Reached,
+    pub reached: Option<SectionNo>,
     pub count: u8,
     pub points: [u8; MOST_MET as usize],
 }
 
-// What passing answers: the test of the record, and where it is accepted the passage; else nothing is met and nowhere reached.
-#[derive(Clone, Copy)]
-pub struct Passing {
-    pub tested: CaseAnswer,
-    pub passed: Passed,
-}
-
-// Which way a point come to by a port is left.
-#[derive(Clone, Copy)]
-enum Onward {
-    Derails,
-    By(Leg),
-}
-
-// THE PASSAGE of a train that leaves by an end, points at plus where their bits are set.
-pub fn pass(r: Railway, e: End, points: u32) -> Passing
+// THE PASSAGE of a train that leaves by an end, points at plus where their bits are set; or the refusal of the record.
+pub fn pass(r: Railway, e: End, points: u32) -> Result<Passed, Refusal>
     ensures { PassPost r e points result }
 {
-    let tested = railway_acceptance::test_record(r);
-    let CaseAnswer::Accepted = tested else {
-        let none = nowhere();
-        return Passing {
-            tested: tested,
-            passed: none,
-        };
-    };
-    let links = r.links;
-    let j = join_of(&links, e);
-    let passed = past_join(&links, points, MOST_MET, j);
-    Passing {
-        tested: tested,
-        passed: passed,
-    }
+    railway_acceptance::test_record(r)?;
+    let links = &r.links;
+    Ok(past_join(links, points, MOST_MET, join_of(links, e)))
 }
 
 // Past a join, with so many points allowed: into a section, or over a point. What is promised here and below is promised of every record with these links.
 #[cycle(past_join_past_point)]
-fn past_join(links: &Links, points: u32, left: u8, j: Joined) -> Passed
+fn past_join(links: &Links, points: u32, left: u8, j: Option<End>) -> Passed
     requires { left ≤ most_met }
     ensures few { result.count ≤ left }
     ensures follows { (r : Railway) → LinksOf r links.now → result ≡ answer_of (follow r (bit points) left j) }
 {
-    let Joined::With(e) = j else {
+    let Some(e) = j else {
         return nowhere();
     };
     match e {
@@ -97,8 +64,8 @@ fn past_point(links: &Links, points: u32, left: u8, n: PointNo, l: Leg) -> Passe
 {
     let on = through(l, lies_plus(points, n));
     match on {
-        Onward::Derails => meeting(n, nowhere()),
-        Onward::By(m) => {
+        None => meeting(n, nowhere()),
+        Some(m) => {
             let j = join_of(links, End::Port(n, m));
             meeting(n, past_join(links, points, left, j))
         }
@@ -106,7 +73,7 @@ fn past_point(links: &Links, points: u32, left: u8, n: PointNo, l: Leg) -> Passe
 }
 
 // What an end is joined to.
-fn join_of(links: &Links, e: End) -> Joined
+fn join_of(links: &Links, e: End) -> Option<End>
     ensures { (r : Railway) → LinksOf r links.now → result ≡ joined r e }
 {
     railway::joined_by(railway::link_in(links, railway::index_of(e)))
@@ -114,31 +81,14 @@ fn join_of(links: &Links, e: End) -> Joined
 
 // The port by which a point is left that is come to by this one: the stem leads on to the set leg and the set leg to the stem; at the leg that is not set a
 // train derails.
-fn through(l: Leg, plus: bool) -> Onward
+fn through(l: Leg, plus: bool) -> Option<Leg>
     ensures { onward result ≡ through l plus }
 {
-    match l {
-        Leg::Stem => {
-            if plus {
-                Onward::By(Leg::Plus)
-            } else {
-                Onward::By(Leg::Minus)
-            }
-        }
-        Leg::Plus => {
-            if plus {
-                Onward::By(Leg::Stem)
-            } else {
-                Onward::Derails
-            }
-        }
-        Leg::Minus => {
-            if plus {
-                Onward::Derails
-            } else {
-                Onward::By(Leg::Stem)
-            }
-        }
+    match (l, plus) {
+        (Leg::Stem, true) => Some(Leg::Plus),
+        (Leg::Stem, false) => Some(Leg::Minus),
+        (Leg::Plus, true) | (Leg::Minus, false) => Some(Leg::Stem),
+        (Leg::Plus, false) | (Leg::Minus, true) => None,
     }
 }
 
@@ -154,22 +104,24 @@ fn lies_plus(points: u32, n: PointNo) -> bool
 }
 
 // A train that comes to no section and meets no point.
+#[tactic(auto, unfolding(crate::specs::Answers::padded))]
 fn nowhere() -> Passed
     ensures { result ≡ answer_of nowhere }
 {
     Passed {
-        reached: Reached::Nowhere,
+        reached: None,
         count: 0,
         points: [0; MOST_MET as usize],
     }
 }
 
 // A train that comes to a section and meets no point before.
+#[tactic(auto, unfolding(crate::specs::Answers::padded))]
 fn entering(n: SectionNo) -> Passed
     ensures { result ≡ answer_of (arriving n) }
 {
     Passed {
-        reached: Reached::Section(n),
+        reached: Some(n),
         count: 0,
         points: [0; MOST_MET as usize],
     }
@@ -182,9 +134,8 @@ fn meeting(n: PointNo, a: Passed) -> Passed
     ensures first { (w : Passage) → length w.met < most_met → a ≡ answer_of w → result ≡ answer_of (meeting n w) }
 {
     let old = a.points;
-    let reached = a.reached;
     Passed {
-        reached: reached,
+        reached: a.reached,
         count: a.count + 1,
         points: [n.0, old[0], old[1], old[2]],
     }

@@ -2,23 +2,21 @@
 -- written there. Assumes nothing.
 use mathlib.Core.Path.{◌≡◌, refl, sym, ◌∙◌, ap}
 use mathlib.Core.Logic.{inl, inr}
-use mathlib.Core.Bool.{Bool, true, false, cond, not}
+use mathlib.Core.Bool.{Bool, true, false, cond}
 use mathlib.Core.List.{List, [], ◌∷◌}
 use Prim.Native.Nat.{ℕ, zero, suc, ◌+◌, ◌-◌, ◌*◌, ◌/◌, ◌%◌, ◌^◌, ◌≤◌, ◌<◌}
 use native.Mathlib.Omega.{arith}
 use native.Mathlib.Nat.{mod-eq_of_lt, pow-succ', pow-le-pow_right}
 use lib.Bits.{bit_or}
 use lib.ListN.{get_or, set}
-use borrow.Author.Tests.{lt-ltb, le-ltb, eq-eqb, ne_eqb}
-use Rattle.laws.specs.Bits.{bit}
+use borrow.Author.Tests.{lt-ltb, le-ltb, eq-eqb}
 use Rattle.laws.proofs.Bools.{lt?}
 use Rattle.railway.specs.declared.Side.{Side}
 use Rattle.railway.specs.declared.Leg.{Leg}
-use Rattle.railway.specs.declared.Leg.TheVariants.{Stem, Plus, Minus}
+use Rattle.railway.specs.declared.Leg.TheVariants.{Plus, Minus}
 use Rattle.railway.specs.declared.PointNo.{PointNo}
 use Rattle.railway.specs.declared.End.TheVariants.{Section, Port}
-use Rattle.railway.specs.declared.Joined.{Joined}
-use Rattle.railway.specs.declared.Joined.TheVariants.{Nothing, With}
+use Rattle.railway.specs.Joined.{Joined, Nothing, With}
 use Rattle.railway.specs.declared.Railway.{Railway}
 use Rattle.railway.specs.Bounds.{most_points, section_ends, all_ends}
 use Rattle.railway.specs.Ends.{side_at, leg_index, leg_at, end_at}
@@ -35,22 +33,6 @@ power-fits n l =
     let h = pow-le-pow_right {n = 2} (omega arith) {i = n} {j = 15} (omega arith) in
     let e : 1 * 2 ^ n ≡ 2 ^ n = omega arith in
     rw e (mod-eq_of_lt (omega (arith, h)))
-
-module _ (care want n : ℕ) (plus : Bool) (l : n < most_points) where
-  pub bar-free : (care / (2 ^ n) % 2 ≡ 1 → ⊥) → false ≡ bars care want n plus
-  bar-free e = rw (lt-ltb n most_points l, ne_eqb (care / (2 ^ n) % 2) 1 e)
-
-  pub bar-plus : care / (2 ^ n) % 2 ≡ 1 → plus ≡ true → not (bit want n) ≡ bars care want n plus
-  bar-plus e p = rw (lt-ltb n most_points l, eq-eqb (care / (2 ^ n) % 2) 1 e, p)
-
-  pub bar-minus : care / (2 ^ n) % 2 ≡ 1 → plus ≡ false → bit want n ≡ bars care want n plus
-  bar-minus e p = rw (lt-ltb n most_points l, eq-eqb (care / (2 ^ n) % 2) 1 e, p)
-
-pub want-plus : (want one n : ℕ) (plus : Bool) → plus ≡ true → one ≡ 2 ^ n → bit_or want one ≡ want_with want n plus
-want-plus want one n plus e o = rw (e, o)
-
-pub want-minus : (want n : ℕ) (plus : Bool) → plus ≡ false → want ≡ want_with want n plus
-want-minus want n plus e = rw e
 
 -- WHAT A BYTE SAYS
 section-joined : (j : ℕ) → j < section_ends → joined_by j ≡ With (Section (record { 0 = j / 2 }) (side_at (j % 2)))
@@ -137,12 +119,6 @@ module _ (r : Railway) (f : ℕ → ℕ → Joined → List Way) (care want : �
   pub over-stem : leg ≡ 0 → (mid : List ℕ) (m : ℕ) → Put (routes_laid r f care want n false Minus) at old mid m → Put (routes_laid r f care want n true Plus) m mid new next
       → Put (routes_over r f care want n (leg_at leg)) at old new next
   over-stem e mid m p q = rw (eq-eqb leg 0 e) (put_both at old (routes_laid r f care want n false Minus) (routes_laid r f care want n true Plus) mid new m next p q)
-
-  pub over-plus : (leg ≡ 0 → ⊥) → leg ≡ 1 → Put (routes_laid r f care want n true Stem) at old new next → Put (routes_over r f care want n (leg_at leg)) at old new next
-  over-plus z e p = rw (ne_eqb leg 0 z, eq-eqb leg 1 e) p
-
-  pub over-minus : (leg ≡ 0 → ⊥) → (leg ≡ 1 → ⊥) → Put (routes_laid r f care want n false Stem) at old new next → Put (routes_over r f care want n (leg_at leg)) at old new next
-  over-minus z e p = rw (ne_eqb leg 0 z, ne_eqb leg 1 e) p
 
 -- WITH A POINT LAID
 leg-index : (i : ℕ) → i < 3 → leg_index (leg_at i) ≡ i

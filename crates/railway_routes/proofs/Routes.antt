@@ -22,8 +22,7 @@ use Rattle.railway.specs.declared.SectionNo.{SectionNo}
 use Rattle.railway.specs.declared.Side.{Side}
 use Rattle.railway.specs.declared.End.{End}
 use Rattle.railway.specs.declared.End.TheVariants.{Section, Port}
-use Rattle.railway.specs.declared.Joined.{Joined}
-use Rattle.railway.specs.declared.Joined.TheVariants.{Nothing, With}
+use Rattle.railway.specs.Joined.{Joined, Nothing, With}
 use Rattle.railway.specs.declared.Railway.{Railway}
 use Rattle.railway.specs.Bounds.{most_points, most_sections, all_ends}
 use Rattle.railway.specs.Ends.{Numbered, end_index, end_at}
@@ -32,7 +31,7 @@ use Rattle.railway.specs.Record.{no_link, joined_by, joined, is_closed}
 use Rattle.railway.specs.Rows.{known}
 use Rattle.railway.specs.Passing.{Passage, through, nowhere, past_point, past_join, most_met, follow, passes, in_use, entered}
 use Rattle.railway.proofs.Ends.{index-end, numbered_of}
-use Rattle.railway.proofs.Lookups.{lent-closed, closed_none}
+use Rattle.railway.proofs.Lookups.{lent-closed}
 use Rattle.railway.proofs.Rows.{Accepted, joined-known}
 use Rattle.railway_routes.specs.Routes.{Way, suits, bars, want_with, routes_past, routes_laid, routes_over, routes, routes_from}
 use Rattle.railway_routes.specs.Routes.{nth, reached_by, unless_shut, one_of, most_ways, flagged, Laid}
@@ -338,10 +337,7 @@ module _ (r : Railway) (ok : Accepted r) where
 
 -- THE FLAGS of a record's closed sections say which are closed, and flags that are all unset shut nothing
 pub flags-closed : (r : Railway) (flags : List Bool) → ClosedOf r flags → flagged flags ≡ is_closed r
-flags-closed r flags h = fun_ext (λ x. elim (lt? x most_sections) [
-  | inl l ↦ lent-closed r x flags h l
-  | inr l ↦ get_or-eq_default flags false (omega (arith, h.many)) ∙ closed_none r x l
-])
+flags-closed r flags h = fun_ext (λ x. lent-closed r x flags h)
 
 pub laid-closed : (r : Railway) (flags : List Bool) (ways : List ℕ) → ClosedOf r flags → Laid r (flagged flags) ways → Laid r (is_closed r) ways
 laid-closed r flags ways h l = rw (flags-closed r flags h) at l

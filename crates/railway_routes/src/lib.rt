@@ -55,17 +55,15 @@ pub fn ways_of(links: &Links, closed: &Closed) -> Ways
 fn lay_ways(ways: &mut Ways, links: &Links, closed: &Closed)
     ensures { ways.old ≡ replicate way_words no_section → (r : Railway) → LinksOf r links.now → Laid r (flagged closed.now) ways.new }
 {
-    let mut e: u8 = 0;
-    while e < Railway::SECTION_ENDS {
+    let walk = Walk {
+        left: MOST_MET,
+        care: 0,
+        want: 0,
+    };
+    for e in 0..Railway::SECTION_ENDS {
         let at = WORDS * (e as usize);
         let j = railway::link_in(links, e);
-        let walk = Walk {
-            left: MOST_MET,
-            care: 0,
-            want: 0,
-        };
         put_past(ways, links, closed, at, walk, j);
-        e += 1;
     }
 }
 
@@ -79,8 +77,7 @@ fn put_past(ways: &mut Ways, links: &Links, closed: &Closed, at: usize, walk: Wa
 {
     if j < Railway::SECTION_ENDS {
         let x = j / 2;
-        let i = x as usize;
-        if closed[i] {
+        if closed[x as usize] {
             return at;
         }
         ways[at] = x as u16;
@@ -95,8 +92,7 @@ fn put_past(ways: &mut Ways, links: &Links, closed: &Closed, at: usize, walk: Wa
         let p = j - Railway::SECTION_ENDS;
         let over = Walk {
             left: walk.left - 1,
-            care: walk.care,
-            want: walk.want,
+            ..walk
         };
         put_over(ways, links, closed, at, over, p / 3, p % 3)
     } else {
@@ -122,13 +118,13 @@ fn put_over(
         → Put (routes_over r (routes r (flagged closed.now) walk.left) walk.care walk.want (record { 0 = n }) (leg_at leg))
         at ways.old ways.new result }
 {
-    if leg == 0 {
-        let next = put_laid(ways, links, closed, at, walk, n, false, 2);
-        put_laid(ways, links, closed, next, walk, n, true, 1)
-    } else if leg == 1 {
-        put_laid(ways, links, closed, at, walk, n, true, 0)
-    } else {
-        put_laid(ways, links, closed, at, walk, n, false, 0)
+    match leg {
+        0 => {
+            let next = put_laid(ways, links, closed, at, walk, n, false, 2);
+            put_laid(ways, links, closed, next, walk, n, true, 1)
+        }
+        1 => put_laid(ways, links, closed, at, walk, n, true, 0),
+        _ => put_laid(ways, links, closed, at, walk, n, false, 0),
     }
 }
 
@@ -159,9 +155,9 @@ fn put_laid(
     let lies = want_with(walk.want, one, plus);
     let j = railway::link_in(links, Railway::SECTION_ENDS + 3 * n + out);
     let past = Walk {
-        left: walk.left,
         care: walk.care | one,
         want: lies,
+        ..walk
     };
     put_past(ways, links, closed, at, past, j)
 }
@@ -194,7 +190,8 @@ fn want_with(want: u16, one: u16, plus: bool) -> u16
     if plus { want | one } else { want }
 }
 
-// READING THE TABLE. The section at the end of way j from the section end with index e; `NO_SECTION`: there is no such way.
+// READING THE TABLE. (Three names for the three words of a way, each a line over `word`: callers read which word they ask for, and the solver's loops make no struct of three.)
+// The section at the end of way j from the section end with index e; `NO_SECTION`: there is no such way.
 pub fn way_to(ways: &Ways, e: u8, j: u8) -> u8
     ensures way { (r : Railway) (shut : ℕ → Bool) → Laid r shut ways.now → e < section_ends → result ≡ to_byte (nth (routes_from r shut (end_at e)) j) }
     ensures past { section_ends ≤ e → result ≡ no_section }
@@ -231,14 +228,7 @@ fn word(ways: &Ways, e: u8, j: u8, i: usize) -> u32
         return NO_SECTION as u32;
     }
     let at = WORDS * (e as usize) + 3 * (j as usize) + i;
-    wide(ways[at])
-}
-
-// A word, as the setting's bits are.
-fn wide(x: u16) -> u32
-    ensures { result ≡ x }
-{
-    x as u32
+    u32::from(ways[at])
 }
 
 // The section that a train enters which leaves by the section end with index e, with these points at plus, as bits by point; `NO_SECTION`: none.
@@ -250,6 +240,7 @@ pub fn section_by(ways: &Ways, e: u8, points: u32) -> u8
     if Railway::SECTION_ENDS <= e {
         return NO_SECTION;
     }
+    // (By three words at a time, no index counted.)
     let first = WORDS * (e as usize);
     let mut at = first;
     while at < first + WORDS {
@@ -257,7 +248,7 @@ pub fn section_by(ways: &Ways, e: u8, points: u32) -> u8
         if x == 255 {
             return NO_SECTION;
         }
-        if points & wide(ways[at + 1]) == wide(ways[at + 2]) {
+        if points & u32::from(ways[at + 1]) == u32::from(ways[at + 2]) {
             return x as u8;
         }
         at += 3;

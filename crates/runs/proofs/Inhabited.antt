@@ -7,13 +7,13 @@ use mathlib.Core.List.{List, []}
 use mathlib.Core.Option.{Option, none}
 use Prim.Native.Nat.{ℕ, ◌<◌}
 use native.Mathlib.Omega.{arith}
-use lib.ListN.{length, get_or, set, replicate, length-set, length-replicate, get_or-replicate, get_or-map}
+use lib.ListN.{length, get_or, set, replicate, length-set, length-replicate, get_or-replicate}
 use lib.Seq.{get_or-set_other}
 use Rattle.laws.specs.Below.{any_below}
 use Rattle.laws.proofs.Bools.{eq?}
 use Rattle.railway.specs.declared.Side.{Side}
 use Rattle.railway.specs.declared.Refusal.{Refusal}
-use Rattle.railway.specs.declared.CaseAnswer.TheVariants.{Accepted}
+use Rattle.railway.specs.CaseAnswer.{Accepted}
 use Rattle.railway.specs.Bounds.{most_sections}
 use Rattle.railway.specs.Ends.{end_at}
 use Rattle.railway.specs.Refusals.{first, number_of}
@@ -21,29 +21,24 @@ use Rattle.railway.specs.Record.{is_closed, joined_by, joined, has_signal, legs_
 use Rattle.railway.specs.Rows.{weight_row, unknown_row, join_row, loose_row, longer, chain_row, place_row, record_refusal}
 use Rattle.railway.specs.Yards.{yard_one}
 use Rattle.game.proofs.Accepted.{facts}
-use Rattle.runs.specs.declared.RunRow.{RunRow}
-use Rattle.runs.specs.declared.RunReply.{RunReply}
-use Rattle.runs.specs.Runs.{Run, here, no_run, IsRun, entry_at, RunTable, row_entries, table_in, TableLeft, RunPost}
+use Rattle.runs.specs.Runs.{Run, here, no_run, IsRun, entry_at, RunTable, RunReply, table_in, TableLeft, RunPost}
 use Rattle.runs.proofs.Says.{run-from, run-to}
 
 -- THE TABLE: no run from anywhere, but in the first row 0
 abbrev no_runs : List ℕ
 no_runs = replicate most_sections no_run
 
-abbrev rows : List RunRow
-rows = set (replicate most_sections (record { entries = no_runs })) 0 (record { entries = set no_runs 0 0 })
+abbrev rows : List (List ℕ)
+rows = set (replicate most_sections no_runs) 0 (set no_runs 0 0)
 
 abbrev pub one_answer : RunReply
-one_answer = record { answer = Accepted; rows = rows }
+one_answer = record { answer = Accepted; table = rows }
 
 row_first : get_or (table_in one_answer) 0 [] ≡ set no_runs 0 0
 row_first = refl
 
 row_other : (x : ℕ) → x < most_sections → (x ≡ 0 → ⊥) → get_or (table_in one_answer) x [] ≡ no_runs
-row_other x l other =
-    get_or-map row_entries rows x (record { entries = [] })
-    ∙ ap row_entries (get_or-set_other (replicate most_sections (record { entries = no_runs })) 0 x (record { entries = set no_runs 0 0 }) (record { entries = [] }) other
-    ∙ get_or-replicate most_sections x (record { entries = no_runs }) (record { entries = [] }) l)
+row_other x l other = get_or-set_other (replicate most_sections no_runs) 0 x (set no_runs 0 0) [] other ∙ get_or-replicate most_sections x no_runs [] l
 
 none-at : (x y : ℕ) → x < most_sections → y < most_sections → (x ≡ 0 → y ≡ 0 → ⊥) → entry_at (table_in one_answer) x y ≡ no_run
 none-at x y lx ly apart = elim (eq? x 0) [

@@ -17,13 +17,11 @@ use Rattle.game.specs.Moves.{game_of}
 use Rattle.game.proofs.Accepted.{facts}
 use Rattle.game.proofs.Moves.{start-below}
 use Rattle.game.proofs.Figures.{figure-one}
-use Rattle.game_tables.specs.declared.SolverAnswer.{SolverAnswer}
-use Rattle.game_tables.specs.declared.SolverAnswer.TheVariants.{Refused, Unsolvable, Figure}
+use Rattle.game_tables.specs.SolverAnswer.{SolverAnswer, Refused, Unsolvable, Figure}
 use Rattle.game_tables.specs.Tables.{figure_in, case_refusal}
 use Rattle.game_tables.specs.Solver.{number_given, figure_given, SolverLeaves, SolverPost}
 use Rattle.game_tables.proofs.Refusals.{case-none}
-use Rattle.runs.specs.declared.RunReply.{RunReply}
-use Rattle.runs.specs.Runs.{RunTable, table_in, TableLeft, RunPost, Bounded, RunsHold}
+use Rattle.runs.specs.Runs.{RunTable, RunReply, table_in, TableLeft, RunPost, Bounded, RunsHold}
 use Rattle.runs.proofs.Says.{says}
 use Rattle.runs.proofs.Track.{same_runs}
 use Rattle.runs.proofs.Bound.{sum-at-least, none-without}

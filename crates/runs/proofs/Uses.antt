@@ -24,12 +24,10 @@ use Rattle.game.specs.Game.{IsFigure, Forced}
 use Rattle.game.specs.Placement.{placements, start_code}
 use Rattle.game.specs.Moves.{game_of}
 use Rattle.game.proofs.Examples.{shut_line}
-use Rattle.game_tables.specs.declared.SolverAnswer.{SolverAnswer}
-use Rattle.game_tables.specs.declared.SolverAnswer.TheVariants.{Unsolvable, Figure}
+use Rattle.game_tables.specs.SolverAnswer.{SolverAnswer, Unsolvable, Figure}
 use Rattle.game_tables.specs.Solver.{SolverPost}
 use Rattle.game_tables.proofs.KnownYards.{yard_a-accepted}
-use Rattle.runs.specs.declared.RunReply.{RunReply}
-use Rattle.runs.specs.Runs.{Run, here, further, no_run, IsRun, entry_at, Square, RunTable, SameTrack, table_in, RunPost, train_run, runs_sum, TableSays, RunsSay}
+use Rattle.runs.specs.Runs.{Run, here, further, no_run, IsRun, entry_at, Square, RunTable, SameTrack, RunReply, table_in, RunPost, train_run, runs_sum, TableSays, RunsSay}
 use Rattle.runs.proofs.Examples.{up-from-2, down-to-1}
 use Rattle.runs.proofs.Runs.{table-of, runs-hold}
 

@@ -1,6 +1,6 @@
 -- Shortest runs (document 02, Q-3; closed sections, Q-5; points joined to points, Q-6): runs of a heading, the square table of their lengths, what the call for a table
 -- promises, and the statement on tables and on figures. Sections count from 0: the document's numbers less one. Assumes nothing.
-use Rattle.std.specs.Prelude.{◌≡◌, ◌↔◌, Bool, true, List, [], map, ℕ, suc, ◌≤◌, ◌<◌, length, get_or}
+use Rattle.std.specs.Prelude.{◌≡◌, ◌↔◌, Bool, true, List, [], ℕ, suc, ◌≤◌, ◌<◌, length, get_or, Result, Ok, Err}
 use Rattle.std.proofs.Math.Option.{Option, none, some}
 use Rattle.laws.specs.Below.{sum_below}
 use Rattle.railway.specs.declared.Side.{Side}
@@ -8,6 +8,7 @@ use Rattle.railway.specs.declared.Side.TheVariants.{Up, Down}
 use Rattle.railway.specs.declared.End.TheVariants.{Section}
 use Rattle.railway.specs.declared.Railway.{Railway}
 use Rattle.railway.specs.declared.Refusal.{Refusal}
+use Rattle.railway.specs.CaseAnswer.{CaseAnswer, Accepted, Refused}
 use Rattle.railway.specs.Bounds.{most_sections}
 use Rattle.railway.specs.Refusals.{number_given, number_of}
 use Rattle.railway.specs.Record.{is_closed, train_of}
@@ -16,11 +17,8 @@ use Rattle.railway.specs.Rows.{record_refusal}
 use Rattle.game.specs.Game.{IsFigure}
 use Rattle.game.specs.Placement.{placements, start_code}
 use Rattle.game.specs.Moves.{game_of}
-use Rattle.game_tables.specs.declared.SolverAnswer.{SolverAnswer}
-use Rattle.game_tables.specs.declared.SolverAnswer.TheVariants.{Unsolvable}
+use Rattle.game_tables.specs.SolverAnswer.{SolverAnswer, Unsolvable}
 use Rattle.game_tables.specs.Solver.{figure_given, SolverPost}
-use Rattle.runs.specs.declared.RunRow.{RunRow}
-use Rattle.runs.specs.declared.RunReply.{RunReply}
 
 -- A train of this heading that leaves section x enters section y, with some points at plus: no signal and no other train plays a part, and no closed section is entered.
 pub record Enters (r : Railway) (heading : Side) (x y : ℕ) : Type 0 where
@@ -70,17 +68,19 @@ pub record SameRuns (r s : Railway) : Type 0 where
   pub entries : (heading : Side) (x y v : ℕ) → IsRun r heading x y v → IsRun s heading x y v
   pub tables : (heading : Side) (g : List (List ℕ)) → RunTable r heading g → RunTable s heading g
 
--- THE CALL for a table is handed the record, a heading and a square table. What a row of its answer holds: a list of entries.
-abbrev pub row_entries : RunRow → List ℕ
-row_entries row = row.entries
-
--- What rows hold, one below the other.
-abbrev pub entries_of : List RunRow → List (List ℕ)
-entries_of rows = map row_entries rows
+-- THE CALL for a table is handed the record, a heading and a square table. What it answers, and the table that is handed back.
+pub record RunReply : Type 0 where
+  pub answer : CaseAnswer
+  pub table : List (List ℕ)
 
 -- The table in an answer.
 abbrev pub table_in : RunReply → List (List ℕ)
-table_in a = entries_of a.rows
+table_in a = a.table
+
+-- Of a call that was handed this table: refused, it is the one that stands.
+abbrev pub replied : List (List ℕ) → Result (List (List ℕ)) Refusal → RunReply
+replied old (Ok g) = record { answer = Accepted; table = g }
+replied old (Err f) = record { answer = Refused f; table = old }
 
 -- What table is handed back: refused, the one that came; else that of the heading.
 abbrev pub TableLeft : Railway → Side → List (List ℕ) → List (List ℕ) → Option Refusal → Type 0

@@ -1,31 +1,36 @@
 -- Both tables by the call for one, in an accepted record; and what a text is answered, by what the reader answers. Assumes nothing.
-use mathlib.Core.Path.{◌≡◌, refl, sym, subst}
+use mathlib.Core.Path.{◌≡◌, refl, sym, ◌∙◌, subst}
 use mathlib.Core.List.{List}
 use mathlib.Core.Option.{none}
 use Prim.Native.Nat.{ℕ}
+use Rattle.std.specs.Result.{result_unwrap_or}
+use Rattle.std.specs.Prelude.{Result, Ok, Err}
 use Rattle.railway.specs.declared.Side.TheVariants.{Up, Down}
 use Rattle.railway.specs.declared.Railway.{Railway}
 use Rattle.railway.specs.declared.Refusal.{Refusal}
-use Rattle.railway.specs.declared.CaseAnswer.TheVariants.{Accepted, Refused}
+use Rattle.railway.specs.CaseAnswer.{Accepted, Refused}
 use Rattle.railway.specs.Refusals.{number}
 use Rattle.railway.specs.Rows.{record_refusal}
-use Rattle.case_file.specs.declared.CaseRead.{CaseRead}
+use Rattle.case_file.specs.CaseRead.{CaseRead}
 use Rattle.case_file.specs.Given.{accepted, ReaderPost}
 use Rattle.case_reader.proofs.Answers.{by-refused, by-accepted}
 use Rattle.case_reader.proofs.Claims.{reader-gives}
-use Rattle.runs.specs.declared.RunReply.{RunReply}
-use Rattle.runs.specs.Runs.{RunTable, table_in, RunPost}
+use Rattle.runs.specs.Runs.{RunTable, table_in, replied, RunPost}
 use Rattle.runs.proofs.Runs.{table-of}
 use Rattle.runs_api.specs.Exported.{RailwayTables, TablesKept, TextTables}
 
+handed : (old : List (List ℕ)) (x : Result (List (List ℕ)) Refusal) → result_unwrap_or x old ≡ table_in (replied old x)
+handed old (Ok g) = refl
+handed old (Err f) = refl
+
 pub both : (r : Railway) → record_refusal r ≡ none
-    → (old₁ old₂ : List (List ℕ)) (a b : RunReply) (up down : List (List ℕ)) → RunPost r Up old₁ a
-    → RunPost r Down old₂ b → up ≡ table_in a → down ≡ table_in b → RailwayTables r 0 up down
-both r accepted old₁ old₂ a b up down p q e h =
+    → (old₁ old₂ : List (List ℕ)) (x y : Result (List (List ℕ)) Refusal) (up down : List (List ℕ)) → RunPost r Up old₁ (replied old₁ x)
+    → RunPost r Down old₂ (replied old₂ y) → up ≡ result_unwrap_or x old₁ → down ≡ result_unwrap_or y old₂ → RailwayTables r 0 up down
+both r accepted old₁ old₂ x y up down p q e h =
     record {
       zero = refl;
-      is_up = subst (λ (g : List (List ℕ)). RunTable r Up g) (sym e) (table-of r Up accepted old₁ a p);
-      is_down = subst (λ (g : List (List ℕ)). RunTable r Down g) (sym h) (table-of r Down accepted old₂ b q);
+      is_up = subst (λ (g : List (List ℕ)). RunTable r Up g) (sym (e ∙ handed old₁ x)) (table-of r Up accepted old₁ (replied old₁ x) p);
+      is_down = subst (λ (g : List (List ℕ)). RunTable r Down g) (sym (h ∙ handed old₂ y)) (table-of r Down accepted old₂ (replied old₂ y) q);
     }
 
 module _ (case : List ℕ) (a : CaseRead) (post : ReaderPost case a) where

@@ -8,18 +8,16 @@ ghost use Rattle.std.proofs.Math.Option.{none};
 ghost use Rattle.railway.specs.Rows.{record_refusal};
 ghost use Rattle.runs_api.specs.Exported.{RailwayTables, TextTables};
 
-use railway::{CaseAnswer, Railway, Side};
+use railway::{Railway, Side};
 use runs_tables::Runs;
 
 // THE TABLES of both headings: rows by the section that runs begin on, in each a byte for every section; sections count from 0.
 pub fn runs_case(text: &[u8], up: &mut Runs, down: &mut Runs) -> u8
     ensures { TextTables text.now up.old down.old result up.new down.new }
 {
-    let read = case_reader::read_case(text);
-    let answer = read.answer;
-    match answer {
-        CaseAnswer::Refused(f) => f.number(),
-        CaseAnswer::Accepted => both_tables(read.railway, up, down),
+    match case_reader::read_case(text) {
+        Err(f) => f.number(),
+        Ok(r) => both_tables(r, up, down),
     }
 }
 
@@ -28,11 +26,7 @@ fn both_tables(r: Railway, up: &mut Runs, down: &mut Runs) -> u8
     ensures { RailwayTables r result up.new down.new }
 {
     let blank = [[0u8; Railway::SECTIONS as usize]; Railway::SECTIONS as usize];
-    let for_up = runs_tables::run_table(r, Side::Up, blank);
-    let for_down = runs_tables::run_table(r, Side::Down, blank);
-    let up_rows = for_up.rows;
-    let down_rows = for_down.rows;
-    *up = runs_tables::table_in(up_rows);
-    *down = runs_tables::table_in(down_rows);
+    *up = runs_tables::run_table(r, Side::Up, blank).unwrap_or(blank);
+    *down = runs_tables::run_table(r, Side::Down, blank).unwrap_or(blank);
     0
 }

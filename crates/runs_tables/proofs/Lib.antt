@@ -3,4 +3,3 @@ pub mod Reaching
 pub mod Lengths
 pub mod Filling
 pub mod Steps
-pub mod Replies

@@ -3,7 +3,7 @@
 use mathlib.Core.Path.{◌≡◌, refl, sym, ◌∙◌, ap, subst}
 use mathlib.Core.Logic.{inl, inr}
 use mathlib.Core.List.{List, []}
-use mathlib.Core.Option.{Option, none, some}
+use mathlib.Core.Option.{none}
 use Prim.Native.Nat.{ℕ, suc, ◌+◌, ◌≤◌, ◌<◌}
 use native.Mathlib.Omega.{arith}
 use native.Mathlib.Numerals.{add-one}
@@ -14,24 +14,23 @@ use mir.Syntax.{w8}
 use denote.Laws.{Is}
 use denote.Array.{Array}
 use denote.Plain.{UInt}
-use Rattle.laws.proofs.Bools.{eq?, some-none}
+use Rattle.laws.proofs.Bools.{eq?}
 use Rattle.railway.specs.declared.Side.{Side}
 use Rattle.railway.specs.declared.End.TheVariants.{Section}
 use Rattle.railway.specs.declared.Railway.{Railway}
 use Rattle.railway.specs.declared.Refusal.{Refusal}
-use Rattle.railway.specs.declared.CaseAnswer.{CaseAnswer}
-use Rattle.railway.specs.declared.CaseAnswer.TheVariants.{Accepted, Refused}
+use Rattle.railway.specs.CaseAnswer.{Accepted, Refused}
 use Rattle.railway.specs.Bounds.{most_sections, section_ends}
 use Rattle.railway.specs.Ends.{end_index, end_at}
 use Rattle.railway.specs.Record.{is_closed}
-use Rattle.railway.specs.Refusals.{number_given, number_of}
 use Rattle.railway.specs.Rows.{record_refusal}
 use Rattle.railway.proofs.Ends.{end-index, section-below}
 use Rattle.game.proofs.Accepted.{facts}
+use Rattle.std.specs.Prelude.{Ok, Err}
 use Rattle.railway_acceptance.specs.Answers.{Judged}
+use Rattle.railway_acceptance.proofs.Answers.{judged-refused, judged-accepted}
 use Rattle.railway_routes.specs.Routes.{routes_from, most_ways, Laid}
-use Rattle.runs.specs.declared.RunReply.{RunReply}
-use Rattle.runs.specs.Runs.{no_run, RunTable, table_in, TableLeft, RunPost}
+use Rattle.runs.specs.Runs.{no_run, RunTable, replied, TableLeft, RunPost}
 use Rattle.runs_tables.specs.Filling.{Lent, RowTo, LevelTo, IsRow, Reached}
 use Rattle.runs_tables.proofs.Filling.{first-row, none_left, passed, left-by-all, all_left, last_row, no_row}
 
@@ -101,24 +100,16 @@ all-rows r heading i g l h =
     }
 
 -- THE CALL: by what the test of the record answers
-module _ (r : Railway) (heading : Side) (old : List (List ℕ)) (t : CaseAnswer) (judged : Judged r t) (a : RunReply) where
-  pub refused : (f : Refusal) → t ≡ Refused f → a.answer ≡ Refused f → table_in a ≡ old → RunPost r heading old a
-  refused f e m same = go (record_refusal r) refl
-    where
-      go : (o : Option Refusal) → record_refusal r ≡ o → RunPost r heading old a
-      go none d = some-none refl (sym (ap number_given e) ∙ judged ∙ ap number_of d)
-      go (some g) d = record { numbered = ap number_given (m ∙ sym e) ∙ judged; leaves = subst (λ (o : Option Refusal). TableLeft r heading old (table_in a) o) (sym d) same }
+module _ (r : Railway) (heading : Side) (old : List (List ℕ)) where
+  pub refused : (f : Refusal) → Judged r (Refused f) → RunPost r heading old (replied old (Err f))
+  refused f judged =
+      record { numbered = judged; leaves = subst (TableLeft r heading old old) (sym (judged-refused r judged {f = f} refl)) refl }
 
-  pub filled : (ways : List ℕ) (new : List (List ℕ)) → t ≡ Accepted → a.answer ≡ Accepted → table_in a ≡ new
-      → Laid r (is_closed r) ways → ((q : Railway) → Lent q ways r.sections → RunTable q heading new)
-      → RunPost r heading old a
-  filled ways new e m same laid fills = go (record_refusal r) refl
-    where
-      go : (o : Option Refusal) → record_refusal r ≡ o → RunPost r heading old a
-      go none d = record {
-        numbered = ap number_given (m ∙ sym e) ∙ judged;
-        leaves =
-            subst (λ (o : Option Refusal). TableLeft r heading old (table_in a) o) (sym d) (subst (λ (g : List (List ℕ)).
-            RunTable r heading g) (sym same) (fills r (record { accepted = d; laid = laid; count = refl })));
+  pub filled : (ways : List ℕ) (new : List (List ℕ)) → Judged r Accepted → Laid r (is_closed r) ways
+      → ((q : Railway) → Lent q ways r.sections → RunTable q heading new) → RunPost r heading old (replied old (Ok new))
+  filled ways new judged laid fills =
+      let accepted : record_refusal r ≡ none = judged-accepted r judged refl in
+      record {
+        numbered = judged;
+        leaves = subst (TableLeft r heading old new) (sym accepted) (fills r (record { accepted = accepted; laid = laid; count = refl }));
       }
-      go (some g) d = some-none {o = number_of (some g)} refl (sym (ap number_of d) ∙ sym judged ∙ ap number_given e)

@@ -10,12 +10,11 @@ ghost use Rattle.railway.specs.Bounds.{most_sections, section_ends};
 ghost use Rattle.railway.specs.Ends.{end_at};
 ghost use Rattle.railway.specs.Record.{is_closed};
 ghost use Rattle.railway_routes.specs.Routes.{routes_from, most_ways, Laid};
-ghost use Rattle.runs.specs.Runs.{no_run, RunTable, entries_of, table_in, RunPost};
+ghost use Rattle.runs.specs.Runs.{no_run, RunTable, replied, RunPost};
 ghost use Rattle.runs_tables.specs.Filling.{Lent, RowTo, LevelTo, IsRow, first_of, Reached};
 
-use railway::{CaseAnswer, End, Railway, SectionNo, Side};
+use railway::{End, Railway, Refusal, SectionNo, Side};
 use railway_routes::{MOST_WAYS, Ways};
-use runs::{RunReply, RunRow};
 
 // What stands for no run.
 pub const NO_RUN: u8 = 255;
@@ -28,57 +27,13 @@ type Row = [u8; COLUMNS];
 // The table of a heading, in rows by the section that runs begin on.
 pub type Runs = [[u8; COLUMNS]; COLUMNS];
 
-// The same, as it stands in an answer.
-pub type Rows = [RunRow; COLUMNS];
-
-// THE TABLE of a heading; refused, the table that was handed in, as it came.
-pub fn run_table(r: Railway, heading: Side, table: Runs) -> RunReply
-    ensures { RunPost r heading table result }
+// THE TABLE of a heading. Whoever is refused has the table that was handed in, as it came.
+pub fn run_table(r: Railway, heading: Side, table: Runs) -> Result<Runs, Refusal>
+    ensures { RunPost r heading table (replied table result) }
 {
-    let tested = railway_acceptance::test_record(r);
-    match tested {
-        CaseAnswer::Refused(f) => reply(CaseAnswer::Refused(f), table),
-        CaseAnswer::Accepted => {
-            let ways = game_case::case_ways(r);
-            let new = fill(&ways, r.sections, heading, table);
-            reply(CaseAnswer::Accepted, new)
-        }
-    }
-}
-
-// The square table of an answer.
-pub fn table_in(rows: Rows) -> Runs
-    ensures { result ≡ entries_of rows }
-{
-    let mut table = [[NO_RUN; COLUMNS]; COLUMNS];
-    let mut x: usize = 0;
-    while x < COLUMNS {
-        let row = rows[x];
-        let entries = row.entries;
-        table[x] = entries;
-        x += 1;
-    }
-    table
-}
-
-// An answer, with this table.
-fn reply(answer: CaseAnswer, table: Runs) -> RunReply
-    ensures answer_value { result.answer ≡ answer }
-    ensures result_value { table_in result ≡ table }
-{
-    let mut rows = [RunRow {
-        entries: [NO_RUN; COLUMNS],
-    }; COLUMNS];
-    let mut x: usize = 0;
-    while x < COLUMNS {
-        let row = table[x];
-        rows[x] = RunRow { entries: row };
-        x += 1;
-    }
-    RunReply {
-        answer: answer,
-        rows: rows,
-    }
+    railway_acceptance::test_record(r)?;
+    let ways = game_case::case_ways(r);
+    Ok(fill(&ways, r.sections, heading, table))
 }
 
 // All rows, of every railway with these ways and so many sections.
@@ -86,11 +41,8 @@ fn fill(ways: &Ways, sections: u8, heading: Side, table: Runs) -> Runs
     ensures { (r : Railway) → Lent r ways.now sections → RunTable r heading result }
 {
     let mut all = table;
-    let mut x: u8 = 0;
-    while x < Railway::SECTIONS {
-        let at = x as usize;
-        all[at] = row_from(ways, sections, heading, x);
-        x += 1;
+    for x in 0..Railway::SECTIONS {
+        all[x as usize] = row_from(ways, sections, heading, x);
     }
     all
 }
@@ -100,14 +52,10 @@ fn row_from(ways: &Ways, sections: u8, heading: Side, x: u8) -> Row
     ensures { (r : Railway) → Lent r ways.now sections → IsRow r heading x result }
 {
     let mut row = [NO_RUN; COLUMNS];
-    if sections <= x {
+    if sections <= x || Railway::SECTIONS <= x {
         return row;
     }
-    if Railway::SECTIONS <= x {
-        return row;
-    }
-    let at = x as usize;
-    row[at] = 0;
+    row[x as usize] = 0;
     levels(ways, sections, heading, &mut row);
     row
 }
@@ -116,10 +64,8 @@ fn row_from(ways: &Ways, sections: u8, heading: Side, x: u8) -> Row
 fn levels(ways: &Ways, sections: u8, heading: Side, row: &mut Row)
     ensures { (r : Railway) (x : ℕ) → Lent r ways.now sections → RowTo r heading x 0 row.old → RowTo r heading x sections row.new }
 {
-    let mut n: u8 = 0;
-    while n < sections {
+    for n in 0..sections {
         level(ways, heading, row, n);
-        n += 1;
     }
 }
 
@@ -128,10 +74,8 @@ fn level(ways: &Ways, heading: Side, row: &mut Row, n: u8)
     requires { n < no_run }
     ensures { (r : Railway) (x s : ℕ) → Lent r ways.now s → n < s → RowTo r heading x n row.old → RowTo r heading x (suc n) row.new }
 {
-    let mut y: u8 = 0;
-    while y < Railway::SECTIONS {
+    for y in 0..Railway::SECTIONS {
         leave(ways, heading, row, n, y);
-        y += 1;
     }
 }
 
@@ -152,15 +96,13 @@ fn leave(ways: &Ways, heading: Side, row: &mut Row, n: u8, y: u8)
 fn enter(ways: &Ways, e: u8, row: &mut Row, n: u8)
     ensures { (r : Railway) → Laid r (is_closed r) ways.now → e < section_ends → Reached (routes_from r (is_closed r) (end_at e)) most_ways n row.old row.new }
 {
-    let mut j: u8 = 0;
-    while j < MOST_WAYS {
+    for j in 0..MOST_WAYS {
         let z = railway_routes::way_to(ways, e, j);
         if Railway::SECTIONS <= z {
             return;
         }
         let at = z as usize;
         row[at] = first_of(row[at], n);
-        j += 1;
     }
 }
 

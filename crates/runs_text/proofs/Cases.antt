@@ -7,9 +7,9 @@ use native.Mathlib.Omega.{arith}
 use lib.ListN.{take}
 use Rattle.railway.specs.declared.Refusal.{Refusal}
 use Rattle.railway.specs.Rows.{record_refusal}
-use Rattle.case_file.specs.declared.CaseRead.{CaseRead}
-use Rattle.railway.specs.declared.CaseAnswer.TheVariants.{Accepted, Refused}
-use Rattle.case_file.specs.declared.Written.{Written}
+use Rattle.case_file.specs.CaseRead.{CaseRead}
+use Rattle.railway.specs.CaseAnswer.{Accepted, Refused}
+use Rattle.case_file.specs.Written.{Written}
 use Rattle.case_file.specs.Given.{accepted, ReaderPost}
 use Rattle.case_file.proofs.Cut.{cut-decides}
 use Rattle.case_file.proofs.Given.{refused-exactly, accepted-exactly}

@@ -8,18 +8,20 @@ use native.Mathlib.Omega.{arith}
 use native.Mathlib.Numerals.{add-one}
 use lib.ListN.{length, get_or, set, replicate, length-set, length-replicate}
 use lib.Seq.{get_or-set_same, get_or-set_other}
+use Rattle.std.specs.Prelude.{Result, Ok, Err}
+use Rattle.std.specs.Result.{result_unwrap_or}
 use Rattle.laws.specs.Below.{sum_below}
 use Rattle.laws.proofs.Bools.{eq?}
 use Rattle.railway.specs.declared.Side.{Side}
 use Rattle.railway.specs.declared.Side.TheVariants.{Up, Down}
 use Rattle.railway.specs.declared.Train.{Train}
 use Rattle.railway.specs.declared.Railway.{Railway}
+use Rattle.railway.specs.declared.Refusal.{Refusal}
 use Rattle.railway.specs.Bounds.{most_sections, most_trains}
 use Rattle.railway.specs.Record.{train_of}
 use Rattle.railway.specs.Rows.{record_refusal}
 use Rattle.game.proofs.Accepted.{facts}
-use Rattle.runs.specs.declared.RunReply.{RunReply}
-use Rattle.runs.specs.Runs.{entry_at, RunTable, table_in, RunPost, table_of, train_run}
+use Rattle.runs.specs.Runs.{entry_at, RunTable, table_in, replied, RunPost, table_of, train_run}
 use Rattle.runs.proofs.Runs.{table-of}
 use Rattle.runs_text.specs.Written.{TrainsRun}
 
@@ -59,17 +61,21 @@ pub all_read : (r : Railway) (up down : List (List ℕ)) (runs : List ℕ) (t i 
 all_read r up down runs t i l m a b h = h.each i (omega arith) a b
 
 -- BY THE CALLS for both tables, in an accepted record
-pub trains-run : (r : Railway) (accepted : record_refusal r ≡ none) (old₁ old₂ : List (List ℕ)) (a b : RunReply) (up down : List (List ℕ)) (runs : List ℕ)
-    → RunPost r Up old₁ a → RunPost r Down old₂ b
-    → up ≡ table_in a → down ≡ table_in b
+handed : (old : List (List ℕ)) (x : Result (List (List ℕ)) Refusal) → result_unwrap_or x old ≡ table_in (replied old x)
+handed old (Ok g) = refl
+handed old (Err f) = refl
+
+pub trains-run : (r : Railway) (accepted : record_refusal r ≡ none) (old₁ old₂ : List (List ℕ)) (x y : Result (List (List ℕ)) Refusal) (up down : List (List ℕ)) (runs : List ℕ)
+    → RunPost r Up old₁ (replied old₁ x) → RunPost r Down old₂ (replied old₂ y)
+    → up ≡ result_unwrap_or x old₁ → down ≡ result_unwrap_or y old₂
     → ((t : ℕ) → t < most_trains → (train_of r t).start.0 < most_sections → (train_of r t).destination.0 < most_sections → get_or runs t 0 ≡ train_run r up down t) → TrainsRun r runs
-trains-run r accepted old₁ old₂ a b up down runs p q e h each =
+trains-run r accepted old₁ old₂ x y up down runs p q e h each =
     let ok = facts r accepted in
     record {
       up = up;
       down = down;
-      is_up = subst (λ (g : List (List ℕ)). RunTable r Up g) (sym e) (table-of r Up accepted old₁ a p);
-      is_down = subst (λ (g : List (List ℕ)). RunTable r Down g) (sym h) (table-of r Down accepted old₂ b q);
+      is_up = subst (λ (g : List (List ℕ)). RunTable r Up g) (sym (e ∙ handed old₁ x)) (table-of r Up accepted old₁ (replied old₁ x) p);
+      is_down = subst (λ (g : List (List ℕ)). RunTable r Down g) (sym (h ∙ handed old₂ y)) (table-of r Down accepted old₂ (replied old₂ y) q);
       each = λ t l. each t (omega (arith, l, ok.few-trains)) (omega (arith, ok.starts t l, ok.few-sections)) (omega (arith, ok.destinations t l, ok.few-sections));
     }
 
@@ -77,6 +83,3 @@ trains-run r accepted old₁ old₂ a b up down runs p q e h each =
 pub sum-next : (runs : List ℕ) (t n v : ℕ) → n ≡ sum_below (λ i. get_or runs i 0) t → v ≡ get_or runs t 0 → n + v ≡ sum_below (λ i. get_or runs i 0) (t + 1)
 unfolding sum_below
 sum-next runs t n v e is = let k : t + 1 ≡ suc t = add-one t in rw (k, e, is) refl
-
-pub sum-all : (runs : List ℕ) (k t n : ℕ) → t ≤ k → k ≤ t → n ≡ sum_below (λ i. get_or runs i 0) t → n ≡ sum_below (λ i. get_or runs i 0) k
-sum-all runs k t n l m e = let z : t ≡ k = omega arith in rw z at e

@@ -19,7 +19,7 @@ use Rattle.railway.specs.Bounds.{most_trains}
 use Rattle.railway.specs.Rows.{record_refusal}
 use Rattle.game.proofs.Accepted.{facts}
 use Rattle.answer_lines.specs.Lines.{none_line, PutPost, Puts}
-use Rattle.case_file.specs.declared.Written.{Written}
+use Rattle.case_file.specs.Written.{Written}
 use Rattle.runs.specs.Runs.{no_run, train_run}
 -- (Examples is named so that it is checked before: a wrong definition then shows at a computed value.)
 use Rattle.runs_text.specs.Written.{is_none, run_field, run_line, last_line, runs_text, RailwayRuns, text_bytes, TrainsRun}

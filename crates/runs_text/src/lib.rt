@@ -14,8 +14,7 @@ ghost use Rattle.answer_lines.specs.Lines.{Puts};
 ghost use Rattle.runs.specs.Runs.{entry_at, table_of, train_run};
 ghost use Rattle.runs_text.specs.Written.{run_line, is_none, runs_text, RailwayRuns, CaseRuns, text_bytes, TrainsRun};
 
-use case_file::Written;
-use railway::{CaseAnswer, Railway, Side, Train};
+use railway::{Railway, Refusal, Side, Train};
 use runs_tables::{NO_RUN, Runs};
 use text::{LINE_END, TAB, append};
 
@@ -26,19 +25,17 @@ pub const TEXT: usize = 128;
 type TrainRuns = [u8; Railway::TRAINS as usize];
 
 // A case text: refused by the reader, or read.
-pub fn case_runs(case: &[u8], text: &mut [u8]) -> Written
+pub fn case_runs(case: &[u8], text: &mut [u8]) -> Result<usize, Refusal>
     ensures { Puts (CaseRuns case.now) text_bytes text.old result text.new }
 {
-    let read = case_reader::read_case(case);
-    let answer = read.answer;
-    match answer {
-        CaseAnswer::Refused(f) => answer_lines::refusal_line(f, text),
-        CaseAnswer::Accepted => railway_runs(read.railway, text),
+    match case_reader::read_case(case) {
+        Err(f) => answer_lines::refusal_line(f, text),
+        Ok(r) => railway_runs(r, text),
     }
 }
 
 // A railway: its trains' runs, by the tables of both headings.
-fn railway_runs(r: Railway, text: &mut [u8]) -> Written
+fn railway_runs(r: Railway, text: &mut [u8]) -> Result<usize, Refusal>
     requires { record_refusal r ≡ none }
     ensures { Puts (RailwayRuns r) text_bytes text.old result text.new }
 {
@@ -54,26 +51,17 @@ fn runs_of(r: Railway) -> TrainRuns
     ensures { TrainsRun r result }
 {
     let blank = [[0u8; Railway::SECTIONS as usize]; Railway::SECTIONS as usize];
-    let up = runs_tables::run_table(r, Side::Up, blank);
-    let down = runs_tables::run_table(r, Side::Down, blank);
-    let up_rows = up.rows;
-    let down_rows = down.rows;
-    read_runs(
-        r,
-        runs_tables::table_in(up_rows),
-        runs_tables::table_in(down_rows),
-    )
+    let up = runs_tables::run_table(r, Side::Up, blank).unwrap_or(blank);
+    let down = runs_tables::run_table(r, Side::Down, blank).unwrap_or(blank);
+    read_runs(r, up, down)
 }
 
 fn read_runs(r: Railway, up: Runs, down: Runs) -> TrainRuns
     ensures { (t : ℕ) → t < most_trains → (train_of r t).start.0 < most_sections → (train_of r t).destination.0 < most_sections → get_or result t 0 ≡ train_run r up down t }
 {
     let mut runs = [0u8; Railway::TRAINS as usize];
-    let mut t: u8 = 0;
-    while t < Railway::TRAINS {
-        let at = t as usize;
-        runs[at] = run_of(r.train_of(t), up, down);
-        t += 1;
+    for t in 0..Railway::TRAINS {
+        runs[t as usize] = run_of(r.train_of(t), up, down);
     }
     runs
 }
@@ -84,14 +72,10 @@ fn run_of(train: Train, up: Runs, down: Runs) -> u8
 {
     let x = train.start.0;
     let y = train.destination.0;
-    if Railway::SECTIONS <= x {
+    if Railway::SECTIONS <= x || Railway::SECTIONS <= y {
         return NO_RUN;
     }
-    if Railway::SECTIONS <= y {
-        return NO_RUN;
-    }
-    let heading = train.heading;
-    match heading {
+    match train.heading {
         Side::Up => entry_at(up, x, y),
         Side::Down => entry_at(down, x, y),
     }
@@ -102,9 +86,7 @@ fn entry_at(table: Runs, x: u8, y: u8) -> u8
     requires y_lt_most_sections { y < most_sections }
     ensures { result ≡ entry_at table x y }
 {
-    let row = x as usize;
-    let column = y as usize;
-    table[row][column]
+    table[x as usize][y as usize]
 }
 
 // SPELLED, in a buffer with room: the line of each of k trains, and the last line.
@@ -125,11 +107,8 @@ fn spell_trains(out: &mut [u8], runs: TrainRuns, k: u8) -> usize
     ensures { Appended out.old 0 (gather_below (λ t. run_line t (get_or runs t 0)) k) out.new result }
 {
     let mut next: usize = 0;
-    let mut t: u8 = 0;
-    while t < k {
-        let at = t as usize;
-        next = spell_run(out, next, t, runs[at]);
-        t += 1;
+    for t in 0..k {
+        next = spell_run(out, next, t, runs[t as usize]);
     }
     next
 }
@@ -151,13 +130,10 @@ fn any_none(runs: TrainRuns, k: u8) -> bool
     requires { k ≤ most_trains }
     ensures { result ≡ any_below (λ t. is_none (get_or runs t 0)) k }
 {
-    let mut t: u8 = 0;
-    while t < k {
-        let at = t as usize;
-        if runs[at] == NO_RUN {
+    for t in 0..k {
+        if runs[t as usize] == NO_RUN {
             return true;
         }
-        t += 1;
     }
     false
 }
@@ -168,18 +144,8 @@ fn sum_of(runs: TrainRuns, k: u8) -> u32
     ensures { result ≡ sum_below (λ t. get_or runs t 0) k }
 {
     let mut sum: u32 = 0;
-    let mut t: u8 = 0;
-    while t < k {
-        let at = t as usize;
-        sum += wide(runs[at]);
-        t += 1;
+    for t in 0..k {
+        sum += u32::from(runs[t as usize]);
     }
     sum
-}
-
-fn wide(v: u8) -> u32
-    ensures value { result ≡ v }
-    ensures upper_bound { result < 256 }
-{
-    v as u32
 }

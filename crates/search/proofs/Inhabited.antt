@@ -33,8 +33,7 @@ use Rattle.game_tables.proofs.Exists.{Solution, solution, few-placements}
 use Rattle.game_tables.proofs.RoundTables.{of-up-to, round-written}
 use Rattle.solver_marks.specs.Marks.{stretch_of, stretches, due_at, most_at, Room}
 use Rattle.solver_rounds.specs.Visits.{passed_by, since, MarkedFor}
-use Rattle.search.specs.declared.SearchAnswer.{SearchAnswer}
-use Rattle.search.specs.declared.SearchAnswer.TheVariants.{Going, Ended}
+use Rattle.search.specs.SearchAnswer.{SearchAnswer, Going, Ended}
 use Rattle.search.proofs.Opening.{none-cleared}
 use Rattle.search.specs.Searching.{State, number_given, going_on, Coming, Standing, OpenLeaves, OpenPost, Rounded, RoundLeaves, SearchPost, Searching, begun, call}
 

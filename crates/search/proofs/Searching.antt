@@ -22,7 +22,7 @@ use Rattle.game.proofs.Accepted.{facts}
 use Rattle.game_tables.specs.Tables.{no_figure, figure_entry, figure_in, case_refusal, IsPlanEntry, Filled}
 use Rattle.game_tables.specs.Solver.{Kept, SolverPost, SolverLeaves}
 use Rattle.game_tables.specs.Rounds.{up_to, AllBelow}
-use Rattle.game_tables.specs.declared.SolverAnswer.{SolverAnswer}
+use Rattle.game_tables.specs.SolverAnswer.{SolverAnswer}
 use Rattle.game_tables.proofs.Refusals.{case-none}
 use Rattle.game_tables.proofs.Exists.{Solution, solution}
 use Rattle.game_tables.proofs.Carry.{Carries, entry-carry}
@@ -30,8 +30,8 @@ use Rattle.game_tables.proofs.Plays.{figure-apart}
 use Rattle.game_tables.proofs.Unique.{entry-one, figs-one, sets-one}
 use Rattle.game_tables.proofs.RoundTables.{up-to, of-up-to, round_filled}
 use Rattle.game_tables.proofs.Rounds.{above}
-use Rattle.search.specs.declared.SearchAnswer.{SearchAnswer}
-use Rattle.search.specs.declared.Shown.TheVariants.{Figure, NotYet, NoFigure}
+use Rattle.search.specs.SearchAnswer.{SearchAnswer}
+use Rattle.search.specs.Shown.{Figure, NotYet, NoFigure}
 use Rattle.search.specs.Searching.{State, Standing, Opened, OpenPost, Rounded, SearchPost, shown_by, shown, looked_up}
 use Rattle.search.specs.Searching.{look_up, figure_shown, Searching, begun, call, refused, UpToRound, SearchAt}
 use Rattle.search.specs.Searching.{SearchHolds}

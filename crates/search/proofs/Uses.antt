@@ -26,7 +26,7 @@ use Rattle.game.specs.Game.{IsFigure}
 use Rattle.game.specs.Placement.{code_of, code_on, names_none, placements, sections_in, stands_on, at_home, shared}
 use Rattle.game.specs.Moves.{game_of}
 use Rattle.game.proofs.Figures.{figure-one}
-use Rattle.game_tables.specs.declared.SolverAnswer.{SolverAnswer}
+use Rattle.game_tables.specs.SolverAnswer.{SolverAnswer}
 use Rattle.game_tables.specs.Tables.{no_figure, figure_in, tables_short, case_refusal}
 use Rattle.game_tables.specs.Solver.{SolverPost}
 use Rattle.game_tables.specs.Rounds.{HasFigure, AllBelow}
@@ -34,10 +34,8 @@ use Rattle.game_tables.proofs.Examples.{weighed, figs_w, sets_w}
 use Rattle.game_tables.proofs.WeighedYards.{weighed-accepted, weighed-filled}
 use Rattle.solver_marks.specs.Marks.{stretches, due_at}
 use Rattle.search.specs.declared.Search.{Search}
-use Rattle.search.specs.declared.Shown.{Shown}
-use Rattle.search.specs.declared.SearchAnswer.{SearchAnswer}
-use Rattle.search.specs.declared.SearchAnswer.TheVariants.{Going, Ended}
-use Rattle.search.specs.declared.Shown.TheVariants.{Figure, NotYet, NoFigure, Refused as ShownRefused}
+use Rattle.search.specs.Shown.{Shown, Figure, NotYet, NoFigure, Refused as ShownRefused}
+use Rattle.search.specs.SearchAnswer.{SearchAnswer, Going, Ended}
 use Rattle.search.specs.Searching.{State, number_given, Standing, Opened, OpenPost, Rounded, SearchPost, looked_up}
 use Rattle.search.specs.Searching.{look_up, Searching, begun, call, refused, SearchAt, SearchHolds, number_shown}
 use Rattle.search.specs.Searching.{figure_shown, LookPost}

@@ -10,14 +10,12 @@ use Rattle.game.specs.Placement.{code_on, placements, names_none}
 use Rattle.game.specs.Moves.{game_of}
 use Rattle.game_tables.specs.Tables.{no_figure, figure_in, case_refusal, Filled}
 use Rattle.game_tables.specs.Solver.{Kept, SolverPost}
-use Rattle.game_tables.specs.declared.SolverAnswer.{SolverAnswer}
+use Rattle.game_tables.specs.SolverAnswer.{SolverAnswer}
 use Rattle.game_tables.specs.Rounds.{Cleared, RoundTables, HasFigure, AllBelow, most_figure}
 use Rattle.solver_rounds.specs.Visits.{MarkedFor}
 use Rattle.search.specs.declared.Search.{Search}
-use Rattle.search.specs.declared.SearchAnswer.{SearchAnswer}
-use Rattle.search.specs.declared.SearchAnswer.TheVariants.{Going, Ended, Refused}
-use Rattle.search.specs.declared.Shown.{Shown}
-use Rattle.search.specs.declared.Shown.TheVariants.{Figure, NotYet, NoFigure, Refused as ShownRefused}
+use Rattle.search.specs.SearchAnswer.{SearchAnswer, Going, Ended, Refused}
+use Rattle.search.specs.Shown.{Shown, Figure, NotYet, NoFigure, Refused as ShownRefused}
 
 -- A search with what it is lent: the two tables, and the marks of its rounds.
 pub record State : Type 0 where

@@ -2,11 +2,11 @@
 // of calls, proofs/ that it follows from what a call promises. The calls are in crate search_calls.
 #![tactic(auto)]
 
-use railway::Refusal;
 use solver_marks::MARKS;
 
 // What a search carries between calls, beside what it is lent: how many rounds are finished, whether it has ended, and the number of a round before which none brings figures:
 // the next that does, unless it is the very next; the largest number where none does any more.
+// Whether it has ended stands beside what is coming, for a search that goes on may have nothing coming, and C hands in any three numbers (`AllStandForThemselves`).
 #[derive(Clone, Copy)]
 pub struct Search {
     pub rounds: u32,
@@ -17,26 +17,17 @@ pub struct Search {
 // The marks of its rounds, which are lent too.
 pub type Marks = [u32; MARKS];
 
-// What opening a search and finishing a round answer: the search goes on, or has ended; or a refusal.
+// What a round leaves: the search goes on, or has ended.
 #[derive(Clone, Copy)]
-pub enum SearchAnswer {
+pub enum Stage {
     Going,
     Ended,
-    Refused(Refusal),
 }
 
-// The answer, and the search for the next call.
+// What a placement shows: its figure, that none has come yet, or that it has none.
 #[derive(Clone, Copy)]
-pub struct SearchReply {
-    pub answer: SearchAnswer,
-    pub search: Search,
-}
-
-// What a placement shows: its figure, that none has come yet, or that it has none; or a refusal.
-#[derive(Clone, Copy)]
-pub enum Shown {
+pub enum Seen {
     Figure(u32),
     NotYet,
     NoFigure,
-    Refused(Refusal),
 }

@@ -13,14 +13,15 @@ use Rattle.railway_routes.specs.Routes.{Laid}
 use Rattle.railway_compiled.specs.Table.{Compiled}
 use Rattle.solver_predecessors.specs.Behind.{Behind}
 use Rattle.solver_rounds.specs.Visits.{Homed}
+use Rattle.search_ahead.specs.declared.Look.{Look}
 
--- What is looked at: the table and the ways of a railway with m placements, and figures in which home has its own.
-pub record Looking (r : Railway) (table ways behind : List ℕ) (m : ℕ) (figs : List ℕ) : Type 0 where
-  pub compiled : Compiled r table
-  pub laid : Laid r (is_closed r) ways
-  pub back : Behind r behind
-  pub counted : m ≡ placements r
-  pub homed : Homed r figs
+-- What is looked at is of this railway: the table, the ways and the number of placements, and figures in which home has its own.
+pub record Looking (r : Railway) (look : Look) : Type 0 where
+  pub compiled : Compiled r look.table.now
+  pub laid : Laid r (is_closed r) look.ways.now
+  pub back : Behind r look.behind.now
+  pub counted : look.m ≡ placements r
+  pub homed : Homed r look.figures.now
 
 -- A placement gains figure n: it has none yet, is neither home nor lost, and some setting keeps the figure there.
 pub record Gains (r : Railway) (n : ℕ) (figs : List ℕ) (p : ℕ) : Type 0 where

@@ -16,11 +16,9 @@ use Rattle.game_placement.specs.declared.Placement.{Placement}
 use Rattle.game_placement.specs.ByValue.{section_in}
 use Rattle.game_tables.specs.Tables.{case_refusal}
 use Rattle.search.specs.declared.Search.{Search}
-use Rattle.search.specs.declared.SearchAnswer.{SearchAnswer}
-use Rattle.search.specs.declared.SearchAnswer.TheVariants.{Going, Ended, Refused}
-use Rattle.search.specs.declared.Shown.{Shown}
-use Rattle.search.specs.declared.Shown.TheVariants.{Figure, NotYet, NoFigure, Refused as ShownRefused}
-use Rattle.search.specs.Searching.{State, number_given, OpenLeaves, OpenPost, RoundLeaves, SearchPost, looked_up}
+use Rattle.search.specs.SearchAnswer.{SearchAnswer, Going, Ended, Refused}
+use Rattle.search.specs.Shown.{Shown, Figure, NotYet, NoFigure, Refused as ShownRefused}
+use Rattle.search.specs.Searching.{State, number_given, going_on, OpenLeaves, OpenPost, RoundLeaves, SearchPost, looked_up}
 use Rattle.search_calls.specs.Steps.{searching}
 use Rattle.search_api.specs.Exported.{search_numbers, search_of, AllStandForThemselves, Lent, lent, state_of, lent_of}
 use Rattle.search_api.specs.Exported.{left_with, OpenedRailway, round_number, RoundedRailway, placement_of}
@@ -65,6 +63,12 @@ open_kept : (r : Railway) (state figs sets marks : List ℕ) (a : SearchAnswer) 
 open_kept r state figs sets marks a s k (some f) e l = ap (beside state) l
 open_kept r state figs sets marks a s k none e l = some-none (sym e) refl
 
+-- an answer that is no refusal has no number, and leaves the search in numbers
+going-tells : (b : Bool) → (number_given (cond b Ended Going) ≡ none)
+    × ((old : Lent) (s : State) → left_with old (cond b Ended Going) s ≡ lent_of s)
+going-tells true = (refl, λ old s. refl)
+going-tells false = (refl, λ old s. refl)
+
 module _ (r : Railway) (state figs sets marks : List ℕ) (a : SearchAnswer) (s : Search) (figs' sets' marks' : List ℕ) (post : OpenPost r figs sets marks a (searching s figs' sets' marks')) where
   opens-with : (v : SearchAnswer) → a ≡ v → OpenPost r figs sets marks v (searching s figs' sets' marks')
   opens-with v e = subst (λ (x : SearchAnswer). OpenPost r figs sets marks x (searching s figs' sets' marks')) e post
@@ -80,17 +84,15 @@ module _ (r : Railway) (state figs sets marks : List ℕ) (a : SearchAnswer) (s 
         leaves = open_kept r state figs sets marks (Refused f) (searching s figs' sets' marks') (number f) (case_refusal r figs sets) p.numbered p.leaves;
       }
 
-  pub opened-railway : (v : SearchAnswer) → a ≡ v → 0 ≡ get_or (number_given v) 0
-      → lent_of (searching s figs' sets' marks')
-      ≡ left_with (lent state figs sets marks) v (searching s figs' sets' marks')
-      → (ns : List ℕ) → ns ≡ search_numbers s → OpenedRailway r (lent state figs sets marks) 0 (lent ns figs' sets' marks')
-  opened-railway v e m l ns k =
+  pub opened-railway : a ≡ going_on s → (ns : List ℕ) → ns ≡ search_numbers s → OpenedRailway r (lent state figs sets marks) 0 (lent ns figs' sets' marks')
+  opened-railway e ns k =
+      let t = going-tells s.ended in
       record {
-        answer = v;
+        answer = going_on s;
         state = searching s figs' sets' marks';
-        opened = opens-with v e;
-        numbered = m;
-        leaves = ap (λ (x : List ℕ). lent x figs' sets' marks') k ∙ l;
+        opened = opens-with (going_on s) e;
+        numbered = ap (λ (x : Option ℕ). get_or x 0) (sym t.0);
+        leaves = ap (λ (x : List ℕ). lent x figs' sets' marks') k ∙ sym (t.1 (lent state figs sets marks) (searching s figs' sets' marks'));
       }
 
 -- A ROUND

@@ -32,10 +32,8 @@ use Rattle.game_tables.proofs.Refusals.{case-none}
 use Rattle.game_tables.proofs.KnownYards.{figs_a, sets_a, yard_a-accepted, yard_a-filled}
 use Rattle.game_placement.specs.ByValue.{section_in}
 use Rattle.search.specs.declared.Search.{Search}
-use Rattle.search.specs.declared.SearchAnswer.{SearchAnswer}
-use Rattle.search.specs.declared.SearchAnswer.TheVariants.{Going, Ended, Refused}
-use Rattle.search.specs.declared.Shown.{Shown}
-use Rattle.search.specs.declared.Shown.TheVariants.{Figure, NotYet, NoFigure, Refused as ShownRefused}
+use Rattle.search.specs.SearchAnswer.{SearchAnswer, Going, Ended, Refused}
+use Rattle.search.specs.Shown.{Shown, Figure, NotYet, NoFigure, Refused as ShownRefused}
 use Rattle.search.specs.Searching.{State, number_given, going_on, Standing, Opened, Rounded, SearchPost, looked_up}
 use Rattle.search_api.specs.Exported.{search_of, Lent, lent, state_of, lent_of, left_with, OpenedRailway, OpenedText}
 use Rattle.search_api.specs.Exported.{round_number, RoundedRailway, RoundedText, placement_of, shown_number}

@@ -9,10 +9,8 @@ use Rattle.case_reader.specs.Answers.{ByCase}
 use Rattle.game_placement.specs.declared.Placement.{Placement}
 use Rattle.game_placement.specs.ByValue.{section_in}
 use Rattle.search.specs.declared.Search.{Search}
-use Rattle.search.specs.declared.SearchAnswer.{SearchAnswer}
-use Rattle.search.specs.declared.SearchAnswer.TheVariants.{Going, Ended, Refused}
-use Rattle.search.specs.declared.Shown.{Shown}
-use Rattle.search.specs.declared.Shown.TheVariants.{Figure, NotYet, NoFigure, Refused as ShownRefused}
+use Rattle.search.specs.SearchAnswer.{SearchAnswer, Going, Ended, Refused}
+use Rattle.search.specs.Shown.{Shown, Figure, NotYet, NoFigure, Refused as ShownRefused}
 use Rattle.search.specs.Searching.{State, number_given, OpenPost, SearchPost, looked_up}
 
 -- THE SEARCH as three numbers: the rounds finished, 1 if it has ended and else 0, and what is coming.

@@ -7,15 +7,15 @@ ghost use Rattle.search_api.specs.Exported.{search_numbers, search_of, lent, Ope
 ghost use Rattle.search_api.specs.Exported.{section_named, placement_of, LookedRailway, LookedText};
 
 use game_placement::Placement;
-use railway::{CaseAnswer, Railway};
-use search::{Marks, Search, SearchAnswer, Shown};
+use railway::Railway;
+use search::{Marks, Search, Seen, Stage};
 
 // A search as three numbers, and a placement as the number of each train's section.
 pub type Numbers = [u32; 3];
 
 pub type Sections = [u8; Railway::TRAINS as usize];
 
-// What the call for a round answers where the search has ended. No refusal has this number, or one of the next two.
+// What the call for a round answers where the search has ended; a number and no enum, for C reads it of the exported `search_round`. No refusal has this number, or one of the next two.
 pub const ENDED: u8 = 255;
 
 // What the call that looks up a placement answers where no figure has come yet, and where there is none.
@@ -23,7 +23,7 @@ pub const NOT_YET: u8 = 254;
 
 pub const WITHOUT: u8 = 255;
 
-// A number that no section has.
+// A number that no section has, and no option in its place: a placement has a number for each train, and `section_named` of Exported says this one.
 const NOWHERE: u8 = 255;
 
 // OPENS A SEARCH: both tables hold what is known before the first round, and the state is that of a search of which no round is finished. The marks are for the rounds alone.
@@ -38,11 +38,9 @@ pub fn open_search(
         (lent state.old figures.old settings.old marks.old) result
         (lent state.new figures.new settings.new marks.new) }
 {
-    let read = case_reader::read_case(text);
-    let answer = read.answer;
-    match answer {
-        CaseAnswer::Refused(f) => f.number(),
-        CaseAnswer::Accepted => open_railway(read.railway, state, figures, settings, marks),
+    match case_reader::read_case(text) {
+        Err(f) => f.number(),
+        Ok(r) => open_railway(r, state, figures, settings, marks),
     }
 }
 
@@ -57,16 +55,10 @@ fn open_railway(
         (lent state.old figures.old settings.old marks.old) result
         (lent state.new figures.new settings.new marks.new) }
 {
-    let reply = search_calls::open(r, figures, settings, marks);
-    let answer = reply.answer;
-    match answer {
-        SearchAnswer::Refused(f) => f.number(),
-        SearchAnswer::Going => {
-            *state = search_numbers(reply.search);
-            0
-        }
-        SearchAnswer::Ended => {
-            *state = search_numbers(reply.search);
+    match search_calls::open(r, figures, settings, marks) {
+        Err(f) => f.number(),
+        Ok(search) => {
+            *state = search_numbers(search);
             0
         }
     }
@@ -84,11 +76,9 @@ pub fn search_round(
         (lent state.old figures.old settings.old marks.old) result
         (lent state.new figures.new settings.new marks.new) }
 {
-    let read = case_reader::read_case(text);
-    let answer = read.answer;
-    match answer {
-        CaseAnswer::Refused(f) => f.number(),
-        CaseAnswer::Accepted => round_railway(read.railway, state, figures, settings, marks),
+    match case_reader::read_case(text) {
+        Err(f) => f.number(),
+        Ok(r) => round_railway(r, state, figures, settings, marks),
     }
 }
 
@@ -103,17 +93,15 @@ fn round_railway(
         (lent state.old figures.old settings.old marks.old) result
         (lent state.new figures.new settings.new marks.new) }
 {
-    let search = search_of(*state);
-    let reply = search_calls::round(search, r, figures, settings, marks);
-    let answer = reply.answer;
-    match answer {
-        SearchAnswer::Refused(f) => f.number(),
-        SearchAnswer::Going => {
-            *state = search_numbers(reply.search);
+    let mut search = search_of(*state);
+    match search_calls::round(&mut search, r, figures, settings, marks) {
+        Err(f) => f.number(),
+        Ok(Stage::Going) => {
+            *state = search_numbers(search);
             0
         }
-        SearchAnswer::Ended => {
-            *state = search_numbers(reply.search);
+        Ok(Stage::Ended) => {
+            *state = search_numbers(search);
             ENDED
         }
     }
@@ -131,13 +119,9 @@ pub fn look_up(
 ) -> u8
     ensures { LookedText text.now state.now figures.now settings.now sections.now figure.old result figure.new }
 {
-    let read = case_reader::read_case(text);
-    let answer = read.answer;
-    match answer {
-        CaseAnswer::Refused(f) => f.number(),
-        CaseAnswer::Accepted => {
-            look_railway(read.railway, state, figures, settings, sections, figure)
-        }
+    match case_reader::read_case(text) {
+        Err(f) => f.number(),
+        Ok(r) => { look_railway(r, state, figures, settings, sections, figure) }
     }
 }
 
@@ -154,17 +138,17 @@ fn look_railway(
     let search = search_of(*state);
     let at = placement_of(*sections);
     match search_calls::look_up(search, r, figures, settings, at) {
-        Shown::Figure(n) => {
+        Ok(Seen::Figure(n)) => {
             *figure = n;
             0
         }
-        Shown::NotYet => NOT_YET,
-        Shown::NoFigure => WITHOUT,
-        Shown::Refused(f) => f.number(),
+        Ok(Seen::NotYet) => NOT_YET,
+        Ok(Seen::NoFigure) => WITHOUT,
+        Err(f) => f.number(),
     }
 }
 
-// The search that three numbers stand for.
+// The search that three numbers stand for, and back. No `From`: neither type is this crate's, and the numbers are those of the exported `search_round`.
 fn search_of(numbers: Numbers) -> Search
     ensures { result ≡ search_of numbers }
 {
@@ -178,30 +162,20 @@ fn search_of(numbers: Numbers) -> Search
 fn search_numbers(search: Search) -> Numbers
     ensures { result ≡ search_numbers search }
 {
-    if search.ended {
-        return [search.rounds, 1, search.coming];
-    }
-    [search.rounds, 0, search.coming]
+    [search.rounds, u32::from(search.ended), search.coming]
 }
 
 // The placement that four numbers of sections name.
 fn placement_of(numbers: Sections) -> Placement
     ensures { result ≡ placement_of numbers }
 {
-    let sections = [
-        section_named(numbers[0]),
-        section_named(numbers[1]),
-        section_named(numbers[2]),
-        section_named(numbers[3]),
-    ];
-    Placement { sections: sections }
+    Placement {
+        sections: numbers.map(section_named),
+    }
 }
 
 fn section_named(n: u8) -> u8
     ensures { result ≡ section_named n }
 {
-    if n == 0 {
-        return NOWHERE;
-    }
-    n - 1
+    n.checked_sub(1).unwrap_or(NOWHERE)
 }

@@ -43,7 +43,7 @@ module _ (r : Railway) (accepted : record_refusal r ≡ none) (n e : ℕ) (figs 
   goes_on t = let h = has t in ((λ z. clash z refl), (λ below. absurd (let z : n < n = below h.code n h.there h.is in omega arith)))
 
   -- it brought figures, and the very next is due
-  pub finished-next : b ≡ true → e ≡ suc n → Finished r n (record { coming = e; ended = false }) figs sets figs₁ sets₁ marks₁
+  pub finished-next : b ≡ true → e ≡ suc n → Finished r n (record { rounds = n; ended = false; coming = e }) figs sets figs₁ sets₁ marks₁
   finished-next t z =
       record {
         tables = tables;
@@ -55,7 +55,7 @@ module _ (r : Railway) (accepted : record_refusal r ≡ none) (n e : ℕ) (figs 
       }
 
   module _ (c : ℕ) (small : c ≤ no_figure) (figs₂ sets₂ marks₂ : List ℕ) (x : Shows r n c figs₁ sets₁ figs₂ sets₂ marks₂) where
-    finished-by : (ended : Bool) → (ended ≡ true) ↔ AllBelow r n → Finished r n (record { coming = c; ended = ended }) figs sets figs₂ sets₂ marks₂
+    finished-by : (ended : Bool) → (ended ≡ true) ↔ AllBelow r n → Finished r n (record { rounds = n; ended = ended; coming = c }) figs sets figs₂ sets₂ marks₂
     finished-by ended y =
         record {
           tables = x.tables;
@@ -67,11 +67,11 @@ module _ (r : Railway) (accepted : record_refusal r ≡ none) (n e : ℕ) (figs 
         }
 
     -- it brought figures
-    pub finished-came : b ≡ true → Finished r n (record { coming = c; ended = false }) figs sets figs₂ sets₂ marks₂
+    pub finished-came : b ≡ true → Finished r n (record { rounds = n; ended = false; coming = c }) figs sets figs₂ sets₂ marks₂
     finished-came t = finished-by false (goes_on t)
 
     -- it brought none
-    pub finished-none : b ≡ false → Finished r n (record { coming = c; ended = eqb c no_figure }) figs sets figs₂ sets₂ marks₂
+    pub finished-none : b ≡ false → Finished r n (record { rounds = n; ended = eqb c no_figure; coming = c }) figs sets figs₂ sets₂ marks₂
     finished-none f =
         finished-by (eqb c no_figure) (
           (λ z p j l i.

@@ -7,17 +7,16 @@ use Prim.Native.Nat.{ℕ}
 use lib.ListN.{get_or}
 use Rattle.railway.specs.declared.Railway.{Railway}
 use Rattle.railway.specs.declared.Refusal.{Refusal}
-use Rattle.railway.specs.declared.CaseAnswer.TheVariants.{Accepted, Refused}
+use Rattle.railway.specs.CaseAnswer.{Accepted, Refused}
 use Rattle.railway.specs.Refusals.{number_of}
 use Rattle.game.specs.Placement.{code_on, names_none}
 use Rattle.game_tables.specs.Tables.{no_figure, figure_entry, figure_in, case_refusal}
-use Rattle.railway_compiled.specs.declared.Compilation.{Compilation}
+use Rattle.railway_compiled.specs.Compilation.{Compilation}
 use Rattle.railway_compiled.specs.Table.{Compiled}
 use Rattle.game_case.specs.Cases.{CasePost}
 use Rattle.game_case.proofs.Cases.{opened-refused, opened-none, opened-table}
 use Rattle.search.specs.declared.Search.{Search}
-use Rattle.search.specs.declared.Shown.{Shown}
-use Rattle.search.specs.declared.Shown.TheVariants.{NoFigure, Refused as Refuses}
+use Rattle.search.specs.Shown.{Shown, NoFigure, Refused as Refuses}
 use Rattle.search.specs.Searching.{shown_by, shown, looked_up, number_shown, LookPost}
 
 module _ (r : Railway) (figs sets : List ℕ) (c : Compilation) (p : CasePost r figs sets c) (s : Search) (section : ℕ → ℕ) where

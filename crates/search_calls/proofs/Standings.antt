@@ -1,6 +1,6 @@
 -- What an opening and a round make of a search that stands as its calls leave it. Assumes nothing.
 use mathlib.Core.Path.{◌≡◌, refl, sym, ◌∙◌, ap}
-use mathlib.Core.Logic.{inl, inr}
+use mathlib.Core.Logic.{◌⊎◌, inl, inr}
 use mathlib.Core.Bool.{true, false, not}
 use mathlib.Core.List.{List, ◌++◌}
 use mathlib.Core.Option.{none, some}
@@ -16,7 +16,7 @@ use Rattle.laws.proofs.Below.{list_length, list_get}
 use Rattle.laws.proofs.Bools.{lt?, bool?, clash, and_both}
 use Rattle.railway.specs.declared.Railway.{Railway}
 use Rattle.railway.specs.declared.Refusal.{Refusal}
-use Rattle.railway.specs.declared.CaseAnswer.TheVariants.{Accepted, Refused}
+use Rattle.railway.specs.CaseAnswer.{Accepted, Refused}
 use Rattle.railway.specs.Record.{train_of}
 use Rattle.railway.specs.Refusals.{number_of}
 use Rattle.railway.specs.Rows.{record_refusal}
@@ -31,7 +31,7 @@ use Rattle.game_tables.specs.Tables.{no_figure, case_refusal}
 use Rattle.game_tables.specs.Rounds.{RoundTables, HasFigure, AllBelow, most_figure}
 use Rattle.game_tables.proofs.Rounds.{accepted-go}
 use Rattle.game_tables.proofs.Refusals.{case-none}
-use Rattle.railway_compiled.specs.declared.Compilation.{Compilation}
+use Rattle.railway_compiled.specs.Compilation.{Compilation}
 use Rattle.railway_compiled.specs.Table.{Compiled}
 use Rattle.game_case.specs.Cases.{CasePost}
 use Rattle.game_case.proofs.Cases.{opened-refused, opened-none, opened-table}
@@ -42,11 +42,9 @@ use Rattle.solver_rounds.specs.Visits.{MarkedFor}
 use Rattle.solver_rounds.proofs.Beginning.{mark_count, first-marked}
 use Rattle.solver_rounds.proofs.Clearing.{kept_self}
 use Rattle.search.specs.declared.Search.{Search}
-use Rattle.search.specs.declared.SearchAnswer.{SearchAnswer}
-use Rattle.search.specs.declared.SearchAnswer.TheVariants.{Refused as Refuses}
+use Rattle.search.specs.SearchAnswer.{SearchAnswer, Refused as Refuses}
 use Rattle.search.specs.Searching.{State, number_given, going_on, Coming, Carried, Standing, unopened, OpenPost, Rounded, SearchPost}
 use Rattle.search.proofs.Opening.{none-cleared}
-use Rattle.search_calls.specs.declared.Onward.{Onward}
 use Rattle.search_calls.specs.Steps.{searching, Finished}
 use Rattle.search_calls.proofs.Looking.{tables-later}
 use Rattle.search_calls.proofs.Parts.{tables-same, marked-same, joined-part, joined-kept, part_same}
@@ -78,13 +76,14 @@ module _ (r : Railway) (accepted : record_refusal r ≡ none) where
         brings = λ a k. absurd (omega arith);
       }
 
+-- a round more, of a search with c coming
+abbrev pub counted_on : Search → ℕ → Search
+counted_on s c = record { rounds = s.rounds + 1; ended = eqb c no_figure; coming = c }
+
 -- A ROUND THAT BRINGS NOTHING, c being what comes, as the search carries it or none behind the last
 module _ (r : Railway) (accepted : record_refusal r ≡ none) (s : Search) (figs sets marks : List ℕ) (c : ℕ)
     (small : c ≤ no_figure) (last : most_figure < s.rounds + 1 → c ≡ no_figure) (same : s.rounds + 1 ≤ most_figure
     → c ≡ s.coming) where
-  abbrev one_on : Search
-  one_on = record { rounds = s.rounds + 1; ended = eqb c no_figure; coming = c }
-
   module _ (n : ℕ) (x : Standing r n (searching s figs sets marks)) (e : s.ended ≡ false) where
     -- what the search carries is right of c
     carries : Coming r n c × (c < no_figure → MarkedFor r c figs marks)
@@ -100,7 +99,7 @@ module _ (r : Railway) (accepted : record_refusal r ≡ none) (s : Search) (figs
           | inr l ↦ (let z : c ≡ s.coming = same l in rw z (y.coming, y.marked))
         ]
 
-    pub counted-stands : s.rounds + 1 < c → Standing r (suc n) (searching one_on figs sets marks)
+    pub counted-stands : s.rounds + 1 < c → Standing r (suc n) (searching (counted_on s c) figs sets marks)
     counted-stands l =
         let y = carries in
         let is : s.rounds ≡ n = x.rounds in
@@ -130,9 +129,9 @@ module _ (r : Railway) (accepted : record_refusal r ≡ none) (s : Search) (figs
         (there, rw e at (y.1 (omega arith)))
 
 -- A ROUND THAT WAS FINISHED, from the tables that it leaves
-pub finished-stands : (r : Railway) (n k : ℕ) (next : Onward) (figs sets figs' sets' marks' : List ℕ) → k ≡ n → Finished r n next figs sets figs' sets' marks'
-    → Standing r n (searching (record { rounds = k; ended = next.ended; coming = next.coming }) figs' sets' marks')
-finished-stands r n k next figs sets figs' sets' marks' e x =
+pub finished-stands : (r : Railway) (n : ℕ) (next : Search) (figs sets figs' sets' marks' : List ℕ) → next.rounds ≡ n → Finished r n next figs sets figs' sets' marks'
+    → Standing r n (searching next figs' sets' marks')
+finished-stands r n next figs sets figs' sets' marks' e x =
     record { rounds = e; tables = x.tables; ended = x.ended; carried = λ z. record { coming = x.coming; marked = x.marked } }
 
 -- home is a placement, and has figure 0
@@ -166,16 +165,11 @@ going-number s = elim (bool? s.ended) [ inl e ↦ rw e refl | inr e ↦ rw e ref
 -- THE CALLS, by the answer to the case
 module _ (r : Railway) (figs sets marks : List ℕ) (c : Compilation) (p : CasePost r figs sets c) where
   -- refused
-  pub open-refused : (f : Refusal) → c.tested ≡ Refused f → (a : SearchAnswer) (s u : Search) → u ≡ unopened → (a ≡ Refuses f) × (s ≡ u) → OpenPost r figs sets marks a (searching s figs sets marks)
-  open-refused f e a s u made x =
-      let due : case_refusal r figs sets ≡ some f = opened-refused p e in
-      record { numbered = ap number_given x.0 ∙ ap number_of (sym due); leaves = rw due (ap (λ (z : Search). searching z figs sets marks) (x.1 ∙ made)) }
+  pub open-refused : (f : Refusal) → c.tested ≡ Refused f → OpenPost r figs sets marks (Refuses f) (searching unopened figs sets marks)
+  open-refused f e = let due : case_refusal r figs sets ≡ some f = opened-refused p e in record { numbered = ap number_of (sym due); leaves = rw due refl }
 
-  pub round-refused : (f : Refusal) → c.tested ≡ Refused f → (a : SearchAnswer) (s s' : Search)
-      → (a ≡ Refuses f) × (s' ≡ s) → SearchPost r (searching s figs sets marks) a (searching s' figs sets marks)
-  round-refused f e a s s' x =
-      let due : case_refusal r figs sets ≡ some f = opened-refused p e in
-      record { numbered = ap number_given x.0 ∙ ap number_of (sym due); leaves = rw due (ap (λ (z : Search). searching z figs sets marks) x.1) }
+  pub round-refused : (f : Refusal) → c.tested ≡ Refused f → (s : Search) → SearchPost r (searching s figs sets marks) (Refuses f) (searching s figs sets marks)
+  round-refused f e s = let due : case_refusal r figs sets ≡ some f = opened-refused p e in record { numbered = ap number_of (sym due); leaves = rw due refl }
 
   module _ (e : c.tested ≡ Accepted) where
     fine : case_refusal r figs sets ≡ none
@@ -201,13 +195,15 @@ module _ (r : Railway) (figs sets marks : List ℕ) (c : Compilation) (p : CaseP
     rounded-post s a new x = record { numbered = ap number_given x.told ∙ going-number new.search ∙ ap number_of (sym fine); leaves = rw fine x }
 
     -- OPENED
-    pub open-stands : (figs' sets' : List ℕ) (a : SearchAnswer) (s : Search)
+    abbrev new : Search
+    new = record { rounds = 0; ended = false; coming = 1 }
+
+    pub open-stands : (figs' sets' : List ℕ)
         → (Compiled r c.table → placements r ≤ length figs → placements r ≤ length sets → After r 0 figs sets figs' sets')
-        → (a ≡ going_on s) × (s ≡ record { rounds = 0; ended = false; coming = 1 }) → OpenPost r figs sets marks a (searching s figs' sets' (replicate mark_count 0))
-    open-stands figs' sets' a s begins made =
+        → OpenPost r figs sets marks (going_on new) (searching new figs' sets' (replicate mark_count 0))
+    open-stands figs' sets' begins =
         let after : After r 0 figs sets figs' sets' = begins its-table long-figs long-sets in
         let home = home-has r accepted in
-        let new : Search = record { rounds = 0; ended = false; coming = 1 } in
         let y : Standing r 0 (searching new figs' sets' (replicate mark_count 0)) = record {
           rounds = refl;
           tables = after.tables;
@@ -217,60 +213,55 @@ module _ (r : Railway) (figs sets marks : List ℕ) (c : Compilation) (p : CaseP
             marked = λ k. first-marked r figs' sets' accepted after.tables;
           };
         } in
-        let stood : Standing r 0 (searching s figs' sets' (replicate mark_count 0)) = rw made.1 y in
         record {
-          numbered = ap number_given made.0 ∙ going-number s ∙ ap number_of (sym fine);
-          leaves = rw fine (record { stands = stood; cleared = none-cleared r accepted figs' sets' after.tables; told = made.0; kept-figs = after.kept-figs; kept_sets = after.kept_sets });
+          numbered = ap number_of (sym fine);
+          leaves = rw fine (record { stands = y; cleared = none-cleared r accepted figs' sets' after.tables; told = refl; kept-figs = after.kept-figs; kept_sets = after.kept_sets });
         }
 
     -- AS IT WAS
-    module _ (s s' : Search) (a : SearchAnswer) (made : (a ≡ going_on s) × (s' ≡ s)) where
-      rests : (s.ended ≡ false → most_figure < s.rounds) → SearchPost r (searching s figs sets marks) a (searching s' figs sets marks)
-      rests h =
-          rw made.1
-          (rounded-post s a (searching s figs sets marks)
-          (record {
-            done = λ z. refl;
-            one_more = λ n x z. absurd (omega (arith, h z, going-few r accepted n (searching s figs sets marks) x z, x.rounds));
-            too_many = λ l. refl;
-            counted = λ z few. absurd (omega (arith, h z));
-            told = made.0;
-            kept-figs = kept_self r figs;
-            kept_sets = kept_self r sets;
-          }))
-
-      pub round-done : s.ended ≡ true → SearchPost r (searching s figs sets marks) a (searching s' figs sets marks)
-      round-done y = rests (λ z. clash y z)
-
-      pub round-beyond : most_figure < s.rounds → SearchPost r (searching s figs sets marks) a (searching s' figs sets marks)
-      round-beyond l = rests (λ z. l)
+    pub round-rests : (s : Search) (a : SearchAnswer) → a ≡ going_on s → (s.ended ≡ true) ⊎ (most_figure < s.rounds)
+        → SearchPost r (searching s figs sets marks) a (searching s figs sets marks)
+    round-rests s a told h =
+        rounded-post s a (searching s figs sets marks)
+        (record {
+          done = λ z. refl;
+          one_more = λ n x z. absurd (omega (arith, beyond z, going-few r accepted n (searching s figs sets marks) x z, x.rounds));
+          too_many = λ l. refl;
+          counted = λ z few. absurd (omega (arith, beyond z));
+          told = told;
+          kept-figs = kept_self r figs;
+          kept_sets = kept_self r sets;
+        })
+      where
+        beyond : s.ended ≡ false → most_figure < s.rounds
+        beyond z = elim h [ inl y ↦ clash y z | inr l ↦ l ]
 
     -- COUNTED
-    pub round-counted : (s s' : Search) (a : SearchAnswer) (coming : ℕ) → s.rounds ≤ most_figure → coming ≤ no_figure
+    pub round-counted : (s : Search) (a : SearchAnswer) (coming : ℕ) → s.rounds ≤ most_figure → coming ≤ no_figure
         → (most_figure < s.rounds + 1 → coming ≡ no_figure) × (s.rounds + 1 ≤ most_figure → coming ≡ s.coming)
-        → s.ended ≡ false → s.rounds + 1 < coming
-        → (a ≡ going_on s') × (s' ≡ record { rounds = s.rounds + 1; ended = eqb coming no_figure; coming = coming }) → SearchPost r (searching s figs sets marks) a (searching s' figs sets marks)
-    round-counted s s' a coming few small is going l made =
-        rounded-post s a (searching s' figs sets marks)
+        → s.ended ≡ false → s.rounds + 1 < coming → a ≡ going_on (counted_on s coming)
+        → SearchPost r (searching s figs sets marks) a (searching (counted_on s coming) figs sets marks)
+    round-counted s a coming few small is going l told =
+        rounded-post s a (searching (counted_on s coming) figs sets marks)
         (record {
           done = λ z. clash z going;
           too_many = λ l. absurd (omega arith);
-          counted = λ z k. ap (λ (x : Search). x.rounds) made.1 ∙ add-one s.rounds;
-          one_more = λ n x z. rw made.1 (counted-stands r accepted s figs sets marks coming small is.0 is.1 n x z l);
-          told = made.0;
+          counted = λ z k. add-one s.rounds;
+          one_more = λ n x z. counted-stands r accepted s figs sets marks coming small is.0 is.1 n x z l;
+          told = told;
           kept-figs = kept_self r figs;
           kept_sets = kept_self r sets;
         })
 
     -- FINISHED, by a round on the entries of the placements
-    module _ (s s' : Search) (a : SearchAnswer) (m coming : ℕ) (next : Onward) (figs₁ sets₁ marks' : List ℕ)
+    module _ (s : Search) (a : SearchAnswer) (m coming : ℕ) (next : Search) (rounds : next.rounds ≡ s.rounds + 1) (figs₁ sets₁ marks' : List ℕ)
         (counts : (q : Railway) → Compiled q c.table → m ≡ placements q)
         (going : s.ended ≡ false) (few : s.rounds ≤ most_figure)
         (small : coming ≤ no_figure) (is : (most_figure < s.rounds + 1 → coming ≡ no_figure) × (s.rounds + 1 ≤ most_figure → coming ≡ s.coming)) (due : coming ≤ s.rounds + 1)
         (lf : length figs₁ ≡ length (take m figs)) (ls : length sets₁ ≡ length (take m sets))
         (finishes : (k : ℕ) → Compiled r c.table → placements r ≤ length (take m figs) → placements r ≤ length (take m sets) → s.rounds + 1 ≤ most_figure → s.rounds + 1 ≡ suc k
         → RoundTables r k (take m figs) (take m sets) → MarkedFor r (s.rounds + 1) (take m figs) marks → Finished r (s.rounds + 1) next (take m figs) (take m sets) figs₁ sets₁ marks')
-        (made : (a ≡ going_on s') × (s' ≡ record { rounds = s.rounds + 1; ended = next.ended; coming = next.coming })) where
+        (told : a ≡ going_on next) where
       is_m : m ≡ placements r
       is_m = counts r its-table
 
@@ -307,17 +298,17 @@ module _ (r : Railway) (figs sets marks : List ℕ) (c : Compilation) (p : CaseP
             marked = λ l. marked-same r accepted figs₁ (figs₁ ++ drop m figs) (λ q lq. joined-part m figs figs₁ enough-figs lf q no_figure (rw is_m lq)) next.coming marks' (y.marked l);
           }
 
-      pub round-finished : SearchPost r (searching s figs sets marks) a (searching s' (figs₁ ++ drop m figs) (sets₁ ++ drop m sets) marks')
+      pub round-finished : SearchPost r (searching s figs sets marks) a (searching next (figs₁ ++ drop m figs) (sets₁ ++ drop m sets) marks')
       round-finished =
-          rounded-post s a (searching s' (figs₁ ++ drop m figs) (sets₁ ++ drop m sets) marks')
+          rounded-post s a (searching next (figs₁ ++ drop m figs) (sets₁ ++ drop m sets) marks')
           (record {
             done = λ z. clash z going;
             too_many = λ l. absurd (omega arith);
-            counted = λ z k. ap (λ (x : Search). x.rounds) made.1 ∙ add-one s.rounds;
+            counted = λ z k. rounds ∙ add-one s.rounds;
             one_more =
-                λ n x z. rw made.1 (finished-stands r (suc n) (s.rounds + 1) next figs sets (figs₁ ++ drop m figs)
-                (sets₁ ++ drop m sets) marks' (omega (arith, x.rounds)) (whole-round n x));
-            told = made.0;
+                λ n x z. finished-stands r (suc n) next figs sets (figs₁ ++ drop m figs)
+                (sets₁ ++ drop m sets) marks' (omega (arith, rounds, x.rounds)) (whole-round n x);
+            told = told;
             kept-figs = joined-kept m figs figs₁ enough-figs lf r is_m;
             kept_sets = joined-kept m sets sets₁ enough-sets ls r is_m;
           })

@@ -1,7 +1,6 @@
 // A search in calls, so that it can be looked into while it goes on: one opens it, each further one finishes a round, and between them a placement's figure is looked up. The
-// search goes from call to call by value. The tables are lent and hold what has come so far; the marks of the rounds are lent too, for they are too many to be copied at every
-// call. Rounds are those of the solver. Where the very next round is not due, the next that brings figures is looked for, so that rounds between take no time and the end is
-// known as soon as it comes.
+// tables are lent and hold what has come so far; the marks of the rounds are lent too, for they are too many to be copied at every call. Rounds are those of the solver. Where the
+// very next round is not due, the next that brings figures is looked for, so that rounds between take no time and the end is known as soon as it comes.
 #![tactic(auto)]
 
 ghost use Rattle.std.specs.Prelude.{◌≡◌, true, ℕ, suc, ◌≤◌, ◌<◌, length};
@@ -15,88 +14,77 @@ ghost use Rattle.game_placement.specs.ByValue.{section_in};
 ghost use Rattle.solver_predecessors.specs.Behind.{Behind};
 ghost use Rattle.solver_rounds.specs.Visits.{MarkedFor};
 ghost use Rattle.game_tables.specs.Tables.{no_figure, figure_entry};
-ghost use Rattle.search.specs.declared.SearchAnswer.TheVariants.{Refused};
-ghost use Rattle.search.specs.Searching.{unopened, going_on, shown_by, LookPost, OpenPost, SearchPost};
-ghost use Rattle.search_calls.specs.Steps.{searching, Ready, Shows, Finished};
+ghost use Rattle.search.specs.Searching.{going_on, shown_by, LookPost, OpenPost, SearchPost};
+ghost use Rattle.search_calls.specs.Steps.{searching, opening_answer, opening_search, Ready, Shows, Finished};
 
 use game_placement::Placement;
 use game_tables::NO_FIGURE;
-use railway::{CaseAnswer, Railway, Refusal};
+use railway::{Railway, Refusal};
 use railway_compiled::Table;
 use railway_routes::Ways;
-use search::{Marks, Search, SearchAnswer, SearchReply, Shown};
+use search::{Marks, Search, Seen, Stage};
 use solver_marks::MARKS;
 use solver_rounds::LAST_ROUND;
 
-// What comes behind a round: the next, as a search carries it, and whether the search has ended.
-#[derive(Clone, Copy)]
-pub struct Onward {
-    pub coming: u32,
-    pub ended: bool,
-}
-
-// OPENING a search: home has figure 0, every other placement none, and no setting is set; no round is finished.
-pub fn open(r: Railway, figures: &mut [u32], settings: &mut [u32], marks: &mut Marks) -> SearchReply
-    ensures { OpenPost r figures.old settings.old marks.old result.answer
-        (searching result.search figures.new settings.new marks.new) }
-{
-    let c = game_case::open_case(r, figures, settings);
-    let tested = c.tested;
-    let table = c.table;
-    match tested {
-        CaseAnswer::Refused(f) => refused(f, unopened()),
-        CaseAnswer::Accepted => {
-            solver_rounds::begin(&table, figures, settings);
-            *marks = [0u32; MARKS];
-            standing(0, false, 1)
-        }
-    }
-}
-
-// ONE ROUND MORE, with the same case, the search that the last call handed back, and the tables and marks as it left them. A search that has ended stays as it is, and so does one that says it has
-// finished more rounds than there can be. A round that brings nothing, as was found before, is only counted.
-pub fn round(
-    search: Search,
+// OPENING a search: home has figure 0, every other placement none, and no setting is set; no round is finished. A case that is refused leaves all that is lent as it was.
+pub fn open(
     r: Railway,
     figures: &mut [u32],
     settings: &mut [u32],
     marks: &mut Marks,
-) -> SearchReply
-    ensures { SearchPost r (searching search figures.old settings.old marks.old)
-        result.answer (searching result.search figures.new settings.new marks.new) }
+) -> Result<Search, Refusal>
+    ensures { OpenPost r figures.old settings.old marks.old (opening_answer result)
+        (searching (opening_search result) figures.new settings.new marks.new) }
 {
-    let c = game_case::open_case(r, figures, settings);
-    let tested = c.tested;
-    let table = c.table;
-    match tested {
-        CaseAnswer::Refused(f) => refused(f, search),
-        CaseAnswer::Accepted => {
-            if search.ended {
-                return as_it_was(search);
-            }
-            if LAST_ROUND < search.rounds {
-                return as_it_was(search);
-            }
-            let n = search.rounds + 1;
-            let coming = coming_before_last(n, search.coming);
-            if n < coming {
-                return standing(n, coming == NO_FIGURE, coming);
-            }
-            let ways = game_case::case_ways(r);
-            let behind = solver_predecessors::ways_behind(r);
-            let m = game_moves::placements(&table) as usize;
-            let next = finish(
-                &table,
-                &ways,
-                &behind,
-                &mut figures[..m],
-                &mut settings[..m],
-                marks,
-                n,
-            );
-            standing(n, next.ended, next.coming)
-        }
+    let table = game_case::open_case(r, figures, settings)?;
+    solver_rounds::begin(&table, figures, settings);
+    *marks = [0; MARKS];
+    Ok(Search {
+        rounds: 0,
+        ended: false,
+        coming: 1,
+    })
+}
+
+// ONE ROUND MORE, with the same case, and the search, the tables and the marks as the last call left them. A search that has ended stays as it is, and so does one that says it has
+// finished more rounds than there can be, and one with a case that is refused. A round that brings nothing, as was found before, is only counted.
+pub fn round(
+    search: &mut Search,
+    r: Railway,
+    figures: &mut [u32],
+    settings: &mut [u32],
+    marks: &mut Marks,
+) -> Result<Stage, Refusal>
+    ensures { SearchPost r (searching search.old figures.old settings.old marks.old)
+        result (searching search.new figures.new settings.new marks.new) }
+{
+    let table = game_case::open_case(r, figures, settings)?;
+    if search.ended || LAST_ROUND < search.rounds {
+        return Ok(stage(*search));
     }
+    let n = search.rounds + 1;
+    let coming = coming_before_last(n, search.coming);
+    if n < coming {
+        *search = Search {
+            rounds: n,
+            ended: coming == NO_FIGURE,
+            coming,
+        };
+        return Ok(stage(*search));
+    }
+    let ways = game_case::case_ways(r);
+    let behind = solver_predecessors::ways_behind(r);
+    let m = game_moves::placements(&table) as usize;
+    *search = finish(
+        &table,
+        &ways,
+        &behind,
+        &mut figures[..m],
+        &mut settings[..m],
+        marks,
+        n,
+    );
+    Ok(stage(*search))
 }
 
 // LOOKING UP what a placement shows, of which the section of each train is handed in.
@@ -106,28 +94,19 @@ pub fn look_up(
     figures: &[u32],
     settings: &[u32],
     at: Placement,
-) -> Shown
+) -> Result<Seen, Refusal>
     ensures { LookPost r (section_in at) search figures.now settings.now result }
 {
-    let c = game_case::open_case(r, figures, settings);
-    let tested = c.tested;
-    let table = c.table;
-    match tested {
-        CaseAnswer::Refused(f) => Shown::Refused(f),
-        CaseAnswer::Accepted => {
-            if game_moves::names_none(&table, at) {
-                return Shown::NoFigure;
-            }
-            shows(
-                game_tables::entry_at(figures, game_moves::code_of(&table, at), NO_FIGURE),
-                search.ended,
-            )
-        }
+    let table = game_case::open_case(r, figures, settings)?;
+    if game_moves::names_none(&table, at) {
+        return Ok(Seen::NoFigure);
     }
+    let f = game_tables::entry_at(figures, game_moves::code_of(&table, at), NO_FIGURE);
+    Ok(shows(f, search.ended))
 }
 
-// Round n. Where it has brought figures, the search goes on, and if the very next round is due, that is all; else the next that brings some is looked for, and where there is
-// none the search has ended, unless this one did.
+// Round n, and the search behind it. Where it has brought figures, the search goes on, and if the very next round is due, that is all; else the next that brings some is looked for,
+// and where there is none the search has ended, unless this one did.
 fn finish(
     table: &Table,
     ways: &Ways,
@@ -136,8 +115,9 @@ fn finish(
     settings: &mut [u32],
     marks: &mut [u32],
     n: u32,
-) -> Onward
-    ensures { (r : Railway) (k : ℕ) → Compiled r table.now → Laid r (is_closed r) ways.now
+) -> Search
+    ensures counted { result.rounds ≡ n }
+    ensures finished { (r : Railway) (k : ℕ) → Compiled r table.now → Laid r (is_closed r) ways.now
         → Behind r behind.now → placements r ≤ length figures.old
         → placements r ≤ length settings.old → n ≤ most_figure → n ≡ suc k
         → RoundTables r k figures.old settings.old
@@ -145,23 +125,19 @@ fn finish(
         settings.old figures.new settings.new marks.new }
 {
     let d = solver_rounds::round(table, ways, behind, figures, settings, marks, n);
-    if search_ahead::came(table, figures, marks, n) {
-        if follows(n, d) {
-            return Onward {
-                coming: d,
-                ended: false,
-            };
-        }
-        let c = look_ahead(table, ways, behind, figures, settings, marks, d);
-        return Onward {
-            coming: c,
+    let came = search_ahead::came(table, figures, marks, n);
+    if came && follows(n, d) {
+        return Search {
+            rounds: n,
             ended: false,
+            coming: d,
         };
     }
     let c = look_ahead(table, ways, behind, figures, settings, marks, d);
-    Onward {
+    Search {
+        rounds: n,
+        ended: !came && c == NO_FIGURE,
         coming: c,
-        ended: c == NO_FIGURE,
     }
 }
 
@@ -169,10 +145,7 @@ fn finish(
 fn follows(n: u32, d: u32) -> bool
     ensures { result ≡ true → d ≡ suc n }
 {
-    if n < d {
-        return d - n == 1;
-    }
-    false
+    n < d && d - n == 1
 }
 
 // The first round from d on that brings figures, the largest number if none does. Rounds before it bring nothing, so that the tables say the same; their marks are made as they
@@ -204,72 +177,29 @@ fn look_ahead(
 }
 
 // What an entry of the figure table shows, by whether the search has ended.
-fn shows(f: u32, ended: bool) -> Shown
-    ensures { result ≡ shown_by (figure_entry f) ended }
+fn shows(f: u32, ended: bool) -> Seen
+    ensures { Ok result ≡ shown_by (figure_entry f) ended }
 {
     if f != NO_FIGURE {
-        return Shown::Figure(f);
+        return Seen::Figure(f);
     }
-    if ended {
-        return Shown::NoFigure;
-    }
-    Shown::NotYet
+    if ended { Seen::NoFigure } else { Seen::NotYet }
 }
 
 // What is coming, as a search says it; nothing where round n is behind the last that there can be.
 fn coming_before_last(n: u32, coming: u32) -> u32
     ensures { (most_figure < n → result ≡ no_figure) × (n ≤ most_figure → result ≡ coming) }
 {
-    if LAST_ROUND < n {
-        return NO_FIGURE;
-    }
-    coming
+    if LAST_ROUND < n { NO_FIGURE } else { coming }
 }
 
-// The search that a refused opening hands out: it has ended.
-fn unopened() -> Search
-    ensures { result ≡ unopened }
-{
-    Search {
-        rounds: 0,
-        ended: true,
-        coming: NO_FIGURE,
-    }
-}
-
-// A refusal, and a search as it was.
-fn refused(f: Refusal, search: Search) -> SearchReply
-    ensures { (result.answer ≡ Refused f) × (result.search ≡ search) }
-{
-    SearchReply {
-        answer: SearchAnswer::Refused(f),
-        search: search,
-    }
-}
-
-// A search as it was, and whether it has ended.
-fn as_it_was(search: Search) -> SearchReply
-    ensures { (result.answer ≡ going_on search) × (result.search ≡ search) }
+// Whether a search goes on or has ended.
+fn stage(search: Search) -> Stage
+    ensures { Ok result ≡ going_on search }
 {
     if search.ended {
-        return SearchReply {
-            answer: SearchAnswer::Ended,
-            search: search,
-        };
+        Stage::Ended
+    } else {
+        Stage::Going
     }
-    SearchReply {
-        answer: SearchAnswer::Going,
-        search: search,
-    }
-}
-
-// A search of which n rounds are finished.
-fn standing(n: u32, ended: bool, coming: u32) -> SearchReply
-    ensures { (result.answer ≡ going_on result.search) × (result.search ≡ record { rounds = n; ended = ended; coming = coming }) }
-{
-    as_it_was(Search {
-        rounds: n,
-        ended: ended,
-        coming: coming,
-    })
 }

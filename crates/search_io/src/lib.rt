@@ -5,8 +5,8 @@
 ghost use Rattle.plan_io.specs.Planned.{Planned};
 
 use game_tables::ENTRIES;
-use railway::{CaseAnswer, Railway};
-use search::{Marks, Search, SearchAnswer};
+use railway::Railway;
+use search::{Marks, Search, Stage};
 use search_progress::Progress;
 use solver_marks::MARKS;
 use solver_rounds::LAST_ROUND;
@@ -32,52 +32,48 @@ pub fn write_search() -> usize
 
 // The lines of a case text's rounds; none where it is refused.
 fn write_rounds(case: &[u8]) {
-    let read = case_reader::read_case(case);
-    let answer = read.answer;
-    if let CaseAnswer::Accepted = answer {
-        open(read.railway);
+    if let Ok(r) = case_reader::read_case(case) {
+        open(r);
     }
 }
 
 // A search with tables and marks of its own.
 fn open(r: Railway) {
+    let Ok(table) = railway_compiled::compile(r) else {
+        return;
+    };
     let mut figures = [0u32; ENTRIES];
     let mut settings = [0u32; ENTRIES];
     let mut marks = [0u32; MARKS];
-    let opened = search_calls::open(r, &mut figures, &mut settings, &mut marks);
-    let answer = opened.answer;
-    if let SearchAnswer::Going = answer {
-        let c = railway_compiled::compile(r);
-        let table = c.table;
-        let m = game_moves::placements(&table);
-        rounds(opened.search, r, &mut figures, &mut settings, &mut marks, m);
-    }
+    let Ok(mut search) = search_calls::open(r, &mut figures, &mut settings, &mut marks) else {
+        return;
+    };
+    let m = game_moves::placements(&table);
+    rounds(&mut search, r, &mut figures, &mut settings, &mut marks, m);
 }
 
 // Its rounds, with a line for each after which more placements have a figure than before.
 fn rounds(
-    opened: Search,
+    search: &mut Search,
     r: Railway,
     figures: &mut [u32],
     settings: &mut [u32],
     marks: &mut Marks,
     m: u32,
 ) {
-    let mut search = opened;
     let mut last = search_progress::so_far(figures, m);
-    let mut turns: u32 = 0;
-    while turns <= LAST_ROUND {
-        let reply = search_calls::round(search, r, figures, settings, marks);
-        search = reply.search;
+    for _ in 0..=LAST_ROUND {
+        let Ok(stage) = search_calls::round(search, r, figures, settings, marks) else {
+            return;
+        };
         let now = search_progress::so_far(figures, m);
         if last.count < now.count {
             write_line(search.rounds, now);
         }
-        if search.ended {
+        if let Stage::Ended = stage {
             return;
         }
         last = now;
-        turns += 1;
     }
 }
 

@@ -4,10 +4,11 @@ use mathlib.Core.Logic.{inl, inr}
 use mathlib.Core.Bool.{Bool, true, false, cond, not}
 use mathlib.Core.List.{List}
 use mathlib.Core.Option.{some}
-use Prim.Native.Nat.{ℕ, suc, ◌+◌, ◌≤◌, ◌<◌}
+use Prim.Native.Nat.{ℕ, suc, max, ◌+◌, ◌≤◌, ◌<◌}
 use native.Mathlib.Omega.{arith}
 use native.Mathlib.Numerals.{add-one}
 use lib.ListN.{get_or}
+use Rattle.std.proofs.Math.Nat.{max-eq_left, max-eq_right}
 use lib.Dec.{eqb}
 use borrow.Author.Tests.{eq-eqb, ne_eqb}
 use Rattle.laws.specs.Below.{count_below}
@@ -73,10 +74,13 @@ module _ (figs : List ℕ) (n x : ℕ) (entry : x ≡ get_or figs n no_figure) (
       | inr h ↦ record { code = n; below = omega arith; has = entry_has ∙ ap some (omega (arith, t.without (omega (arith, h)), l)) }
     ])
 
+    pub tells-max : {m : ℕ} → m ≡ max a.largest x → Tells figs (suc n) (record { count = a.count + 1; largest = m })
+    tells-max is = elim (lt? a.largest x) [
+      | inl l ↦ rw (is ∙ max-eq_right (omega arith)) (tells-larger l)
+      | inr l ↦ rw (is ∙ max-eq_left l) (tells-another l)
+    ]
+
 -- FROM CODE TO CODE, as a loop counts them
 module _ {figs : List ℕ} {p : ℕ} {a : Progress} where
   pub tells-next : Tells figs (suc p) a → Tells figs (p + 1) a
   tells-next t = rw (add-one p) t
-
-  pub tells_all : {n : ℕ} → Tells figs p a → p ≤ n → n ≤ p → Tells figs n a
-  tells_all {n} t l m = let e : n ≡ p = omega arith in rw e t

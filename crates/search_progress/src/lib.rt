@@ -8,8 +8,8 @@ ghost use Rattle.game_tables.specs.Tables.{no_figure};
 ghost use Rattle.answer_lines.specs.Lines.{PutPost};
 ghost use Rattle.search_progress.specs.Telling.{Tells, round_line};
 
-use case_file::Written;
 use game_tables::NO_FIGURE;
+use railway::Refusal;
 use text::{LINE_END, TAB, append};
 
 // How many placements have a figure, and the largest of these; 0 where none has one.
@@ -30,10 +30,8 @@ pub fn so_far(figures: &[u32], placements: u32) -> Progress
         count: 0,
         largest: 0,
     };
-    let mut p: u32 = 0;
-    while p < placements {
+    for p in 0..placements {
         a = with_entry(a, game_tables::entry_at(figures, p, NO_FIGURE));
-        p += 1;
     }
     a
 }
@@ -46,20 +44,14 @@ fn with_entry(a: Progress, entry: u32) -> Progress
     if entry == NO_FIGURE {
         return a;
     }
-    if a.largest < entry {
-        return Progress {
-            count: a.count + 1,
-            largest: entry,
-        };
-    }
     Progress {
         count: a.count + 1,
-        largest: a.largest,
+        largest: a.largest.max(entry),
     }
 }
 
 // The line of a round: its number, and how far the search has come with it.
-pub fn round_line(round: u32, a: Progress, out: &mut [u8]) -> Written
+pub fn round_line(round: u32, a: Progress, out: &mut [u8]) -> Result<usize, Refusal>
     ensures { PutPost (round_line round a) out.old result out.new }
 {
     let mut line = [0u8; LINE];

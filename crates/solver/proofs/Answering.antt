@@ -5,19 +5,19 @@ use mathlib.Core.Option.{none, some}
 use Prim.Native.Nat.{ℕ, ◌≤◌}
 use native.Mathlib.Omega.{arith}
 use lib.ListN.{length, get_or}
+use Rattle.std.specs.Prelude.{Option, None, Some, Ok}
 use Rattle.railway.specs.declared.Railway.{Railway}
 use Rattle.railway.specs.declared.Refusal.{Refusal}
 use Rattle.railway.specs.Refusals.{number_of}
-use Rattle.railway.specs.declared.CaseAnswer.TheVariants.{Accepted, Refused}
+use Rattle.railway.specs.CaseAnswer.{Accepted, Refused}
 use Rattle.game.specs.Placement.{placements, start_code}
-use Rattle.game_tables.specs.declared.SolverAnswer.{SolverAnswer}
-use Rattle.game_tables.specs.declared.SolverAnswer.TheVariants.{Refused as Refuses}
+use Rattle.game_tables.specs.SolverAnswer.{Refused as Refuses}
 use Rattle.game_tables.specs.Tables.{no_figure, figure_in, case_refusal}
 use Rattle.game_tables.specs.Solver.{number_given, figure_given, SolverTables, SolverPost}
 use Rattle.game_tables.proofs.Exists.{few-placements}
 use Rattle.game_tables.proofs.Refusals.{case-none}
 use Rattle.solver_marks.specs.Marks.{most_codes}
-use Rattle.railway_compiled.specs.declared.Compilation.{Compilation}
+use Rattle.railway_compiled.specs.Compilation.{Compilation}
 use Rattle.railway_compiled.specs.Table.{Compiled}
 use Rattle.game_case.specs.Cases.{CasePost}
 use Rattle.game_case.proofs.Cases.{opened-refused, opened-none, opened-table}
@@ -32,6 +32,11 @@ module _ (r : Railway) (figs : List ℕ) (at f : ℕ) (start : at ≡ start_code
   start-some h = rw (← start, ← entry) (sym (entry-some f h))
 
 -- THE ANSWER
+-- no figure and a figure are no refusal
+no-number : (a : Option ℕ) → number_given (Ok a) ≡ none
+no-number None = refl
+no-number (Some n) = refl
+
 module _ (r : Railway) (figs sets : List ℕ) (c : Compilation) (p : CasePost r figs sets c) where
   pub answer-refused : (f : Refusal) → c.tested ≡ Refused f → SolverPost r (Refuses f) figs sets figs sets
   answer-refused f e =
@@ -53,8 +58,7 @@ module _ (r : Railway) (figs sets : List ℕ) (c : Compilation) (p : CasePost r 
         let enough = ((case-none r figs sets).0 fine).1 in
         (omega arith, (omega (arith, enough.figures), omega (arith, enough.settings)))
 
-    pub answer-solved : (a : SolverAnswer) (figs' sets' : List ℕ) → (Compiled r c.table → m ≡ placements r → SolverTables r figs sets figs' sets')
-        → ((q : Railway) → Compiled q c.table → (number_given a ≡ none) × (figure_given a ≡ figure_in figs' (start_code q))) → SolverPost r a figs sets figs' sets'
+    pub answer-solved : (a : Option ℕ) (figs' sets' : List ℕ) → (Compiled r c.table → m ≡ placements r → SolverTables r figs sets figs' sets')
+        → ((q : Railway) → Compiled q c.table → figure_given (Ok a) ≡ figure_in figs' (start_code q)) → SolverPost r (Ok a) figs sets figs' sets'
     answer-solved a figs' sets' fills starts =
-        let s = starts r its-table in
-        record { numbered = s.0 ∙ ap number_of (sym fine); leaves = rw fine (fills its-table (counts r its-table), s.1) }
+        record { numbered = no-number a ∙ ap number_of (sym fine); leaves = rw fine (fills its-table (counts r its-table), starts r its-table) }

@@ -7,19 +7,16 @@ use Prim.Native.Nat.{ℕ}
 use native.Mathlib.Omega.{arith}
 use Rattle.laws.proofs.Bools.{some-none}
 use Rattle.railway.specs.declared.Railway.{Railway}
-use Rattle.railway.specs.declared.CaseAnswer.{CaseAnswer}
-use Rattle.railway.specs.declared.CaseAnswer.TheVariants.{Accepted, Refused as CaseRefused}
+use Rattle.railway.specs.CaseAnswer.{CaseAnswer, Accepted, Refused as CaseRefused}
 use Rattle.railway.specs.declared.Refusal.{Refusal}
 use Rattle.railway.specs.Refusals.{number, number_of}
 use Rattle.railway.proofs.Refusals.{between}
 use Rattle.game_tables.specs.Tables.{case_refusal}
 use Rattle.plan.specs.declared.PlanPlace.{PlanPlace}
-use Rattle.plan.specs.declared.Emitted.{Emitted}
-use Rattle.plan.specs.declared.Emitted.TheVariants.{Line, End, NoPlan, Refused}
+use Rattle.plan.specs.Emitted.{Emitted, Line, End, NoPlan, Refused}
 use Rattle.plan.specs.declared.CheckerState.{CheckerState}
-use Rattle.plan.specs.declared.FrontAnswer.{FrontAnswer}
-use Rattle.plan.specs.declared.FrontAnswer.TheVariants.{Took, Refused as FrontRefused}
-use Rattle.plan.specs.declared.TestAnswer.{TestAnswer}
+use Rattle.plan.specs.FrontAnswer.{FrontAnswer, Took, Refused as FrontRefused}
+use Rattle.plan.specs.TestAnswer.{TestAnswer}
 use Rattle.plan.specs.Checker.{Checking, freshened, test_number, test_plan}
 use Rattle.plan.specs.Several.{EmitLinesPost, Front, front_leaves, take_front, FrontPost}
 use Rattle.plan.specs.Promises.{FreshPost, TestPost}

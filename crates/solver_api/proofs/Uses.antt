@@ -14,8 +14,7 @@ use Rattle.laws.proofs.Bools.{some-none}
 use Rattle.text.specs.Text.{digits, line, bytes}
 use Rattle.text.specs.Reading.{is_digit, byte_at, digits_at, number_at, fields, value_of, same_text}
 use Rattle.railway.specs.declared.Railway.{Railway}
-use Rattle.railway.specs.declared.CaseAnswer.{CaseAnswer}
-use Rattle.railway.specs.declared.CaseAnswer.TheVariants.{Accepted, Refused as CaseRefused}
+use Rattle.railway.specs.CaseAnswer.{CaseAnswer, Accepted, Refused as CaseRefused}
 use Rattle.railway.specs.declared.Refusal.{Refusal}
 use Rattle.railway.specs.declared.Refusal.TheVariants.{Form, Space, PlanForm, PlanFault}
 use Rattle.railway.specs.Ends.{end_at}
@@ -40,13 +39,10 @@ use Rattle.game_tables.specs.Solver.{SolverTables}
 use Rattle.game_tables.proofs.Unique.{figs-one, sets-one}
 use Rattle.game_tables.proofs.KnownYards.{figs_a, sets_a, yard_a-accepted, yard_a-filled}
 use Rattle.plan.specs.declared.PlanPlace.TheVariants.{Top, From}
-use Rattle.plan.specs.declared.Emitted.{Emitted}
-use Rattle.plan.specs.declared.Emitted.TheVariants.{Line, End, NoPlan}
+use Rattle.plan.specs.Emitted.{Emitted, Line, End, NoPlan}
 use Rattle.plan.specs.declared.CheckerState.TheVariants.{Fresh, Begun}
-use Rattle.plan.specs.declared.FrontAnswer.{FrontAnswer}
-use Rattle.plan.specs.declared.FrontAnswer.TheVariants.{Took, Refused as FrontRefused}
-use Rattle.plan.specs.declared.TestAnswer.{TestAnswer}
-use Rattle.plan.specs.declared.TestAnswer.TheVariants.{Pass, Refused}
+use Rattle.plan.specs.FrontAnswer.{FrontAnswer, Took, Refused as FrontRefused}
+use Rattle.plan.specs.TestAnswer.{TestAnswer, Pass, Refused}
 use Rattle.plan.specs.Lines.{spell, fits}
 use Rattle.plan.specs.Text.{line_for}
 use Rattle.plan.specs.Test.{listed_setting}

@@ -3,20 +3,17 @@
 use Rattle.std.specs.Prelude.{◌≡◌, true, cond, List, [], ◌∷◌, ℕ, suc, ◌-◌, get_or, eqb, ltb}
 use Rattle.std.proofs.Math.Option
 use Rattle.railway.specs.declared.Railway.{Railway}
-use Rattle.railway.specs.declared.CaseAnswer.{CaseAnswer}
-use Rattle.railway.specs.declared.CaseAnswer.TheVariants.{Accepted, Refused as CaseRefused}
+use Rattle.railway.specs.CaseAnswer.{CaseAnswer, Accepted, Refused as CaseRefused}
 use Rattle.railway.specs.Refusals.{number, number_given}
 use Rattle.case_reader.specs.Answers.{ByCase}
 use Rattle.game_tables.specs.Tables.{no_figure}
 use Rattle.plan.specs.declared.PlanPlace.{PlanPlace}
 use Rattle.plan.specs.declared.PlanPlace.TheVariants.{Top, From}
-use Rattle.plan.specs.declared.Emitted.{Emitted}
-use Rattle.plan.specs.declared.Emitted.TheVariants.{Line, End, NoPlan, Refused}
+use Rattle.plan.specs.Emitted.{Emitted, Line, End, NoPlan, Refused}
 use Rattle.plan.specs.declared.CheckerState.{CheckerState}
 use Rattle.plan.specs.declared.CheckerState.TheVariants.{Fresh, Begun}
-use Rattle.plan.specs.declared.FrontAnswer.{FrontAnswer}
-use Rattle.plan.specs.declared.FrontAnswer.TheVariants.{Took, Refused as FrontRefused}
-use Rattle.plan.specs.declared.TestAnswer.{TestAnswer}
+use Rattle.plan.specs.FrontAnswer.{FrontAnswer, Took, Refused as FrontRefused}
+use Rattle.plan.specs.TestAnswer.{TestAnswer}
 use Rattle.plan.specs.Emitter.{is_line}
 use Rattle.plan.specs.Checker.{Checking, test_number}
 use Rattle.plan.specs.Several.{EmitLinesPost, front_number, FrontPost}

@@ -8,10 +8,9 @@ ghost use Rattle.solver_api.specs.Exported.{SolvedRailway, SolvedText};
 ghost use Rattle.solver_api.specs.Plans.{place_at, place_number, writing, WrittenRailway, WrittenText};
 ghost use Rattle.solver_api.specs.Plans.{state_of, state_numbers, lent, BegunRailway, BegunText, TakenRailway, TakenText, TestedRailway, TestedText};
 
-use game_tables::SolverAnswer;
-use plan::{CheckerState, Emitted, FrontAnswer, PlanPlace, TestAnswer};
+use plan::{CheckerState, Emission, PlanPlace};
 use plan_checker::Checker;
-use railway::{CaseAnswer, Railway};
+use railway::Railway;
 
 // What the call for the plan's lines answers where no line is left, and where there is no plan. No refusal has such a number.
 pub const END: u8 = 255;
@@ -25,11 +24,9 @@ pub type Numbers = [u32; 3];
 pub fn solve_case(text: &[u8], figures: &mut [u32], settings: &mut [u32]) -> u8
     ensures { SolvedText text.now figures.old settings.old result figures.new settings.new }
 {
-    let read = case_reader::read_case(text);
-    let answer = read.answer;
-    match answer {
-        CaseAnswer::Refused(f) => f.number(),
-        CaseAnswer::Accepted => solve_railway(read.railway, figures, settings),
+    match case_reader::read_case(text) {
+        Err(f) => f.number(),
+        Ok(r) => solve_railway(r, figures, settings),
     }
 }
 
@@ -37,9 +34,8 @@ fn solve_railway(r: Railway, figures: &mut [u32], settings: &mut [u32]) -> u8
     ensures { SolvedRailway r figures.old settings.old result figures.new settings.new }
 {
     match solver::solve(r, figures, settings) {
-        SolverAnswer::Refused(f) => f.number(),
-        SolverAnswer::Unsolvable => 0,
-        SolverAnswer::Figure(_) => 0,
+        Err(f) => f.number(),
+        Ok(_) => 0,
     }
 }
 
@@ -57,13 +53,9 @@ pub fn write_plan_lines(
         (writing place.old out.old bytes.old) result
         (writing place.new out.new bytes.new) }
 {
-    let read = case_reader::read_case(text);
-    let answer = read.answer;
-    match answer {
-        CaseAnswer::Refused(f) => f.number(),
-        CaseAnswer::Accepted => {
-            write_railway(read.railway, figures, settings, place, out, bytes)
-        }
+    match case_reader::read_case(text) {
+        Err(f) => f.number(),
+        Ok(r) => { write_railway(r, figures, settings, place, out, bytes) }
     }
 }
 
@@ -81,14 +73,14 @@ fn write_railway(
 {
     let from = place_at(*place);
     match plan_emitter::emit_lines(r, figures, settings, from, out) {
-        Emitted::Line(n, next) => {
+        Ok(Emission::Line(n, next)) => {
             *place = place_number(next);
             *bytes = n;
             0
         }
-        Emitted::End => END,
-        Emitted::NoPlan => NO_PLAN,
-        Emitted::Refused(f) => f.number(),
+        Ok(Emission::End) => END,
+        Ok(Emission::NoPlan) => NO_PLAN,
+        Err(f) => f.number(),
     }
 }
 
@@ -124,23 +116,20 @@ pub fn begin_check(
     ensures { BegunText text.now (lent state.old figures.old settings.old) result
         (lent state.new figures.new settings.new) }
 {
-    let read = case_reader::read_case(text);
-    let answer = read.answer;
-    match answer {
-        CaseAnswer::Refused(f) => f.number(),
-        CaseAnswer::Accepted => begin_railway(read.railway, state, figures, settings),
+    match case_reader::read_case(text) {
+        Err(f) => f.number(),
+        Ok(r) => begin_railway(r, state, figures, settings),
     }
 }
 
 fn begin_railway(r: Railway, state: &mut Numbers, figures: &mut [u32], settings: &mut [u32]) -> u8
     ensures { BegunRailway r (lent state.old figures.old settings.old) result (lent state.new figures.new settings.new) }
 {
-    let begun = Checker::fresh(r, figures, settings);
-    let answer = begun.answer;
-    match answer {
-        CaseAnswer::Refused(f) => f.number(),
-        CaseAnswer::Accepted => {
-            *state = state_numbers(begun.checker);
+    let (checker, begun) = Checker::fresh(r, figures, settings);
+    match begun {
+        Err(f) => f.number(),
+        Ok(()) => {
+            *state = state_numbers(checker);
             0
         }
     }
@@ -160,13 +149,9 @@ pub fn take_plan_lines(
         plan.now bytes.old result
         (lent state.new figures.new settings.new) bytes.new }
 {
-    let read = case_reader::read_case(text);
-    let answer = read.answer;
-    match answer {
-        CaseAnswer::Refused(f) => f.number(),
-        CaseAnswer::Accepted => {
-            take_railway(read.railway, state, plan, figures, settings, bytes)
-        }
+    match case_reader::read_case(text) {
+        Err(f) => f.number(),
+        Ok(r) => { take_railway(r, state, plan, figures, settings, bytes) }
     }
 }
 
@@ -182,13 +167,11 @@ fn take_railway(
         plan.now bytes.old result
         (lent state.new figures.new settings.new) bytes.new }
 {
-    let checker = checker_of(*state);
-    let taken = checker.take_front(r, plan, figures, settings);
-    let answer = taken.answer;
-    match answer {
-        FrontAnswer::Refused(f) => f.number(),
-        FrontAnswer::Took(n) => {
-            *state = state_numbers(taken.checker);
+    let mut checker = checker_of(*state);
+    match checker.take_front(r, plan, figures, settings) {
+        Err(refused) => refused.number(),
+        Ok(n) => {
+            *state = state_numbers(checker);
             *bytes = n;
             0
         }
@@ -199,11 +182,9 @@ fn take_railway(
 pub fn test_plan(text: &[u8], state: &Numbers, figures: &[u32], settings: &[u32]) -> u8
     ensures { TestedText text.now (lent state.now figures.now settings.now) result }
 {
-    let read = case_reader::read_case(text);
-    let answer = read.answer;
-    match answer {
-        CaseAnswer::Refused(f) => f.number(),
-        CaseAnswer::Accepted => test_railway(read.railway, state, figures, settings),
+    match case_reader::read_case(text) {
+        Err(f) => f.number(),
+        Ok(r) => test_railway(r, state, figures, settings),
     }
 }
 
@@ -211,11 +192,9 @@ fn test_railway(r: Railway, state: &Numbers, figures: &[u32], settings: &[u32]) 
     ensures { TestedRailway r (lent state.now figures.now settings.now) result }
 {
     let checker = checker_of(*state);
-    let tested = checker.test(r, figures, settings);
-    let answer = tested.answer;
-    match answer {
-        TestAnswer::Refused(f) => f.number(),
-        TestAnswer::Pass => 0,
+    match checker.test(r, figures, settings) {
+        Err(failed) => failed.number(),
+        Ok(()) => 0,
     }
 }
 

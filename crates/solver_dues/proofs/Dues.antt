@@ -13,22 +13,9 @@ use Rattle.laws.specs.Below.{any_below}
 use Rattle.laws.proofs.Bools.{bool?, eq?, some-none, some_one}
 use Rattle.laws.proofs.Lists.{get_or-inside}
 use Rattle.railway.specs.declared.Railway.{Railway}
-use Rattle.railway.specs.Record.{weight_of}
 use Rattle.game_tables.specs.Tables.{no_figure, figure_entry}
-use Rattle.solver_dues.specs.Dues.{same_weight, LeastFrom, DueBy, SoonAfter, NextBy}
-use Rattle.solver_marks.specs.declared.Soon.{Soon}
+use Rattle.solver_dues.specs.Dues.{same_weight, LeastFrom, DueBy, NextBy}
 use Rattle.solver_marks.specs.Marks.{due_at}
-
--- THE LEAST ENTRY of some codes, and of one more
-pub entries_next : (figs : List ℕ) (lo from q upto a b : ℕ) → LeastFrom figs lo from q a → q < upto → upto ≤ length figs
-    → b ≤ a → (lo ≤ get_or figs q 0 → b ≤ get_or figs q 0) → LeastFrom figs lo from (q + 1) b
-entries_next figs lo from q upto a b h l long le one x lx hx lo-x = elim (eq? x q) [
-  | inl z ↦
-      let same : get_or figs q no_figure ≡ get_or figs q 0 = get_or-inside figs q no_figure 0 (omega arith) in
-      let least : b ≤ get_or figs q 0 = one (let y : lo ≤ get_or figs q no_figure = rw z at lo-x in omega arith) in
-      rw z (omega arith)
-  | inr z ↦ omega (arith, h x lx (omega (arith, z)) lo-x)
-]
 
 entry-is : (x j : ℕ) → figure_entry x ≡ some j → x ≡ j
 entry-is x j e = elim (bool? (eqb x no_figure)) [
@@ -58,20 +45,4 @@ pub next_more : (r : Railway) (marks : List ℕ) (m n t a b d : ℕ) → NextBy 
 next_more r marks m n t a b d h la ld one u q i lu first lq li due = elim (eq? u t) [
   | inr z ↦ omega (arith, h u q i (omega (arith, z)) first lq li due)
   | inl z ↦ omega (arith, one (rw z at first) q i lq li (rw z at due))
-]
-
--- FOUR TRAINS, one after the other
-pub soon-each : (r : Railway) (n : ℕ) (s : Soon) → r.trains ≤ 4
-    → (0 < r.trains → any_below (same_weight r 0) 0 ≡ false → s.first ≡ n + weight_of r 0)
-    → (1 < r.trains → any_below (same_weight r 1) 1 ≡ false → s.second ≡ n + weight_of r 1)
-    → (2 < r.trains → any_below (same_weight r 2) 2 ≡ false → s.third ≡ n + weight_of r 2) → (3 < r.trains → any_below (same_weight r 3) 3 ≡ false → s.fourth ≡ n + weight_of r 3) → SoonAfter r n s
-soon-each r n s few a b c d t lt first = elim (eq? t 0) [
-  | inl z ↦ rw z (a (omega arith) (rw z at first))
-  | inr z ↦ elim (eq? t 1) [
-    | inl y ↦ rw y (b (omega arith) (rw y at first))
-    | inr y ↦ elim (eq? t 2) [
-      | inl x ↦ rw x (c (omega arith) (rw x at first))
-      | inr x ↦ let w : t ≡ 3 = omega (arith, z, y, x) in rw w (d (omega arith) (rw w at first))
-    ]
-  ]
 ]

@@ -6,7 +6,6 @@ use Rattle.laws.specs.Below.{any_below}
 use Rattle.railway.specs.declared.Railway.{Railway}
 use Rattle.railway.specs.Record.{weight_of}
 use Rattle.game_tables.specs.Tables.{no_figure, figure_in}
-use Rattle.solver_marks.specs.declared.Soon.{Soon}
 use Rattle.solver_marks.specs.Marks.{due_at, soon_by}
 
 -- Trains t and u have the same weight.
@@ -22,7 +21,7 @@ pub record DueBy (figs : List ℕ) (most n w from upto d : ℕ) : Type 0 where
   pub later : (q j : ℕ) → from ≤ q → q < upto → figure_in figs q ≡ some j → j ≤ most → n < j + w → d ≤ j + w
 
 -- These are the first rounds that a figure n makes due, by the weight of each train that is the lowest to have it.
-abbrev pub SoonAfter : Railway → ℕ → Soon → Type 0
+abbrev pub SoonAfter : Railway → ℕ → List ℕ → Type 0
 SoonAfter r n soon = (t : ℕ) → t < r.trains → any_below (same_weight r t) t ≡ false → soon_by soon t ≡ n + weight_of r t
 
 -- By the marks, the rounds behind n that are due for codes below m are e or later, by the weights of the first k trains.

@@ -22,16 +22,11 @@ use solver_marks::Soon;
 pub fn soon(table: &Table, n: u32) -> Soon
     ensures { (r : Railway) → Compiled r table.now → n + most_weight < no_figure → SoonAfter r n result }
 {
-    let first = soon_by(table, n, 0);
-    let second = soon_by(table, n, 1);
-    let third = soon_by(table, n, 2);
-    let fourth = soon_by(table, n, 3);
-    Soon {
-        first: first,
-        second: second,
-        third: third,
-        fourth: fourth,
+    let mut soon = [NO_FIGURE; Railway::TRAINS as usize];
+    for t in 0..Railway::TRAINS {
+        soon[t as usize] = soon_by(table, n, t);
     }
+    soon
 }
 
 // That of train t.
@@ -45,22 +40,16 @@ fn soon_by(table: &Table, n: u32, t: u8) -> u32
         return NO_FIGURE;
     }
     let w = railway_compiled::weight_in(table, t) as u32;
-    if NO_FIGURE - w < n {
-        return NO_FIGURE;
-    }
-    n + w
+    n.saturating_add(w)
 }
 
 // The first round behind n that is due for the codes below m, by the marks and the weights of all trains, or an earlier one.
 pub fn next_round(table: &Table, marks: &[u32], m: u32, n: u32) -> u32
     ensures { (n < no_figure → n < result) × ((r : Railway) → Compiled r table.now → NextBy r marks.now m n r.trains result) }
 {
-    let k = railway_compiled::trains_in(table);
     let mut e: u32 = NO_FIGURE;
-    let mut t: u8 = 0;
-    while t < k {
-        e = smaller(e, next_by(table, marks, m, n, t));
-        t += 1;
+    for t in 0..railway_compiled::trains_in(table) {
+        e = e.min(next_by(table, marks, m, n, t));
     }
     e
 }
@@ -77,24 +66,15 @@ fn next_by(table: &Table, marks: &[u32], m: u32, n: u32, t: u8) -> u32
     solver_marks::next_due(marks, t, m, n)
 }
 
-// The smaller of two numbers.
-fn smaller(a: u32, b: u32) -> u32
-    ensures { (result ≤ a) × (result ≤ b) × ((n : ℕ) → n < a → n < b → n < result) }
-{
-    if b < a { b } else { a }
-}
-
 // Whether a lower train has the weight of train t.
 pub fn shares_weight(table: &Table, t: u8) -> bool
     ensures { (r : Railway) → Compiled r table.now → result ≡ any_below (same_weight r t) t }
 {
     let w = railway_compiled::weight_in(table, t);
-    let mut u: u8 = 0;
-    while u < t {
+    for u in 0..t {
         if railway_compiled::weight_in(table, u) == w {
             return true;
         }
-        u += 1;
     }
     false
 }
@@ -118,9 +98,9 @@ pub fn due_behind(
         return NO_FIGURE;
     }
     if w <= 1 {
-        return after(n);
+        return n.saturating_add(1);
     }
-    with_weight(least_from(figures, lo, from, upto), w)
+    least_from(figures, lo, from, upto).saturating_add(w)
 }
 
 // The least figure that makes a round behind n with this weight.
@@ -130,28 +110,7 @@ fn least_ahead(n: u32, w: u32) -> u32
     if n < w {
         return 0;
     }
-    after(n - w)
-}
-
-// The number behind n; the largest number has none.
-fn after(n: u32) -> u32
-    ensures { (k : ℕ) → n < k → result ≤ k }
-{
-    if n < NO_FIGURE {
-        return n + 1;
-    }
-    n
-}
-
-// A figure and a weight, the number for none where that is too much.
-fn with_weight(f: u32, w: u32) -> u32
-    requires { w ≤ most_weight }
-    ensures { (j : ℕ) → f ≤ j → result ≤ j + w }
-{
-    if NO_FIGURE - w < f {
-        return NO_FIGURE;
-    }
-    f + w
+    (n - w).saturating_add(1)
 }
 
 // The least entry of a range of codes that is `lo` at least; the number for none, if there is no such.
@@ -171,11 +130,8 @@ fn least_within(figures: &[u32], lo: u32, from: u32, upto: u32) -> u32
     ensures { LeastFrom figures.now lo from upto result }
 {
     let mut least: u32 = NO_FIGURE;
-    let mut q = from;
-    while q < upto {
-        let at = q as usize;
-        least = smaller(least, from_on(lo, figures[at]));
-        q += 1;
+    for q in from..upto {
+        least = least.min(from_on(lo, figures[q as usize]));
     }
     least
 }

@@ -1,8 +1,7 @@
 -- Marks: for each stretch of codes one for each train, and one for its figures. Nothing of the documents rests on this file: contracts of single steps cite it. Assumes nothing.
-use Rattle.std.specs.Prelude.{◌≡◌, cond, List, ℕ, ◌+◌, ◌*◌, ◌/◌, ◌^◌, ◌≤◌, ◌<◌, length, get_or, eqb}
+use Rattle.std.specs.Prelude.{◌≡◌, List, ℕ, ◌+◌, ◌*◌, ◌/◌, ◌^◌, ◌≤◌, ◌<◌, length, get_or}
 use Rattle.railway.specs.Bounds.{most_sections, most_trains}
 use Rattle.game_tables.specs.Tables.{no_figure}
-use Rattle.solver_marks.specs.declared.Soon.{Soon}
 
 -- How many codes a stretch has.
 abbrev pub stretch_length : ℕ
@@ -33,12 +32,12 @@ pub record Room (marks : List ℕ) : Type 0 where
   pub enough : length marks ≡ (most_trains + 1) * stretches
 
 -- The first round that a new figure can make due by the weight of train t, of four that are handed over.
-abbrev pub soon_by : Soon → ℕ → ℕ
-soon_by s t = cond (eqb t 0) s.first (cond (eqb t 1) s.second (cond (eqb t 2) s.third s.fourth))
+abbrev pub soon_by : List ℕ → ℕ → ℕ
+soon_by s t = get_or s t 0
 
 -- The stretch of code c has gained figure n, for which these rounds are the first that can be due: its marks allow for that, and no mark allows for less than
 -- before.
-pub record Raised (marks : List ℕ) (c n : ℕ) (soon : Soon) (marks' : List ℕ) : Type 0 where
+pub record Raised (marks : List ℕ) (c n : ℕ) (soon : List ℕ) (marks' : List ℕ) : Type 0 where
   pub sooner : (t q : ℕ) → t < most_trains → q < most_codes → due_at marks' t q ≤ due_at marks t q
   pub higher : (q : ℕ) → q < most_codes → most_at marks q ≤ most_at marks' q
   pub due : (t : ℕ) → t < most_trains → soon_by soon t < no_figure → due_at marks' t c ≤ soon_by soon t

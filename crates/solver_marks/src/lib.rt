@@ -32,13 +32,7 @@ pub const MARKS: usize = (TRAINS + 1) * STRETCHES;
 
 // The rounds that a new figure is the first to make due, by the weight of each train; the largest number where there is no such train, or where a lower one has
 // its weight.
-#[derive(Clone, Copy)]
-pub struct Soon {
-    pub first: u32,
-    pub second: u32,
-    pub third: u32,
-    pub fourth: u32,
-}
+pub type Soon = [u32; TRAINS];
 
 // The next round that the weight of train t makes due for the stretch of code c, or an earlier one. Past the last mark stands 0.
 pub fn due_at(marks: &[u32], t: u8, c: u32) -> u32
@@ -60,10 +54,9 @@ pub fn gain(marks: &mut [u32], c: u32, n: u32, soon: Soon)
     ensures { Room marks.old → c < most_codes → Raised marks.old c n soon marks.new }
 {
     let i = (c / STRETCH) as usize;
-    lower(marks, i, soon.first);
-    lower(marks, STRETCHES + i, soon.second);
-    lower(marks, 2 * STRETCHES + i, soon.third);
-    lower(marks, 3 * STRETCHES + i, soon.fourth);
+    for (t, due) in soon.iter().enumerate() {
+        lower(marks, t * STRETCHES + i, *due);
+    }
     lift(marks, TRAINS * STRETCHES + i, n);
 }
 
@@ -82,17 +75,15 @@ pub fn set_due(marks: &mut [u32], t: u8, c: u32, due: u32)
 pub fn next_due(marks: &[u32], t: u8, m: u32, n: u32) -> u32
     ensures { (n < no_figure → n < result) × ((q k : ℕ) → q < m → n < k → due_at marks.now t q ≤ k → result ≤ k) }
 {
-    later(
-        least(marks, (t as usize) * STRETCHES, stretches_below(m)),
-        n,
-    )
+    let due = least(marks, (t as usize) * STRETCHES, stretches_below(m));
+    due.max(n.saturating_add(1))
 }
 
 // The mark at i. Past the last mark stands 0.
 fn mark_at(marks: &[u32], i: usize) -> u32
     ensures { result ≡ get_or marks.now i 0 }
 {
-    if i < marks.len() { marks[i] } else { 0 }
+    marks.get(i).copied().unwrap_or(0)
 }
 
 // The mark at i is x at most. It is written only where it was larger; for the largest number it is not even read.
@@ -102,21 +93,18 @@ fn lower(marks: &mut [u32], i: usize, x: u32)
     if x == NO_FIGURE {
         return;
     }
-    if i < marks.len() {
-        if x < marks[i] {
-            marks[i] = x;
-        }
+    if i < marks.len() && x < marks[i] {
+        marks[i] = x;
     }
 }
 
 // The mark at i is x at least. It is written only where it was smaller.
+// It stays apart from `lower`: a function for both would be handed the comparison and the number that is passed over, at each call.
 fn lift(marks: &mut [u32], i: usize, x: u32)
     ensures { Lifted marks.old i x marks.new }
 {
-    if i < marks.len() {
-        if marks[i] < x {
-            marks[i] = x;
-        }
+    if i < marks.len() && marks[i] < x {
+        marks[i] = x;
     }
 }
 
@@ -124,10 +112,7 @@ fn lift(marks: &mut [u32], i: usize, x: u32)
 fn stretches_below(m: u32) -> usize
     ensures { (q : ℕ) → q < m → stretch_of q < result }
 {
-    if m == 0 {
-        return 0;
-    }
-    ((m - 1) / STRETCH + 1) as usize
+    m.div_ceil(STRETCH) as usize
 }
 
 // The least of so many marks from `start` on; 0 if there are fewer, and the largest number if none is asked for. All are read with no stop, so that several can
@@ -142,26 +127,8 @@ fn least(marks: &[u32], start: usize, count: usize) -> u32
         return 0;
     }
     let mut x = NO_FIGURE;
-    let mut i: usize = 0;
-    while i < count {
-        let y = marks[start + i];
-        if y < x {
-            x = y;
-        }
-        i += 1;
+    for y in &marks[start..start + count] {
+        x = x.min(*y);
     }
     x
-}
-
-// The round due, but the one behind n if that is not behind n. Past the largest number there is none, and the answer is n.
-fn later(due: u32, n: u32) -> u32
-    ensures { (n < no_figure → n < result) × ((k : ℕ) → n < k → due ≤ k → result ≤ k) }
-{
-    if n < due {
-        return due;
-    }
-    if n < NO_FIGURE {
-        return n + 1;
-    }
-    n
 }

@@ -56,30 +56,7 @@ pub record Clearing (table : List ℕ) (m : ℕ) (figs₀ sets₀ figs sets : Li
   pub first : (r : Railway) → Compiled r table → m ≡ placements r → Written (first_figure r) p figs₀ figs
 
 module _ (table : List ℕ) (m : ℕ) (figs₀ sets₀ : List ℕ) where
-  pub clearing-start : Clearing table m figs₀ sets₀ figs₀ sets₀ 0
-  clearing-start =
-      record {
-        within = omega arith;
-        long-figs = refl;
-        long-sets = refl;
-        unset = written_none (λ q. 0) sets₀;
-        first = λ r h k. written_none (first_figure r) figs₀;
-      }
-
   module _ (figs sets : List ℕ) (p : ℕ) (c : Clearing table m figs₀ sets₀ figs sets p) where
-    pub clearing-next : (f v : ℕ) → p < m → m ≤ length figs₀ → m ≤ length sets₀
-        → ((r : Railway) → Compiled r table → p < placements r → f ≡ first_figure r p) → v ≡ 0
-        → Clearing table m figs₀ sets₀ (set figs p f) (set sets p v) (p + 1)
-    clearing-next f v l lf ls e z =
-        record {
-          within = omega arith;
-          long-figs = length-set figs p f ∙ c.long-figs;
-          long-sets = length-set sets p v ∙ c.long-sets;
-          unset = written_one (λ q. 0) p sets₀ sets v c.unset (omega arith) z;
-          first =
-              λ r h k. written_one (first_figure r) p figs₀ figs f (c.first r h k) (omega arith) (e r h (omega arith));
-        }
-
     pub clearing-end : m ≤ p → (r : Railway) → Compiled r table → m ≡ placements r → After r 0 figs₀ sets₀ figs sets
     clearing-end l r h e =
         let z : p ≡ placements r = omega (arith, c.within) in

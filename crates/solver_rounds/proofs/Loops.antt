@@ -5,9 +5,10 @@ use mathlib.Core.Path.{◌≡◌, refl, sym, ◌∙◌, ap}
 use mathlib.Core.Logic.{◌⊎◌, inl, inr}
 use mathlib.Core.Bool.{true}
 use mathlib.Core.List.{List}
-use Prim.Native.Nat.{ℕ, ◌+◌, ◌≤◌, ◌<◌}
+use Prim.Native.Nat.{ℕ, ◌+◌, ◌-◌, ◌≤◌, ◌<◌}
 use native.Mathlib.Omega.{arith}
-use lib.ListN.{length, get_or}
+use lib.ListN.{length, get_or, take, drop, length-take, length-drop}
+use Rattle.std.proofs.lemmas.List.{get_or-take, get_or-drop}
 use borrow.Author.Tests.{eqb-true}
 use Rattle.laws.specs.Below.{any_below}
 use Rattle.laws.proofs.Bools.{bool?, lt?, eq?}
@@ -24,36 +25,26 @@ use Rattle.solver_rounds.proofs.Entries.{entry-is}
 use Rattle.solver_rounds.proofs.Visits.{visited-onward, visited-less, round-on, visited-none, visited-then}
 
 -- A LOOP that has come to i, in this round, of every railway that has these tables, and of which more is given
-pub record VisitedTo (Given : Railway → Type 0) (table ways : List ℕ) (this : ThisRound) (Kind : Railway → ℕ → ℕ → Type 0)
+pub record VisitedTo (Given : Railway → Type 0) (this : ThisRound) (Kind : Railway → ℕ → ℕ → Type 0)
     (figs₀ sets₀ marks₀ figs sets marks : List ℕ) (i : ℕ) : Type 0 where
   pub long-figs : length figs ≡ length figs₀
   pub long-sets : length sets ≡ length sets₀
   pub long-marks : length marks ≡ length marks₀
-  pub visited : (r : Railway) (d : Turned) → Given r → Round r table ways this d figs₀ marks₀
+  pub visited : (r : Railway) (d : Turned) → Given r → Round r this d figs₀ marks₀
       → Visited r this.n d (Kind r i) figs₀ sets₀ figs sets marks
 
-module _ {Given : Railway → Type 0} {table ways : List ℕ} {this : ThisRound} {Kind : Railway → ℕ → ℕ → Type 0}
+module _ {Given : Railway → Type 0} {this : ThisRound} {Kind : Railway → ℕ → ℕ → Type 0}
     {figs₀ sets₀ marks₀ : List ℕ} where
-  pub visited-to-start : {i : ℕ} → ((r : Railway) (q : ℕ) → Kind r i q → ⊥)
-      → VisitedTo Given table ways this Kind figs₀ sets₀ marks₀ figs₀ sets₀ marks₀ i
-  visited-to-start h =
-      record {
-        long-figs = refl;
-        long-sets = refl;
-        long-marks = refl;
-        visited = λ r d b o. visited-none o.marked (λ q l k. h r q k);
-      }
-
   module _ {figs sets marks : List ℕ} {i : ℕ}
-      (s : VisitedTo Given table ways this Kind figs₀ sets₀ marks₀ figs sets marks i) where
+      (s : VisitedTo Given this Kind figs₀ sets₀ marks₀ figs sets marks i) where
     -- on to j, with more visits
     pub visited-to-next : {New : Railway → ℕ → Type 0} {j : ℕ} {figs' sets' marks' : List ℕ}
         → length figs' ≡ length figs → length sets' ≡ length sets → length marks' ≡ length marks
-        → ((r : Railway) (d : Turned) → Given r → Round r table ways this d figs marks
+        → ((r : Railway) (d : Turned) → Given r → Round r this d figs marks
         → Visited r this.n d (New r) figs sets figs' sets' marks')
         → ((r : Railway) (d : Turned) → Given r → Visited r this.n d (Kind r i) figs₀ sets₀ figs sets marks
-        → Round r table ways this d figs₀ marks₀ → (q : ℕ) → q < placements r → Kind r j q → Kind r i q ⊎ New r q)
-        → VisitedTo Given table ways this Kind figs₀ sets₀ marks₀ figs' sets' marks' j
+        → Round r this d figs₀ marks₀ → (q : ℕ) → q < placements r → Kind r j q → Kind r i q ⊎ New r q)
+        → VisitedTo Given this Kind figs₀ sets₀ marks₀ figs' sets' marks' j
     visited-to-next ef es em body covers =
         record {
           long-figs = ef ∙ s.long-figs;
@@ -67,8 +58,8 @@ module _ {Given : Railway → Type 0} {table ways : List ℕ} {this : ThisRound}
     -- on to j, with nothing to visit between
     pub visited-to-on : {j : ℕ}
         → ((r : Railway) (d : Turned) → Visited r this.n d (Kind r i) figs₀ sets₀ figs sets marks
-        → Round r table ways this d figs₀ marks₀ → (q : ℕ) → Kind r j q → Kind r i q)
-        → VisitedTo Given table ways this Kind figs₀ sets₀ marks₀ figs sets marks j
+        → Round r this d figs₀ marks₀ → (q : ℕ) → Kind r j q → Kind r i q)
+        → VisitedTo Given this Kind figs₀ sets₀ marks₀ figs sets marks j
     visited-to-on covers =
         record {
           long-figs = s.long-figs;
@@ -80,40 +71,27 @@ module _ {Given : Railway → Type 0} {table ways : List ℕ} {this : ThisRound}
         }
 
     pub visited-to-end : {End : Railway → ℕ → Type 0}
-        → ((r : Railway) (d : Turned) → Given r → Round r table ways this d figs₀ marks₀ → (q : ℕ) → q < placements r
+        → ((r : Railway) (d : Turned) → Given r → Round r this d figs₀ marks₀ → (q : ℕ) → q < placements r
         → End r q → Kind r i q)
-        → (r : Railway) (d : Turned) → Given r → Round r table ways this d figs₀ marks₀
+        → (r : Railway) (d : Turned) → Given r → Round r this d figs₀ marks₀
         → Visited r this.n d (End r) figs₀ sets₀ figs sets marks
     visited-to-end h r d b o = visited-less (s.visited r d b o) (λ q l k. h r d b o q l k)
 
 -- A SCAN for a figure
-module _ (figs : List ℕ) (figure c upto : ℕ) where
-  pub passed_start : Passed figs figure c upto c
-  passed_start = record { onward = omega arith; others = λ q l h. absurd (omega arith) }
+module _ (figs : List ℕ) (figure c : ℕ) where
+  pub passed-more : (e k : ℕ) → Passed figs figure c e → Passed figs figure e k → Passed figs figure c k
+  passed-more e k x y q lq h = elim (lt? q e) [ inl z ↦ x q lq z | inr z ↦ y q z h ]
 
-  pub passed-next : (e : ℕ) → Passed figs figure c upto e → e < upto → upto ≤ length figs → (get_or figs e 0 ≡ figure → ⊥)
-      → Passed figs figure c upto (e + 1)
-  passed-next e x l long other =
-      record {
-        onward = omega (arith, x.onward);
-        others = λ q lq h. elim (eq? q e) [
-          | inl z ↦ (omega arith, λ y. other (get_or-inside figs e 0 no_figure (omega arith) ∙ (rw z at y)))
-          | inr z ↦ x.others q lq (omega arith)
-        ];
-      }
-
-  pub passed-end : (e : ℕ) → Passed figs figure c upto e → e ≤ upto → upto ≤ e → Passed figs figure c upto upto
-  passed-end e x l m =
-      let z : upto ≡ e = omega arith in
-      record { onward = omega (arith, x.onward); others = λ q lq h. x.others q lq (omega arith) }
-
-  pub passed-more : (e k : ℕ) → Passed figs figure c upto e → Passed figs figure e k k → k ≤ upto
-      → Passed figs figure c upto k
-  passed-more e k x y l =
-      record {
-        onward = omega (arith, x.onward, y.onward);
-        others = λ q lq h. elim (lt? q e) [ inl z ↦ x.others q lq z | inr z ↦ (omega arith, (y.others q z h).1) ];
-      }
+-- a range without it
+pub none-within : (figs : List ℕ) (figure e upto k : ℕ) → upto ≤ length figs → e + k ≤ upto
+    → ((i : ℕ) → i < length (take (e + k - e) (drop e figs)) → get_or (take (e + k - e) (drop e figs)) i 0 ≡ figure → ⊥)
+    → Passed figs figure e (e + k)
+none-within figs figure e upto k long l none q lq h y =
+    let i : ℕ = q - e in
+    let here : e + i ≡ q = omega arith in
+    let inside : i < length (take (e + k - e) (drop e figs)) = omega (arith, length-take (e + k - e) (drop e figs), length-drop e figs) in
+    none i inside
+    (get_or-take (e + k - e) (drop e figs) i 0 (omega arith) ∙ get_or-drop e figs i 0 ∙ rw here (get_or-inside figs q 0 no_figure (omega arith) ∙ y))
 
 -- THE TRAINS of a placement, of one weight
 pub no-train : {r : Railway} {w c q : ℕ} → Comes r w c 0 q → ⊥
@@ -180,10 +158,10 @@ module _ {r : Railway} {n w : ℕ} {figs : List ℕ} where
   before-one c k = let z : k.code ≡ c = omega (arith, k.after, k.within) in rw z at k.comes
 
   -- codes without the figure that makes n
-  pub codes-passed : {d : Turned} {S : ℕ → Type 0} {sets figs₁ sets₁ marks₁ : List ℕ} {from c upto e figure q : ℕ}
-      → Visited r n d S figs sets figs₁ sets₁ marks₁ → upto ≤ placements r
-      → figure + w ≡ n → Passed figs₁ figure c upto e → Ahead r n w figs from e q → Ahead r n w figs from c q
-  codes-passed {figs₁ = figs₁} {c = c} {upto = upto} {figure = figure} s l en x k = elim (lt? k.code c) [
+  pub codes-passed : {d : Turned} {S : ℕ → Type 0} {sets figs₁ sets₁ marks₁ : List ℕ} {from c e figure q : ℕ}
+      → Visited r n d S figs sets figs₁ sets₁ marks₁ → e ≤ placements r
+      → figure + w ≡ n → Passed figs₁ figure c e → Ahead r n w figs from e q → Ahead r n w figs from c q
+  codes-passed {figs₁ = figs₁} {c = c} s l en x k = elim (lt? k.code c) [
     | inl h ↦ record {
       code = k.code;
       after = k.after;
@@ -194,11 +172,10 @@ module _ {r : Railway} {n w : ℕ} {figs : List ℕ} where
       comes = k.comes;
     }
     | inr h ↦
-        let y : (k.code < upto) × (get_or figs₁ k.code no_figure ≡ figure → ⊥) = x.others k.code h k.within in
         let f : get_or figs₁ k.code no_figure ≡ k.figure =
         entry-is (get_or figs₁ k.code no_figure) k.figure
-        (visited-onward s k.code k.figure (omega arith) k.stands) in
-        absurd (y.1 (omega (arith, k.makes)))
+        (visited-onward s k.code k.figure (omega (arith, k.within)) k.stands) in
+        absurd (x k.code h k.within (omega (arith, k.makes)))
   ]
 
   -- a weight over n

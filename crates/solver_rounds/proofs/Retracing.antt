@@ -12,7 +12,7 @@ use native.Mathlib.Numerals.{add-one}
 use native.Mathlib.Nat.{mul_comm, pow-zero, pow-succ', pow-le-pow_left, pow-le-pow_right}
 use lib.ListN.{length, get_or}
 use lib.Dec.{eqb}
-use borrow.Author.Tests.{eqb-true, eq-eqb, le-ltb}
+use borrow.Author.Tests.{eqb-true, eq-eqb}
 use Rattle.laws.proofs.Bools.{bool?, eq?, clash}
 use Rattle.railway.specs.declared.End.{End}
 use Rattle.railway.specs.declared.Railway.{Railway}
@@ -54,8 +54,8 @@ module _ (figs : List ℕ) (m p : ℕ) where
   waits-inside b (figured h) e = clash e refl
 
 -- ONE SECTION BEHIND: a visit of the placement with the train there, of code p, if it waits for one
-module _ {r : Railway} {table ways : List ℕ} {this : ThisRound} {d : Turned} {figs marks : List ℕ}
-    (o : Round r table ways this d figs marks) (c t y p : ℕ) (there : y < r.sections) (put : p ≡ code_with r c t y) where
+module _ {r : Railway} {this : ThisRound} {d : Turned} {figs marks : List ℕ}
+    (o : Round r this d figs marks) (c t y p : ℕ) (there : y < r.sections) (put : p ≡ code_with r c t y) where
   below : p < placements r
   below = rw put (code-with-below r (facts r o.compiled.accepted) c t y there)
 
@@ -64,16 +64,11 @@ module _ {r : Railway} {table ways : List ℕ} {this : ThisRound} {d : Turned} {
   not-waiting b (outside l) e f = omega (arith, below, o.counted)
   not-waiting b (figured h) e f = h f
 
-  pub no-visit : {sets : List ℕ} (b : Bool) → Waits figs this.m p b → b ≡ false
-      → Visited r this.n d (One p) figs sets figs sets marks
-  no-visit b w e =
-      visited-rests o.marked (λ q l k f g. absurd (not-waiting b w e (rw k at f)))
-
-  module _ (q v : Placement) (on : On r c table q) (lt : t < r.trains) (b : Bool)
+  module _ (q v : Placement) (on : On r c this.table.now q) (lt : t < r.trains) (b : Bool)
       (w : Waits figs this.m p b) (e : b ≡ true)
       (moved : (u : ℕ) → section_in v u ≡ put_in q t y u) where
     pub one-visit : {sets figs' sets' marks' : List ℕ}
-        → ((r : Railway) (d : Turned) → Round r table ways this d figs marks → On r p table v → p < placements r
+        → ((r : Railway) (d : Turned) → Round r this d figs marks → On r p this.table.now v → p < placements r
         → figure_in figs p ≡ none
         → Visited r this.n d (One p) figs sets figs' sets' marks')
         → Visited r this.n d (One p) figs sets figs' sets' marks'
@@ -83,7 +78,7 @@ module _ {r : Railway} {table ways : List ℕ} {this : ThisRound} {d : Turned} {
         go b (outside l) e = clash e refl
         go b (figured h) e = clash e refl
         go b (empty inside none_yet) e =
-            visit r d o (rw put (put-on-is r c table q on t y lt there v moved)) below none_yet
+            visit r d o (rw put (put-on-is r c this.table.now q on t y lt there v moved)) below none_yet
 
 -- STRIDES, each from the one before
 module _ (s t w : ℕ) (e : w ≡ stride_of s t) where
@@ -102,12 +97,6 @@ module _ (s t w : ℕ) (e : w ≡ stride_of s t) where
     where
       whole : (x : ℕ) → x < 4294967296 → x % 4294967296 ≡ x
       whole x h = omega arith
-
-  pub stride-past : most_trains ≤ t → w ≡ stride_of s (t + 1)
-  stride-past l = e ∙ rw (le-ltb t most_trains l, le-ltb (t + 1) most_trains (omega arith))
-
-pub stride-first : (s : ℕ) → 1 ≡ stride_of s 0
-stride-first s = sym (pow-zero s)
 
 -- THE WAYS BACK of a train
 pub no_way : {r : Railway} {c t x u : ℕ} → BackBy r c t x 0 u → ⊥

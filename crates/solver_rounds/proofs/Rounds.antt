@@ -127,7 +127,7 @@ module _ (r : Railway) (this : ThisRound) (t : ℕ) (codes : Codes) (counted : t
   ]
 
   -- NOT DUE: nothing one move before it gains, and its turn is over
-  module _ {table ways figs marks : List ℕ} (o : Round r table ways this before figs marks) (due : ℕ)
+  module _ {figs marks : List ℕ} (o : Round r this before figs marks) (due : ℕ)
       (is : due ≡ due_at marks t codes.from) (late : this.n < due) where
     pub not-due : (q : ℕ) → q < placements r → Ahead r this.n (weight_of r t) figs codes.from codes.upto q → ⊥
     not-due q lq h =
@@ -138,9 +138,6 @@ module _ (r : Railway) (this : ThisRound) (t : ℕ) (codes : Codes) (counted : t
         (rw (since-open this.n before t h.code (own_open t codes.from h.code h.after))
         (omega (arith, h.makes))) in
         omega (arith, h.makes)
-
-    pub turn-over : Marked r this.n after figs marks
-    turn-over = marked-later o.marked (λ u q lu lq f. more u q)
 
   -- DUE AGAIN: its figures make no round behind n by this weight before the one that is set
   module _ {figs marks : List ℕ} (k : Marked r this.n before figs marks) (most : ℕ)
@@ -193,58 +190,40 @@ module _ (r : Railway) (this : ThisRound) (t : ℕ) (codes : Codes) (counted : t
         }
 
 -- STRETCH AFTER STRETCH, up to code i, by the weight of train t
-pub record StretchesTo (table ways behind : List ℕ) (this : ThisRound) (t : ℕ)
+pub record StretchesTo (this : ThisRound) (t : ℕ)
     (figs₀ sets₀ marks₀ figs sets marks : List ℕ) (i : ℕ) : Type 0 where
   pub long-figs : length figs ≡ length figs₀
   pub long-sets : length sets ≡ length sets₀
   pub long-marks : length marks ≡ length marks₀
-  pub visited : (r : Railway) → Behind r behind → Round r table ways this (record { train = t; code = 0 }) figs₀ marks₀
+  pub visited : (r : Railway) → Round r this (record { train = t; code = 0 }) figs₀ marks₀
       → t < r.trains → First r t
       → Visited r this.n (record { train = t; code = i }) (Ahead r this.n (weight_of r t) figs₀ 0 i) figs₀
       sets₀ figs sets marks
 
-module _ {table ways behind : List ℕ} {this : ThisRound} {t : ℕ} {figs₀ sets₀ marks₀ : List ℕ} where
-  pub stretches-start : StretchesTo table ways behind this t figs₀ sets₀ marks₀ figs₀ sets₀ marks₀ 0
-  stretches-start = record {
-    long-figs = refl;
-    long-sets = refl;
-    long-marks = refl;
-    visited = λ r b o lt f. visited-none o.marked (λ q l k. no-code k);
-  }
-
+module _ {this : ThisRound} {t : ℕ} {figs₀ sets₀ marks₀ : List ℕ} where
   module _ {figs sets marks : List ℕ} {c : ℕ}
-      (s : StretchesTo table ways behind this t figs₀ sets₀ marks₀ figs sets marks c) where
+      (s : StretchesTo this t figs₀ sets₀ marks₀ figs sets marks c) where
     pub stretches-next : {upto : ℕ} {figs' sets' marks' : List ℕ} → upto ≤ this.m
         → length figs' ≡ length figs → length sets' ≡ length sets → length marks' ≡ length marks
-        → ((r : Railway) → Behind r behind → Round r table ways this (record { train = t; code = c }) figs marks
+        → ((r : Railway) → Round r this (record { train = t; code = c }) figs marks
         → t < r.trains → First r t
         → Visited r this.n (record { train = t; code = upto }) (Ahead r this.n (weight_of r t) figs c upto)
         figs sets figs' sets' marks')
-        → StretchesTo table ways behind this t figs₀ sets₀ marks₀ figs' sets' marks' upto
+        → StretchesTo this t figs₀ sets₀ marks₀ figs' sets' marks' upto
     stretches-next l ef es em body =
         record {
           long-figs = ef ∙ s.long-figs;
           long-sets = es ∙ s.long-sets;
           long-marks = em ∙ s.long-marks;
-          visited = λ r h o lt f.
-              let x = s.visited r h o lt f in
-              visited-then o.compiled.accepted o.small x (body r h (round-on o x) lt f)
+          visited = λ r o lt f.
+              let x = s.visited r o lt f in
+              visited-then o.compiled.accepted o.small x (body r (round-on o x) lt f)
               (λ q lq k. codes-next x c (omega (arith, o.counted)) k);
         }
 
-    -- all stretches have had their turn: the weight's is over
-    pub stretches-end : this.m ≤ c → (r : Railway) → Behind r behind
-        → Round r table ways this (record { train = t; code = 0 }) figs₀ marks₀ → t < r.trains → First r t
-        → Visited r this.n (record { train = suc t; code = 0 }) (Apart r this.n figs₀ 0 this.m t)
-        figs₀ sets₀ figs sets marks
-    stretches-end l r h o lt f =
-        let x = s.visited r h o lt f in
-        visited-marked (visited-less x (λ q lq k. codes-less l k.ahead))
-        (marked_next (omega (arith, o.counted)) x.marked)
-
 -- NO STRETCH IS DUE by this weight, or a lower train has it
-module _ {r : Railway} {table ways : List ℕ} {this : ThisRound} {t : ℕ} {figs marks : List ℕ}
-    (o : Round r table ways this (record { train = t; code = 0 }) figs marks) where
+module _ {r : Railway} {this : ThisRound} {t : ℕ} {figs marks : List ℕ}
+    (o : Round r this (record { train = t; code = 0 }) figs marks) where
   abbrev now-next : Turned
   now-next = record { train = suc t; code = 0 }
 
@@ -270,43 +249,34 @@ module _ {r : Railway} {table ways : List ℕ} {this : ThisRound} {t : ℕ} {fig
       omega (arith, tells h.code this.n h.within (omega (arith, nonzero)) (omega (arith, h.makes)))
 
 -- WEIGHT AFTER WEIGHT, up to train i
-pub record RoundTo (table ways behind : List ℕ) (this : ThisRound) (figs₀ sets₀ marks₀ figs sets marks : List ℕ)
+pub record RoundTo (this : ThisRound) (figs₀ sets₀ marks₀ figs sets marks : List ℕ)
     (i : ℕ) : Type 0 where
   pub long-figs : length figs ≡ length figs₀
   pub long-sets : length sets ≡ length sets₀
   pub long-marks : length marks ≡ length marks₀
-  pub visited : (r : Railway) → Behind r behind
-      → Round r table ways this (record { train = 0; code = 0 }) figs₀ marks₀ → i ≤ r.trains
+  pub visited : (r : Railway) → Round r this (record { train = 0; code = 0 }) figs₀ marks₀ → i ≤ r.trains
       → Visited r this.n (record { train = i; code = 0 }) (Weighed r this.n figs₀ 0 this.m i) figs₀
       sets₀ figs sets marks
 
-module _ {table ways behind : List ℕ} {this : ThisRound} {figs₀ sets₀ marks₀ : List ℕ} where
-  pub round-start : RoundTo table ways behind this figs₀ sets₀ marks₀ figs₀ sets₀ marks₀ 0
-  round-start = record {
-    long-figs = refl;
-    long-sets = refl;
-    long-marks = refl;
-    visited = λ r b o li. visited-none o.marked (λ q l k. no-weight k);
-  }
-
+module _ {this : ThisRound} {figs₀ sets₀ marks₀ : List ℕ} where
   module _ {figs sets marks : List ℕ} {t : ℕ}
-      (s : RoundTo table ways behind this figs₀ sets₀ marks₀ figs sets marks t) where
+      (s : RoundTo this figs₀ sets₀ marks₀ figs sets marks t) where
     pub round-next : {figs' sets' marks' : List ℕ}
         → length figs' ≡ length figs → length sets' ≡ length sets → length marks' ≡ length marks
-        → ((r : Railway) → Behind r behind → Round r table ways this (record { train = t; code = 0 }) figs marks
+        → ((r : Railway) → Round r this (record { train = t; code = 0 }) figs marks
         → t < r.trains
         → Visited r this.n (record { train = suc t; code = 0 }) (Apart r this.n figs 0 this.m t)
         figs sets figs' sets' marks')
-        → RoundTo table ways behind this figs₀ sets₀ marks₀ figs' sets' marks' (t + 1)
+        → RoundTo this figs₀ sets₀ marks₀ figs' sets' marks' (t + 1)
     round-next ef es em body =
         record {
           long-figs = ef ∙ s.long-figs;
           long-sets = es ∙ s.long-sets;
           long-marks = em ∙ s.long-marks;
-          visited = λ r h o li.
+          visited = λ r o li.
               let lt : t < r.trains = omega arith in
-              let x = s.visited r h o (omega arith) in
-              rw (add-one t) (visited-then o.compiled.accepted o.small x (body r h (round-on o x) lt)
+              let x = s.visited r o (omega arith) in
+              rw (add-one t) (visited-then o.compiled.accepted o.small x (body r (round-on o x) lt)
               (λ q lq k. let k' : Weighed r this.n figs₀ 0 this.m (t + 1) q = rw (add-one t) k in
               elim (weight-next t k') [
                 | inl y ↦ inl y
@@ -380,20 +350,21 @@ marks-on r n i e figs marks l on k =
     none_passed : (t q : ℕ) → passed_by (record { train = 0; code = 0 }) t q ≡ false
     none_passed t q = rw (le-ltb t 0 (omega arith), le-ltb q 0 (omega arith)) (and-off (eqb t 0))
 
-module _ {table ways behind : List ℕ} {this : ThisRound} {figs₀ sets₀ marks₀ figs sets marks : List ℕ} {i : ℕ}
-    (s : RoundTo table ways behind this figs₀ sets₀ marks₀ figs sets marks i)
-    (e : ℕ) (onward : this.n < e) (trains : (r : Railway) → Compiled r table → i ≡ r.trains)
-    (first : (r : Railway) → Compiled r table → NextBy r marks this.m this.n r.trains e) where
+module _ {this : ThisRound} {figs₀ sets₀ marks₀ figs sets marks : List ℕ} {i : ℕ}
+    (s : RoundTo this figs₀ sets₀ marks₀ figs sets marks i)
+    (e : ℕ) (onward : this.n < e) (trains : (r : Railway) → Compiled r this.table.now → i ≡ r.trains)
+    (first : (r : Railway) → Compiled r this.table.now → NextBy r marks this.m this.n r.trains e) where
   pub round-end : this.n + most_weight < no_figure → (r : Railway) (k : ℕ) → SoonAfter r this.n this.soon
-      → Compiled r table → Laid r (is_closed r) ways → Behind r behind → this.m ≡ placements r → this.n ≡ suc k
+      → Compiled r this.table.now → Laid r (is_closed r) this.ways.now → Behind r this.behind.now → this.m ≡ placements r → this.n ≡ suc k
       → RoundTables r k figs₀ sets₀ → Marked r this.n (record { train = 0; code = 0 }) figs₀ marks₀
       → RoundPost r this.n figs₀ sets₀ figs sets e × Marked r e (record { train = 0; code = 0 }) figs marks
   round-end small r k soonest h laid b em en t marked =
       let d : Turned = record { train = i; code = 0 } in
-      let o : Round r table ways this (record { train = 0; code = 0 }) figs₀ marks₀ =
+      let o : Round r this (record { train = 0; code = 0 }) figs₀ marks₀ =
       record {
         compiled = h;
         laid = laid;
+        back = b;
         counted = em;
         small = small;
         soonest = soonest;
@@ -402,7 +373,7 @@ module _ {table ways behind : List ℕ} {this : ThisRound} {figs₀ sets₀ mark
       } in
       let all : i ≡ r.trains = trains r h in
       let y : Visited r this.n d (Weighed r this.n figs₀ 0 this.m i) figs₀ sets₀ figs sets marks =
-      s.visited r b o (omega arith) in
+      s.visited r o (omega arith) in
       let x : Visited r this.n d (Before r this.n figs₀ 0 (placements r)) figs₀ sets₀ figs sets marks =
       visited-less y (λ q inside k. record {
         train = k.train;

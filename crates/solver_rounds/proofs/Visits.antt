@@ -101,13 +101,14 @@ module _ {r : Railway} {n : ℕ} {c : Turned} {S : ℕ → Type 0} {figs sets fi
       record { each = s.each; past-figs = s.past-figs; past-sets = s.past-sets; settled = s.settled; marked = k }
 
 -- THE ROUND GOES ON
-pub round-on : {r : Railway} {table ways : List ℕ} {this : ThisRound} {c d : Turned} {S : ℕ → Type 0}
-    {figs sets marks figs' sets' marks' : List ℕ} → Round r table ways this d figs marks
-    → Visited r this.n c S figs sets figs' sets' marks' → Round r table ways this c figs' marks'
+pub round-on : {r : Railway} {this : ThisRound} {c d : Turned} {S : ℕ → Type 0}
+    {figs sets marks figs' sets' marks' : List ℕ} → Round r this d figs marks
+    → Visited r this.n c S figs sets figs' sets' marks' → Round r this c figs' marks'
 round-on o s =
     record {
       compiled = o.compiled;
       laid = o.laid;
+      back = o.back;
       counted = o.counted;
       small = o.small;
       soonest = o.soonest;
@@ -155,8 +156,8 @@ module _ {r : Railway} (accepted : record_refusal r ≡ none) {n : ℕ} {c d : T
       }
 
 -- ONE VISIT, of a placement without a figure
-module _ {r : Railway} {table ways : List ℕ} {this : ThisRound} {d : Turned} {figs marks : List ℕ}
-    (o : Round r table ways this d figs marks) (p : ℕ) (l : p < placements r) (empty : figure_in figs p ≡ none)
+module _ {r : Railway} {this : ThisRound} {d : Turned} {figs marks : List ℕ}
+    (o : Round r this d figs marks) (p : ℕ) (l : p < placements r) (empty : figure_in figs p ≡ none)
     (found : Option ℕ) (searched : found ≡ first_keeping r (figure_in figs) p this.n) where
   pub visit-rests : {sets : List ℕ} → found ≡ none → Visited r this.n d (One p) figs sets figs sets marks
   visit-rests e =

@@ -59,9 +59,10 @@ abbrev pub MarkedFor : Railway → ℕ → List ℕ → List ℕ → Type 0
 MarkedFor r n figs marks = Marked r n (record { train = 0; code = 0 }) figs marks
 
 -- A round is going on, on the tables of this railway.
-pub record Round (r : Railway) (table ways : List ℕ) (this : ThisRound) (d : Turned) (figs marks : List ℕ) : Type 0 where
-  pub compiled : Compiled r table
-  pub laid : Laid r (is_closed r) ways
+pub record Round (r : Railway) (this : ThisRound) (d : Turned) (figs marks : List ℕ) : Type 0 where
+  pub compiled : Compiled r this.table.now
+  pub laid : Laid r (is_closed r) this.ways.now
+  pub back : Behind r this.behind.now
   pub counted : this.m ≡ placements r
   pub small : this.n + most_weight < no_figure
   pub soonest : SoonAfter r this.n this.soon
@@ -100,10 +101,16 @@ pub record Stretch (m c e : ℕ) : Type 0 where
   pub before : (q : ℕ) → q < c → stretch_of q ≡ stretch_of c → ⊥
   pub behind : (q : ℕ) → e ≤ q → q < m → stretch_of q ≡ stretch_of c → ⊥
 
--- Codes from c to e, below upto, have been passed by: none of them has this figure.
-pub record Passed (figs : List ℕ) (figure c upto e : ℕ) : Type 0 where
+-- Codes from c on, up to e, have been passed by: none of them has this figure.
+abbrev pub Passed : List ℕ → ℕ → ℕ → ℕ → Type 0
+Passed figs figure c e = (q : ℕ) → c ≤ q → q < e → get_or figs q no_figure ≡ figure → ⊥
+
+-- The next code from c on with this figure is e, of those below upto.
+pub record NextWith (figs : List ℕ) (figure c upto e : ℕ) : Type 0 where
   pub onward : c ≤ e
-  pub others : (q : ℕ) → c ≤ q → q < e → (q < upto) × (get_or figs q no_figure ≡ figure → ⊥)
+  pub within : e < upto
+  pub passed : Passed figs figure c e
+  pub has : get_or figs e no_figure ≡ figure
 
 -- Whether p is a code without a figure.
 pub data Waits (figs : List ℕ) (m p : ℕ) : Bool → Type 0 where

@@ -10,6 +10,7 @@
 
 ghost use Rattle.std.specs.Prelude.{◌≡◌, false, ℕ, suc, ◌+◌, ◌%◌, ◌≤◌, ◌<◌, length, get_or};
 ghost use Rattle.std.proofs.Math.Option.{none};
+ghost use Rattle.std.specs.Option.{MatchOption};
 ghost use Rattle.railway.specs.declared.Railway.{Railway};
 ghost use Rattle.railway.specs.Record.{is_closed, weight_of};
 ghost use Rattle.railway.specs.Rows.{record_refusal};
@@ -24,7 +25,7 @@ ghost use Rattle.game_moves.specs.Steps.{stride_of, On};
 ghost use Rattle.solver_predecessors.specs.Behind.{Behind};
 ghost use Rattle.solver_rounds.specs.Rounds.{After, RoundPost};
 ghost use Rattle.solver_marks.specs.Marks.{stretch_length};
-ghost use Rattle.solver_rounds.specs.Visits.{Turned, First, MarkedFor, Round, MoverOf, Visited, Stretch, Passed, Waits};
+ghost use Rattle.solver_rounds.specs.Visits.{Turned, First, MarkedFor, Round, MoverOf, Visited, Stretch, Passed, NextWith, Waits};
 ghost use Rattle.solver_rounds.specs.Visits.{One, By, ByWeight, Comes, Ahead, Apart};
 
 use game_placement::Placement;
@@ -33,7 +34,6 @@ use railway::Railway;
 use railway_compiled::Table;
 use railway_routes::{MOST_WAYS, NO_SECTION, Ways};
 use solver_marks::{STRETCH, Soon};
-use solver_settings::Found;
 
 // How many codes are looked at together.
 const BLOCK: u32 = 16;
@@ -48,9 +48,13 @@ pub const LAST_ROUND: u32 = (Railway::MOST_WEIGHT as u32)
 // The most sections, a factor for each of four trains.
 const SECTIONS: u32 = Railway::SECTIONS as u32;
 
-// The round that is going on: its number n, how many placements there are, and the first rounds that a figure n makes due.
+// The round that is going on: the railway's table and its ways, for moves and for going back; the round's number n, how many placements there are, and the first
+// rounds that a figure n makes due.
 #[derive(Clone, Copy)]
-struct ThisRound {
+struct ThisRound<'a> {
+    table: &'a Table,
+    ways: &'a Ways,
+    behind: &'a Ways,
     n: u32,
     m: u32,
     soon: Soon,
@@ -126,12 +130,9 @@ fn clear(table: &Table, figures: &mut [u32], settings: &mut [u32], m: u32)
         → After r 0 figures.old settings.old figures.new settings.new }
 {
     let home = game_moves::home_code(table);
-    let mut p: u32 = 0;
-    while p < m {
-        let at = p as usize;
-        figures[at] = first_figure(home, p);
-        settings[at] = 0;
-        p += 1;
+    for p in 0..m {
+        figures[p as usize] = first_figure(home, p);
+        settings[p as usize] = 0;
     }
 }
 
@@ -162,39 +163,30 @@ fn one_round(
 {
     let soon = solver_dues::soon(table, n);
     let this = ThisRound {
-        n: n,
-        m: m,
-        soon: soon,
+        table,
+        ways,
+        behind,
+        n,
+        m,
+        soon,
     };
-    let k = railway_compiled::trains_in(table);
-    let mut t: u8 = 0;
-    while t < k {
-        round_by(table, ways, behind, figures, settings, marks, this, t);
-        t += 1;
+    for t in 0..railway_compiled::trains_in(table) {
+        round_by(&this, figures, settings, marks, t);
     }
     solver_dues::next_round(table, marks, m, n)
 }
 
 // This round by the weight of train t, stretch after stretch, unless a lower train has the weight too, whose turn it was then, or no
-// stretch is due by it.
-fn round_by(
-    table: &Table,
-    ways: &Ways,
-    behind: &Ways,
-    figures: &mut [u32],
-    settings: &mut [u32],
-    marks: &mut [u32],
-    this: ThisRound,
-    t: u8,
-)
-    requires { (this.m ≤ length figures.old) × (this.m ≤ length settings.old) }
-    ensures { (r : Railway) → Behind r behind.now
-        → Round r table.now ways.now this (record { train = t; code = 0 })
+// stretch is due by it. `search_ahead` goes over a frontier too, but writes nothing and ends at what it finds: one walk for both would hand the tables, and what is
+// done at a placement, on through six functions.
+fn round_by(this: &ThisRound, figures: &mut [u32], settings: &mut [u32], marks: &mut [u32], t: u8)
+    requires { (this.now.m ≤ length figures.old) × (this.now.m ≤ length settings.old) }
+    ensures { (r : Railway) → Round r this.now (record { train = t; code = 0 })
         figures.old marks.old → t < r.trains
-        → Visited r this.n (record { train = suc t; code = 0 }) (Apart r this.n figures.old 0 this.m t)
+        → Visited r this.now.n (record { train = suc t; code = 0 }) (Apart r this.now.n figures.old 0 this.now.m t)
         figures.old settings.old figures.new settings.new marks.new }
 {
-    if solver_dues::shares_weight(table, t) {
+    if solver_dues::shares_weight(this.table, t) {
         return;
     }
     let n = this.n;
@@ -208,13 +200,7 @@ fn round_by(
     let mut c: u32 = 0;
     while c < m {
         let upto = stretch_end(c, m);
-        let codes = Codes {
-            from: c,
-            upto: upto,
-        };
-        visit_stretch(
-            table, ways, behind, figures, settings, marks, this, t, codes,
-        );
+        visit_stretch(this, figures, settings, marks, t, Codes { from: c, upto });
         c = upto;
     }
 }
@@ -234,101 +220,86 @@ fn stretch_end(c: u32, m: u32) -> u32
 // This round for a stretch, if the weight of train t makes it due: what is one move of a train of that weight before its placements of the
 // frontier, and then when it is due again.
 fn visit_stretch(
-    table: &Table,
-    ways: &Ways,
-    behind: &Ways,
+    this: &ThisRound,
     figures: &mut [u32],
     settings: &mut [u32],
     marks: &mut [u32],
-    this: ThisRound,
     t: u8,
     codes: Codes,
 )
-    requires { (this.m ≤ length figures.old) × (this.m ≤ length settings.old)
-        × (codes.from < codes.upto) × (codes.upto ≤ this.m) }
-    ensures { (r : Railway) → Behind r behind.now
-        → Round r table.now ways.now this (record { train = t; code = codes.from })
+    requires { (this.now.m ≤ length figures.old) × (this.now.m ≤ length settings.old)
+        × (codes.from < codes.upto) × (codes.upto ≤ this.now.m) }
+    ensures { (r : Railway) → Round r this.now (record { train = t; code = codes.from })
         figures.old marks.old
-        → t < r.trains → First r t → Stretch this.m codes.from codes.upto
-        → Visited r this.n (record { train = t; code = codes.upto })
-        (Ahead r this.n (weight_of r t) figures.old codes.from codes.upto)
+        → t < r.trains → First r t → Stretch this.now.m codes.from codes.upto
+        → Visited r this.now.n (record { train = t; code = codes.upto })
+        (Ahead r this.now.n (weight_of r t) figures.old codes.from codes.upto)
         figures.old settings.old figures.new settings.new marks.new }
 {
     let n = this.n;
-    let from = codes.from;
-    let upto = codes.upto;
+    let Codes { from, upto } = codes;
     if n < solver_marks::due_at(marks, t, from) {
         return;
     }
-    let w = railway_compiled::weight_in(table, t);
-    visit_codes(
-        table, ways, behind, figures, settings, marks, this, w, codes,
-    );
+    let w = railway_compiled::weight_in(this.table, t);
+    visit_codes(this, figures, settings, marks, w, codes);
     let most = solver_marks::most_at(marks, from);
-    let due = solver_dues::due_behind(table, figures, most, n, from, upto, t);
+    let due = solver_dues::due_behind(this.table, figures, most, n, from, upto, t);
     solver_marks::set_due(marks, t, from, due);
 }
 
 // This round for what is one move of a train of weight w before the placements with codes in a range whose figure makes its number with w.
 fn visit_codes(
-    table: &Table,
-    ways: &Ways,
-    behind: &Ways,
+    this: &ThisRound,
     figures: &mut [u32],
     settings: &mut [u32],
     marks: &mut [u32],
-    this: ThisRound,
     w: u8,
     codes: Codes,
 )
-    requires { (this.m ≤ length figures.old) × (this.m ≤ length settings.old) × (codes.upto ≤ this.m) }
-    ensures { (r : Railway) (d : Turned) → Behind r behind.now
-        → Round r table.now ways.now this d figures.old marks.old
-        → Visited r this.n d (Ahead r this.n w figures.old codes.from codes.upto)
+    requires { (this.now.m ≤ length figures.old) × (this.now.m ≤ length settings.old) × (codes.upto ≤ this.now.m) }
+    ensures { (r : Railway) (d : Turned) → Round r this.now d figures.old marks.old
+        → Visited r this.now.n d (Ahead r this.now.n w figures.old codes.from codes.upto)
         figures.old settings.old
         figures.new settings.new marks.new }
 {
     let n = this.n;
-    let from = codes.from;
-    let upto = codes.upto;
     if n < (w as u32) {
         return;
     }
     let last = n - (w as u32);
-    let mut c = next_with(figures, last, from, upto);
-    while c < upto {
-        visit_before(table, ways, behind, figures, settings, marks, this, w, c);
-        c = next_with(figures, last, c + 1, upto);
+    let mut from = codes.from;
+    while let Some(c) = next_with(figures, last, from, codes.upto) {
+        visit_before(this, figures, settings, marks, w, c);
+        from = c + 1;
     }
 }
 
-// The next code from c on with this figure, or one that is not below upto.
-fn next_with(figures: &[u32], figure: u32, c: u32, upto: u32) -> u32
+// The next code from c on with this figure, of those below upto.
+fn next_with(figures: &[u32], figure: u32, c: u32, upto: u32) -> Option<u32>
     requires { upto ≤ length figures.now }
-    ensures { Passed figures.now figure c upto result × (result < upto → get_or figures.now result no_figure ≡ figure) }
+    ensures { MatchOption result (Passed figures.now figure c upto) (NextWith figures.now figure c upto) }
 {
-    let mut e = pass_blocks(figures, figure, c, upto);
-    while e < upto {
-        let at = e as usize;
-        if figures[at] == figure {
-            return e;
+    let start = pass_blocks(figures, figure, c, upto);
+    for e in start..upto {
+        if figures[e as usize] == figure {
+            return Some(e);
         }
-        e += 1;
     }
-    e
+    None
 }
 
 // Where passing by whole blocks from c on ends: at a block that has this figure, or at one that is not whole.
 fn pass_blocks(figures: &[u32], figure: u32, c: u32, upto: u32) -> u32
     requires { upto ≤ length figures.now }
-    ensures { Passed figures.now figure c upto result }
+    ensures { (c ≤ result) × Passed figures.now figure c result }
 {
     let mut e = c;
     while e < upto {
         if upto - e < BLOCK {
             return e;
         }
-        if has_figure(figures, figure, e, e + BLOCK) {
+        if has_figure(&figures[e as usize..(e + BLOCK) as usize], figure) {
             return e;
         }
         e += BLOCK;
@@ -336,83 +307,65 @@ fn pass_blocks(figures: &[u32], figure: u32, c: u32, upto: u32) -> u32
     e
 }
 
-// Whether this figure is among those of a range. All of them are looked at, with no stop at the first, so that several can be at once.
-fn has_figure(figures: &[u32], figure: u32, from: u32, upto: u32) -> bool
-    requires { (from ≤ upto) × (upto ≤ length figures.now) }
-    ensures { result ≡ false → Passed figures.now figure from upto upto }
+// Whether this figure is among these. All of them are looked at, with no stop at the first as `contains` has it, so that several can be at once.
+fn has_figure(figures: &[u32], figure: u32) -> bool
+    ensures { result ≡ false → (i : ℕ) → i < length figures.now → get_or figures.now i 0 ≡ figure → ⊥ }
 {
     let mut has = false;
-    let mut e = from;
-    while e < upto {
-        let i = e as usize;
-        if figures[i] == figure {
-            has = true;
-        }
-        e += 1;
+    for f in figures {
+        has |= *f == figure;
     }
     has
 }
 
 // This round for what is one move of a train of weight w before the placement of code c, train by train.
 fn visit_before(
-    table: &Table,
-    ways: &Ways,
-    behind: &Ways,
+    this: &ThisRound,
     figures: &mut [u32],
     settings: &mut [u32],
     marks: &mut [u32],
-    this: ThisRound,
     w: u8,
     c: u32,
 )
-    requires { (this.m ≤ length figures.old) × (this.m ≤ length settings.old) × (c < this.m) }
-    ensures { (r : Railway) (d : Turned) → Behind r behind.now
-        → Round r table.now ways.now this d figures.old marks.old
-        → Visited r this.n d (Comes r w c r.trains) figures.old settings.old
+    requires { (this.now.m ≤ length figures.old) × (this.now.m ≤ length settings.old) × (c < this.now.m) }
+    ensures { (r : Railway) (d : Turned) → Round r this.now d figures.old marks.old
+        → Visited r this.now.n d (Comes r w c r.trains) figures.old settings.old
         figures.new settings.new marks.new }
 {
-    let q = game_moves::placement_of(table, c);
-    let s = railway_compiled::sections_in(table);
-    let k = railway_compiled::trains_in(table);
+    let q = game_moves::placement_of(this.table, c);
+    let s = railway_compiled::sections_in(this.table);
     let mut stride: u32 = 1;
-    let mut t: u8 = 0;
-    while t < k {
+    for t in 0..railway_compiled::trains_in(this.table) {
         let mover = Mover {
             placement: q,
             code: c,
             train: t,
-            stride: stride,
+            stride,
         };
-        visit_weighing(
-            table, ways, behind, figures, settings, marks, this, w, mover,
-        );
+        visit_weighing(this, figures, settings, marks, w, mover);
         stride = next_stride(stride, s, t);
-        t += 1;
     }
 }
 
 // The same for one train, if that is its weight.
 fn visit_weighing(
-    table: &Table,
-    ways: &Ways,
-    behind: &Ways,
+    this: &ThisRound,
     figures: &mut [u32],
     settings: &mut [u32],
     marks: &mut [u32],
-    this: ThisRound,
     w: u8,
     mover: Mover,
 )
-    requires { (this.m ≤ length figures.old) × (this.m ≤ length settings.old) }
-    ensures { (r : Railway) (d : Turned) → MoverOf r table.now behind.now mover
-        → Round r table.now ways.now this d figures.old marks.old
-        → Visited r this.n d (ByWeight r w mover.code mover.train) figures.old settings.old
+    requires { (this.now.m ≤ length figures.old) × (this.now.m ≤ length settings.old) }
+    ensures { (r : Railway) (d : Turned) → MoverOf r this.now.table.now this.now.behind.now mover
+        → Round r this.now d figures.old marks.old
+        → Visited r this.now.n d (ByWeight r w mover.code mover.train) figures.old settings.old
         figures.new settings.new marks.new }
 {
-    if railway_compiled::weight_in(table, mover.train) != w {
+    if railway_compiled::weight_in(this.table, mover.train) != w {
         return;
     }
-    visit_train(table, ways, behind, figures, settings, marks, this, mover);
+    visit_train(this, figures, settings, marks, mover);
 }
 
 // The stride of the train behind train t, from that of train t, among s sections.
@@ -420,68 +373,61 @@ fn next_stride(stride: u32, s: u8, t: u8) -> u32
     ensures { stride ≡ stride_of s t → result ≡ stride_of s (t + 1) }
 {
     if t < Railway::TRAINS {
-        return ((stride as u64) * (s as u64) % 4294967296) as u32;
+        return stride.wrapping_mul(s as u32);
     }
     stride
 }
 
 // This round for what is one move of a train before a placement: the train stands on a section behind, one for each way back.
 fn visit_train(
-    table: &Table,
-    ways: &Ways,
-    behind: &Ways,
+    this: &ThisRound,
     figures: &mut [u32],
     settings: &mut [u32],
     marks: &mut [u32],
-    this: ThisRound,
     mover: Mover,
 )
-    requires { (this.m ≤ length figures.old) × (this.m ≤ length settings.old) }
-    ensures { (r : Railway) (d : Turned) → MoverOf r table.now behind.now mover
-        → Round r table.now ways.now this d figures.old marks.old
-        → Visited r this.n d (By r mover.code mover.train) figures.old settings.old
+    requires { (this.now.m ≤ length figures.old) × (this.now.m ≤ length settings.old) }
+    ensures { (r : Railway) (d : Turned) → MoverOf r this.now.table.now this.now.behind.now mover
+        → Round r this.now d figures.old marks.old
+        → Visited r this.now.n d (By r mover.code mover.train) figures.old settings.old
         figures.new settings.new marks.new }
 {
     let t = mover.train;
     let x = game_placement::section_at(mover.placement, t);
-    let e = solver_predecessors::end_behind(table, t, x);
-    let mut j: u8 = 0;
-    while j < MOST_WAYS {
-        let y = railway_routes::way_to(behind, e, j);
+    let e = solver_predecessors::end_behind(this.table, t, x);
+    for j in 0..MOST_WAYS {
+        let y = railway_routes::way_to(this.behind, e, j);
         if y == NO_SECTION {
             return;
         }
         let p = game_moves::code_put(mover.code, mover.stride, x, y);
-        visit_put(table, ways, figures, settings, marks, this, mover, y, p);
-        j += 1;
+        visit_put(this, figures, settings, marks, mover, y, p);
     }
 }
 
 // This round for the placement with the train on section y and the others as they are, if it has no figure yet; p is its code.
 fn visit_put(
-    table: &Table,
-    ways: &Ways,
+    this: &ThisRound,
     figures: &mut [u32],
     settings: &mut [u32],
     marks: &mut [u32],
-    this: ThisRound,
     mover: Mover,
     y: u8,
     p: u32,
 )
-    requires { (this.m ≤ length figures.old) × (this.m ≤ length settings.old) }
+    requires { (this.now.m ≤ length figures.old) × (this.now.m ≤ length settings.old) }
     ensures { (r : Railway) (d : Turned)
-        → Round r table.now ways.now this d figures.old marks.old
-        → On r mover.code table.now mover.placement → mover.train < r.trains → y < r.sections
+        → Round r this.now d figures.old marks.old
+        → On r mover.code this.now.table.now mover.placement → mover.train < r.trains → y < r.sections
         → p ≡ code_with r mover.code mover.train y
-        → Visited r this.n d (One p) figures.old settings.old
+        → Visited r this.now.n d (One p) figures.old settings.old
         figures.new settings.new marks.new }
 {
-    if waits(figures, this.m, p) {
-        let q = game_moves::put_on(mover.placement, mover.train, y);
-        visit(table, ways, figures, settings, marks, this, q, p);
+    if !waits(figures, this.m, p) {
         return;
     }
+    let q = game_moves::put_on(mover.placement, mover.train, y);
+    visit(this, figures, settings, marks, q, p);
 }
 
 // Whether p is a code that has no figure yet.
@@ -492,35 +438,31 @@ fn waits(figures: &[u32], m: u32, p: u32) -> bool
     if m <= p {
         return false;
     }
-    let at = p as usize;
-    figures[at] == NO_FIGURE
+    figures[p as usize] == NO_FIGURE
 }
 
 // This round at one placement without a figure: if it gets one, that is marked for its stretch.
 fn visit(
-    table: &Table,
-    ways: &Ways,
+    this: &ThisRound,
     figures: &mut [u32],
     settings: &mut [u32],
     marks: &mut [u32],
-    this: ThisRound,
     q: Placement,
     p: u32,
 )
     requires { (p < length figures.old) × (p < length settings.old) }
     ensures { (r : Railway) (d : Turned)
-        → Round r table.now ways.now this d figures.old marks.old
-        → On r p table.now q → p < placements r → figure_in figures.old p ≡ none
-        → Visited r this.n d (One p) figures.old settings.old
+        → Round r this.now d figures.old marks.old
+        → On r p this.now.table.now q → p < placements r → figure_in figures.old p ≡ none
+        → Visited r this.now.n d (One p) figures.old settings.old
         figures.new settings.new marks.new }
 {
     let n = this.n;
-    let found = solver_settings::find_in(table, ways, figures, q, p, n);
-    let Found::Entry(v) = found else {
+    let found = solver_settings::find_in(this.table, this.ways, figures, q, p, n);
+    let Some(v) = found else {
         return;
     };
-    let at = p as usize;
-    figures[at] = n;
-    settings[at] = v;
+    figures[p as usize] = n;
+    settings[p as usize] = v;
     solver_marks::gain(marks, p, n, this.soon);
 }

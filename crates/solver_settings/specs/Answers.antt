@@ -7,8 +7,7 @@ use Rattle.railway.specs.Rows.{record_refusal}
 use Rattle.game.specs.Placement.{shared}
 use Rattle.game_tables.specs.Tables.{Exact}
 use Rattle.game_tables.specs.Find.{find}
-use Rattle.solver_settings.specs.declared.Found.{Found}
-use Rattle.solver_settings.specs.declared.Found.TheVariants.{Nothing, Entry}
+use Rattle.solver_settings.specs.Found.{Found, Nothing, Entry}
 
 -- The entry that was found, if one was.
 abbrev pub entry_found : Found → Option ℕ

@@ -3,7 +3,7 @@
 // ask for different points are their ways combined.
 #![tactic(auto)]
 
-ghost use Rattle.std.specs.Prelude.{◌≡◌, true, false, cond, ◌&&◌, ℕ, ◌≤◌, ◌<◌, eqb, ltb};
+ghost use Rattle.std.specs.Prelude.{◌≡◌, true, false, ◌&&◌, ℕ, ◌≤◌, ◌<◌, eqb};
 ghost use Rattle.std.proofs.Math.Option.{some};
 ghost use Rattle.laws.specs.Below.{any_below, all_below};
 ghost use Rattle.railway.specs.declared.Railway.{Railway};
@@ -21,13 +21,10 @@ ghost use Rattle.game_moves.specs.Steps.{On};
 ghost use Rattle.solver_settings.specs.Answers.{entry_found, first_keeping};
 ghost use Rattle.solver_settings.specs.Search.{Looks, Asked, no_bits, free_good, Smallest, Goes, ways_of, OnWay, Seen, Placed, From, ByWay};
 
-use game_placement::Placement;
+use game_placement::{FIRST_TRAIN, Placement};
 use railway::Railway;
 use railway_compiled::Table;
 use railway_routes::{NO_SECTION, Ways};
-
-// The bit of the first train in an entry of the setting table, as a number.
-const FIRST_TRAIN: u32 = 1u32 << Railway::POINTS;
 
 // What stands for no point bits: points have the bits below.
 const NO_BITS: u32 = FIRST_TRAIN;
@@ -57,16 +54,9 @@ struct WayAt {
     to: u8,
 }
 
-// What a search for a setting finds: nothing, or an entry of the setting table.
-#[derive(Clone, Copy)]
-pub enum Found {
-    Nothing,
-    Entry(u32),
-}
-
 // THE FIRST SETTING that keeps figure n at a placement, in the plan's order: no signal open, else that of the lowest train
 // that works; and of the points that work then the smallest bits.
-pub fn find_setting(table: &Table, ways: &Ways, figures: &[u32], p: u32, n: u32) -> Found
+pub fn find_setting(table: &Table, ways: &Ways, figures: &[u32], p: u32, n: u32) -> Option<u32>
     ensures { (r : Railway) → Compiled r table.now → Laid r (is_closed r) ways.now → entry_found result ≡ first_keeping r (figure_in figures.now) p n }
 {
     let q = game_moves::placement_of(table, p);
@@ -74,16 +64,23 @@ pub fn find_setting(table: &Table, ways: &Ways, figures: &[u32], p: u32, n: u32)
 }
 
 // The first setting for a placement by value and its code.
-pub fn find_in(table: &Table, ways: &Ways, figures: &[u32], q: Placement, c: u32, n: u32) -> Found
+pub fn find_in(
+    table: &Table,
+    ways: &Ways,
+    figures: &[u32],
+    q: Placement,
+    c: u32,
+    n: u32,
+) -> Option<u32>
     ensures { (r : Railway) (p : ℕ) → On r p table.now q → Laid r (is_closed r) ways.now → c ≡ code_on r (section_in q)
         → entry_found result ≡ first_keeping r (figure_in figures.now) p n }
 {
     let k = railway_compiled::trains_in(table);
     if Railway::TRAINS < k {
-        return Found::Nothing;
+        return None;
     }
     if game_moves::lost_in(table, q) {
-        return Found::Nothing;
+        return None;
     }
     let aim = Aim {
         placement: q,
@@ -121,9 +118,8 @@ fn least_way(table: &Table, ways: &Ways, figures: &[u32], aim: Aim, t: u8) -> u3
         → Smallest (Goes r (figure_in figures.now) p aim.figure t) r.points no_bits result }
 {
     let e = game_moves::front_in(table, aim.placement, t);
-    let mut best: u32 = NO_BITS;
-    let mut j: u8 = 0;
-    while j < railway_routes::MOST_WAYS {
+    let mut best = NO_BITS;
+    for j in 0..railway_routes::MOST_WAYS {
         let to = railway_routes::way_to(ways, e, j);
         if to == NO_SECTION {
             return best;
@@ -133,7 +129,6 @@ fn least_way(table: &Table, ways: &Ways, figures: &[u32], aim: Aim, t: u8) -> u3
         if best == 0 {
             return best;
         }
-        j += 1;
     }
     best
 }
@@ -154,15 +149,8 @@ fn by_way(table: &Table, figures: &[u32], aim: Aim, t: u8, to: u8, want: u32, be
     }
 }
 
-// The larger of two numbers.
-fn larger(a: u32, b: u32) -> u32
-    ensures { result ≡ cond (ltb a b) b a }
-{
-    if a < b { b } else { a }
-}
-
 // Looks at each free train. If one has no good way, nothing is found, whatever is opened: opening a signal only adds moves.
-fn look(table: &Table, ways: &Ways, figures: &[u32], aim: Aim) -> Found
+fn look(table: &Table, ways: &Ways, figures: &[u32], aim: Aim) -> Option<u32>
     requires { aim.trains ≤ most_trains }
     ensures { (r : Railway) (p : ℕ) → Asked r p table.now ways.now aim.placement aim.code aim.trains
         → entry_found result ≡ find r (figure_in figures.now) p aim.figure }
@@ -170,18 +158,16 @@ fn look(table: &Table, ways: &Ways, figures: &[u32], aim: Aim) -> Found
     let mut count: u8 = 0;
     let mut all: u32 = 0;
     let mut most: u32 = 0;
-    let mut t: u8 = 0;
-    while t < aim.trains {
+    for t in 0..aim.trains {
         if game_moves::free_in(table, aim.placement, t) {
             let w = least_way(table, ways, figures, aim, t);
             if NO_BITS <= w {
-                return Found::Nothing;
+                return None;
             }
             count += 1;
-            all = all | w;
-            most = larger(most, w);
+            all |= w;
+            most = most.max(w);
         }
-        t += 1;
     }
     settle(table, ways, figures, aim, count, all, most)
 }
@@ -196,7 +182,7 @@ fn settle(
     count: u8,
     all: u32,
     most: u32,
-) -> Found
+) -> Option<u32>
     requires { aim.trains ≤ most_trains }
     ensures { (r : Railway) (p : ℕ) → Asked r p table.now ways.now aim.placement aim.code aim.trains
         → Seen r (figure_in figures.now) p aim.figure r.trains count all most
@@ -206,13 +192,13 @@ fn settle(
         return open_one(table, ways, figures, aim);
     }
     if count == 1 {
-        return Found::Entry(all);
+        return Some(all);
     }
     if all == 0 {
-        return Found::Entry(0);
+        return Some(0);
     }
     if union_serves(table, ways, figures, aim, all, most) {
-        return Found::Entry(all);
+        return Some(all);
     }
     combine(table, ways, figures, aim)
 }
@@ -234,15 +220,7 @@ fn all_good(table: &Table, ways: &Ways, figures: &[u32], aim: Aim, bits: u32) ->
     ensures { (r : Railway) (p : ℕ) → Asked r p table.now ways.now aim.placement aim.code aim.trains
         → result ≡ all_below (free_good r (figure_in figures.now) p aim.figure bits) r.trains }
 {
-    let mut t: u8 = 0;
-    while t < aim.trains {
-        if free_good(table, ways, figures, aim, bits, t) {
-            t += 1;
-        } else {
-            return false;
-        }
-    }
-    true
+    (0..aim.trains).all(|t| free_good(table, ways, figures, aim, bits, t))
 }
 
 // Train t is not free, or it has one.
@@ -262,7 +240,7 @@ fn free_good(table: &Table, ways: &Ways, figures: &[u32], aim: Aim, bits: u32, t
 }
 
 // ALL FREE TRAINS TOGETHER: the smallest bits under which each has a good way.
-fn combine(table: &Table, ways: &Ways, figures: &[u32], aim: Aim) -> Found
+fn combine(table: &Table, ways: &Ways, figures: &[u32], aim: Aim) -> Option<u32>
     ensures { (r : Railway) (p : ℕ) → Asked r p table.now ways.now aim.placement aim.code aim.trains
         → any_below (free r p) r.trains ≡ true → entry_found result ≡ find r (figure_in figures.now) p aim.figure }
 {
@@ -272,11 +250,7 @@ fn combine(table: &Table, ways: &Ways, figures: &[u32], aim: Aim) -> Found
         best: NO_BITS,
     };
     let bits = over_train(table, ways, figures, aim, 0, nothing);
-    if bits < NO_BITS {
-        Found::Entry(bits)
-    } else {
-        Found::Nothing
-    }
+    if bits < NO_BITS { Some(bits) } else { None }
 }
 
 // The smallest bits below `best` that have the points of `care` as wanted, and under which each free train from t on has a good way; else `best`. They are
@@ -308,8 +282,7 @@ fn over_ways(table: &Table, ways: &Ways, figures: &[u32], aim: Aim, t: u8, sum: 
 {
     let e = game_moves::front_in(table, aim.placement, t);
     let mut least = sum.best;
-    let mut j: u8 = 0;
-    while j < railway_routes::MOST_WAYS {
+    for j in 0..railway_routes::MOST_WAYS {
         let to = railway_routes::way_to(ways, e, j);
         if to == NO_SECTION {
             return least;
@@ -325,7 +298,6 @@ fn over_ways(table: &Table, ways: &Ways, figures: &[u32], aim: Aim, t: u8, sum: 
             best: least,
         };
         least = over_way(table, ways, figures, aim, t, way, below);
-        j += 1;
     }
     least
 }
@@ -368,24 +340,21 @@ fn over_way(
 }
 
 // NO TRAIN FREE: the lowest train whose signal alone keeps the figure.
-fn open_one(table: &Table, ways: &Ways, figures: &[u32], aim: Aim) -> Found
+fn open_one(table: &Table, ways: &Ways, figures: &[u32], aim: Aim) -> Option<u32>
     requires { aim.trains ≤ most_trains }
     ensures { (r : Railway) (p : ℕ) → Asked r p table.now ways.now aim.placement aim.code aim.trains
         → any_below (free r p) r.trains ≡ false → entry_found result ≡ find r (figure_in figures.now) p aim.figure }
 {
-    let mut u: u8 = 0;
-    while u < aim.trains {
-        let one = open_train(table, ways, figures, aim, u);
-        let Found::Nothing = one else {
-            return one;
-        };
-        u += 1;
+    for u in 0..aim.trains {
+        if let Some(v) = open_train(table, ways, figures, aim, u) {
+            return Some(v);
+        }
     }
-    Found::Nothing
+    None
 }
 
 // Train u open, if it is held, and the smallest bits under which it has a good way; a parked train has nothing to open.
-fn open_train(table: &Table, ways: &Ways, figures: &[u32], aim: Aim, u: u8) -> Found
+fn open_train(table: &Table, ways: &Ways, figures: &[u32], aim: Aim, u: u8) -> Option<u32>
     requires { u < most_trains }
     ensures { (r : Railway) (p : ℕ) → Asked r p table.now ways.now aim.placement aim.code r.trains
         → any_below (free r p) r.trains ≡ false → u < r.trains → entry_found result ≡ try_open r (figure_in figures.now) p aim.figure (eqb u) }
@@ -393,11 +362,11 @@ fn open_train(table: &Table, ways: &Ways, figures: &[u32], aim: Aim, u: u8) -> F
     if game_moves::held_in(table, aim.placement, u) {
         let bits = least_way(table, ways, figures, aim, u);
         if bits < NO_BITS {
-            Found::Entry(bits + FIRST_TRAIN * (1u32 << u))
+            Some(bits + FIRST_TRAIN * (1u32 << u))
         } else {
-            Found::Nothing
+            None
         }
     } else {
-        Found::Nothing
+        None
     }
 }

@@ -12,7 +12,7 @@ use Rattle.railway.specs.declared.Side.TheVariants.{Up}
 use Rattle.railway.specs.declared.Refusal.TheVariants.{Space}
 use Rattle.railway.specs.Yards.{yard_a}
 use Rattle.game_tables.specs.Tables.{figure_in}
-use Rattle.advice.specs.declared.Advice.TheVariants.{NotNeeded, Signal, NoneHelps, Refused}
+use Rattle.advice.specs.Advice.{NotNeeded, Signal, NoneHelps, Refused}
 use Rattle.advice.specs.Advising.{AdvicePost, AdviceClaims}
 use Rattle.advice.proofs.Examples.{following, closed_ring}
 use Rattle.advice.proofs.Yards.{one}

@@ -18,8 +18,7 @@ use denote.Triple.Clauses.{AtExit}
 use Rattle.railway.specs.declared.Railway.{Railway}
 use Rattle.railway.specs.Yards.{yard_a}
 use Rattle.logs.specs.declared.Entry.{Entry}
-use Rattle.logs.specs.declared.LogAnswer.{LogAnswer}
-use Rattle.logs.specs.declared.LogAnswer.TheVariants.{Agree, Differ}
+use Rattle.logs.specs.LogAnswer.{LogAnswer, Agree, Differ}
 use Rattle.logs.specs.Logs.{number_said, LogPost, LogClaims}
 use Rattle.logs.proofs.Examples.{entered, panel, axles, crossed, many}
 use Rattle.logs.proofs.Uses.{accepted, taken, all_same, crossed-lowest}

@@ -15,7 +15,7 @@ use Rattle.game.specs.Moves.{move_of, game_of}
 use Rattle.game_tables.specs.Entries.{setting_at}
 use Rattle.game_tables.proofs.Entries.{entry-acts}
 use Rattle.railway_compiled.proofs.compile.Met as compile
-use Rattle.railway_compiled.specs.Table.{Compiled}
+use Rattle.railway_compiled.specs.Table.{Compiled, compilation}
 use Rattle.game_case.proofs.case_ways.Met as ways
 use Rattle.game_moves.specs.Answers.{move_under}
 use Rattle.game_moves.proofs.move_of.Met as move
@@ -31,7 +31,7 @@ move-alike r p v s t like = elim (bool? (may (game_of r) p s t)) [
 
 pub moves-hold : MovesHold
 moves-hold κs a c left accepted compiled κsʷ d w leftʷ one laid κs' b m left' same ways moved apart s entry =
-    let table : Compiled a.0 c.table = compiled.accepted accepted in
+    let table : Compiled a.0 (compilation c).table = compiled.accepted accepted in
     let way : Laid a.0 (is_closed a.0) w = rw one at laid in
     moved a.0 (rw same table) (rw ways way)
     ∙ move-alike a.0 b.1.1.0 b.1.1.1.0 s b.1.1.1.1.0 (rw entry (entry-acts a.0 accepted b.1.1.0 apart s))

@@ -1,6 +1,7 @@
 -- The statement on runs at work, as whoever has it uses it, of any calls for the two tables and any call of the solver:
 -- in Yard A, where the start's figure cannot be below 2, and in the line whose middle section is closed, where the
 -- verdict is none. Assumes nothing.
+use Rattle.std.specs.Prelude.{Ok}
 use mathlib.Core.Path.{◌≡◌, refl, sym, ◌∙◌, ap}
 use mathlib.Core.List.{List, [], ◌∷◌}
 use mathlib.Core.Option.{none}
@@ -22,13 +23,11 @@ use Rattle.railway.specs.Rows.{weight_row, unknown_row, join_row, loose_row, lon
 use Rattle.railway.specs.Yards.{yard_a, yard_one}
 use Rattle.game.specs.Placement.{code_of, placements, start_code}
 use Rattle.game.proofs.Examples.{shut_line}
-use Rattle.game_tables.specs.declared.SolverAnswer.{SolverAnswer}
-use Rattle.game_tables.specs.declared.SolverAnswer.TheVariants.{Unsolvable, Figure}
+use Rattle.game_tables.specs.SolverAnswer.{SolverAnswer, Unsolvable, Figure}
 use Rattle.game_tables.specs.Tables.{tables_short, case_refusal}
 use Rattle.game_tables.specs.Solver.{figure_given, SolverPost}
-use Rattle.runs.specs.declared.RunReply.{RunReply}
 use Rattle.game_tables.proofs.KnownYards.{zeros, yard_a-accepted, one-filled}
-use Rattle.runs.specs.Runs.{no_run, entry_at, table_in, RunPost, runs_sum, train_run}
+use Rattle.runs.specs.Runs.{no_run, entry_at, table_in, RunPost, runs_sum, train_run, RunReply, replied}
 use Rattle.runs.proofs.Uses.{sum-is-two, line-accepted, line-without}
 use Rattle.runs.proofs.Inhabited.{one_answer, one-accepted, one_kept}
 use Rattle.solver.proofs.solve.Kinds as solve
@@ -80,21 +79,27 @@ module _ (run : RunsRun) where
   is-met = run.table.meets
 
   -- two calls for a table, up and down, and one of the solver, on one record
-  module _ (r : Railway) (κs : Lfts 0) (a : Dens κs table.ps) (up : (res_t table.r κs).Denot)
+  module _ (r : Railway) (κs : Lfts 0) (a : Dens κs table.ps) (upward : (res_t table.r κs).Denot)
       (left : AtExit (ended_of 0 table.ps table.r) κs)
-      (yard : a.0 ≡ r) (heads-up : a.1.0 ≡ Up) (learnt : TableLearnt κs a up left)
-      (κs' : Lfts 0) (b : Dens κs' table.ps) (down : (res_t table.r κs').Denot)
+      (yard : a.0 ≡ r) (heads-up : a.1.0 ≡ Up) (learnt : TableLearnt κs a upward left)
+      (κs' : Lfts 0) (b : Dens κs' table.ps) (downward : (res_t table.r κs').Denot)
       (left' : AtExit (ended_of 0 table.ps table.r) κs')
-      (yard' : b.0 ≡ r) (heads-down : b.1.0 ≡ Down) (learnt' : TableLearnt κs' b down left')
+      (yard' : b.0 ≡ r) (heads-down : b.1.0 ≡ Down) (learnt' : TableLearnt κs' b downward left')
       (κs'' : Lfts 2) (d : Dens κs'' solve.ps) (answer : (res_t solve.r κs'').Denot)
       (left'' : AtExit (ended_of 2 solve.ps solve.r) κs'') (yard'' : d.0 ≡ r) (lf : 9 ≤ length d.1.0.now)
       (ls : 9 ≤ length d.1.1.0.now)
       (learnt'' : SolveLearnt κs'' d answer left'') where
+    abbrev up : RunReply
+    up = replied a.1.1.0 upward
+
+    abbrev down : RunReply
+    down = replied b.1.1.0 downward
+
     told-up : RunPost r Up a.1.1.0 up
-    told-up = rw (yard, heads-up) at (same (run.table.tells κs a up left) learnt)
+    told-up = rw (yard, heads-up) at (same (run.table.tells κs a upward left) learnt)
 
     told-down : RunPost r Down b.1.1.0 down
-    told-down = rw (yard', heads-down) at (same (run.table.tells κs' b down left') learnt')
+    told-down = rw (yard', heads-down) at (same (run.table.tells κs' b downward left') learnt')
 
     solved : SolverPost r answer d.1.0.now d.1.1.0.now left''.1.0.now left''.1.1.0.now
     solved = rw yard'' at (same (run.solver.tells κs'' d answer left'') learnt'')
@@ -119,10 +124,10 @@ module _ (run : RunsRun) where
 
     -- THE SAME OF THE CALLS as such: they are what the statement takes for calls
     as-up : TableCall r Up up
-    as-up = record { κs = κs; args = a; left = left; of-record = yard; of-heading = heads-up; learnt = learnt }
+    as-up = record { κs = κs; args = a; left = left; of-record = yard; of-heading = heads-up; said = upward; learnt = learnt; replies = refl }
 
     as-down : TableCall r Down down
-    as-down = record { κs = κs'; args = b; left = left'; of-record = yard'; of-heading = heads-down; learnt = learnt' }
+    as-down = record { κs = κs'; args = b; left = left'; of-record = yard'; of-heading = heads-down; said = downward; learnt = learnt'; replies = refl }
 
     as-solve : r ≡ yard_a → SolveCall r answer
     as-solve e =
@@ -142,7 +147,7 @@ module _ (run : RunsRun) where
   -- THERE ARE SUCH CALLS: in the yard of one section, whatever table is handed in and wherever the solver's tables lie, of one and of nine entries; the sum of the runs is not above the figure, 0
   module _ (old : List (List ℕ)) (κ κ' : Lft) (at at' : ℕ × ℕ) (γ γ' : GName) where
     one-call : (heading : Side) → TableCall yard_one heading one_answer
-    one-call heading = record { κs = tt; args = (yard_one, (heading, (old, tt))); left = (yard_one, (heading, (old, tt))); of-record = refl; of-heading = refl; learnt = one_kept heading old }
+    one-call heading = record { κs = tt; args = (yard_one, (heading, (old, tt))); left = (yard_one, (heading, (old, tt))); of-record = refl; of-heading = refl; said = Ok one_answer.table; learnt = one_kept heading old; replies = refl }
 
     one-solved : SolveCall yard_one (Figure 0)
     unfolding with_train

@@ -5,10 +5,9 @@ use Rattle.railway.specs.declared.Side.{Side}
 use Rattle.railway.specs.declared.Side.TheVariants.{Up, Down}
 use Rattle.railway.specs.declared.Railway.{Railway}
 use Rattle.railway.specs.Rows.{record_refusal}
-use Rattle.game_tables.specs.declared.SolverAnswer.{SolverAnswer}
+use Rattle.game_tables.specs.SolverAnswer.{SolverAnswer}
 use Rattle.game_tables.specs.Solver.{SolverPost}
-use Rattle.runs.specs.declared.RunReply.{RunReply}
-use Rattle.runs.specs.Runs.{table_in, RunPost, RunsSay}
+use Rattle.runs.specs.Runs.{RunReply, table_in, RunPost, RunsSay}
 use Rattle.runs.proofs.Runs.{runs-hold}
 use Rattle.runs_tables.proofs.run_table.Met as table
 use Rattle.statements.specs.Runs.{TableCall, SolveCall, RunsRun}
@@ -16,7 +15,7 @@ use Rattle.statements.proofs.Running.{end-to-end-runs}
 
 -- what a call was told, of the record and heading that it was for
 told : {r : Railway} {heading : Side} {answer : RunReply} → (c : TableCall r heading answer) → RunPost r heading c.args.1.1.0 answer
-told c = rw (c.of-record, c.of-heading) at c.learnt
+told c = rw (c.of-record, c.of-heading, c.replies) at c.learnt
 
 solved : {r : Railway} {answer : SolverAnswer} → (c : SolveCall r answer) → SolverPost r answer c.args.1.0.now c.args.1.1.0.now c.left.1.0.now c.left.1.1.0.now
 solved c = rw c.of-record at c.learnt

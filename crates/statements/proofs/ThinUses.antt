@@ -9,20 +9,18 @@ use lib.ListN.{length}
 use denote.Triple.Clauses.{AtExit}
 use contract.Lifetimes.{Lfts}
 use borrow.Fn.Kinds.{Dens, res_t, ended_of}
-use Rattle.railway.specs.declared.CaseAnswer.{CaseAnswer}
+use Rattle.railway.specs.CaseAnswer.{CaseAnswer}
 use Rattle.railway.specs.Yards.{yard_a}
 use Rattle.game_tables.proofs.KnownYards.{yard_a-accepted}
 use Rattle.plan.specs.declared.CheckerState.TheVariants.{Begun}
-use Rattle.plan.specs.declared.TestAnswer.{TestAnswer}
-use Rattle.plan.specs.declared.TestAnswer.TheVariants.{Pass}
+use Rattle.plan.specs.TestAnswer.{TestAnswer, Pass}
 use Rattle.plan.specs.Checker.{Checking, LineCalls, taken_texts}
 use Rattle.plan.specs.Promises.{TestPost, FreshPost}
 use Rattle.plan.specs.Calls.{Taking}
 use Rattle.plan.proofs.Inhabited.{nine}
 use Rattle.plan.proofs.RuleUses.{other_texts, other-passes}
 use Rattle.plan_checker.specs.Answers.{checking}
-use Rattle.thin.specs.declared.ThinAnswer.{ThinAnswer}
-use Rattle.thin.specs.declared.ThinAnswer.TheVariants.{Thinned}
+use Rattle.thin.specs.ThinAnswer.{ThinAnswer, Thinned}
 use Rattle.thin.specs.Law.{moves, in_either}
 use Rattle.thin.specs.Thinning.{ThinPost}
 use Rattle.thin.proofs.Examples.{sidings, figs_s, generous, lean_s, calls}
@@ -38,24 +36,24 @@ same : {A B : Type 0} → A ≡ B → A → B
 same e x = subst (λ (X : Type 0). X) e x
 
 -- every call asks nothing and is met
-nothing-asked : (κs : Lfts 2) (a : Dens κs thin.ps) → ThinAsked κs a
+nothing-asked : (κs : Lfts 3) (a : Dens κs thin.ps) → ThinAsked κs a
 nothing-asked κs a = thins-run.thin.asks κs a
 
 all-met : {M : Type 1} → ThinMeets M × FreshMeets M × TakeMeets M × TestMeets M
 all-met = (thins-run.thin.meets, thins-run.fresh.meets, thins-run.take.meets, thins-run.test.meets)
 
 -- THE CALL. The plan is thinned, and of the settings those are left that the lean plan has.
-module _ (κs : Lfts 2) (a : Dens κs thin.ps) (answer : (res_t thin.r κs).Denot) (left : AtExit (ended_of 2 thin.ps thin.r) κs)
-    (state : a.0.state ≡ Begun 2 14) (yard : a.1.0 ≡ sidings) (figs : a.1.1.0.now ≡ figs_s) (sets : a.1.1.1.0.now ≡ generous) (learnt : ThinLearnt κs a answer left) where
-  promised : ThinPost sidings (record { state = Begun 2 14; figs = figs_s; sets = generous }) answer.answer (checking answer.checker figs_s left.1.1.1.0.now)
+module _ (κs : Lfts 3) (a : Dens κs thin.ps) (answer : (res_t thin.r κs).Denot) (left : AtExit (ended_of 3 thin.ps thin.r) κs)
+    (state : a.0.now.state ≡ Begun 2 14) (yard : a.1.0 ≡ sidings) (figs : a.1.1.0.now ≡ figs_s) (sets : a.1.1.1.0.now ≡ generous) (learnt : ThinLearnt κs a answer left) where
+  promised : ThinPost sidings (record { state = Begun 2 14; figs = figs_s; sets = generous }) answer (record { state = Begun 2 14; figs = figs_s; sets = left.1.1.1.0.now })
   promised = rw (state, yard, figs, sets) at (same (thins-run.thin.tells κs a answer left) learnt)
 
-  thinned-lean : (answer.answer ≡ Thinned) × (left.1.1.1.0.now ≡ lean_s)
+  thinned-lean : (answer ≡ Thinned) × (left.1.1.1.0.now ≡ lean_s)
   thinned-lean = (promised.answer ∙ ap (λ x. x.answer) calls.0, ap (λ (c : Checking). c.sets) (promised.checking ∙ ap (λ x. x.checking) calls.0))
 
   -- `whole`: the state comes back
-  same-state : answer.checker.state ≡ Begun 2 14
-  same-state = (thins-run.whole sidings _ answer.answer _ promised).state
+  same-state : (c : Checking) → ThinPost sidings (record { state = Begun 2 14; figs = figs_s; sets = generous }) answer c → c.state ≡ Begun 2 14
+  same-state c post = (thins-run.whole sidings _ answer c post).state
 
 -- `law`: with both trains open whoever may move with one of them may
 either-may : (p t : ℕ) (plus a b : ℕ → Bool) → moves sidings p plus a t ≡ true → moves sidings p plus (in_either a b) t ≡ true

@@ -17,7 +17,7 @@ use Rattle.text.specs.Text.{digits, line, bytes}
 use Rattle.text.specs.Reading.{fields, value_of, same_text}
 use Rattle.railway.specs.declared.Refusal.TheVariants.{PlanForm, PlanFault}
 use Rattle.railway.specs.Ends.{end_at}
-use Rattle.railway.specs.declared.CaseAnswer.{CaseAnswer}
+use Rattle.railway.specs.CaseAnswer.{CaseAnswer}
 use Rattle.railway.specs.Refusals.{first, number_given as caseNumber}
 use Rattle.railway.specs.Record.{is_closed, joined_by, joined, has_signal, legs_of, train_of, weight_of, with_join, with_signal, with_legs, with_train}
 use Rattle.railway.specs.Rows.{weight_row, unknown_row, join_row, loose_row, longer, chain_row, place_row}
@@ -28,22 +28,19 @@ use Rattle.game.specs.Setting.{Setting, heads_for, held, may_move, signal_open, 
 use Rattle.railway.specs.Passing.{entered, follow, passes}
 use Rattle.game.specs.Moves.{occupied, move_of, game_of}
 use Rattle.game.proofs.Figures.{figure-one}
-use Rattle.game_tables.specs.declared.SolverAnswer.{SolverAnswer}
+use Rattle.game_tables.specs.SolverAnswer.{SolverAnswer}
 use Rattle.game_tables.specs.Entries.{entry_from, entry_of}
 use Rattle.game_tables.specs.Tables.{no_figure, figure_in, tables_short, case_refusal}
 use Rattle.game_tables.specs.Solver.{number_given, figure_given, SolverPost}
 use Rattle.game_tables.proofs.KnownYards.{figs_a, sets_a, yard_a-accepted, yard_a-filled}
 use Rattle.plan.specs.declared.PlanPlace.{PlanPlace}
 use Rattle.plan.specs.declared.PlanPlace.TheVariants.{Top, From}
-use Rattle.plan.specs.declared.Emitted.{Emitted}
-use Rattle.plan.specs.declared.Emitted.TheVariants.{Line}
+use Rattle.plan.specs.Emitted.{Emitted, Line}
 use Rattle.plan.specs.declared.CheckerState.{CheckerState}
 use Rattle.plan.specs.declared.CheckerState.TheVariants.{Fresh, Begun}
-use Rattle.plan.specs.declared.LineAnswer.{LineAnswer}
-use Rattle.plan.specs.declared.LineAnswer.TheVariants.{Taken, Refused as LineRefused}
-use Rattle.plan.specs.declared.TestAnswer.{TestAnswer}
-use Rattle.plan.specs.declared.TestAnswer.TheVariants.{Pass, Refused}
-use Rattle.plan.specs.declared.FrontAnswer.{FrontAnswer}
+use Rattle.plan.specs.LineAnswer.{LineAnswer, Taken, Refused as LineRefused}
+use Rattle.plan.specs.TestAnswer.{TestAnswer, Pass, Refused}
+use Rattle.plan.specs.FrontAnswer.{FrontAnswer}
 use Rattle.plan.specs.Lines.{spell, fits}
 use Rattle.plan.specs.Emitter.{number_given as emitNumber, emit_line}
 use Rattle.plan.specs.Reading.{guess, read_line}
@@ -78,7 +75,7 @@ use Rattle.plan_checker.proofs.Checker.take_front.Statement.{statement as FrontM
 use Rattle.plan_checker.proofs.Checker.test.Kinds as test
 use Rattle.plan_checker.proofs.Checker.test.Reads.{Asked as TestAsked, Learnt as TestLearnt}
 use Rattle.plan_checker.proofs.Checker.test.Statement.{statement as TestMeets}
-use Rattle.railway_compiled.specs.Table.{Compiled, CompilePost}
+use Rattle.railway_compiled.specs.Table.{Compiled, CompilePost, compilation}
 use Rattle.railway_compiled.proofs.compile.Kinds as compile
 use Rattle.railway_compiled.proofs.compile.Reads.{Asked as CompileAsked, Learnt as CompileLearnt}
 use Rattle.railway_compiled.proofs.compile.Statement.{statement as CompileMeets}
@@ -108,10 +105,10 @@ asked :
     ((κs : Lfts 2) (a : Dens κs solve.ps) → SolveAsked κs a)
     × ((κs : Lfts 3) (a : Dens κs emit.ps) → EmitAsked κs a)
     × ((κs : Lfts 2) (a : Dens κs fresh.ps) → FreshAsked κs a)
-    × ((κs : Lfts 3) (a : Dens κs take.ps) → TakeAsked κs a)
-    × ((κs : Lfts 2) (a : Dens κs test.ps) → TestAsked κs a)
+    × ((κs : Lfts 4) (a : Dens κs take.ps) → TakeAsked κs a)
+    × ((κs : Lfts 3) (a : Dens κs test.ps) → TestAsked κs a)
     × ((κs : Lfts 3) (a : Dens κs lines.ps) → LinesAsked κs a)
-    × ((κs : Lfts 3) (a : Dens κs front.ps) → FrontAsked κs a)
+    × ((κs : Lfts 4) (a : Dens κs front.ps) → FrontAsked κs a)
     × ((κs : Lfts 0) (a : Dens κs compile.ps) → CompileAsked κs a)
     × ((κs : Lfts 0) (a : Dens κs ways.ps) → WaysAsked κs a)
     × ((κs : Lfts 2) (a : Dens κs move.ps) → MoveAsked κs a)
@@ -227,33 +224,33 @@ emit-nine κs a answer left yard figs sets learnt =
 -- first line is taken; a test that comes first is refused with 10.
 fresh-none : (κs : Lfts 2) (a : Dens κs fresh.ps) (answer : (res_t fresh.r κs).Denot) (left : AtExit (ended_of 2 fresh.ps fresh.r) κs)
     → a.0 ≡ yard_a → a.1.0.now ≡ lent → a.1.1.0.now ≡ wider → FreshLearnt κs a answer left
-    → checking answer.checker left.1.0.now left.1.1.0.now ≡ made_fresh
+    → checking answer.0 left.1.0.now left.1.1.0.now ≡ made_fresh
 fresh-none κs a answer left yard figs sets learnt =
-    made-fresh answer.answer (checking answer.checker left.1.0.now left.1.1.0.now) (rw (yard, figs, sets) at (same (end-to-end-runs.fresh.tells κs a answer left) learnt))
+    made-fresh answer.1 (checking answer.0 left.1.0.now left.1.1.0.now) (rw (yard, figs, sets) at (same (end-to-end-runs.fresh.tells κs a answer left) learnt))
 
 fresh-nine : (κs : Lfts 2) (a : Dens κs fresh.ps) (answer : (res_t fresh.r κs).Denot) (left : AtExit (ended_of 2 fresh.ps fresh.r) κs)
     → a.0 ≡ yard_a → a.1.0.now ≡ replicate 8 5 → a.1.1.0.now ≡ replicate 9 6 → FreshLearnt κs a answer left
-    → (caseNumber answer.answer ≡ some 9) × (left.1.0.now ≡ replicate 8 5) × (left.1.1.0.now ≡ replicate 9 6)
+    → (caseNumber answer.1 ≡ some 9) × (left.1.0.now ≡ replicate 8 5) × (left.1.1.0.now ≡ replicate 9 6)
 fresh-nine κs a answer left yard figs sets learnt =
-    fresh_kept answer.answer (checking answer.checker left.1.0.now left.1.1.0.now) (rw (yard, figs, sets) at (same (end-to-end-runs.fresh.tells κs a answer left) learnt))
+    fresh_kept answer.1 (checking answer.0 left.1.0.now left.1.1.0.now) (rw (yard, figs, sets) at (same (end-to-end-runs.fresh.tells κs a answer left) learnt))
 
-take-first : (κs : Lfts 3) (a : Dens κs take.ps) (answer : (res_t take.r κs).Denot) (left : AtExit (ended_of 3 take.ps take.r) κs)
-    → a.0.state ≡ Fresh → a.1.0 ≡ yard_a → a.1.1.0.now ≡ bytes "plan\t2\n" → a.1.1.1.0.now ≡ replicate 9 no_figure → a.1.1.1.1.0.now ≡ replicate 9 0
-    → TakeLearnt κs a answer left → (answer.answer ≡ Taken) × (answer.checker.state ≡ Begun 2 0)
+take-first : (κs : Lfts 4) (a : Dens κs take.ps) (answer : (res_t take.r κs).Denot) (left : AtExit (ended_of 4 take.ps take.r) κs)
+    → a.0.now.state ≡ Fresh → a.1.0 ≡ yard_a → a.1.1.0.now ≡ bytes "plan\t2\n" → a.1.1.1.0.now ≡ replicate 9 no_figure → a.1.1.1.1.0.now ≡ replicate 9 0
+    → TakeLearnt κs a answer left → (answer ≡ Taken) × (left.0.now.state ≡ Begun 2 0)
 take-first κs a answer left state yard text figs sets learnt =
-    first_taken answer.answer (checking answer.checker left.1.1.1.0.now left.1.1.1.1.0.now)
+    first_taken answer (checking left.0.now left.1.1.1.0.now left.1.1.1.1.0.now)
     (rw (state, yard, text, figs, sets) at (same (end-to-end-runs.take.tells κs a answer left) learnt))
 
-take-nine : (κs : Lfts 3) (a : Dens κs front.ps) (answer : (res_t front.r κs).Denot) (left : AtExit (ended_of 3 front.ps front.r) κs)
-    → a.1.0 ≡ yard_a → a.1.1.1.0.now ≡ replicate 8 5 → a.1.1.1.1.0.now ≡ replicate 9 6 → FrontLearnt κs a answer left → front_number answer.answer ≡ some 9
+take-nine : (κs : Lfts 4) (a : Dens κs front.ps) (answer : (res_t front.r κs).Denot) (left : AtExit (ended_of 4 front.ps front.r) κs)
+    → a.1.0 ≡ yard_a → a.1.1.1.0.now ≡ replicate 8 5 → a.1.1.1.1.0.now ≡ replicate 9 6 → FrontLearnt κs a answer left → front_number answer ≡ some 9
 take-nine κs a answer left yard figs sets learnt =
-    front-nine a.0.state a.1.1.0.now answer.answer (checking answer.checker left.1.1.1.0.now left.1.1.1.1.0.now)
+    front-nine a.0.now.state a.1.1.0.now answer (checking left.0.now left.1.1.1.0.now left.1.1.1.1.0.now)
     (rw (yard, figs, sets) at (same (end-to-end-runs.front.tells κs a answer left) learnt))
 
-test-first : (κs : Lfts 2) (a : Dens κs test.ps) (answer : (res_t test.r κs).Denot) (left : AtExit (ended_of 2 test.ps test.r) κs)
-    → a.0.state ≡ Fresh → a.1.0 ≡ yard_a → a.1.1.0.now ≡ replicate 9 no_figure → a.1.1.1.0.now ≡ replicate 9 0 → TestLearnt κs a answer left → answer.answer ≡ Refused PlanForm
+test-first : (κs : Lfts 3) (a : Dens κs test.ps) (answer : (res_t test.r κs).Denot) (left : AtExit (ended_of 3 test.ps test.r) κs)
+    → a.0.now.state ≡ Fresh → a.1.0 ≡ yard_a → a.1.1.0.now ≡ replicate 9 no_figure → a.1.1.1.0.now ≡ replicate 9 0 → TestLearnt κs a answer left → answer ≡ Refused PlanForm
 test-first κs a answer left state yard figs sets learnt =
-    early-ten answer.answer (checking answer.checker (replicate 9 no_figure) (replicate 9 0)) (rw (state, yard, figs, sets) at (same (end-to-end-runs.test.tells κs a answer left) learnt))
+    early-ten answer _ (rw (state, yard, figs, sets) at (same (end-to-end-runs.test.tells κs a answer left) learnt))
 
 -- A PLAN BY ANOTHER MAKER, from tables of any length that is enough: the test passes it, and not with another figure in its first line.
 module _ (lent₁ lent₂ : List ℕ) (answered : CaseAnswer) (c : Checking) (enough₁ : 9 ≤ length lent₁)
@@ -310,15 +307,15 @@ moved_on = (refl, refl, refl)
 move-on : (κs : Lfts 0) (a : Dens κs compile.ps) (c : (res_t compile.r κs).Denot) (left : AtExit (ended_of 0 compile.ps compile.r) κs) → a.0 ≡ yard_a → CompileLearnt κs a c left
     → (κsʷ : Lfts 0) (d : Dens κsʷ ways.ps) (w : (res_t ways.r κsʷ).Denot) (leftʷ : AtExit (ended_of 0 ways.ps ways.r) κsʷ) → d.0 ≡ a.0 → WaysLearnt κsʷ d w leftʷ
     → (κs' : Lfts 2) (b : Dens κs' move.ps) (m : (res_t move.r κs').Denot) (left' : AtExit (ended_of 2 move.ps move.r) κs')
-    → b.0.now ≡ c.table → b.1.0.now ≡ w → b.1.1.0 ≡ 7 → b.1.1.1.0 ≡ 65537 → b.1.1.1.1.0 ≡ 1 → MoveLearnt κs' b m left' → ended m ≡ some (at 1)
+    → b.0.now ≡ (compilation c).table → b.1.0.now ≡ w → b.1.1.0 ≡ 7 → b.1.1.1.0 ≡ 65537 → b.1.1.1.1.0 ≡ 1 → MoveLearnt κs' b m left' → ended m ≡ some (at 1)
 move-on κs a c left yard compiled κsʷ d w leftʷ one laid κs' b m left' table way place entry train moved =
     let e = moves-run.whole κs a c left (rw yard yard_a-accepted) compiled κsʷ d w leftʷ one laid κs' b m left' table
     way moved (rw (yard, place) moved_on.1) wide (rw (yard, place, entry) (sym moved_on.0)) in
     (rw (yard, place, train) at e) ∙ moved_on.2
 
 compile-yard : (κs : Lfts 0) (a : Dens κs compile.ps) (c : (res_t compile.r κs).Denot) (left : AtExit (ended_of 0 compile.ps compile.r) κs) → a.0 ≡ yard_a → CompileLearnt κs a c left
-    → Compiled yard_a c.table
-compile-yard κs a c left yard learnt = let p : CompilePost yard_a c = rw yard at (same (moves-run.compile.tells κs a c left) learnt) in p.accepted yard_a-accepted
+    → Compiled yard_a (compilation c).table
+compile-yard κs a c left yard learnt = let p : CompilePost yard_a (compilation c) = rw yard at (same (moves-run.compile.tells κs a c left) learnt) in p.accepted yard_a-accepted
 
 ways-yard : (κs : Lfts 0) (a : Dens κs ways.ps) (w : (res_t ways.r κs).Denot) (left : AtExit (ended_of 0 ways.ps ways.r) κs) → a.0 ≡ yard_a → WaysLearnt κs a w left
     → Laid yard_a (is_closed yard_a) w

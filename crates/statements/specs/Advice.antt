@@ -8,7 +8,7 @@ use contract.Lifetimes.{Lfts}
 use borrow.Fn.Kinds.{Dens, res_t, ended_of}
 use Rattle.railway.specs.declared.Refusal.{Refusal}
 use Rattle.game_tables.specs.Tables.{case_refusal}
-use Rattle.advice.specs.declared.Advice.TheVariants.{Refused}
+use Rattle.advice.specs.Advice.{Refused}
 use Rattle.advice.specs.Advising.{AdvicePost, AdviceClaims, AdviceHolds}
 use Rattle.advice_call.proofs.advise.Kinds as advise
 use Rattle.advice_call.proofs.advise.Reads.{Asked as AdviseAsked, Learnt as AdviseLearnt}

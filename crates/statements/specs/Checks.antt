@@ -3,12 +3,11 @@
 use Rattle.std.specs.Prelude.{◌≡◌, ◌↔◌, List, [], ℕ, ◌≤◌, length}
 use Rattle.std.proofs.Math.Option.{none}
 use Rattle.railway.specs.declared.Railway.{Railway}
-use Rattle.railway.specs.declared.CaseAnswer.{CaseAnswer}
+use Rattle.railway.specs.CaseAnswer.{CaseAnswer}
 use Rattle.railway.specs.declared.Refusal.TheVariants.{PlanForm, PlanFault}
 use Rattle.railway.specs.Rows.{record_refusal}
 use Rattle.game.specs.Placement.{placements}
-use Rattle.plan.specs.declared.TestAnswer.{TestAnswer}
-use Rattle.plan.specs.declared.TestAnswer.TheVariants.{Pass, Refused}
+use Rattle.plan.specs.TestAnswer.{TestAnswer, Pass, Refused}
 use Rattle.plan.specs.Checker.{Checking, LineCalls, taken_texts}
 use Rattle.plan.specs.Checked.{Checked, Passing, Failing}
 use Rattle.plan.specs.Promises.{TestPost, FreshPost}

@@ -42,14 +42,14 @@ pub record ReportRuns : Type 2 where
   pub asks : (κs : Lfts 2) (a : Dens κs report.ps) → ReportAsked κs a
   pub tells : (κs : Lfts 2) (a : Dens κs report.ps) (answer : (res_t report.r κs).Denot) (left : AtExit (ended_of 2 report.ps report.r) κs)
       → ReportLearnt κs a answer left
-      ≡ ReportPost a.1.0 (desk_at a.0) a.1.1.0.now a.1.1.1.0.now a.1.1.1.1.0 a.1.1.1.1.1.0 (replied answer)
+      ≡ ReportPost a.1.0 (desk_at a.0) a.1.1.0.now a.1.1.1.0.now a.1.1.1.1.0 a.1.1.1.1.1.0 (replied answer.1 answer.0)
   pub meets : {M : Type 1} → ReportMeets M
 
 -- `Desk::change`: the desk, the old record, the new text, its figures, its settings.
 pub record ChangeRuns : Type 2 where
-  pub asks : (κs : Lfts 3) (a : Dens κs change.ps) → ChangeAsked κs a
-  pub tells : (κs : Lfts 3) (a : Dens κs change.ps) (answer : (res_t change.r κs).Denot) (left : AtExit (ended_of 3 change.ps change.r) κs)
-      → ChangeLearnt κs a answer left ≡ ChangePost a.1.0 a.1.1.0.now (desk_at a.0) a.1.1.1.0.now a.1.1.1.1.0.now (changing answer)
+  pub asks : (κs : Lfts 4) (a : Dens κs change.ps) → ChangeAsked κs a
+  pub tells : (κs : Lfts 4) (a : Dens κs change.ps) (answer : (res_t change.r κs).Denot) (left : AtExit (ended_of 4 change.ps change.r) κs)
+      → ChangeLearnt κs a answer left ≡ ChangePost a.1.0 a.1.1.0.now (desk_at a.0.now) a.1.1.1.0.now a.1.1.1.1.0.now (changing answer left.0.now)
   pub meets : {M : Type 1} → ChangeMeets M
 
 -- Q-1, Q-9 and Q-11, of the calls that run; where they speak of the solver, they speak of the contract of `solve`.

@@ -14,7 +14,7 @@ use Rattle.game.specs.Placement.{shared}
 use Rattle.game.specs.Setting.{Setting}
 use Rattle.game.specs.Moves.{move_of, game_of}
 use Rattle.game_tables.specs.Entries.{entry_of}
-use Rattle.railway_compiled.specs.Table.{Compiled, CompilePost}
+use Rattle.railway_compiled.specs.Table.{Compiled, compilation, CompilePost}
 use Rattle.railway_compiled.proofs.compile.Kinds as compile
 use Rattle.railway_compiled.proofs.compile.Reads.{Asked as CompileAsked, Learnt as CompileLearnt}
 use Rattle.railway_compiled.proofs.compile.Statement.{statement as CompileMeets}
@@ -30,7 +30,7 @@ use Rattle.game_moves.proofs.move_of.Statement.{statement as MoveMeets}
 pub record CompileRuns : Type 2 where
   pub asks : (κs : Lfts 0) (a : Dens κs compile.ps) → CompileAsked κs a
   pub tells : (κs : Lfts 0) (a : Dens κs compile.ps) (answer : (res_t compile.r κs).Denot) (left : AtExit (ended_of 0 compile.ps compile.r) κs)
-      → CompileLearnt κs a answer left ≡ CompilePost a.0 answer
+      → CompileLearnt κs a answer left ≡ CompilePost a.0 (compilation answer)
   pub meets : {M : Type 1} → CompileMeets M
 
 -- `game_case::case_ways`: the record; the answer is the table of its ways.
@@ -57,7 +57,7 @@ MovesHold =
     → (κsʷ : Lfts 0) (d : Dens κsʷ ways.ps) (w : (res_t ways.r κsʷ).Denot) (leftʷ : AtExit (ended_of 0 ways.ps ways.r) κsʷ)
     → d.0 ≡ a.0 → WaysLearnt κsʷ d w leftʷ
     → (κs' : Lfts 2) (b : Dens κs' move.ps) (m : (res_t move.r κs').Denot) (left' : AtExit (ended_of 2 move.ps move.r) κs')
-    → b.0.now ≡ c.table → b.1.0.now ≡ w → MoveLearnt κs' b m left' → shared a.0 b.1.1.0 ≡ false
+    → b.0.now ≡ (compilation c).table → b.1.0.now ≡ w → MoveLearnt κs' b m left' → shared a.0 b.1.1.0 ≡ false
     → (s : Setting) → b.1.1.1.0 ≡ entry_of a.0 b.1.1.0 s
     → ended m ≡ cond (may (game_of a.0) b.1.1.0 s b.1.1.1.1.0) (some (move_of a.0 b.1.1.0 s b.1.1.1.1.0)) none
 

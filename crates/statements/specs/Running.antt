@@ -62,33 +62,33 @@ pub record LinesRuns : Type 2 where
 pub record FreshRuns : Type 2 where
   pub asks : (κs : Lfts 2) (a : Dens κs fresh.ps) → FreshAsked κs a
   pub tells : (κs : Lfts 2) (a : Dens κs fresh.ps) (answer : (res_t fresh.r κs).Denot) (left : AtExit (ended_of 2 fresh.ps fresh.r) κs)
-      → FreshLearnt κs a answer left ≡ FreshPost a.0 a.1.0.now a.1.1.0.now answer.answer (checking answer.checker left.1.0.now left.1.1.0.now)
+      → FreshLearnt κs a answer left ≡ FreshPost a.0 a.1.0.now a.1.1.0.now answer.1 (checking answer.0 left.1.0.now left.1.1.0.now)
   pub meets : {M : Type 1} → FreshMeets M
 
 -- `Checker::take`: the checker, the record, the line, the figures, the settings.
 pub record TakeRuns : Type 2 where
-  pub asks : (κs : Lfts 3) (a : Dens κs take.ps) → TakeAsked κs a
-  pub tells : (κs : Lfts 3) (a : Dens κs take.ps) (answer : (res_t take.r κs).Denot) (left : AtExit (ended_of 3 take.ps take.r) κs)
+  pub asks : (κs : Lfts 4) (a : Dens κs take.ps) → TakeAsked κs a
+  pub tells : (κs : Lfts 4) (a : Dens κs take.ps) (answer : (res_t take.r κs).Denot) (left : AtExit (ended_of 4 take.ps take.r) κs)
       → TakeLearnt κs a answer left
-      ≡ LinePost a.1.0 (checking a.0 a.1.1.1.0.now a.1.1.1.1.0.now) a.1.1.0.now answer.answer
-      (checking answer.checker left.1.1.1.0.now left.1.1.1.1.0.now)
+      ≡ LinePost a.1.0 (checking a.0.now a.1.1.1.0.now a.1.1.1.1.0.now) a.1.1.0.now answer
+      (checking left.0.now left.1.1.1.0.now left.1.1.1.1.0.now)
   pub meets : {M : Type 1} → TakeMeets M
 
 -- `Checker::take_front`: the same, for the lines in front of a text.
 pub record FrontRuns : Type 2 where
-  pub asks : (κs : Lfts 3) (a : Dens κs front.ps) → FrontAsked κs a
-  pub tells : (κs : Lfts 3) (a : Dens κs front.ps) (answer : (res_t front.r κs).Denot) (left : AtExit (ended_of 3 front.ps front.r) κs)
+  pub asks : (κs : Lfts 4) (a : Dens κs front.ps) → FrontAsked κs a
+  pub tells : (κs : Lfts 4) (a : Dens κs front.ps) (answer : (res_t front.r κs).Denot) (left : AtExit (ended_of 4 front.ps front.r) κs)
       → FrontLearnt κs a answer left
-      ≡ FrontPost a.1.0 (checking a.0 a.1.1.1.0.now a.1.1.1.1.0.now) a.1.1.0.now answer.answer
-      (checking answer.checker left.1.1.1.0.now left.1.1.1.1.0.now)
+      ≡ FrontPost a.1.0 (checking a.0.now a.1.1.1.0.now a.1.1.1.1.0.now) a.1.1.0.now answer
+      (checking left.0.now left.1.1.1.0.now left.1.1.1.1.0.now)
   pub meets : {M : Type 1} → FrontMeets M
 
 -- `Checker::test`: the checker, the record, the figures, the settings, which it only reads.
 pub record TestRuns : Type 2 where
-  pub asks : (κs : Lfts 2) (a : Dens κs test.ps) → TestAsked κs a
-  pub tells : (κs : Lfts 2) (a : Dens κs test.ps) (answer : (res_t test.r κs).Denot) (left : AtExit (ended_of 2 test.ps test.r) κs)
+  pub asks : (κs : Lfts 3) (a : Dens κs test.ps) → TestAsked κs a
+  pub tells : (κs : Lfts 3) (a : Dens κs test.ps) (answer : (res_t test.r κs).Denot) (left : AtExit (ended_of 3 test.ps test.r) κs)
       → TestLearnt κs a answer left
-      ≡ TestPost a.1.0 (checking a.0 a.1.1.0.now a.1.1.1.0.now) answer.answer (checking answer.checker a.1.1.0.now a.1.1.1.0.now)
+      ≡ TestPost a.1.0 (checking a.0.now a.1.1.0.now a.1.1.1.0.now) answer (checking a.0.now a.1.1.0.now a.1.1.1.0.now)
   pub meets : {M : Type 1} → TestMeets M
 
 -- The whole holds of every call of the solver, in an accepted case with tables long enough.

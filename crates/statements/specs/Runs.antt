@@ -10,9 +10,8 @@ use Rattle.railway.specs.declared.Side.TheVariants.{Up, Down}
 use Rattle.railway.specs.declared.Railway.{Railway}
 use Rattle.railway.specs.Rows.{record_refusal}
 use Rattle.game.specs.Placement.{placements}
-use Rattle.game_tables.specs.declared.SolverAnswer.{SolverAnswer}
-use Rattle.runs.specs.declared.RunReply.{RunReply}
-use Rattle.runs.specs.Runs.{table_in, RunPost, Bounded, RunsSay, RunsHold}
+use Rattle.game_tables.specs.SolverAnswer.{SolverAnswer}
+use Rattle.runs.specs.Runs.{RunReply, replied, table_in, RunPost, Bounded, RunsSay, RunsHold}
 use Rattle.statements.specs.Running.{SolverRuns}
 use Rattle.solver.proofs.solve.Kinds as solve
 use Rattle.solver.proofs.solve.Reads.{Learnt as SolveLearnt}
@@ -24,7 +23,7 @@ use Rattle.runs_tables.proofs.run_table.Statement.{statement as TableMeets}
 pub record TableRuns : Type 2 where
   pub asks : (κs : Lfts 0) (a : Dens κs table.ps) → TableAsked κs a
   pub tells : (κs : Lfts 0) (a : Dens κs table.ps) (answer : (res_t table.r κs).Denot) (left : AtExit (ended_of 0 table.ps table.r) κs)
-      → TableLearnt κs a answer left ≡ RunPost a.0 a.1.0 a.1.1.0 answer
+      → TableLearnt κs a answer left ≡ RunPost a.0 a.1.0 a.1.1.0 (replied a.1.1.0 answer)
   pub meets : {M : Type 1} → TableMeets M
 
 -- A call of `run_table` for this record and heading, whatever table it was handed, and what it answered.
@@ -34,7 +33,9 @@ pub record TableCall (r : Railway) (heading : Side) (answer : RunReply) : Type 2
   pub left : AtExit (ended_of 0 table.ps table.r) κs
   pub of-record : args.0 ≡ r
   pub of-heading : args.1.0 ≡ heading
-  pub learnt : TableLearnt κs args answer left
+  pub said : (res_t table.r κs).Denot
+  pub learnt : TableLearnt κs args said left
+  pub replies : replied args.1.1.0 said ≡ answer
 
 -- A call of `solve` for this record, lent tables that are long enough, and what it answered.
 pub record SolveCall (r : Railway) (answer : SolverAnswer) : Type 2 where

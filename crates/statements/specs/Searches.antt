@@ -6,7 +6,7 @@ use contract.Lifetimes.{Lfts}
 use borrow.Fn.Kinds.{Dens, res_t, ended_of}
 use Rattle.game_placement.specs.ByValue.{section_in}
 use Rattle.search.specs.Searching.{OpenPost, SearchPost, LookPost, SearchHolds}
-use Rattle.search_calls.specs.Steps.{searching}
+use Rattle.search_calls.specs.Steps.{searching, opening_answer, opening_search}
 use Rattle.statements.specs.Running.{SolverRuns}
 use Rattle.search_calls.proofs.open.Kinds as opening
 use Rattle.search_calls.proofs.open.Reads.{Asked as OpenAsked, Learnt as OpenLearnt}
@@ -23,16 +23,16 @@ pub record OpenRuns : Type 2 where
   pub asks : (κs : Lfts 3) (a : Dens κs opening.ps) → OpenAsked κs a
   pub tells : (κs : Lfts 3) (a : Dens κs opening.ps) (answer : (res_t opening.r κs).Denot) (left : AtExit (ended_of 3 opening.ps opening.r) κs)
       → OpenLearnt κs a answer left
-      ≡ OpenPost a.0 a.1.0.now a.1.1.0.now a.1.1.1.0.now answer.answer (searching answer.search left.1.0.now left.1.1.0.now left.1.1.1.0.now)
+      ≡ OpenPost a.0 a.1.0.now a.1.1.0.now a.1.1.1.0.now (opening_answer answer) (searching (opening_search answer) left.1.0.now left.1.1.0.now left.1.1.1.0.now)
   pub meets : {M : Type 1} → OpenMeets M
 
 -- `search_calls::round`: the search, the record, the figures, the settings, the marks.
 pub record RoundRuns : Type 2 where
-  pub asks : (κs : Lfts 3) (a : Dens κs round.ps) → RoundAsked κs a
-  pub tells : (κs : Lfts 3) (a : Dens κs round.ps) (answer : (res_t round.r κs).Denot) (left : AtExit (ended_of 3 round.ps round.r) κs)
+  pub asks : (κs : Lfts 4) (a : Dens κs round.ps) → RoundAsked κs a
+  pub tells : (κs : Lfts 4) (a : Dens κs round.ps) (answer : (res_t round.r κs).Denot) (left : AtExit (ended_of 4 round.ps round.r) κs)
       → RoundLearnt κs a answer left
-      ≡ SearchPost a.1.0 (searching a.0 a.1.1.0.now a.1.1.1.0.now a.1.1.1.1.0.now) answer.answer
-      (searching answer.search left.1.1.0.now left.1.1.1.0.now left.1.1.1.1.0.now)
+      ≡ SearchPost a.1.0 (searching a.0.now a.1.1.0.now a.1.1.1.0.now a.1.1.1.1.0.now) answer
+      (searching left.0.now left.1.1.0.now left.1.1.1.0.now left.1.1.1.1.0.now)
   pub meets : {M : Type 1} → RoundMeets M
 
 -- `search_calls::look_up`: the search, the record, the figures and the settings, which it only reads, and the placement.

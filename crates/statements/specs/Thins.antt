@@ -17,10 +17,10 @@ use Rattle.thin_call.proofs.thin.Statement.{statement as ThinMeets}
 
 -- `thin_call::thin`: the checker, the record, the figures, which it only reads, and the settings.
 pub record ThinRuns : Type 2 where
-  pub asks : (κs : Lfts 2) (a : Dens κs thin.ps) → ThinAsked κs a
-  pub tells : (κs : Lfts 2) (a : Dens κs thin.ps) (answer : (res_t thin.r κs).Denot) (left : AtExit (ended_of 2 thin.ps thin.r) κs)
+  pub asks : (κs : Lfts 3) (a : Dens κs thin.ps) → ThinAsked κs a
+  pub tells : (κs : Lfts 3) (a : Dens κs thin.ps) (answer : (res_t thin.r κs).Denot) (left : AtExit (ended_of 3 thin.ps thin.r) κs)
       → ThinLearnt κs a answer left
-      ≡ ThinPost a.1.0 (checking a.0 a.1.1.0.now a.1.1.1.0.now) answer.answer (checking answer.checker a.1.1.0.now left.1.1.1.0.now)
+      ≡ ThinPost a.1.0 (checking a.0.now a.1.1.0.now a.1.1.1.0.now) answer (checking a.0.now a.1.1.0.now left.1.1.1.0.now)
   pub meets : {M : Type 1} → ThinMeets M
 
 -- Q-14, of the calls that run.

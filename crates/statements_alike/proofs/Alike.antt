@@ -8,7 +8,7 @@ use Rattle.railway.specs.Refusals.{number_of}
 use Rattle.railway.specs.Same.{SameRailway}
 use Rattle.railway.proofs.Same.{refusal-same}
 use Rattle.railway.proofs.Claims.{none_alike}
-use Rattle.case_file.specs.declared.Written.{Written}
+use Rattle.case_file.specs.Written.{Written}
 use Rattle.case_file.specs.Writing.{written_text, writer_refusal, writer_answer, writer_buffer, written, buffer_after, WriterPost}
 use Rattle.case_file.proofs.Claims.{same-text}
 use Rattle.statements_alike.specs.Alike.{SameAlike, BytesAlike}

@@ -26,7 +26,7 @@ use Rattle.game.specs.Claim.{Keeps}
 use Rattle.game.specs.Placement.{placements}
 use Rattle.game.specs.Setting.{Setting, signal_open}
 use Rattle.game.specs.Moves.{game_of}
-use Rattle.game_tables.specs.declared.SolverAnswer.{SolverAnswer}
+use Rattle.game_tables.specs.SolverAnswer.{SolverAnswer}
 use Rattle.game_tables.specs.Entries.{opens_end, setting_at, entry_from, entry_of, opens_in}
 use Rattle.game_tables.specs.Tables.{figure_in, tables_short, case_refusal, opens_signal, open_signals, lowest_open, no_later, IsPlanSetting, Planned, IsPlanEntry, Filled}
 use Rattle.game_tables.specs.Solver.{Kept, SolverLeaves, SolverPost}

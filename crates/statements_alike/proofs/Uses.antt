@@ -15,14 +15,14 @@ use Rattle.railway.specs.Refusals.{number_of}
 use Rattle.railway.specs.Rows.{record_refusal}
 use Rattle.railway.specs.Same.{SameRailway, SameByte, SameButForNone}
 use Rattle.railway.specs.Yards.{yard_a}
-use Rattle.case_file.specs.declared.Written.{Written}
+use Rattle.case_file.specs.Written.{Written}
 use Rattle.case_file.specs.Writing.{written_text, written, WriterPost}
 use Rattle.case_file.specs.YardTexts.{text_a}
 use Rattle.case_file.proofs.Uses.{written-a}
 use Rattle.game.specs.Game.{Game}
 use Rattle.game.specs.Setting.{Setting}
 use Rattle.game.specs.Moves.{game_of}
-use Rattle.game_tables.specs.declared.SolverAnswer.{SolverAnswer}
+use Rattle.game_tables.specs.SolverAnswer.{SolverAnswer}
 use Rattle.game_tables.specs.Tables.{case_refusal}
 use Rattle.game_tables.specs.Solver.{number_given, SolverPost}
 use Rattle.statements_alike.proofs.Alike.{same_alike, bytes-alike}

@@ -6,12 +6,11 @@ use mathlib.Core.List.{List}
 use Prim.Native.Nat.{ℕ}
 use native.Mathlib.Omega.{arith}
 use Rattle.railway.specs.declared.End.{End}
-use Rattle.railway.specs.declared.Joined.{Joined}
-use Rattle.railway.specs.declared.Joined.TheVariants.{Nothing, With}
+use Rattle.railway.specs.Joined.{Joined, Nothing, With}
 use Rattle.railway.specs.declared.Railway.{Railway}
 use Rattle.railway.specs.Record.{joined}
-use Rattle.case_file.specs.declared.CaseRead.{CaseRead}
-use Rattle.case_file.specs.declared.Written.{Written}
+use Rattle.case_file.specs.CaseRead.{CaseRead}
+use Rattle.case_file.specs.Written.{Written}
 use Rattle.case_file.specs.Form.{Description, Describes}
 use Rattle.case_file.specs.Writing.{WriterPost}
 use Rattle.case_file.specs.Given.{accepted, ReaderPost}
@@ -25,7 +24,9 @@ use Rattle.statements_roundtrip.specs.Running.{ReadCall, WriteCall, RoundTripRun
 
 -- a call keeps its promise, of what it was handed
 reader-kept : (text : List ℕ) (answer : CaseRead) → ReadCall text answer → ReaderPost text answer
-reader-kept text answer c = subst (λ (t : List ℕ). ReaderPost t answer) c.handed c.learnt
+reader-kept text answer c =
+    subst (λ (t : List ℕ). ReaderPost t answer) c.handed
+    (subst (λ (a : CaseRead). ReaderPost c.arguments.0.now a) c.answered c.learnt)
 
 writer-kept : (r : Railway) (buffer after : List ℕ) (w : Written) → WriteCall r buffer w after → WriterPost r buffer w after
 writer-kept r buffer after w c =

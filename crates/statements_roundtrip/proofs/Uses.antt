@@ -9,6 +9,7 @@ use mathlib.Core.Option.{none, some}
 use Prim.Native.Nat.{ℕ}
 use native.Mathlib.Omega.{arith}
 use lib.ListN.{take, replicate}
+use Rattle.std.proofs.Common.{Ok}
 use denote.Ref.{Bor}
 use denote.MutBor.{MutBor}
 use base.Fml.{Lft}
@@ -19,14 +20,14 @@ use Rattle.railway.specs.declared.Side.TheVariants.{Up, Down}
 use Rattle.railway.specs.declared.Leg.TheVariants.{Plus, Minus}
 use Rattle.railway.specs.declared.End.{End}
 use Rattle.railway.specs.declared.End.TheVariants.{Section, Port}
-use Rattle.railway.specs.declared.Joined.TheVariants.{Nothing, With}
+use Rattle.railway.specs.Joined.{Nothing, With}
 use Rattle.railway.specs.declared.Train.{Train}
 use Rattle.railway.specs.declared.Railway.{Railway}
 use Rattle.railway.specs.Ends.{end_at}
 use Rattle.railway.specs.Record.{joined_by, link_at, flag_at, closed_at, joined, has_signal, is_closed, legs_of, train_of, weight_of, with_join, with_signal, with_closed, with_legs, with_train}
 use Rattle.railway.specs.Yards.{yard_a}
-use Rattle.case_file.specs.declared.CaseRead.{CaseRead}
-use Rattle.case_file.specs.declared.Written.{Written}
+use Rattle.case_file.specs.CaseRead.{CaseRead}
+use Rattle.case_file.specs.Written.{Written}
 use Rattle.case_file.specs.Form.{section, JoinLine, SignalLine}
 use Rattle.case_file.specs.Writing.{written, buffer_after, WriterPost}
 use Rattle.case_file.specs.Given.{accepted, ReaderPost}
@@ -82,7 +83,9 @@ read-call κ =
       lifetimes = (κ, tt);
       arguments = (handing (bytes text_a), tt);
       left = (handing (bytes text_a), tt);
+      result = Ok yard_a;
       handed = refl;
+      answered = refl;
       learnt = (reader-answers (bytes text_a) (accepted yard_a)).0 e;
     }
 
@@ -105,7 +108,8 @@ write-call κ =
 promise : (text : List ℕ) (answer : CaseRead) → ReadCall text answer → ReaderPost text answer
 promise text answer c =
     subst (λ (t : List ℕ). ReaderPost t answer) c.handed
-    (subst (λ (P : Type 0). P) (roundtrip-runs.reader-promises c.lifetimes c.arguments answer c.left) c.learnt)
+    (subst (λ (a : CaseRead). ReaderPost c.arguments.0.now a) c.answered
+    (subst (λ (P : Type 0). P) (roundtrip-runs.reader-promises c.lifetimes c.arguments c.result c.left) c.learnt))
 
 text-accepted : (answer : CaseRead) → ReadCall (bytes text_a) answer → answer ≡ accepted yard_a
 unfolding yard_texts

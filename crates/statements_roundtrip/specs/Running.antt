@@ -8,15 +8,15 @@ use denote.Triple.Clauses.{AtExit}
 use contract.Lifetimes.{Lfts}
 use borrow.Fn.Kinds.{Dens, res_t, ended_of}
 use Rattle.railway.specs.declared.End.{End}
-use Rattle.railway.specs.declared.Joined.TheVariants.{Nothing}
+use Rattle.railway.specs.Joined.{Nothing}
 use Rattle.railway.specs.declared.Railway.{Railway}
 use Rattle.railway.specs.Record.{joined}
 use Rattle.railway.specs.Same.{SameRailway}
-use Rattle.case_file.specs.declared.CaseRead.{CaseRead}
-use Rattle.case_file.specs.declared.Written.{Written}
+use Rattle.case_file.specs.CaseRead.{CaseRead}
+use Rattle.case_file.specs.Written.{Written}
 use Rattle.case_file.specs.Form.{Description, Describes}
 use Rattle.case_file.specs.Writing.{written_count, WriterPost}
-use Rattle.case_file.specs.Given.{accepted, ReaderPost}
+use Rattle.case_file.specs.Given.{accepted, case_read, ReaderPost}
 use Rattle.case_file.specs.Claims.{Joins, AsDescribed}
 use Rattle.case_reader.proofs.read_case.Kinds as read
 use Rattle.case_reader.proofs.read_case.Reads.{Asked as ReadAsked, Learnt as ReadLearnt}
@@ -30,8 +30,10 @@ pub record ReadCall (text : List ℕ) (answer : CaseRead) : Type 1 where
   pub lifetimes : Lfts 1
   pub arguments : Dens lifetimes read.ps
   pub left : AtExit (ended_of 1 read.ps read.r) lifetimes
+  pub result : (res_t read.r lifetimes).Denot
   pub handed : arguments.0.now ≡ text
-  pub learnt : ReadLearnt lifetimes arguments answer left
+  pub answered : case_read result ≡ answer
+  pub learnt : ReadLearnt lifetimes arguments result left
 
 -- A call of `case_writer::write_case`: it was handed this record and a buffer with these bytes; its answer, and the bytes that it left there.
 pub record WriteCall (r : Railway) (buffer : List ℕ) (answer : Written) (after : List ℕ) : Type 1 where
@@ -54,7 +56,7 @@ pub record RoundTripRuns : Type 2 where
   pub writer-meets : {M : Type 1} → WriteMet M
   -- the reader's contract is a reader's promise, and nothing else
   pub reader-promises : (κs : Lfts 1) (a : Dens κs read.ps) (answer : (res_t read.r κs).Denot) (left : AtExit (ended_of 1 read.ps read.r) κs)
-      → ReadLearnt κs a answer left ≡ ReaderPost a.0.now answer
+      → ReadLearnt κs a answer left ≡ ReaderPost a.0.now (case_read answer)
   -- the writer's is a writer's
   pub writer-promises : (κs : Lfts 1) (a : Dens κs write.ps) (answer : (res_t write.r κs).Denot) (left : AtExit (ended_of 1 write.ps write.r) κs)
       → WriteLearnt κs a answer left ≡ WriterPost a.0 a.1.0.now answer left.1.0.now

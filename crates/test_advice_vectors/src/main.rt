@@ -4,37 +4,21 @@
 // short or longer than they have to be, with every entry as it is left.
 #![tactic(auto)]
 
-use advice::Advice;
+use advice::Help;
 use game_tables::{ENTRIES, NO_FIGURE};
-use railway::{CaseAnswer, Railway, Refusal, SectionNo, Side};
-
-// The descriptor of standard output.
-const STDOUT_FILENO: i32 = 1;
+use railway::{Railway, Refusal, SectionNo, Side};
+use test_framing::STDOUT_FILENO;
 
 fn main() {
-    let mut turns: u64 = 0;
-    while turns < test_framing::MOST_TURNS && one() {
-        turns += 1;
-    }
+    test_framing::each_record(|text| show(text));
     own_records();
 }
 
-// One record; answers whether there was one.
-fn one() -> bool {
-    let mut space = io::large_buffer();
-    let text = test_framing::next_text(&mut space);
-    let n = text.bytes;
-    text.there && show(&space[..n])
-}
-
-fn show(case: &[u8]) -> bool {
-    let read = case_reader::read_case(case);
-    let answer = read.answer;
-    match answer {
-        CaseAnswer::Refused(f) => refused(f),
-        CaseAnswer::Accepted => run(read.railway),
+fn show(case: &[u8]) {
+    match case_reader::read_case(case) {
+        Err(f) => refused(f),
+        Ok(r) => run(r),
     }
-    true
 }
 
 // With tables of its own.
@@ -43,24 +27,21 @@ fn run(r: Railway) {
     let mut settings = [0u32; ENTRIES];
     let a = advice_call::advise(r, &mut figures, &mut settings);
     tell(a);
-    if let Advice::Refused(_) = a {
+    if a.is_err() {
         return;
     }
-    let c = railway_compiled::compile(r);
-    let table = c.table;
-    let m = game_moves::placements(&table);
-    left(&figures, &settings, m);
+    if let Ok(table) = railway_compiled::compile(r) {
+        left(&figures, &settings, game_moves::placements(&table));
+    }
 }
 
 // The tables as they are left, by rising code.
 fn left(figures: &[u32], settings: &[u32], m: u32) {
-    let mut p: u32 = 0;
-    while p < m {
+    for p in 0..m {
         let f = game_tables::entry_at(figures, p, NO_FIGURE);
         if f != NO_FIGURE {
             entry(p, f, game_tables::entry_at(settings, p, 0));
         }
-        p += 1;
     }
 }
 
@@ -117,12 +98,12 @@ fn lend(r: Railway, figures: &mut [u32], settings: &mut [u32], n: usize, m: usiz
     }
 }
 
-fn tell(a: Advice) {
+fn tell(a: Result<Help, Refusal>) {
     match a {
-        Advice::NotNeeded => said(b"signal\tnot needed\n"),
-        Advice::Signal(n, s) => end(n, s),
-        Advice::NoneHelps => said(b"signal\tno single one\n"),
-        Advice::Refused(f) => refused(f),
+        Ok(Help::NotNeeded) => said(b"signal\tnot needed\n"),
+        Ok(Help::Signal(n, s)) => end(n, s),
+        Ok(Help::NoneHelps) => said(b"signal\tno single one\n"),
+        Err(f) => refused(f),
     }
 }
 

@@ -3,34 +3,16 @@
 // with the number.
 #![tactic(auto)]
 
-use desk::ChangeAnswer;
 use desk_calls::Desk;
 use game_placement::Placement;
 use railway::Railway;
-
-// The descriptor of standard output.
-const STDOUT_FILENO: i32 = 1;
+use test_framing::STDOUT_FILENO;
 
 fn main() {
-    let mut turns: u64 = 0;
-    while turns < test_framing::MOST_TURNS && one() {
-        turns += 1;
-    }
+    test_framing::each_triple(b"no new case\n", b"no script\n", |case, new, script| {
+        run(case, new, script)
+    });
     others();
-}
-
-// Three records; answers whether there were.
-fn one() -> bool {
-    let mut case = io::large_buffer();
-    let mut new = io::large_buffer();
-    let mut script = io::large_buffer();
-    let first = test_framing::next_text(&mut case);
-    let second = test_framing::text_behind(first, &mut new, b"no new case\n");
-    let third = test_framing::text_behind(second, &mut script, b"no script\n");
-    let n = first.bytes;
-    let m = second.bytes;
-    let k = third.bytes;
-    third.there && run(&case[..n], &new[..m], &script[..k])
 }
 
 fn run(case: &[u8], new: &[u8], script: &[u8]) -> bool {
@@ -43,8 +25,9 @@ fn run(case: &[u8], new: &[u8], script: &[u8]) -> bool {
 
 // A line of two sections, with a train that goes up from 1 to 2: two placements, of figures 1 and 0.
 fn others() {
-    let read = case_reader::read_case(b"H\t2\t0\t1\nJ\t1u\t2d\nT\t1\tu\t1\t2\n");
-    let line = read.railway;
+    let Ok(line) = case_reader::read_case(b"H\t2\t0\t1\nJ\t1u\t2d\nT\t1\tu\t1\t2\n") else {
+        return;
+    };
     let short = [1u32];
     from_refused(line);
     with_tables(line);
@@ -116,22 +99,21 @@ fn weightless(what: &[u8], r: Railway) {
 
 // A change at the desk whose train stands on section 1.
 fn ask(what: &[u8], r: Railway, text: &[u8], figures: &[u32], settings: &[u32]) {
-    let desk = Desk {
+    let mut desk = Desk {
         at: Placement {
             sections: [0, 0, 0, 0],
         },
         code: 0,
         arrived: 0,
     };
-    let reply = desk.change(r, text, figures, settings);
-    let answer = reply.answer;
+    let answer = desk.change(r, text, figures, settings);
     io::write_all(STDOUT_FILENO, what);
     io::write_all(STDOUT_FILENO, b"\t");
     match answer {
-        ChangeAnswer::Changed => {
+        Ok(()) => {
             io::write_all(STDOUT_FILENO, b"changed\n");
         }
-        ChangeAnswer::Refused(f) => {
+        Err(f) => {
             let mut out = [0u8; answer_output::LINE];
             answer_output::refusal(f, &mut out);
         }

@@ -2,24 +2,13 @@
 #![tactic(auto)]
 
 fn main() {
-    let mut turns: u64 = 0;
-    while turns < test_framing::MOST_TURNS && one() {
-        turns += 1;
-    }
+    test_framing::each_pair(b"no plan\n", |case, plan| show(case, plan));
 }
 
-// One pair; answers whether there was one.
-fn one() -> bool {
-    let mut case = io::large_buffer();
-    let mut plan = io::large_buffer();
+// What program plancheck writes for them.
+fn show(case: &[u8], plan: &[u8]) -> bool {
     let mut line = [0u8; answer_lines::LINE];
-    let first = test_framing::next_text(&mut case);
-    let second = test_framing::text_behind(first, &mut plan, b"no plan\n");
-    let n = first.bytes;
-    let m = second.bytes;
-    if second.there {
-        let put = check_text::check_line(&case[..n], &plan[..m], &mut line);
-        answer_output::front(&line, put);
-    }
-    second.there
+    let put = check_text::check_line(case, plan, &mut line);
+    answer_output::front(&line, put);
+    true
 }

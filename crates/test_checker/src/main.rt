@@ -4,16 +4,14 @@
 // tables made fresh that are longer than the case needs, and one that is shorter: the entries at the last code and past it.
 #![tactic(auto)]
 
-use plan::{Emitted, LineAnswer, PlanPlace};
+use plan::{Emission, PlanPlace};
 use plan_checker::Checker;
 use plan_lines::MOST_LINE_BYTES;
-use railway::{CaseAnswer, Railway, Refusal};
+use railway::{Railway, Refusal};
+use test_framing::STDOUT_FILENO;
 
 // The descriptor of standard input.
 const STDIN_FILENO: i32 = 0;
-
-// The descriptor of standard output.
-const STDOUT_FILENO: i32 = 1;
 
 // The placements of three sections and two trains.
 const ENTRIES: usize = 9;
@@ -21,18 +19,16 @@ const ENTRIES: usize = 9;
 fn main() {
     let mut case = io::large_buffer();
     let n = io::read_full(STDIN_FILENO, &mut case);
-    let read = case_reader::read_case(&case[..n]);
-    let answer = read.answer;
-    match answer {
-        CaseAnswer::Refused(f) => refused(f),
-        CaseAnswer::Accepted => checks(read.railway),
+    match case_reader::read_case(&case[..n]) {
+        Err(f) => refused(f),
+        Ok(r) => checks(r),
     }
 }
 
 fn checks(r: Railway) {
     let mut figures = [0u32; ENTRIES];
     let mut settings = [0u32; ENTRIES];
-    solver::solve(r, &mut figures, &mut settings);
+    let _ = solver::solve(r, &mut figures, &mut settings);
     check(r, &figures, &settings);
     short_of_room(r, &figures, &settings);
     // Code 1, one turn from home, gets the start's figure.
@@ -45,24 +41,22 @@ fn checks(r: Railway) {
 fn fresh_tables(r: Railway) {
     let mut figures = [7u32; ENTRIES + 1];
     let mut settings = [7u32; ENTRIES + 1];
-    let made = Checker::fresh(r, &mut figures, &mut settings);
-    let answer = made.answer;
+    let (_, answer) = Checker::fresh(r, &mut figures, &mut settings);
     shown(answer);
     last_two(&figures);
     last_two(&settings);
     let mut short = [7u32; ENTRIES - 1];
-    let refused = Checker::fresh(r, &mut short, &mut settings);
-    let space = refused.answer;
+    let (_, space) = Checker::fresh(r, &mut short, &mut settings);
     shown(space);
     entry(game_tables::entry_at(&short, 7, 0));
 }
 
-fn shown(a: CaseAnswer) {
+fn shown(a: Result<(), Refusal>) {
     match a {
-        CaseAnswer::Accepted => {
+        Ok(()) => {
             io::write_all(STDOUT_FILENO, b"fresh\n");
         }
-        CaseAnswer::Refused(f) => refused(f),
+        Err(f) => refused(f),
     }
 }
 
@@ -81,87 +75,76 @@ fn entry(e: u32) {
 fn check(r: Railway, figures: &[u32], settings: &[u32]) {
     let mut listed = [0u32; ENTRIES];
     let mut set = [0u32; ENTRIES];
-    let fresh = Checker::fresh(r, &mut listed, &mut set);
-    let early = test(fresh.checker, r, &listed, &set);
-    let before = placement(early, r, &mut listed, &mut set);
-    let begun = strays(before, r, &mut listed, &mut set);
-    let done = plan_lines(begun, r, figures, settings, &mut listed, &mut set);
-    let fallen = placement(done, r, &mut listed, &mut set);
-    test(fallen, r, &listed, &set);
+    let (mut checker, _) = Checker::fresh(r, &mut listed, &mut set);
+    test(&checker, r, &listed, &set);
+    placement(&mut checker, r, &mut listed, &mut set);
+    strays(&mut checker, r, &mut listed, &mut set);
+    plan_lines(&mut checker, r, figures, settings, &mut listed, &mut set);
+    placement(&mut checker, r, &mut listed, &mut set);
+    test(&checker, r, &listed, &set);
 }
 
 // The lines of the plan, each with refused lines behind it.
 fn plan_lines(
-    fresh: Checker,
+    checker: &mut Checker,
     r: Railway,
     figures: &[u32],
     settings: &[u32],
     listed: &mut [u32],
     set: &mut [u32],
-) -> Checker {
-    let mut checker = fresh;
+) {
     let mut place = PlanPlace::Top;
-    let mut lines: u32 = 0;
-    while lines < 4294967295 {
+    for _ in 0..u32::MAX {
         let mut line = [0u8; MOST_LINE_BYTES];
         let emitted = plan_emitter::emit_line(r, figures, settings, place, &mut line);
-        let Emitted::Line(n, next) = emitted else {
-            return checker;
+        let Ok(Emission::Line(n, next)) = emitted else {
+            return;
         };
-        checker = take_twice(checker, r, &line, n, listed, set);
+        take_twice(checker, r, &line, n, listed, set);
         place = next;
-        lines += 1;
     }
-    checker
 }
 
 // A line of n bytes, the same again, and lines that are refused wherever they come.
 fn take_twice(
-    checker: Checker,
+    checker: &mut Checker,
     r: Railway,
     buffer: &[u8],
     n: usize,
     listed: &mut [u32],
     set: &mut [u32],
-) -> Checker {
-    if buffer.len() < n {
-        return checker;
+) {
+    if let Some(line) = buffer.get(..n) {
+        take(checker, r, line, listed, set);
+        take(checker, r, line, listed, set);
+        strays(checker, r, listed, set);
     }
-    let once = take(checker, r, &buffer[..n], listed, set);
-    let again = take(once, r, &buffer[..n], listed, set);
-    strays(again, r, listed, set)
 }
 
 // A placement of code 1: before the first line there is no plan to list it in, behind the last its code falls.
-fn placement(checker: Checker, r: Railway, listed: &mut [u32], set: &mut [u32]) -> Checker {
-    take(checker, r, b"2\t1\t1\t1\t-\n", listed, set)
+fn placement(checker: &mut Checker, r: Railway, listed: &mut [u32], set: &mut [u32]) {
+    take(checker, r, b"2\t1\t1\t1\t-\n", listed, set);
 }
 
 // No line at all, and a figure with a zero before it: of the first line, and of the start's.
-fn strays(checker: Checker, r: Railway, listed: &mut [u32], set: &mut [u32]) -> Checker {
-    let a = take(checker, r, b"no line\n", listed, set);
-    let b = take(a, r, b"plan\t02\n", listed, set);
-    take(b, r, b"2\t3\t02\t0\t+\n", listed, set)
+fn strays(checker: &mut Checker, r: Railway, listed: &mut [u32], set: &mut [u32]) {
+    take(checker, r, b"no line\n", listed, set);
+    take(checker, r, b"plan\t02\n", listed, set);
+    take(checker, r, b"2\t3\t02\t0\t+\n", listed, set);
 }
 
-fn take(checker: Checker, r: Railway, line: &[u8], listed: &mut [u32], set: &mut [u32]) -> Checker {
-    let taken = checker.take(r, line, listed, set);
-    let answer = taken.answer;
-    match answer {
-        LineAnswer::Taken => {
+fn take(checker: &mut Checker, r: Railway, line: &[u8], listed: &mut [u32], set: &mut [u32]) {
+    match checker.take(r, line, listed, set) {
+        Ok(()) => {
             io::write_all(STDOUT_FILENO, b"taken\n");
         }
-        LineAnswer::Refused(f) => refused(f),
+        Err(f) => refused(f),
     }
-    taken.checker
 }
 
-fn test(checker: Checker, r: Railway, listed: &[u32], set: &[u32]) -> Checker {
-    let tested = checker.test(r, listed, set);
-    let answer = tested.answer;
+fn test(checker: &Checker, r: Railway, listed: &[u32], set: &[u32]) {
     let mut line = [0u8; answer_output::LINE];
-    answer_output::test_answer(answer, &mut line);
-    tested.checker
+    answer_output::test_answer(checker.test(r, listed, set), &mut line);
 }
 
 fn refused(f: Refusal) {
@@ -173,7 +156,7 @@ fn refused(f: Refusal) {
 fn short_of_room(r: Railway, figures: &[u32], settings: &[u32]) {
     let mut buffer = [b'#'; 6];
     let emitted = plan_emitter::emit_line(r, figures, settings, PlanPlace::Top, &mut buffer);
-    if let Emitted::Refused(f) = emitted {
+    if let Err(f) = emitted {
         refused(f);
     }
     io::write_all(STDOUT_FILENO, &buffer);

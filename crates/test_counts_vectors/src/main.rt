@@ -3,44 +3,28 @@
 // tables that no case text gives.
 #![tactic(auto)]
 
-use counts::{CountAnswer, CountReply};
+use counts::CLASSES;
 use game_tables::{ENTRIES, NO_FIGURE};
-use railway::{CaseAnswer, Railway, Refusal};
-
-// The descriptor of standard output.
-const STDOUT_FILENO: i32 = 1;
+use railway::{Railway, Refusal};
+use test_framing::STDOUT_FILENO;
 
 fn main() {
-    let mut turns: u64 = 0;
-    while turns < test_framing::MOST_TURNS && one() {
-        turns += 1;
-    }
+    test_framing::each_record(|text| show(text));
     own_records();
 }
 
-// One record; answers whether there was one.
-fn one() -> bool {
-    let mut space = io::large_buffer();
-    let text = test_framing::next_text(&mut space);
-    let n = text.bytes;
-    text.there && show(&space[..n])
-}
-
-fn show(case: &[u8]) -> bool {
-    let read = case_reader::read_case(case);
-    let answer = read.answer;
-    match answer {
-        CaseAnswer::Refused(f) => refused(f),
-        CaseAnswer::Accepted => solved(read.railway),
+fn show(case: &[u8]) {
+    match case_reader::read_case(case) {
+        Err(f) => refused(f),
+        Ok(r) => solved(r),
     }
-    true
 }
 
 // The solver's table; where the solver refuses, counting does so too, for the same reason.
 fn solved(r: Railway) {
     let mut figures = [0u32; ENTRIES];
     let mut settings = [0u32; ENTRIES];
-    solver::solve(r, &mut figures, &mut settings);
+    let _ = solver::solve(r, &mut figures, &mut settings);
     tell(counts_call::count_figures(r, &figures));
 }
 
@@ -71,12 +55,10 @@ fn record_of(points: u8, weight: u8) -> Railway {
     test_framing::in_round(r)
 }
 
-fn tell(x: CountReply) {
-    let answer = x.answer;
-    let counts = x.counts;
+fn tell(answer: Result<[u32; CLASSES], Refusal>) {
     match answer {
-        CountAnswer::Refused(f) => refused(f),
-        CountAnswer::Counted => lines(&counts),
+        Err(f) => refused(f),
+        Ok(counts) => lines(&counts),
     }
 }
 
@@ -91,15 +73,13 @@ fn lines(counts: &[u32]) {
 
 // The figures that have a count of their own, and that some placement has.
 fn each(counts: &[u32]) {
-    let mut i: u32 = 0;
-    while i < 255 {
+    for i in 0u32..255 {
         let n = game_tables::entry_at(counts, i, 0);
         if n != 0 {
             io::print_decimal(STDOUT_FILENO, i as u64);
             io::write_all(STDOUT_FILENO, b"\t");
             number(n);
         }
-        i += 1;
     }
 }
 

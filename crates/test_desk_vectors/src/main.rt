@@ -2,25 +2,10 @@
 // asks for no change: there is no new case.
 #![tactic(auto)]
 
-// The descriptor of standard output.
-const STDOUT_FILENO: i32 = 1;
+use test_framing::STDOUT_FILENO;
 
 fn main() {
-    let mut turns: u64 = 0;
-    while turns < test_framing::MOST_TURNS && one() {
-        turns += 1;
-    }
-}
-
-// One pair of records; answers whether there was one.
-fn one() -> bool {
-    let mut case = io::large_buffer();
-    let mut script = io::large_buffer();
-    let first = test_framing::next_text(&mut case);
-    let second = test_framing::text_behind(first, &mut script, b"no script\n");
-    let n = first.bytes;
-    let m = second.bytes;
-    second.there && run(&case[..n], &script[..m])
+    test_framing::each_pair(b"no script\n", |case, script| run(case, script));
 }
 
 fn run(case: &[u8], script: &[u8]) -> bool {

@@ -2,9 +2,9 @@
 // comes whole or not at all: one that is longer than the lent space, one that ends early and a line of another form are told as broken. And small railways that no case text is read as.
 #![tactic(auto)]
 
-ghost use Rattle.std.specs.Prelude.{◌≡◌, false};
+ghost use Rattle.std.specs.Prelude.{◌≡◌, None};
 ghost use Rattle.io.specs.Counts.{IsPrefixLen};
-ghost use Rattle.test_framing.specs.Framed.{is_whole, record_of, Kept, KeptText};
+ghost use Rattle.test_framing.specs.Framed.{bytes_of, length_of, record_of, Kept, KeptText};
 ghost use Rattle.test_framing.specs.Made.{one_train, join_ports, in_round};
 
 use railway::{End, Leg, PointNo, Railway, SectionNo, Side, Train};
@@ -13,47 +13,11 @@ use railway::{End, Leg, PointNo, Railway, SectionNo, Side, Train};
 const STDIN_FILENO: i32 = 0;
 
 // The descriptor of standard output.
-const STDOUT_FILENO: i32 = 1;
+pub const STDOUT_FILENO: i32 = 1;
 
-// Whether there was a record.
+// A record that is longer than the lent space, one that ends early, or a line before it of another form.
 #[derive(Clone, Copy)]
-pub enum Reading {
-    Whole,
-    Ended,
-    Broken,
-}
-
-// What was read, and of how many bytes the record is: none unless it is whole.
-#[derive(Clone, Copy)]
-pub struct Record {
-    pub reading: Reading,
-    pub bytes: usize,
-}
-
-// A text that was asked for: whether it is there, and of how many bytes; of none, if it is not.
-#[derive(Clone, Copy)]
-pub struct Text {
-    pub there: bool,
-    pub bytes: usize,
-}
-
-// A byte of standard input.
-#[derive(Clone, Copy)]
-enum Byte {
-    End,
-    Is(u8),
-}
-
-// The number that stands in the line before a record.
-#[derive(Clone, Copy)]
-enum Length {
-    Ended,
-    Broken,
-    Bytes(usize),
-}
-
-// So often a program asks for records at most.
-pub const MOST_TURNS: u64 = 18446744073709551615;
+pub struct Broken;
 
 // The most bytes of that number, its line end included.
 const MOST_BYTES: u8 = 8;
@@ -61,145 +25,148 @@ const MOST_BYTES: u8 = 8;
 // No number of so few digits reaches it: the prover sees by it that one more digit fits into the type.
 const BEYOND: usize = 10000000;
 
-// The next record as a text, at the start of the lent space. That one is broken is told on standard output.
-pub fn next_text(space: &mut [u8]) -> Text
-    ensures prefix_len { IsPrefixLen result.bytes space.new }
+// Every record of standard input as a text, one after the other, in a space of its own; the first that is missing or broken ends it.
+pub fn each_record<F: Fn(&[u8])>(show: F)
+    requires { F.IsAlwaysCallable show }
+{
+    for _ in 0..u64::MAX {
+        let mut space = io::large_buffer();
+        let Some(n) = next_text(&mut space) else {
+            return;
+        };
+        show(&space[..n]);
+    }
+}
+
+// Every two records, as long as the call for them says to go on. Where the second is missing that is told, in the caller's words.
+pub fn each_pair<F: Fn(&[u8], &[u8]) -> bool>(missing: &[u8], show: F)
+    requires { F.IsAlwaysCallable show }
+{
+    for _ in 0..u64::MAX {
+        let mut first = io::large_buffer();
+        let mut second = io::large_buffer();
+        let one = next_text(&mut first);
+        let two = text_behind(one, &mut second, missing);
+        let (Some(n), Some(m)) = (one, two) else {
+            return;
+        };
+        if !show(&first[..n], &second[..m]) {
+            return;
+        }
+    }
+}
+
+// Every three records, likewise.
+pub fn each_triple<F: Fn(&[u8], &[u8], &[u8]) -> bool>(no_second: &[u8], no_third: &[u8], show: F)
+    requires { F.IsAlwaysCallable show }
+{
+    for _ in 0..u64::MAX {
+        let mut first = io::large_buffer();
+        let mut second = io::large_buffer();
+        let mut third = io::large_buffer();
+        let one = next_text(&mut first);
+        let two = text_behind(one, &mut second, no_second);
+        let three = text_behind(two, &mut third, no_third);
+        let (Some(n), Some(m), Some(k)) = (one, two, three) else {
+            return;
+        };
+        if !show(&first[..n], &second[..m], &third[..k]) {
+            return;
+        }
+    }
+}
+
+// The next record as a text, at the start of the lent space: of so many bytes. That one is broken is told on standard output.
+pub fn next_text(space: &mut [u8]) -> Option<usize>
+    ensures prefix_len { IsPrefixLen (bytes_of result) space.new }
     ensures kept_text { KeptText result space.old space.new }
 {
-    let record = next_record(space);
-    let n = record.bytes;
-    let reading = record.reading;
-    Text {
-        there: is_whole(reading),
-        bytes: n,
+    match next_record(space) {
+        Ok(record) => record,
+        Err(Broken) => {
+            io::write_all(STDOUT_FILENO, b"broken record\n");
+            None
+        }
     }
 }
 
 // The record that belongs to the one before it. Where it is missing that is told, in the caller's words; behind a text that is not there nothing is read.
-pub fn text_behind(before: Text, space: &mut [u8], missing: &[u8]) -> Text
-    ensures prefix_len { IsPrefixLen result.bytes space.new }
+pub fn text_behind(before: Option<usize>, space: &mut [u8], missing: &[u8]) -> Option<usize>
+    ensures prefix_len { IsPrefixLen (bytes_of result) space.new }
     ensures kept_text { KeptText result space.old space.new }
-    ensures there_value { before.there ≡ false → (result.there ≡ false) × (space.new ≡ space.old) }
+    ensures there_value { before ≡ None → (result ≡ None) × (space.new ≡ space.old) }
 {
-    if before.there {
-        let text = next_text(space);
-        if text.there {
-            return text;
-        }
+    before?;
+    let text = next_text(space);
+    if text.is_none() {
         io::write_all(STDOUT_FILENO, missing);
-        return text;
     }
-    Text {
-        there: false,
-        bytes: 0,
-    }
+    text
 }
 
-// Whether there is a record to go on with. That one is broken is told on standard output.
-fn is_whole(reading: Reading) -> bool
-    ensures { result ≡ is_whole reading }
-{
-    match reading {
-        Reading::Whole => true,
-        Reading::Ended => false,
-        Reading::Broken => {
-            io::write_all(STDOUT_FILENO, b"broken record\n");
-            false
-        }
-    }
-}
-
-// The next record, at the start of the lent space.
-fn next_record(space: &mut [u8]) -> Record
-    ensures prefix_len { IsPrefixLen result.bytes space.new }
+// The next record, at the start of the lent space: of so many bytes, or none where the input has ended.
+fn next_record(space: &mut [u8]) -> Result<Option<usize>, Broken>
+    ensures prefix_len { IsPrefixLen (length_of result) space.new }
     ensures kept { Kept result space.old space.new }
 {
-    match head_line() {
-        Length::Ended => Record {
-            reading: Reading::Ended,
-            bytes: 0,
-        },
-        Length::Broken => Record {
-            reading: Reading::Broken,
-            bytes: 0,
-        },
-        Length::Bytes(n) => fill(space, n),
-    }
+    let Some(n) = head_line()? else {
+        return Ok(None);
+    };
+    fill(space, n)
 }
 
-fn fill(space: &mut [u8], n: usize) -> Record
-    ensures prefix_len { IsPrefixLen result.bytes space.new }
+fn fill(space: &mut [u8], n: usize) -> Result<Option<usize>, Broken>
+    ensures prefix_len { IsPrefixLen (length_of result) space.new }
     ensures kept { Kept result space.old space.new }
 {
     if space.len() < n {
-        return Record {
-            reading: Reading::Broken,
-            bytes: 0,
-        };
+        return Err(Broken);
     }
     let got = io::read_full(STDIN_FILENO, &mut space[..n]);
     record_of(n, got)
 }
 
 // A record of n bytes of which so many came: whole if all did.
-fn record_of(n: usize, got: usize) -> Record
+fn record_of(n: usize, got: usize) -> Result<Option<usize>, Broken>
     ensures { result ≡ record_of n got }
 {
-    if got == n {
-        Record {
-            reading: Reading::Whole,
-            bytes: n,
-        }
-    } else {
-        Record {
-            reading: Reading::Broken,
-            bytes: 0,
-        }
-    }
+    if got == n { Ok(Some(n)) } else { Err(Broken) }
 }
 
-fn head_line() -> Length {
-    let Byte::Is(first) = next_byte() else {
-        return Length::Ended;
+// The number of bytes that stands in the line before a record.
+fn head_line() -> Result<Option<usize>, Broken> {
+    let Some(first) = next_byte() else {
+        return Ok(None);
     };
-    let Byte::Is(second) = next_byte() else {
-        return Length::Broken;
-    };
+    let second = next_byte().ok_or(Broken)?;
     if first == b'@' && second == b'\t' {
-        number()
+        Ok(Some(number()?))
     } else {
-        Length::Broken
+        Err(Broken)
     }
 }
 
-fn number() -> Length {
+fn number() -> Result<usize, Broken> {
     let mut n: usize = 0;
-    let mut digits: u8 = 0;
-    while digits < MOST_BYTES {
-        let Byte::Is(b) = next_byte() else {
-            return Length::Broken;
-        };
-        if b == b'\n' && 0 < digits {
-            return Length::Bytes(n);
+    for i in 0..MOST_BYTES {
+        let b = next_byte().ok_or(Broken)?;
+        if b == b'\n' && 0 < i {
+            return Ok(n);
         }
-        if BEYOND <= n {
-            return Length::Broken;
-        }
-        if b < b'0' || b'9' < b {
-            return Length::Broken;
+        if BEYOND <= n || !b.is_ascii_digit() {
+            return Err(Broken);
         }
         n = n * 10 + (b - b'0') as usize;
-        digits += 1;
     }
-    Length::Broken
+    Err(Broken)
 }
 
-fn next_byte() -> Byte {
+fn next_byte() -> Option<u8> {
     let mut byte = [0u8; 1];
     if io::read_full(STDIN_FILENO, &mut byte) == 1 {
-        Byte::Is(byte[0])
+        Some(byte[0])
     } else {
-        Byte::End
+        None
     }
 }
 

@@ -6,11 +6,9 @@
 ghost use Rattle.std.specs.Prelude.{◌≤◌, take};
 ghost use Rattle.logs.specs.Logs.{LogPost};
 
-use logs::{Entry, LogAnswer};
-use railway::{CaseAnswer, Railway, Refusal};
-
-// The descriptor of standard output.
-const STDOUT_FILENO: i32 = 1;
+use logs::{Entry, Verdict};
+use railway::{Railway, Refusal};
+use test_framing::STDOUT_FILENO;
 
 // One entry more than a log may have. Of a longer one those behind are left out, which no answer tells.
 const SPACE: usize = 257;
@@ -28,10 +26,11 @@ struct Log {
 }
 
 fn main() {
-    let mut turns: u64 = 0;
-    while turns < test_framing::MOST_TURNS && one() {
-        turns += 1;
-    }
+    test_framing::each_triple(
+        b"no log of the panel\n",
+        b"no log of the axle counters\n",
+        |case, panel, axles| show(case, panel, axles),
+    );
     own_records();
 }
 
@@ -73,29 +72,13 @@ fn many(n: usize) -> Log {
     }
 }
 
-// Three records; answers whether there were any.
-fn one() -> bool {
-    let mut case = io::large_buffer();
-    let mut panel = io::large_buffer();
-    let mut axles = io::large_buffer();
-    let first = test_framing::next_text(&mut case);
-    let second = test_framing::text_behind(first, &mut panel, b"no log of the panel\n");
-    let third = test_framing::text_behind(second, &mut axles, b"no log of the axle counters\n");
-    let n = first.bytes;
-    let m = second.bytes;
-    let k = third.bytes;
-    third.there && show(&case[..n], &panel[..m], &axles[..k])
-}
-
 fn show(case: &[u8], panel: &[u8], axles: &[u8]) -> bool {
-    let read = case_reader::read_case(case);
-    let answer = read.answer;
-    match answer {
-        CaseAnswer::Refused(f) => refused(f),
-        CaseAnswer::Accepted => {
+    match case_reader::read_case(case) {
+        Err(f) => refused(f),
+        Ok(r) => {
             let a = log_of(panel);
             let b = log_of(axles);
-            tell(read.railway, a, b);
+            tell(r, a, b);
         }
     }
     true
@@ -104,10 +87,8 @@ fn show(case: &[u8], panel: &[u8], axles: &[u8]) -> bool {
 // A log, byte by byte.
 fn log_of(text: &[u8]) -> Log {
     let mut log = many(0);
-    let mut i: usize = 0;
-    while i < text.len() {
+    for i in 0..text.len() {
         log = with_byte(log, text[i]);
-        i += 1;
     }
     log
 }
@@ -167,19 +148,19 @@ fn place_of(n: u32) -> u8 {
 // What the comparison answers.
 fn tell(r: Railway, a: Log, b: Log) {
     match compared(r, a, b) {
-        LogAnswer::Agree => {
+        Ok(Verdict::Agree) => {
             io::write_all(STDOUT_FILENO, b"agree\n");
         }
-        LogAnswer::Differ(t) => {
+        Ok(Verdict::Differ(t)) => {
             io::write_all(STDOUT_FILENO, b"differ\t");
             io::print_decimal(STDOUT_FILENO, t as u64 + 1);
             io::write_all(STDOUT_FILENO, b"\n");
         }
-        LogAnswer::Refused(f) => refused(f),
+        Err(f) => refused(f),
     }
 }
 
-fn compared(r: Railway, a: Log, b: Log) -> LogAnswer {
+fn compared(r: Railway, a: Log, b: Log) -> Result<Verdict, Refusal> {
     let panel = a.entries;
     let axles = b.entries;
     lend(r, panel, at_most(a.count), axles, at_most(b.count))
@@ -192,7 +173,13 @@ fn at_most(n: usize) -> usize
 }
 
 // The call, with the first entries of two arrays.
-fn lend(r: Railway, panel: [Entry; SPACE], n: usize, axles: [Entry; SPACE], m: usize) -> LogAnswer
+fn lend(
+    r: Railway,
+    panel: [Entry; SPACE],
+    n: usize,
+    axles: [Entry; SPACE],
+    m: usize,
+) -> Result<Verdict, Refusal>
     requires { (n ≤ 257) × (m ≤ 257) }
     ensures { LogPost r (take n panel) (take m axles) result }
 {

@@ -3,13 +3,11 @@
 // Standard input is records (crate test_framing).
 #![tactic(auto)]
 
-use game_moves::Move;
-use railway::{CaseAnswer, Railway};
+use game_moves::Fault;
+use railway::Railway;
 use railway_compiled::Table;
 use railway_routes::Ways;
-
-// The descriptor of standard output.
-const STDOUT_FILENO: i32 = 1;
+use test_framing::STDOUT_FILENO;
 
 // How many sets of open trains there can be.
 const OPENS: u32 = 1u32 << Railway::TRAINS;
@@ -18,44 +16,24 @@ const OPENS: u32 = 1u32 << Railway::TRAINS;
 const FIRST_TRAIN: u32 = 1u32 << Railway::POINTS;
 
 fn main() {
-    let mut turns: u64 = 0;
-    while turns < test_framing::MOST_TURNS && one() {
-        turns += 1;
-    }
+    test_framing::each_record(|text| show(text));
 }
 
-// One record; answers whether there was one.
-fn one() -> bool {
-    let mut space = io::large_buffer();
-    let text = test_framing::next_text(&mut space);
-    let n = text.bytes;
-    text.there && show(&space[..n])
-}
-
-fn show(text: &[u8]) -> bool {
-    let read = case_reader::read_case(text);
-    let answer = read.answer;
-    if let CaseAnswer::Accepted = answer {
+fn show(text: &[u8]) {
+    if let Ok(r) = case_reader::read_case(text) {
         io::write_all(STDOUT_FILENO, b"case\n");
-        placements(read.railway);
+        placements(r);
     }
-    true
 }
 
 fn placements(r: Railway) {
-    let c = railway_compiled::compile(r);
-    let table = c.table;
-    let links = r.links;
-    let closed = r.closed;
-    let ways = railway_routes::ways_of(&links, &closed);
-    let n = game_moves::placements(&table);
-    let mut p: u32 = 0;
-    while p < n {
-        if game_moves::is_lost(&table, p) {
-            p += 1;
-        } else {
+    let Ok(table) = railway_compiled::compile(r) else {
+        return;
+    };
+    let ways = railway_routes::ways_of(&r.links, &r.closed);
+    for p in 0..game_moves::placements(&table) {
+        if !game_moves::is_lost(&table, p) {
             settings(&table, &ways, r.trains, r.points, p);
-            p += 1;
         }
     }
 }
@@ -63,18 +41,15 @@ fn placements(r: Railway) {
 // Every set of open trains.
 fn settings(table: &Table, ways: &Ways, k: u8, q: u8, p: u32) {
     let n = power(k);
-    let mut mask: u32 = 0;
-    while mask < n {
+    for mask in 0..n {
         points(table, ways, k, q, p, mask % OPENS);
-        mask += 1;
     }
 }
 
 // Every way that the points may lie.
 fn points(table: &Table, ways: &Ways, k: u8, q: u8, p: u32, open: u32) {
     let n = power(q);
-    let mut bits: u32 = 0;
-    while bits < n {
+    for bits in 0..n {
         line(
             table,
             ways,
@@ -82,7 +57,6 @@ fn points(table: &Table, ways: &Ways, k: u8, q: u8, p: u32, open: u32) {
             p,
             (open % OPENS) * FIRST_TRAIN + bits % FIRST_TRAIN,
         );
-        bits += 1;
     }
 }
 
@@ -95,11 +69,9 @@ fn line(table: &Table, ways: &Ways, k: u8, p: u32, v: u32) {
     io::print_decimal(STDOUT_FILENO, p as u64);
     tab();
     io::print_decimal(STDOUT_FILENO, v as u64);
-    let mut t: u8 = 0;
-    while t < k {
+    for t in 0..k {
         tab();
         outcome(table, ways, p, v, t);
-        t += 1;
     }
     line_end();
 }
@@ -114,16 +86,16 @@ fn line_end() {
 
 fn outcome(table: &Table, ways: &Ways, p: u32, v: u32, t: u8) {
     match game_moves::move_of(table, ways, p, v, t) {
-        Move::NotAllowed => {
+        Err(Fault::NotAllowed) => {
             io::write_all(STDOUT_FILENO, b"-");
         }
-        Move::Derails => {
+        Err(Fault::Derails) => {
             io::write_all(STDOUT_FILENO, b"x");
         }
-        Move::Collides => {
+        Err(Fault::Collides) => {
             io::write_all(STDOUT_FILENO, b"c");
         }
-        Move::At(q) => {
+        Ok(q) => {
             let x = game_placement::section_at(game_moves::placement_of(table, q), t);
             io::print_decimal(STDOUT_FILENO, x as u64 + 1);
         }

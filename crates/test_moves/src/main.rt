@@ -3,15 +3,12 @@
 // to; a search answers `none` or the entry. Sections, points and trains are counted from 0 in the code, from 1 in the text.
 #![tactic(auto)]
 
-use game_moves::Move;
+use game_moves::Fault;
 use game_tables::NO_FIGURE;
-use railway::{CaseAnswer, End, Leg, PointNo, Railway, SectionNo, Side, Train};
-use railway_compiled::Table;
+use railway::{End, Leg, PointNo, Railway, SectionNo, Side, Train};
+use railway_compiled::{TABLE, Table};
 use railway_routes::Ways;
-use solver_settings::Found;
-
-// The descriptor of standard output.
-const STDOUT_FILENO: i32 = 1;
+use test_framing::STDOUT_FILENO;
 
 fn number(label: &[u8], n: u32) {
     io::write_all(STDOUT_FILENO, label);
@@ -37,38 +34,33 @@ fn flag(label: &[u8], b: bool) {
 
 fn show_move(label: &[u8], table: &Table, ways: &Ways, p: u32, v: u32, t: u8) {
     match game_moves::move_of(table, ways, p, v, t) {
-        Move::NotAllowed => word(label, b"-"),
-        Move::Derails => word(label, b"x"),
-        Move::Collides => word(label, b"c"),
-        Move::At(q) => number(label, q),
+        Err(Fault::NotAllowed) => word(label, b"-"),
+        Err(Fault::Derails) => word(label, b"x"),
+        Err(Fault::Collides) => word(label, b"c"),
+        Ok(q) => number(label, q),
     }
 }
 
 fn show_first(label: &[u8], table: &Table, ways: &Ways, figures: &[u32], p: u32, n: u32) {
     match solver_settings::find_setting(table, ways, figures, p, n) {
-        Found::Nothing => word(label, b"none"),
-        Found::Entry(v) => number(label, v),
+        None => word(label, b"none"),
+        Some(v) => number(label, v),
     }
 }
 
 fn show_test(label: &[u8], r: Railway) {
-    let c = railway_compiled::compile(r);
-    let t = c.tested;
-    match t {
-        CaseAnswer::Accepted => word(label, b"accepted"),
-        CaseAnswer::Refused(f) => number(label, f.number() as u32),
+    match railway_compiled::compile(r) {
+        Ok(_) => word(label, b"accepted"),
+        Err(f) => number(label, f.number() as u32),
     }
 }
 
 fn table_of(r: Railway) -> Table {
-    let c = railway_compiled::compile(r);
-    c.table
+    railway_compiled::compile(r).unwrap_or([0; TABLE])
 }
 
 fn ways_of(r: Railway) -> Ways {
-    let links = r.links;
-    let closed = r.closed;
-    railway_routes::ways_of(&links, &closed)
+    railway_routes::ways_of(&r.links, &r.closed)
 }
 
 fn up(n: u8) -> End {

@@ -3,55 +3,35 @@
 // Standard input is records (crate test_framing).
 #![tactic(auto)]
 
-use railway::{CaseAnswer, End, Railway, SectionNo, Side};
-use railway_passing::{MOST_MET, Passed, Reached};
-
-// The descriptor of standard output.
-const STDOUT_FILENO: i32 = 1;
+use railway::{End, Railway, SectionNo, Side};
+use railway_passing::{MOST_MET, Passed};
+use test_framing::STDOUT_FILENO;
 
 fn main() {
-    let mut turns: u64 = 0;
-    while turns < test_framing::MOST_TURNS && one() {
-        turns += 1;
-    }
+    test_framing::each_record(|text| show(text));
 }
 
-// One record; answers whether there was one.
-fn one() -> bool {
-    let mut space = io::large_buffer();
-    let text = test_framing::next_text(&mut space);
-    let n = text.bytes;
-    text.there && show(&space[..n])
-}
-
-fn show(text: &[u8]) -> bool {
-    let read = case_reader::read_case(text);
-    let answer = read.answer;
-    if let CaseAnswer::Accepted = answer {
+fn show(text: &[u8]) {
+    if let Ok(r) = case_reader::read_case(text) {
         io::write_all(STDOUT_FILENO, b"case\n");
-        sections(read.railway);
+        sections(r);
     }
-    true
 }
 
 // Both ends of every section.
 fn sections(r: Railway) {
     let n = r.sections;
-    let mut x: u8 = 0;
-    while x < n {
+    for x in 0..n {
         settings(r, x, Side::Down);
         settings(r, x, Side::Up);
-        x += 1;
     }
 }
 
 // Every way that the points may lie.
 fn settings(r: Railway, x: u8, side: Side) {
     let n = power(r.points);
-    let mut bits: u32 = 0;
-    while bits < n {
+    for bits in 0..n {
         line(r, x, side, bits);
-        bits += 1;
     }
 }
 
@@ -72,21 +52,20 @@ fn line(r: Railway, x: u8, side: Side, bits: u32) {
     }
     io::print_decimal(STDOUT_FILENO, bits as u64);
     tab();
-    let answer = railway_passing::pass(r, End::Section(SectionNo(x), side), bits);
-    let passed = answer.passed;
-    let reached = passed.reached;
-    section(reached);
-    tab();
-    points(passed);
+    if let Ok(passed) = railway_passing::pass(r, End::Section(SectionNo(x), side), bits) {
+        section(passed.reached);
+        tab();
+        points(passed);
+    }
     line_end();
 }
 
-fn section(reached: Reached) {
+fn section(reached: Option<SectionNo>) {
     match reached {
-        Reached::Nowhere => {
+        None => {
             io::write_all(STDOUT_FILENO, b"x");
         }
-        Reached::Section(n) => {
+        Some(n) => {
             number(n.0);
         }
     }
@@ -97,8 +76,7 @@ fn points(passed: Passed) {
     if passed.count == 0 {
         io::write_all(STDOUT_FILENO, b".");
     }
-    let mut i: u8 = 0;
-    while i < MOST_MET {
+    for i in 0..MOST_MET {
         if i < passed.count {
             if 0 < i {
                 io::write_all(STDOUT_FILENO, b",");
@@ -106,7 +84,6 @@ fn points(passed: Passed) {
             let at = i as usize;
             number(met[at]);
         }
-        i += 1;
     }
 }
 

@@ -2,21 +2,12 @@
 #![tactic(auto)]
 
 fn main() {
-    let mut turns: u64 = 0;
-    while turns < test_framing::MOST_TURNS && one() {
-        turns += 1;
-    }
+    test_framing::each_record(|text| show(text));
 }
 
-// One record; answers whether there was one.
-fn one() -> bool {
-    let mut space = io::large_buffer();
+// What program signalplan writes for it.
+fn show(case: &[u8]) {
     let mut plan = [0u8; plan_text::TEXT];
-    let text = test_framing::next_text(&mut space);
-    let n = text.bytes;
-    if text.there {
-        let put = plan_text::case_text(&space[..n], &mut plan);
-        answer_output::front(&plan, put);
-    }
-    text.there
+    let put = plan_text::case_text(case, &mut plan);
+    answer_output::front(&plan, put);
 }

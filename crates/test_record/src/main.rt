@@ -5,10 +5,8 @@
 // Row 7 has no line of its own: a record has one flag a signal and one a section, and what is set twice is set.
 #![tactic(auto)]
 
-use railway::{CaseAnswer, End, Leg, PointNo, Railway, SectionNo, Side, Train};
-
-// The descriptor of standard output.
-const STDOUT_FILENO: i32 = 1;
+use railway::{End, Leg, PointNo, Railway, SectionNo, Side, Train};
+use test_framing::STDOUT_FILENO;
 
 // No record here has more pieces.
 const PIECES: usize = 20;
@@ -99,10 +97,10 @@ fn show(label: &[u8], s: u8, p: u8, k: u8, pieces: &[u8]) {
 fn show_record(label: &[u8], r: Railway) {
     io::write_all(STDOUT_FILENO, label);
     match railway_acceptance::test_record(r) {
-        CaseAnswer::Accepted => {
+        Ok(()) => {
             io::write_all(STDOUT_FILENO, b"\taccepted\n");
         }
-        CaseAnswer::Refused(f) => {
+        Err(f) => {
             io::write_all(STDOUT_FILENO, b"\trefused\t");
             let n = f.number();
             io::print_decimal(STDOUT_FILENO, n as u64);

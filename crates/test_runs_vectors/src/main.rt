@@ -1,13 +1,11 @@
 // Tables of runs for case texts: a refusal's line; or `case`, and for heading up and then down, by rising row and column, the heading, the row, the column and the entry, where that says a run.
 // Standard input is records (crate test_framing). Behind them records that no text makes, handed to the call itself:
-// what each is, the number that is answered, 0 for none, and whether the table came back as it was.
+// what each is, the number that is answered, 0 for none, and whether the table that was handed in is then as it was.
 #![tactic(auto)]
 
-use railway::{CaseAnswer, End, Railway, SectionNo, Side, Train};
+use railway::{End, Railway, Refusal, SectionNo, Side, Train};
 use runs_tables::{NO_RUN, Runs};
-
-// The descriptor of standard output.
-const STDOUT_FILENO: i32 = 1;
+use test_framing::STDOUT_FILENO;
 
 // What stands in the tables that are handed in: no run of the yards here is so long, so that an entry which is left shows.
 const OLD: u8 = 77;
@@ -15,35 +13,21 @@ const OLD: u8 = 77;
 const COLUMNS: usize = Railway::SECTIONS as usize;
 
 fn main() {
-    let mut turns: u64 = 0;
-    while turns < test_framing::MOST_TURNS && one() {
-        turns += 1;
-    }
+    test_framing::each_record(|text| show(text));
     refused_records();
 }
 
-// One record; answers whether there was one.
-fn one() -> bool {
-    let mut space = io::large_buffer();
-    let text = test_framing::next_text(&mut space);
-    let n = text.bytes;
-    text.there && show(&space[..n])
-}
-
-fn show(text: &[u8]) -> bool {
-    let read = case_reader::read_case(text);
-    let answer = read.answer;
-    match answer {
-        CaseAnswer::Refused(f) => {
+fn show(text: &[u8]) {
+    match case_reader::read_case(text) {
+        Err(f) => {
             let mut line = [0u8; answer_output::LINE];
             answer_output::refusal(f, &mut line);
         }
-        CaseAnswer::Accepted => {
+        Ok(r) => {
             io::write_all(STDOUT_FILENO, b"case\n");
-            tables(read.railway);
+            tables(r);
         }
     }
-    true
 }
 
 // Both tables, the second made of what the first call handed back.
@@ -53,61 +37,47 @@ fn tables(r: Railway) {
     heading_table(b"d\t", r, Side::Down, up);
 }
 
-// The table of a heading. Another answer than that the record is accepted would show.
+// The table of a heading; refused, which would show, the one that was handed in.
 fn heading_table(word: &[u8], r: Railway, heading: Side, old: Runs) -> Runs {
-    let reply = runs_tables::run_table(r, heading, old);
-    let answer = reply.answer;
-    answered(answer);
-    let its_rows = reply.rows;
-    let table = runs_tables::table_in(its_rows);
-    rows(word, table);
-    table
+    match runs_tables::run_table(r, heading, old) {
+        Ok(table) => {
+            rows(word, table);
+            table
+        }
+        Err(f) => {
+            left(f);
+            rows(word, old);
+            old
+        }
+    }
 }
 
-fn answered(answer: CaseAnswer) {
-    let n = number(answer);
-    if n == 0 {
-        return;
-    }
+fn left(f: Refusal) {
     io::write_all(STDOUT_FILENO, b"left\t");
-    io::print_decimal(STDOUT_FILENO, n as u64);
+    io::print_decimal(STDOUT_FILENO, f.number() as u64);
     line_end();
 }
 
-// The number of an answer: that of its refusal, or 0.
-fn number(answer: CaseAnswer) -> u8 {
-    match answer {
-        CaseAnswer::Accepted => 0,
-        CaseAnswer::Refused(f) => f.number(),
-    }
-}
-
 fn rows(heading: &[u8], table: Runs) {
-    let mut x: u8 = 0;
-    while x < Railway::SECTIONS {
-        let at = x as usize;
-        columns(heading, x, table[at]);
-        x += 1;
+    for (x, row) in table.iter().enumerate() {
+        columns(heading, x, row);
     }
 }
 
-fn columns(heading: &[u8], x: u8, row: [u8; COLUMNS]) {
-    let mut y: u8 = 0;
-    while y < Railway::SECTIONS {
-        let at = y as usize;
-        entry(heading, x, y, row[at]);
-        y += 1;
+fn columns(heading: &[u8], x: usize, row: &[u8; COLUMNS]) {
+    for (y, v) in row.iter().enumerate() {
+        entry(heading, x, y, *v);
     }
 }
 
-fn entry(heading: &[u8], x: u8, y: u8, v: u8) {
+fn entry(heading: &[u8], x: usize, y: usize, v: u8) {
     if v == NO_RUN {
         return;
     }
     io::write_all(STDOUT_FILENO, heading);
-    io::print_decimal(STDOUT_FILENO, x as u64 + 1);
+    io::print_decimal(STDOUT_FILENO, (x as u64).saturating_add(1));
     tab();
-    io::print_decimal(STDOUT_FILENO, y as u64 + 1);
+    io::print_decimal(STDOUT_FILENO, (y as u64).saturating_add(1));
     tab();
     io::print_decimal(STDOUT_FILENO, v as u64);
     line_end();
@@ -169,11 +139,16 @@ fn handed(what: &[u8], r: Railway) {
     io::write_all(STDOUT_FILENO, what);
     tab();
     let old = [[OLD; COLUMNS]; COLUMNS];
-    let reply = runs_tables::run_table(r, Side::Up, old);
-    let answer = reply.answer;
-    io::print_decimal(STDOUT_FILENO, number(answer) as u64);
-    let its_rows = reply.rows;
-    if same(runs_tables::table_in(its_rows)) {
+    match runs_tables::run_table(r, Side::Up, old) {
+        Ok(table) => handed_back(0, table),
+        Err(f) => handed_back(f.number(), old),
+    }
+}
+
+// The number of a refusal, or 0, and whether the table is the one that was handed in.
+fn handed_back(number: u8, table: Runs) {
+    io::print_decimal(STDOUT_FILENO, number as u64);
+    if same(table) {
         io::write_all(STDOUT_FILENO, b"\tas it came\n");
     } else {
         io::write_all(STDOUT_FILENO, b"\tfilled\n");
@@ -182,28 +157,7 @@ fn handed(what: &[u8], r: Railway) {
 
 // All entries are those of the table that was handed in.
 fn same(table: Runs) -> bool {
-    let mut x: usize = 0;
-    while x < COLUMNS {
-        let row = table[x];
-        if same_row(row) {
-            x += 1;
-        } else {
-            return false;
-        }
-    }
-    true
-}
-
-fn same_row(row: [u8; COLUMNS]) -> bool {
-    let mut y: usize = 0;
-    while y < COLUMNS {
-        if row[y] == OLD {
-            y += 1;
-        } else {
-            return false;
-        }
-    }
-    true
+    table.iter().all(|row| row.iter().all(|v| *v == OLD))
 }
 
 fn tab() {

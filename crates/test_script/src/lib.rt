@@ -2,21 +2,17 @@
 // them are lent (at first as many as there are placements; none, where the solver fills none) and the present desk. Commands: `o` opens a desk; `s` asks for its setting; `r`, train,
 // section: a report; `c`: a change to the new case, which is then the present one with its tables; `d`, a section for each train, a code, a number of trains: the present desk; `l`, n,
 // and `n`, n: so many entries of the present tables, or of the new ones, are lent from here on; `f`, code, figure, setting: written into the present tables. Of these `o`, `s`, `r` and
-// `c` are answered, a line each, and the desk that is handed back becomes the present one.
+// `c` are answered, a line each, and the desk behind the call is the present one.
 #![tactic(auto)]
 
 ghost use Rattle.std.specs.Prelude.{◌≡◌, true, false};
 ghost use Rattle.io.specs.Counts.{IsPrefixLen};
 ghost use Rattle.case_reader.specs.Answers.{ByCase};
 
-use desk::{ChangeAnswer, OpenAnswer, ReportAnswer, SettingAnswer};
 use desk_calls::Desk;
 use game_placement::Placement;
-use game_tables::SolverAnswer;
-use railway::{CaseAnswer, Railway, Refusal};
-
-// The descriptor of standard output.
-const STDOUT_FILENO: i32 = 1;
+use railway::{Railway, Refusal};
+use test_framing::STDOUT_FILENO;
 
 // As many entries have the tables.
 const ENTRIES: usize = 1024;
@@ -50,31 +46,28 @@ struct Kept {
 pub fn run_script(case: &[u8], next: &[u8], script: &[u8]) -> bool
     ensures { ByCase case.now (λ f. result ≡ false) (λ r. result ≡ true) }
 {
-    let read = case_reader::read_case(case);
-    let answer = read.answer;
-    match answer {
-        CaseAnswer::Refused(_) => false,
-        CaseAnswer::Accepted => {
-            begin(read.railway, next, script);
+    match case_reader::read_case(case) {
+        Err(_) => false,
+        Ok(r) => {
+            begin(r, next, script);
             true
         }
     }
 }
 
-// Both cases, with tables of their own. Beside a refused text the reader gives the empty record, which the solver refuses.
+// Both cases, with tables of their own. The solver refuses the empty record.
 fn begin(r: Railway, next: &[u8], script: &[u8]) {
     let mut figures = [0u32; ENTRIES];
     let mut settings = [0u32; ENTRIES];
     let mut next_figures = [0u32; ENTRIES];
     let mut next_settings = [0u32; ENTRIES];
-    let read = case_reader::read_case(next);
-    let s = read.railway;
+    let s = railway_of(next);
     let lent = fill(r, &mut figures, &mut settings);
     let lent_next = fill(s, &mut next_figures, &mut next_settings);
     let kept = Kept {
         railway: r,
         over: false,
-        desk: nowhere(),
+        desk: Desk::nowhere(),
         lent: lent,
         lent_next: lent_next,
     };
@@ -89,14 +82,23 @@ fn begin(r: Railway, next: &[u8], script: &[u8]) {
     );
 }
 
+// The railway of a case text; of one that is refused the empty record.
+fn railway_of(text: &[u8]) -> Railway {
+    match case_reader::read_case(text) {
+        Ok(r) => r,
+        Err(_) => Railway::empty(),
+    }
+}
+
 // The solver's tables, and how many placements the case has; 0, where it is refused.
 fn fill(r: Railway, figures: &mut [u32], settings: &mut [u32]) -> usize {
-    if let SolverAnswer::Refused(_) = solver::solve(r, figures, settings) {
+    if let Err(_) = solver::solve(r, figures, settings) {
         return 0;
     }
-    let c = railway_compiled::compile(r);
-    let table = c.table;
-    game_moves::placements(&table) as usize
+    match railway_compiled::compile(r) {
+        Ok(table) => game_moves::placements(&table) as usize,
+        Err(_) => 0,
+    }
 }
 
 // Every command, byte by byte.
@@ -111,20 +113,18 @@ fn run(
 ) {
     let mut kept = begun;
     let mut command = fresh();
-    let mut i: usize = 0;
-    while i < script.len() {
+    for b in script {
         kept = turn(
             kept,
             command,
-            script[i],
+            *b,
             next,
             figures,
             settings,
             next_figures,
             next_settings,
         );
-        command = with_byte(command, script[i]);
-        i += 1;
+        command = with_byte(command, *b);
     }
 }
 
@@ -209,31 +209,26 @@ fn with_digit(n: u32, digit: u8) -> u32 {
 
 // What is kept, with another desk.
 fn with_desk(kept: Kept, desk: Desk) -> Kept {
-    let mut k = kept;
-    k.desk = desk;
-    k
+    Kept { desk, ..kept }
 }
 
 // A change to the new case.
 fn change(kept: Kept, next: &[u8], figures: &[u32], settings: &[u32]) -> Kept {
     let a = least(kept.lent_next, figures);
     let b = least(kept.lent_next, settings);
-    let desk = kept.desk;
-    let reply = desk.change(kept.railway, next, &figures[..a], &settings[..b]);
-    let answer = reply.answer;
-    match answer {
-        ChangeAnswer::Changed => gone_over(kept, next, reply.desk),
-        ChangeAnswer::Refused(f) => {
+    let mut desk = kept.desk;
+    match desk.change(kept.railway, next, &figures[..a], &settings[..b]) {
+        Ok(()) => gone_over(kept, next, desk),
+        Err(f) => {
             refusal(f);
-            with_desk(kept, reply.desk)
+            with_desk(kept, desk)
         }
     }
 }
 
 // The new case and its tables are the present ones.
 fn gone_over(kept: Kept, next: &[u8], desk: Desk) -> Kept {
-    let read = case_reader::read_case(next);
-    let s = read.railway;
+    let s = railway_of(next);
     stands(desk, s.trains);
     Kept {
         railway: s,
@@ -351,49 +346,40 @@ fn byte_of(n: u32) -> u8 {
     if n < 255 { n as u8 } else { 255 }
 }
 
-// A desk that stands on no section.
-fn nowhere() -> Desk {
-    Desk {
-        at: Placement {
-            sections: [NOWHERE; Railway::TRAINS as usize],
-        },
-        code: 0,
-        arrived: 0,
-    }
-}
-
+// The desk that is opened; where none is, one that stands nowhere.
 fn open(r: Railway, figures: &[u32], settings: &[u32]) -> Desk {
-    let reply = Desk::open(r, figures, settings);
-    let answer = reply.answer;
-    let desk = reply.desk;
-    match answer {
-        OpenAnswer::Opened => stands(desk, r.trains),
-        OpenAnswer::NoFigure => {
-            io::write_all(STDOUT_FILENO, b"none\n");
+    match Desk::open(r, figures, settings) {
+        Ok(Some(desk)) => {
+            stands(desk, r.trains);
+            desk
         }
-        OpenAnswer::Refused(f) => refusal(f),
+        Ok(None) => {
+            io::write_all(STDOUT_FILENO, b"none\n");
+            Desk::nowhere()
+        }
+        Err(f) => {
+            refusal(f);
+            Desk::nowhere()
+        }
     }
-    desk
 }
 
 fn setting(desk: Desk, r: Railway, figures: &[u32], settings: &[u32]) {
     match desk.setting(r, figures, settings) {
-        SettingAnswer::Given(v) => {
+        Ok(v) => {
             io::write_all(STDOUT_FILENO, b"setting");
             number(v);
             line_end();
         }
-        SettingAnswer::Refused(f) => refusal(f),
+        Err(f) => refusal(f),
     }
 }
 
 fn report(desk: Desk, r: Railway, figures: &[u32], settings: &[u32], t: u8, x: u8) -> Desk {
-    let reply = desk.report(r, figures, settings, t, x);
-    let answer = reply.answer;
-    let next = reply.desk;
+    let (next, answer) = desk.report(r, figures, settings, t, x);
     match answer {
-        ReportAnswer::Counted => stands(next, r.trains),
-        ReportAnswer::Refused(f) => refusal(f),
+        Ok(()) => stands(next, r.trains),
+        Err(f) => refusal(f),
     }
     next
 }
@@ -402,10 +388,8 @@ fn report(desk: Desk, r: Railway, figures: &[u32], settings: &[u32], t: u8, x: u
 fn stands(desk: Desk, trains: u8) {
     let at = desk.at;
     io::write_all(STDOUT_FILENO, b"desk");
-    let mut t: u8 = 0;
-    while t < trains {
+    for t in 0..trains {
         number(game_placement::section_at(at, t) as u32 + 1);
-        t += 1;
     }
     number(desk.code);
     number(desk.arrived as u32);

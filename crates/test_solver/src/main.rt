@@ -5,11 +5,9 @@
 // enough and one entry shorter, and of records that are refused. Every entry that the solver is lent holds a mark before the call.
 #![tactic(auto)]
 
-use game_tables::{ENTRIES, NO_FIGURE, SolverAnswer};
-use railway::{CaseAnswer, Railway, Train};
-
-// The descriptor of standard output.
-const STDOUT_FILENO: i32 = 1;
+use game_tables::{ENTRIES, NO_FIGURE};
+use railway::{Railway, Refusal, Train};
+use test_framing::STDOUT_FILENO;
 
 const MARK: u32 = 7;
 
@@ -19,30 +17,18 @@ const ROOM: usize = 128;
 const TURNS: u32 = 1024;
 
 fn main() {
-    let mut turns: u64 = 0;
-    while turns < test_framing::MOST_TURNS && one() {
-        turns += 1;
-    }
+    test_framing::each_record(|text| both(text));
 }
 
-// One record; answers whether there was one.
-fn one() -> bool {
-    let mut space = io::large_buffer();
-    let text = test_framing::next_text(&mut space);
-    let n = text.bytes;
-    if text.there {
-        exported(&space[..n]);
-        show(&space[..n]);
-    }
-    text.there
+fn both(text: &[u8]) {
+    exported(text);
+    show(text);
 }
 
 fn show(text: &[u8]) {
-    let read = case_reader::read_case(text);
-    let answer = read.answer;
-    match answer {
-        CaseAnswer::Accepted => accepted(read.railway),
-        CaseAnswer::Refused(f) => {
+    match case_reader::read_case(text) {
+        Ok(r) => accepted(r),
+        Err(f) => {
             let mut line = [0u8; answer_output::LINE];
             answer_output::refusal(f, &mut line);
         }
@@ -82,11 +68,8 @@ fn lines(
     set: &mut [u32],
 ) {
     let mut place: u64 = 0;
-    let mut turns: u32 = 0;
-    while turns < TURNS {
-        if part(text, figures, settings, &mut place, state, listed, set) {
-            turns += 1;
-        } else {
+    for _ in 0..TURNS {
+        if !part(text, figures, settings, &mut place, state, listed, set) {
             return;
         }
     }
@@ -155,8 +138,9 @@ fn numbers(label: &[u8], answer: u8, one: u64, other: u64) {
 }
 
 fn accepted(r: Railway) {
-    let c = railway_compiled::compile(r);
-    let table = c.table;
+    let Ok(table) = railway_compiled::compile(r) else {
+        return;
+    };
     let n = game_moves::placements(&table);
     io::write_all(STDOUT_FILENO, b"case\n");
     solved(r, n);
@@ -204,15 +188,7 @@ fn refused_records(r: Railway) {
 
 // The train with weight 0.
 fn weightless(train: Train) -> Train {
-    let heading = train.heading;
-    let start = train.start;
-    let destination = train.destination;
-    Train {
-        heading: heading,
-        start: start,
-        destination: destination,
-        weight: 0,
-    }
+    Train { weight: 0, ..train }
 }
 
 // The answer with tables of so many entries, and whether these are as before.
@@ -235,16 +211,16 @@ fn lend(r: Railway, figures: &mut [u32], settings: &mut [u32], n: usize, m: usiz
     }
 }
 
-fn answer(a: SolverAnswer) {
+fn answer(a: Result<Option<u32>, Refusal>) {
     match a {
-        SolverAnswer::Refused(f) => {
+        Err(f) => {
             let mut line = [0u8; answer_output::LINE];
             answer_output::refusal(f, &mut line);
         }
-        SolverAnswer::Unsolvable => {
+        Ok(None) => {
             io::write_all(STDOUT_FILENO, b"none\n");
         }
-        SolverAnswer::Figure(n) => {
+        Ok(Some(n)) => {
             io::write_all(STDOUT_FILENO, b"figure\t");
             io::print_decimal(STDOUT_FILENO, n as u64);
             io::write_all(STDOUT_FILENO, b"\n");
@@ -253,14 +229,12 @@ fn answer(a: SolverAnswer) {
 }
 
 fn entries(figures: &[u32], settings: &[u32], n: u32) {
-    let mut p: u32 = 0;
-    while p < n {
+    for p in 0..n {
         entry(
             p,
             game_tables::entry_at(figures, p, NO_FIGURE),
             game_tables::entry_at(settings, p, 0),
         );
-        p += 1;
     }
 }
 
@@ -279,14 +253,7 @@ fn entry(p: u32, figure: u32, setting: u32) {
 
 // Whether the mark stands in every entry from one on.
 fn marked_from(table: &[u32], from: usize) -> bool {
-    let mut p = from;
-    while p < table.len() {
-        if table[p] != MARK {
-            return false;
-        }
-        p += 1;
-    }
-    true
+    table.iter().skip(from).all(|x| *x == MARK)
 }
 
 fn flag(label: &[u8], b: bool) {

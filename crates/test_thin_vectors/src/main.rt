@@ -4,40 +4,22 @@
 
 use game_tables::{ENTRIES, NO_FIGURE};
 use plan_checker::Checker;
-use railway::{CaseAnswer, Railway};
-use thin::ThinAnswer;
-
-// The descriptor of standard output.
-const STDOUT_FILENO: i32 = 1;
+use railway::Railway;
+use railway_compiled::TABLE;
+use test_framing::STDOUT_FILENO;
 
 fn main() {
-    let mut turns: u64 = 0;
-    while turns < test_framing::MOST_TURNS && one() {
-        turns += 1;
-    }
+    test_framing::each_pair(b"no plan\n", |case, plan| show(case, plan));
     own_calls();
 }
 
-// One pair of records; answers whether there was one.
-fn one() -> bool {
-    let mut case = io::large_buffer();
-    let mut plan = io::large_buffer();
-    let first = test_framing::next_text(&mut case);
-    let second = test_framing::text_behind(first, &mut plan, b"no plan\n");
-    let n = first.bytes;
-    let m = second.bytes;
-    second.there && show(&case[..n], &plan[..m])
-}
-
 fn show(case: &[u8], plan: &[u8]) -> bool {
-    let read = case_reader::read_case(case);
-    let answer = read.answer;
-    match answer {
-        CaseAnswer::Refused(f) => {
+    match case_reader::read_case(case) {
+        Err(f) => {
             let mut line = [0u8; answer_output::LINE];
             answer_output::refusal(f, &mut line);
         }
-        CaseAnswer::Accepted => own_tables(read.railway, plan),
+        Ok(r) => own_tables(r, plan),
     }
     true
 }
@@ -46,8 +28,7 @@ fn show(case: &[u8], plan: &[u8]) -> bool {
 fn own_tables(r: Railway, plan: &[u8]) {
     let mut figures = [0u32; ENTRIES];
     let mut settings = [0u32; ENTRIES];
-    let fresh = Checker::fresh(r, &mut figures, &mut settings);
-    let checker = fresh.checker;
+    let (checker, _) = Checker::fresh(r, &mut figures, &mut settings);
     run(checker, r, plan, &mut figures, &mut settings);
 }
 
@@ -61,45 +42,38 @@ fn run(
 ) -> Checker {
     let gone = check_text::go_on(start, r, plan, figures, settings);
     let n = gone.bytes;
-    let checker = gone.checker;
     if n < plan.len() {
-        let answer = check_text::finish(checker, r, &plan[n..], figures, settings);
+        let answer = check_text::finish(gone.checker, r, &plan[n..], figures, settings);
         let mut line = [0u8; answer_output::LINE];
         answer_output::test_answer(answer, &mut line);
-        return checker;
+    } else {
+        thinned(&gone.checker, r, figures, settings);
     }
-    thinned(checker, r, figures, settings)
+    gone.checker
 }
 
 // The call, what it answers and what it leaves.
-fn thinned(checker: Checker, r: Railway, figures: &[u32], settings: &mut [u32]) -> Checker {
-    let reply = thin_call::thin(checker, r, figures, settings);
-    let answer = reply.answer;
-    match answer {
-        ThinAnswer::Thinned => {
+fn thinned(checker: &Checker, r: Railway, figures: &[u32], settings: &mut [u32]) {
+    match thin_call::thin(checker, r, figures, settings) {
+        Ok(()) => {
             io::write_all(STDOUT_FILENO, b"thinned\n");
         }
-        ThinAnswer::Refused(f) => {
+        Err(f) => {
             let mut line = [0u8; answer_output::LINE];
             answer_output::refusal(f, &mut line);
         }
     }
     entries(r, figures, settings);
-    reply.checker
 }
 
 // Every code whose figure is not none; of a record that is refused, which has no codes, 0 alone.
 fn entries(r: Railway, figures: &[u32], settings: &[u32]) {
-    let c = railway_compiled::compile(r);
-    let table = c.table;
-    let m = game_moves::placements(&table);
-    let mut p: u32 = 0;
-    while p < m {
+    let table = railway_compiled::compile(r).unwrap_or([0; TABLE]);
+    for p in 0..game_moves::placements(&table) {
         let n = game_tables::entry_at(figures, p, NO_FIGURE);
         if n < NO_FIGURE {
             entry(p, n, game_tables::entry_at(settings, p, 0));
         }
-        p += 1;
     }
 }
 
@@ -116,12 +90,12 @@ fn entry(p: u32, figure: u32, setting: u32) {
 fn own_calls() {
     io::write_all(STDOUT_FILENO, b"own calls\n");
     short_tables(Railway::empty());
-    let read = case_reader::read_case(
+    if let Ok(r) = case_reader::read_case(
         b"H\t4\t0\t2\nJ\t1u\t2d\nJ\t3u\t4d\nG\t1u\nG\t3u\nT\t1\tu\t1\t2\nT\t2\tu\t3\t4\n",
-    );
-    let r = read.railway;
-    short_tables(r);
-    on_and_on(r);
+    ) {
+        short_tables(r);
+        on_and_on(r);
+    }
 }
 
 // Tables that are one entry too short for the sidings, and hold what no checker has entered.
@@ -130,17 +104,16 @@ fn short_tables(r: Railway) {
     let mut settings = [983041u32; 15];
     let mut other_figures = [0u32; 15];
     let mut other_settings = [0u32; 15];
-    let fresh = Checker::fresh(r, &mut other_figures, &mut other_settings);
-    let checker = fresh.checker;
-    thinned(checker, r, &figures, &mut settings);
+    let (checker, _) = Checker::fresh(r, &mut other_figures, &mut other_settings);
+    thinned(&checker, r, &figures, &mut settings);
 }
 
 // No line yet; a plan that opens both trains; the same thinned again; a line more, with which it fails, and stays as it is; and a line that does not rise.
 fn on_and_on(r: Railway) {
     let mut figures = [7u32; 18];
     let mut settings = [7u32; 18];
-    let fresh = Checker::fresh(r, &mut figures, &mut settings);
-    let none = run(fresh.checker, r, b"", &mut figures, &mut settings);
+    let (fresh, _) = Checker::fresh(r, &mut figures, &mut settings);
+    let none = run(fresh, r, b"", &mut figures, &mut settings);
     let once = run(
         none,
         r,

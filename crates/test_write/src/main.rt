@@ -2,20 +2,17 @@
 // `bytes` or `refused` with a number; then the whole buffer as it was left, and a line end.
 #![tactic(auto)]
 
-use case_file::Written;
-use railway::{End, Leg, PointNo, Railway, SectionNo, Side, Train};
+use railway::{End, Leg, PointNo, Railway, Refusal, SectionNo, Side, Train};
+use test_framing::STDOUT_FILENO;
 
-// The descriptor of standard output.
-const STDOUT_FILENO: i32 = 1;
-
-fn show(label: &[u8], answer: Written, buffer: &[u8]) {
+fn show(label: &[u8], answer: Result<usize, Refusal>, buffer: &[u8]) {
     io::write_all(STDOUT_FILENO, label);
     match answer {
-        Written::Bytes(n) => {
+        Ok(n) => {
             io::write_all(STDOUT_FILENO, b"\tbytes\t");
             io::print_decimal(STDOUT_FILENO, n as u64);
         }
-        Written::Refused(f) => {
+        Err(f) => {
             io::write_all(STDOUT_FILENO, b"\trefused\t");
             let n = f.number();
             io::print_decimal(STDOUT_FILENO, n as u64);

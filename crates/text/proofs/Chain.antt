@@ -8,8 +8,7 @@ use mathlib.Core.List.{List}
 use lib.Dec.{eqb}
 use lib.ListN.{get_or}
 use Rattle.text.specs.declared.Cursor.{Cursor}
-use Rattle.text.specs.declared.Byte.{Byte}
-use Rattle.text.specs.declared.Byte.TheVariants.{Other, Past}
+use Rattle.text.specs.Byte.{Byte, Other, Past}
 use Rattle.text.specs.Reading.{Got, bad, got, then, byte_at}
 use Rattle.text.specs.Answers.{byte_got, byte_inside}
 use Rattle.text.proofs.Reading.{bad-got}

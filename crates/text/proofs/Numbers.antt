@@ -10,6 +10,10 @@ use native.Mathlib.Nat.{pow-succ', pow-le-pow_right}
 use lib.ListN.{length, get_or, get_or-eq_default}
 use borrow.Author.Tests.{lt-ltb, le-ltb, eq-eqb, ne_eqb}
 use Rattle.laws.proofs.Bools.{lt?}
+use Rattle.std.specs.Prelude.{ltb, ◌&&◌}
+use Rattle.std.specs.Char.{is_ascii_digit}
+use Rattle.std.proofs.Math.Dec.{leb-suc-suc}
+use mathlib.Core.Path.{ap}
 use Rattle.text.specs.declared.Width.{Width}
 use Rattle.text.specs.declared.Width.TheVariants.{Three, Ten}
 use Rattle.text.specs.Reading.{is_digit, bad, got, byte_at, digits_at, number_at}
@@ -17,17 +21,9 @@ use Rattle.text.specs.Answers.{more_digits, byte_inside}
 use Rattle.text.proofs.Decimal.{digit-is}
 
 -- digits
-pub digit_low : (b : ℕ) → b < 48 → false ≡ is_digit b
+pub digit-ascii : (b : ℕ) → is_ascii_digit b ≡ is_digit b
 unfolding is_digit
-digit_low b h = rw (le-ltb 47 b (omega arith))
-
-pub digit-high : (b : ℕ) → 57 < b → false ≡ is_digit b
-unfolding is_digit
-digit-high b h = rw (lt-ltb 47 b (omega arith), le-ltb b 58 (omega arith))
-
-pub digit-between : (b : ℕ) → 48 ≤ b → b ≤ 57 → true ≡ is_digit b
-unfolding is_digit
-digit-between b l h = rw (lt-ltb 47 b (omega arith), lt-ltb b 58 (omega arith))
+digit-ascii b = ap (λ x. ltb 47 b && x) (sym (leb-suc-suc b 57))
 
 pub width_small : (w : Width) → more_digits w ≤ 9
 width_small Three = omega arith

@@ -2,10 +2,9 @@
 use Rattle.std.specs.Prelude.{cond, List, ℕ, ltb, length}
 use Rattle.text.specs.declared.Width.{Width}
 use Rattle.text.specs.declared.Width.TheVariants.{Three, Ten}
-use Rattle.text.specs.declared.Number.{Number}
-use Rattle.text.specs.declared.Number.TheVariants.{None, Value}
-use Rattle.text.specs.declared.Byte.{Byte}
-use Rattle.text.specs.declared.Byte.TheVariants.{Other, Past}
+use Rattle.std.specs.Prelude.{None}
+use Rattle.text.specs.Number.{Number, Value}
+use Rattle.text.specs.Byte.{Byte, Other, Past}
 use Rattle.text.specs.Reading.{Got, bad, got, byte_at}
 
 -- The digits that a number may have behind its first.

@@ -57,10 +57,8 @@ pub fn bytes(out: &mut [u8], at: usize, text: &[u8]) -> usize
     ensures { Appended out.old at text.now out.new result }
 {
     let mut next = at;
-    let mut i = 0;
-    while i < text.len() {
-        next = byte(out, next, text[i]);
-        i += 1;
+    for b in text {
+        next = byte(out, next, *b);
     }
     next
 }

@@ -26,20 +26,6 @@ pub enum Width {
     Ten,
 }
 
-// A number field: its value and the cursor behind it, or no number stands there.
-#[derive(Clone, Copy)]
-pub enum Number {
-    None,
-    Value(u64, Cursor),
-}
-
-// A byte that was looked for: the cursor behind it, or another byte stands there.
-#[derive(Clone, Copy)]
-pub enum Byte {
-    Other,
-    Past(Cursor),
-}
-
 // The byte at the cursor.
 pub fn peek(text: &[u8], c: Cursor) -> u8
     ensures { result ≡ get_or text.now c.at 0 }
@@ -48,29 +34,22 @@ pub fn peek(text: &[u8], c: Cursor) -> u8
     if at < text.len() { text[at] } else { 0 }
 }
 
-// The byte b at the cursor.
-pub fn byte_at(text: &[u8], c: Cursor, b: u8) -> Byte
+// The cursor behind the byte b, where it stands at this one.
+pub fn byte_at(text: &[u8], c: Cursor, b: u8) -> Option<Cursor>
     ensures { byte_got b result ≡ byte_inside text.now b c.at }
 {
     let at = c.at;
-    if at < text.len() {
-        if text[at] == b {
-            return Byte::Past(Cursor { at: at + 1 });
-        }
+    if at < text.len() && text[at] == b {
+        Some(Cursor { at: at + 1 })
+    } else {
+        None
     }
-    Byte::Other
 }
 
 fn is_digit(b: u8) -> bool
     ensures { result ≡ is_digit b }
 {
-    if b < b'0' {
-        return false;
-    }
-    if b'9' < b {
-        return false;
-    }
-    true
+    b.is_ascii_digit()
 }
 
 fn more_digits(w: Width) -> u8
@@ -82,38 +61,36 @@ fn more_digits(w: Width) -> u8
     }
 }
 
-// The number at the cursor: as many digits as there are and the width allows, and a zero by itself.
-pub fn number_at(text: &[u8], c: Cursor, w: Width) -> Number
+// The number at the cursor, and the cursor behind it: as many digits as there are and the width allows, and a zero by itself.
+pub fn number_at(text: &[u8], c: Cursor, w: Width) -> Option<(u64, Cursor)>
     ensures { number_got result ≡ number_at text.now (more_digits w) c.at }
 {
     let first = peek(text, c);
-    if is_digit(first) {
-        let at = c.at + 1;
-        if first == b'0' {
-            return Number::Value(0, Cursor { at: at });
-        }
-        return digits_at(text, at, (first - b'0') as u64, more_digits(w));
+    if !is_digit(first) {
+        return None;
     }
-    Number::None
+    let next = Cursor { at: c.at + 1 };
+    if first == b'0' {
+        Some((0, next))
+    } else {
+        Some(digits_at(text, next, (first - b'0') as u64, more_digits(w)))
+    }
 }
 
 // At most so many more digits, behind those of the number so far.
-fn digits_at(text: &[u8], from: usize, value: u64, most: u8) -> Number
-    requires { (value < 10 ^ (10 - most)) × (most ≤ 9) × (from ≤ length text.now) }
-    ensures { number_got result ≡ digits_at text.now most value from }
+fn digits_at(text: &[u8], from: Cursor, value: u64, most: u8) -> (u64, Cursor)
+    requires { (value < 10 ^ (10 - most)) × (most ≤ 9) × (from.at ≤ length text.now) }
+    ensures { number_got (Some result) ≡ digits_at text.now most value from.at }
 {
-    let mut at = from;
+    let mut at = from.at;
     let mut n = value;
-    let mut left = most;
-    while 0 < left {
+    for _i in 0..most {
         let b = peek(text, Cursor { at: at });
-        if is_digit(b) {
-            n = n * 10 + (b - b'0') as u64;
-            at += 1;
-            left -= 1;
-        } else {
-            return Number::Value(n, Cursor { at: at });
+        if !is_digit(b) {
+            break;
         }
+        n = n * 10 + (b - b'0') as u64;
+        at += 1;
     }
-    Number::Value(n, Cursor { at: at })
+    (n, Cursor { at: at })
 }

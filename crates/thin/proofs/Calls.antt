@@ -18,17 +18,15 @@ use Rattle.game.proofs.Accepted.{facts}
 use Rattle.game_tables.specs.Tables.{no_figure, setting_in}
 use Rattle.plan.specs.declared.CheckerState.{CheckerState}
 use Rattle.plan.specs.declared.CheckerState.TheVariants.{Fresh, Begun}
-use Rattle.plan.specs.declared.LineAnswer.{LineAnswer}
-use Rattle.plan.specs.declared.TestAnswer.{TestAnswer}
-use Rattle.plan.specs.declared.TestAnswer.TheVariants.{Pass}
+use Rattle.plan.specs.LineAnswer.{LineAnswer}
+use Rattle.plan.specs.TestAnswer.{TestAnswer, Pass}
 use Rattle.plan.specs.Checker.{Checking, take_line, test_plan, call_lines, is_taken, taken_texts}
 use Rattle.plan.specs.Checked.{Checked, InForm, Passing, Failing}
 use Rattle.plan.proofs.Calls.{taking-one}
 use Rattle.plan.proofs.Checked.{Holds, unbegun, begun, ran, checked-holds, fresh_holds}
 use Rattle.plan.proofs.Forms.{form-one}
 use Rattle.plan.proofs.Fresh.{fresh-made}
-use Rattle.thin.specs.declared.ThinAnswer.{ThinAnswer}
-use Rattle.thin.specs.declared.ThinAnswer.TheVariants.{Thinned, Refused}
+use Rattle.thin.specs.ThinAnswer.{ThinAnswer, Thinned, Refused}
 use Rattle.thin.specs.Claims.{ThinClaims}
 use Rattle.thin.specs.Calls.{PlansThin}
 use Rattle.thin.proofs.Claims.{thins-hold, passed}

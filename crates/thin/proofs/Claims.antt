@@ -27,9 +27,8 @@ use Rattle.game_tables.specs.Tables.{figure_in, setting_in, tables_short, case_r
 use Rattle.game_tables.proofs.Refusals.{case-none}
 use Rattle.plan.specs.declared.CheckerState.{CheckerState}
 use Rattle.plan.specs.declared.CheckerState.TheVariants.{Fresh, Begun}
-use Rattle.plan.specs.declared.LineAnswer.{LineAnswer}
-use Rattle.plan.specs.declared.TestAnswer.{TestAnswer}
-use Rattle.plan.specs.declared.TestAnswer.TheVariants.{Pass, Refused as TestRefused}
+use Rattle.plan.specs.LineAnswer.{LineAnswer}
+use Rattle.plan.specs.TestAnswer.{TestAnswer, Pass, Refused as TestRefused}
 use Rattle.plan.specs.Lines.{PlanLine, start_line, placement_line, line_code}
 use Rattle.plan.specs.Test.{listed_setting, Test, by_tables}
 use Rattle.plan.specs.Reading.{read_line}
@@ -38,8 +37,7 @@ use Rattle.plan.specs.Checker.{Checking, Left, line_entry, take_line, test_rows,
 use Rattle.plan.specs.Steps.{takes, takes_if, tests}
 use Rattle.plan.proofs.Steps.{line-steps, test-steps}
 use Rattle.plan.proofs.Test.{tested, plan-works}
-use Rattle.thin.specs.declared.ThinAnswer.{ThinAnswer}
-use Rattle.thin.specs.declared.ThinAnswer.TheVariants.{Thinned, Refused}
+use Rattle.thin.specs.ThinAnswer.{ThinAnswer, Thinned, Refused}
 use Rattle.thin.specs.Thinning.{stays, thinned_entry, thinned_table, thinned_checking, thin_leaves, thin_plan, ThinPost}
 use Rattle.thin.specs.Claims.{opened, LeanAt, Lean, ThinClaims, ThinsHold}
 use Rattle.thin.proofs.Bits.{is_train, only-opens}

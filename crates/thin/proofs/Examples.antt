@@ -27,7 +27,7 @@ use Rattle.plan.specs.declared.CheckerState.TheVariants.{Fresh, Begun}
 use Rattle.plan.specs.Checker.{Checking, left}
 use Rattle.plan.specs.Test.{listed_setting}
 use Rattle.plan.specs.Computed.{placement_passes, test_holds}
-use Rattle.thin.specs.declared.ThinAnswer.TheVariants.{Thinned, Refused}
+use Rattle.thin.specs.ThinAnswer.{Thinned, Refused}
 use Rattle.thin.specs.Law.{CommonFails}
 use Rattle.thin.specs.Thinning.{some_free, stays, thinned_entry, thin_plan}
 

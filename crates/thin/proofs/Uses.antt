@@ -31,9 +31,8 @@ use Rattle.game_tables.specs.Entries.{opens_in, setting_from, setting_at, entry_
 use Rattle.game_tables.specs.Tables.{setting_in, tables_short}
 use Rattle.game_tables.proofs.KnownYards.{figs_a, sets_a}
 use Rattle.plan.specs.declared.CheckerState.TheVariants.{Fresh, Begun}
-use Rattle.plan.specs.declared.LineAnswer.TheVariants.{Taken, Refused as LineRefused}
-use Rattle.plan.specs.declared.TestAnswer.{TestAnswer}
-use Rattle.plan.specs.declared.TestAnswer.TheVariants.{Pass, Refused as TestRefused}
+use Rattle.plan.specs.LineAnswer.{Taken, Refused as LineRefused}
+use Rattle.plan.specs.TestAnswer.{TestAnswer, Pass, Refused as TestRefused}
 use Rattle.plan.specs.Lines.{spell, fits}
 use Rattle.plan.specs.Checked.{Form, InForm}
 use Rattle.plan.specs.Reading.{guess, read_line}
@@ -41,8 +40,7 @@ use Rattle.plan.specs.Test.{listed_setting}
 use Rattle.plan.specs.Computed.{placement_passes, test_holds}
 use Rattle.plan.specs.Checker.{Checking, test_number, take_line, test_plan, call_lines, is_taken}
 use Rattle.plan.proofs.RuleUses.{other_texts, other-passes, other-fails, other-not-failing, other-not-passing}
-use Rattle.thin.specs.declared.ThinAnswer.{ThinAnswer}
-use Rattle.thin.specs.declared.ThinAnswer.TheVariants.{Thinned, Refused}
+use Rattle.thin.specs.ThinAnswer.{ThinAnswer, Thinned, Refused}
 use Rattle.thin.specs.Law.{moves, in_either, in_both, queue, SharedSignal, LawHolds}
 use Rattle.thin.specs.Thinning.{some_free, thin_number, ThinPost}
 use Rattle.thin.specs.Claims.{LeanAt, Lean, ThinClaims}

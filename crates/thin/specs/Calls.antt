@@ -3,7 +3,7 @@
 use Rattle.std.specs.Prelude.{◌≡◌, ◌↔◌, true, List, [], ◌∷◌, ◌++◌, ℕ, ◌≤◌, length}
 use Rattle.std.proofs.Math.Option.{none}
 use Rattle.railway.specs.declared.Railway.{Railway}
-use Rattle.railway.specs.declared.CaseAnswer.{CaseAnswer}
+use Rattle.railway.specs.CaseAnswer.{CaseAnswer}
 use Rattle.railway.specs.declared.Refusal.TheVariants.{PlanForm, PlanFault}
 use Rattle.railway.specs.Rows.{record_refusal}
 use Rattle.game.specs.Game.{Adversary, following, HomeWithin}
@@ -11,14 +11,12 @@ use Rattle.game.specs.Placement.{placements, start_code}
 use Rattle.game.specs.Setting.{Setting}
 use Rattle.game.specs.Moves.{game_of}
 use Rattle.game_tables.specs.Tables.{setting_in}
-use Rattle.plan.specs.declared.TestAnswer.{TestAnswer}
-use Rattle.plan.specs.declared.TestAnswer.TheVariants.{Pass}
+use Rattle.plan.specs.TestAnswer.{TestAnswer, Pass}
 use Rattle.plan.specs.Checker.{Checking, take_line, LineCalls, is_taken, taken_texts}
 use Rattle.plan.specs.Checked.{InForm, Passing, Failing}
 use Rattle.plan.specs.Promises.{TestPost, FreshPost}
 use Rattle.plan.specs.Calls.{Taking}
-use Rattle.thin.specs.declared.ThinAnswer.{ThinAnswer}
-use Rattle.thin.specs.declared.ThinAnswer.TheVariants.{Thinned, Refused}
+use Rattle.thin.specs.ThinAnswer.{ThinAnswer, Thinned, Refused}
 use Rattle.thin.specs.Thinning.{ThinPost}
 
 -- By the texts that were taken: what the call answers, what it leaves, and what the test behind it answers.

@@ -13,10 +13,9 @@ use Rattle.game.specs.Moves.{game_of}
 use Rattle.game_tables.specs.Entries.{train_bits, opens_in}
 use Rattle.game_tables.specs.Tables.{figure_in, setting_in}
 use Rattle.plan.specs.declared.CheckerState.TheVariants.{Begun}
-use Rattle.plan.specs.declared.TestAnswer.TheVariants.{Pass, Refused as TestRefused}
+use Rattle.plan.specs.TestAnswer.{Pass, Refused as TestRefused}
 use Rattle.plan.specs.Checker.{Checking, test_plan, call_lines}
-use Rattle.thin.specs.declared.ThinAnswer.{ThinAnswer}
-use Rattle.thin.specs.declared.ThinAnswer.TheVariants.{Thinned, Refused}
+use Rattle.thin.specs.ThinAnswer.{ThinAnswer, Thinned, Refused}
 use Rattle.thin.specs.Thinning.{some_free, ThinPost}
 
 -- Train t is open at placement p.

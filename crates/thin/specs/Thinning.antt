@@ -13,8 +13,7 @@ use Rattle.game.specs.Moves.{game_of}
 use Rattle.game_tables.specs.Entries.{train_bits, setting_at}
 use Rattle.game_tables.specs.Tables.{figure_in}
 use Rattle.plan.specs.Checker.{Checking, Left, left, test_rows}
-use Rattle.thin.specs.declared.ThinAnswer.{ThinAnswer}
-use Rattle.thin.specs.declared.ThinAnswer.TheVariants.{Thinned, Refused}
+use Rattle.thin.specs.ThinAnswer.{ThinAnswer, Thinned, Refused}
 
 -- AT A PLACEMENT. Some train may move without a signal: it is not parked, and none stands at the end that it heads for.
 unfoldable pub some_free : Railway → ℕ → Bool

@@ -12,7 +12,7 @@ use lib.Dec.{eqb}
 use borrow.Author.Tests.{eq-eqb, ne_eqb}
 use Rattle.laws.specs.Below.{any_below, lowest}
 use Rattle.laws.proofs.Bools.{clash, lt?}
-use Rattle.laws.proofs.Below.{any_false, any-one, any_none, lowest-cases, lowest-least}
+use Rattle.laws.proofs.Below.{any_false, any-one, lowest-cases, lowest-least}
 use Rattle.railway.specs.declared.Railway.{Railway}
 use Rattle.railway.specs.Bounds.{most_trains}
 use Rattle.game.specs.Placement.{at_home}
@@ -56,26 +56,26 @@ lowest-none f n e = elim (lowest-cases f n) [
 ]
 
 -- as a bit, k being the count that code has
-module _ (f : ℕ → Bool) {n k : ℕ} (e : k ≡ n) (few : n ≤ most_trains) (t : ℕ) (before : any_below f t ≡ false) where
-  pub first_bit : t < k → f t ≡ true → (b : ℕ) → (t < most_trains → b ≡ 2 ^ (train_bits + t)) → b ≡ open_bit (lowest f n)
-  first_bit l h b is = let m : t < n = rw (← e) l in is (omega (arith, m, few)) ∙ ap open_bit (sym (lowest-first f n t before m h))
+module _ (f : ℕ → Bool) {n k : ℕ} (e : k ≡ n) where
+  pub first_bit : n ≤ most_trains → (t : ℕ) → any_below f t ≡ false → t < k → f t ≡ true → (b : ℕ) → (t < most_trains → b ≡ 2 ^ (train_bits + t)) → b ≡ open_bit (lowest f n)
+  first_bit few t before l h b is = let m : t < n = rw (← e) l in is (omega (arith, m, few)) ∙ ap open_bit (sym (lowest-first f n t before m h))
 
-  pub no-bit : t ≤ k → k ≤ t → 0 ≡ open_bit (lowest f n)
-  no-bit l m = ap open_bit (sym (lowest-none f n (sym (any_none f n t before (rw (← e) l) (rw (← e) m)))))
+  pub no-bit : any_below f k ≡ false → 0 ≡ open_bit (lowest f n)
+  no-bit before = ap open_bit (sym (lowest-none f n (rw e at before)))
 
 -- a train below the count that code has is there
 pub within : {n k : ℕ} → k ≡ n → (i : ℕ) → i < k → i < n
 within e i l = rw (← e) l
 
 -- SOME TRAIN FREE
-module _ (r : Railway) (p : ℕ) {k : ℕ} (e : k ≡ r.trains) (t : ℕ) where
-  pub one_free : t < k → free r p t ≡ true → true ≡ some_free r p
+module _ (r : Railway) (p : ℕ) {k : ℕ} (e : k ≡ r.trains) where
+  pub one_free : (t : ℕ) → t < k → free r p t ≡ true → true ≡ some_free r p
   unfolding some_free
-  one_free l h = any-one (free r p) r.trains t (rw (← e) l) h
+  one_free t l h = any-one (free r p) r.trains t (rw (← e) l) h
 
-  pub none_free : t ≤ k → k ≤ t → any_below (free r p) t ≡ false → false ≡ some_free r p
+  pub none_free : any_below (free r p) k ≡ false → false ≡ some_free r p
   unfolding some_free
-  none_free l m h = any_none (free r p) r.trains t h (rw (← e) l) (rw (← e) m)
+  none_free h = sym (rw e at h)
 
 -- AN ENTRY THINNED, by whether some train is free
 module _ (r : Railway) (p v : ℕ) (b : Bool) (is : b ≡ some_free r p) where

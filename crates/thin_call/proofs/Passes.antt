@@ -7,7 +7,9 @@ use native.Mathlib.Omega.{arith}
 use native.Mathlib.Numerals.{add-one}
 use lib.ListN.{length, get_or, set, drop, length-set}
 use lib.Seq.{drop-cons, set_at, get_or-append-add}
+use Rattle.std.specs.Prelude.{Err}
 use Rattle.laws.specs.Below.{list_below}
+use Rattle.laws.proofs.Bools.{some-none}
 use Rattle.laws.proofs.Below.{list_length}
 use Rattle.railway.specs.declared.Railway.{Railway}
 use Rattle.railway.specs.declared.Refusal.{Refusal}
@@ -15,12 +17,11 @@ use Rattle.railway.specs.Refusals.{first, number_of}
 use Rattle.railway.specs.Rows.{record_refusal}
 use Rattle.game.specs.Placement.{placements}
 use Rattle.game_tables.specs.Tables.{figure_in}
-use Rattle.plan.specs.declared.TestAnswer.{TestAnswer}
-use Rattle.plan.specs.declared.TestAnswer.TheVariants.{Pass, Refused as TestRefused}
+use Rattle.plan.specs.TestAnswer.{TestAnswer, Pass, Refused as TestRefused}
 use Rattle.plan.specs.Checker.{Checking, test_rows, test_plan}
 use Rattle.plan.specs.Promises.{TestPost}
-use Rattle.thin.specs.declared.ThinAnswer.{ThinAnswer}
-use Rattle.thin.specs.declared.ThinAnswer.TheVariants.{Thinned, Refused}
+use Rattle.railway_compiled.specs.Table.{CompilePost, compilation}
+use Rattle.thin.specs.ThinAnswer.{ThinAnswer, Thinned, Refused}
 use Rattle.thin.specs.Thinning.{thinned_if, thinned_entry, thinned_table, thin_number, thinned_checking, thin_leaves, thin_plan, ThinPost}
 use Rattle.thin.proofs.Claims.{passed, claims}
 
@@ -71,8 +72,8 @@ module _ (r : Railway) (figs old : List ℕ) where
     pub thin-put : {n : ℕ} → n ≡ placements r → placements r ≤ length old → i < n → (v : ℕ) → v ≡ thinned_entry r figs new i → (put : List ℕ) → put ≡ set new i v → ThinnedTo r figs old put (i + 1)
     thin-put e enough l v h' put is = subst (λ (xs : List ℕ). ThinnedTo r figs old xs (i + 1)) (sym is) (thin-next (omega (arith, e, enough, l)) v h')
 
-    pub thin-all : {n : ℕ} → n ≡ placements r → i ≤ n → n ≤ i → new ≡ thinned_table r figs old
-    thin-all e l m = let k : i ≡ placements r = omega (arith, e, l, m) in h.filled ∙ ap (λ (j : ℕ). list_below (thinned_entry r figs old) j ++ drop j old) k
+    pub thin-all : i ≡ placements r → new ≡ thinned_table r figs old
+    thin-all k = h.filled ∙ ap (λ (j : ℕ). list_below (thinned_entry r figs old) j ++ drop j old) k
 
 -- to put an entry changes no length
 pub put-length : (old new put : List ℕ) (i v : ℕ) → put ≡ set new i v → length new ≡ length old → length put ≡ length old
@@ -105,6 +106,10 @@ module _ (r : Railway) (c : Checking) (t : TestAnswer) (d : Checking) (post : Te
 
     pub thin-accepted : record_refusal r ≡ none
     thin-accepted = (passed r c passes).accepted
+
+    -- so that it is not refused as a record
+    pub not_compiled : {A : Type 0} (f : Refusal) → CompilePost r (compilation (Err f)) → A
+    not_compiled f x = some-none refl (x.judged ∙ ap number_of thin-accepted)
 
     pub thin-enough : placements r ≤ length c.sets
     thin-enough = (passed r c passes).enough

@@ -1,9 +1,9 @@
 // The thinning of a plan, after its last line, in the tables that the checker has entered it into. The call makes the test of the plan itself: what the test refuses is refused with the
 // same number, and nothing has changed then. Else one pass over the setting table leaves, at each listed placement that is not home, nobody open where some train is free, and else the
-// lowest train alone that may move. The checker comes back as it was, and may be handed more lines.
+// lowest train alone that may move. The checker is only read, and may be handed more lines.
 #![tactic(auto)]
 
-ghost use Rattle.std.specs.Prelude.{◌≡◌, ℕ, ◌^◌, ◌+◌, ◌≤◌, ◌<◌, length, set};
+ghost use Rattle.std.specs.Prelude.{◌≡◌, ℕ, ◌^◌, ◌+◌, ◌≤◌, ◌<◌, length};
 ghost use Rattle.laws.specs.Below.{lowest};
 ghost use Rattle.railway.specs.declared.Railway.{Railway};
 ghost use Rattle.railway.specs.Bounds.{most_trains};
@@ -16,46 +16,25 @@ ghost use Rattle.game_moves.specs.Steps.{On};
 ghost use Rattle.plan_checker.specs.Answers.{checking};
 ghost use Rattle.thin.specs.Thinning.{some_free, stays, open_bit, open_only, thinned_entry, thinned_table, ThinPost};
 
-use game_placement::Placement;
+use game_placement::{FIRST_TRAIN, Placement};
 use game_tables::NO_FIGURE;
-use plan::TestAnswer;
 use plan_checker::Checker;
-use railway::Railway;
+use railway::{Railway, Refusal};
 use railway_compiled::Table;
-use thin::ThinAnswer;
-
-// The bit of the first train in an entry of the setting table, as a number: points have the bits below.
-const FIRST_TRAIN: u32 = 1u32 << Railway::POINTS;
-
-// What the call hands back.
-#[derive(Clone, Copy)]
-pub struct ThinReply {
-    pub answer: ThinAnswer,
-    pub checker: Checker,
-}
 
 // THE CALL. Figures are only read; settings are written where the plan passes.
-pub fn thin(checker: Checker, r: Railway, figures: &[u32], settings: &mut [u32]) -> ThinReply
-    ensures { ThinPost r (checking checker figures.now settings.old) result.answer (checking result.checker figures.now settings.new) }
+pub fn thin(
+    checker: &Checker,
+    r: Railway,
+    figures: &[u32],
+    settings: &mut [u32],
+) -> Result<(), Refusal>
+    ensures { ThinPost r (checking checker.now figures.now settings.old) result (checking checker.now figures.now settings.new) }
 {
-    let tested = checker.test(r, figures, settings);
-    let answer = tested.answer;
-    let next = tested.checker;
-    match answer {
-        TestAnswer::Refused(f) => ThinReply {
-            answer: ThinAnswer::Refused(f),
-            checker: next,
-        },
-        TestAnswer::Pass => {
-            let c = railway_compiled::compile(r);
-            let table = c.table;
-            thin_table(&table, figures, settings);
-            ThinReply {
-                answer: ThinAnswer::Thinned,
-                checker: next,
-            }
-        }
-    }
+    checker.test(r, figures, settings)?;
+    let table = railway_compiled::compile(r)?;
+    thin_table(&table, figures, settings);
+    Ok(())
 }
 
 // One pass over the codes. A table that is too short is written as far as it goes.
@@ -63,12 +42,9 @@ fn thin_table(table: &Table, figures: &[u32], settings: &mut [u32])
     ensures { (r : Railway) → Compiled r table.now → placements r ≤ length settings.old
         → settings.new ≡ thinned_table r figures.now settings.old }
 {
-    let n = game_moves::placements(table);
-    let mut p: u32 = 0;
-    while p < n {
+    for p in 0..game_moves::placements(table) {
         let v = entry_at(table, figures, settings, p);
-        put(settings, p, v);
-        p += 1;
+        plan_checker::put(settings, p, v);
     }
 }
 
@@ -104,13 +80,10 @@ fn lean_entry(table: &Table, q: Placement, v: u32) -> u32
 fn some_free(table: &Table, q: Placement) -> bool
     ensures { (r : Railway) (p : ℕ) → On r p table.now q → result ≡ some_free r p }
 {
-    let k = railway_compiled::trains_in(table);
-    let mut t: u8 = 0;
-    while t < k {
+    for t in 0..railway_compiled::trains_in(table) {
         if game_moves::free_in(table, q, t) {
             return true;
         }
-        t += 1;
     }
     false
 }
@@ -119,13 +92,10 @@ fn some_free(table: &Table, q: Placement) -> bool
 fn lowest_bit(table: &Table, q: Placement, v: u32) -> u32
     ensures { (result ≤ 524288) × ((r : Railway) (p : ℕ) → On r p table.now q → result ≡ open_bit (lowest (may (game_of r) p (setting_at r p v)) r.trains)) }
 {
-    let k = railway_compiled::trains_in(table);
-    let mut t: u8 = 0;
-    while t < k {
+    for t in 0..railway_compiled::trains_in(table) {
         if game_moves::may_in(table, q, v, t) {
             return train_bit(t);
         }
-        t += 1;
     }
     0
 }
@@ -138,14 +108,4 @@ fn train_bit(t: u8) -> u32
         return 0;
     }
     FIRST_TRAIN * (1u32 << t)
-}
-
-// An entry of a table; a code past its end is not entered.
-fn put(table: &mut [u32], code: u32, v: u32)
-    ensures { table.new ≡ set table.old code v }
-{
-    let at = code as usize;
-    if at < table.len() {
-        table[at] = v;
-    }
 }

@@ -9,8 +9,6 @@ ghost use Rattle.answer_lines.specs.Lines.{FrontIs};
 ghost use Rattle.thin_text.specs.Lean.{LeanOutput};
 ghost use Rattle.thin_io.specs.Thinned.{ThinnedBytes};
 
-use case_file::Written;
-
 // The descriptor of standard input.
 const STDIN_FILENO: i32 = 0;
 
@@ -51,7 +49,7 @@ fn whole_text(case: &[u8], plan: &[u8], text: &mut [u8]) -> usize
     ensures { FrontIs (LeanOutput case.now plan.now) result text.new }
 {
     match thin_text::lean_text(case, plan, text) {
-        Written::Bytes(n) => n,
-        Written::Refused(_) => 0,
+        Ok(n) => n,
+        Err(_) => 0,
     }
 }

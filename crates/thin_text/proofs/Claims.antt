@@ -12,8 +12,7 @@ use Rattle.game.specs.Placement.{placements}
 use Rattle.game_tables.specs.Lengths.{entries}
 use Rattle.game_tables.specs.Tables.{case_refusal}
 use Rattle.game_tables.proofs.Refusals.{case-none}
-use Rattle.plan.specs.declared.TestAnswer.{TestAnswer}
-use Rattle.plan.specs.declared.TestAnswer.TheVariants.{Pass, Refused as TestRefused}
+use Rattle.plan.specs.TestAnswer.{TestAnswer, Pass, Refused as TestRefused}
 use Rattle.plan.specs.Text.{plan_text}
 use Rattle.plan.specs.Checker.{Checking, test_plan}
 use Rattle.plan.specs.Several.{lines_of}
@@ -24,8 +23,7 @@ use Rattle.answer_lines.specs.Lines.{test_line}
 use Rattle.check_text.specs.Pieces.{form_refused, EndPost}
 use Rattle.check_text.proofs.Claims.{verdict-holds}
 use Rattle.check_text.proofs.Pieces.{ends-left, ends-tested, one_piece}
-use Rattle.thin.specs.declared.ThinAnswer.{ThinAnswer}
-use Rattle.thin.specs.declared.ThinAnswer.TheVariants.{Thinned}
+use Rattle.thin.specs.ThinAnswer.{ThinAnswer, Thinned}
 use Rattle.thin.specs.Claims.{ThinClaims}
 use Rattle.thin.proofs.Claims.{Passed, passed, thins-hold}
 use Rattle.thin_text.specs.Lean.{lean_text, ThinnedOutput, LeftOutput, EndOutput}

@@ -15,7 +15,7 @@ use Rattle.game_tables.specs.Lengths.{entries}
 use Rattle.game_tables.specs.Tables.{case_refusal}
 use Rattle.game_tables.proofs.Refusals.{case-none}
 use Rattle.plan.specs.declared.CheckerState.TheVariants.{Fresh}
-use Rattle.plan.specs.declared.FrontAnswer.{FrontAnswer}
+use Rattle.plan.specs.FrontAnswer.{FrontAnswer}
 use Rattle.plan.specs.Checker.{Checking, Left, freshened}
 use Rattle.plan.specs.Several.{take_front}
 use Rattle.case_file.proofs.Cut.{cut-decides}

@@ -8,17 +8,16 @@ use lib.ListN.{length, get_or, take, drop, replicate, length-drop}
 use lib.Seq.{take_all}
 use Rattle.laws.proofs.Lists.{get_or-inside}
 use Rattle.railway.specs.declared.Railway.{Railway}
-use Rattle.railway.specs.declared.CaseAnswer.{CaseAnswer}
+use Rattle.railway.specs.CaseAnswer.{CaseAnswer, Accepted, Refused as CaseRefused}
 use Rattle.railway.specs.declared.Refusal.{Refusal}
-use Rattle.railway.specs.declared.CaseAnswer.TheVariants.{Accepted, Refused as CaseRefused}
 use Rattle.game_tables.specs.Lengths.{entries}
 use Rattle.game_tables.specs.Tables.{no_figure}
 use Rattle.game_tables.proofs.Refusals.{case-none}
-use Rattle.case_file.specs.declared.CaseRead.{CaseRead}
-use Rattle.case_file.specs.declared.Written.{Written}
+use Rattle.case_file.specs.CaseRead.{CaseRead}
+use Rattle.case_file.specs.Written.{Written}
 use Rattle.case_file.specs.Given.{ReaderPost}
 use Rattle.case_reader.proofs.Answers.{by-refused, by-accepted}
-use Rattle.plan.specs.declared.TestAnswer.{TestAnswer}
+use Rattle.plan.specs.TestAnswer.{TestAnswer}
 use Rattle.plan.specs.Text.{plan_text}
 use Rattle.plan.specs.Checker.{Checking}
 use Rattle.plan.specs.Promises.{FreshPost}
@@ -27,8 +26,7 @@ use Rattle.answer_lines.proofs.Lines.{refusal-short}
 use Rattle.answer_lines.proofs.Puts.{test_short, puts-map, puts-refusal}
 use Rattle.plan_text.specs.Written.{text_bytes}
 use Rattle.check_text.specs.Pieces.{PiecePost, EndPost}
-use Rattle.thin.specs.declared.ThinAnswer.{ThinAnswer}
-use Rattle.thin.specs.declared.ThinAnswer.TheVariants.{Thinned, Refused}
+use Rattle.thin.specs.ThinAnswer.{ThinAnswer, Thinned, Refused}
 use Rattle.thin.specs.Thinning.{ThinPost}
 use Rattle.thin.proofs.Claims.{Passed, passed, thins-hold}
 use Rattle.thin_text.specs.Lean.{lean_text, EndOutput, PlanOutput, LeanOutput}

@@ -13,8 +13,7 @@ use Rattle.railway.specs.declared.Refusal.TheVariants.{Length, PlanForm, PlanFau
 use Rattle.railway.specs.Yards.{yard_a}
 use Rattle.case_file.specs.Rows.{most_bytes}
 use Rattle.case_file.specs.Given.{AcceptedWith}
-use Rattle.plan.specs.declared.TestAnswer.{TestAnswer}
-use Rattle.plan.specs.declared.TestAnswer.TheVariants.{Pass, Refused}
+use Rattle.plan.specs.TestAnswer.{TestAnswer, Pass, Refused}
 use Rattle.plan.specs.Checker.{test_number}
 use Rattle.check_text.specs.Verdict.{PlanPost}
 use Rattle.thin_text.specs.Lean.{PlanOutput, LeanOutput}

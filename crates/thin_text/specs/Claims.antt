@@ -5,8 +5,7 @@ use Rattle.std.specs.Prelude.{◌≡◌, List, ℕ, ◌≤◌, ◌<◌, take}
 use Rattle.railway.specs.declared.Railway.{Railway}
 use Rattle.railway.specs.declared.Refusal.{Refusal}
 use Rattle.case_file.specs.Rows.{most_bytes}
-use Rattle.plan.specs.declared.TestAnswer.{TestAnswer}
-use Rattle.plan.specs.declared.TestAnswer.TheVariants.{Pass, Refused}
+use Rattle.plan.specs.TestAnswer.{TestAnswer, Pass, Refused}
 use Rattle.answer_lines.specs.Lines.{refusal_line}
 use Rattle.check_text.specs.Claims.{read_bytes}
 use Rattle.check_text.specs.Verdict.{PlanPost}

@@ -1,17 +1,16 @@
 -- What program `thinplan` writes for a case text and a plan's (document 02, Q-14): the text of the lean plan, or `refused` and a number. Assumes nothing.
 use Rattle.std.specs.Prelude.{◌≡◌, Bool, List, [], ◌∷◌, ℕ, ◌<◌, length, get_or, drop, replicate}
 use Rattle.railway.specs.declared.Railway.{Railway}
-use Rattle.railway.specs.declared.CaseAnswer.{CaseAnswer}
+use Rattle.railway.specs.CaseAnswer.{CaseAnswer}
 use Rattle.game_tables.specs.Lengths.{entries}
-use Rattle.plan.specs.declared.TestAnswer.{TestAnswer}
+use Rattle.plan.specs.TestAnswer.{TestAnswer}
 use Rattle.plan.specs.Text.{plan_text}
 use Rattle.plan.specs.Checker.{Checking}
 use Rattle.plan.specs.Promises.{FreshPost}
 use Rattle.case_reader.specs.Answers.{ByCase}
 use Rattle.answer_lines.specs.Lines.{refusal_line, test_line}
 use Rattle.check_text.specs.Pieces.{PiecePost, EndPost}
-use Rattle.thin.specs.declared.ThinAnswer.{ThinAnswer}
-use Rattle.thin.specs.declared.ThinAnswer.TheVariants.{Thinned, Refused}
+use Rattle.thin.specs.ThinAnswer.{ThinAnswer, Thinned, Refused}
 use Rattle.thin.specs.Thinning.{ThinPost}
 
 -- The text for what the call that thins answers, and for the tables that it leaves: the plan in them, or the refusal's line.

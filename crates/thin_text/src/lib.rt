@@ -9,34 +9,36 @@ ghost use Rattle.answer_lines.specs.Lines.{Puts};
 ghost use Rattle.plan_text.specs.Written.{text_bytes};
 ghost use Rattle.thin_text.specs.Lean.{EndOutput, PlanOutput, LeanOutput};
 
-use case_file::Written;
 use game_tables::ENTRIES;
 use plan_checker::Checker;
-use railway::{CaseAnswer, Railway};
-use thin::ThinAnswer;
+use railway::{Railway, Refusal};
 
 // A case text and a plan's: refused by the reader, or the plan is entered.
-pub fn lean_text(case: &[u8], plan: &[u8], text: &mut [u8]) -> Written
+pub fn lean_text(case: &[u8], plan: &[u8], text: &mut [u8]) -> Result<usize, Refusal>
     ensures { Puts (LeanOutput case.now plan.now) text_bytes text.old result text.new }
 {
-    let read = case_reader::read_case(case);
-    let answer = read.answer;
-    match answer {
-        CaseAnswer::Refused(f) => answer_lines::refusal_line(f, text),
-        CaseAnswer::Accepted => railway_text(read.railway, plan, text),
+    match case_reader::read_case(case) {
+        Err(f) => answer_lines::refusal_line(f, text),
+        Ok(r) => railway_text(r, plan, text),
     }
 }
 
 // A railway and a plan's text, which is entered into tables of the call's own.
-fn railway_text(r: Railway, plan: &[u8], text: &mut [u8]) -> Written
+fn railway_text(r: Railway, plan: &[u8], text: &mut [u8]) -> Result<usize, Refusal>
     ensures { Puts (PlanOutput r plan.now) text_bytes text.old result text.new }
 {
     let mut figures = [0u32; ENTRIES];
     let mut settings = [0u32; ENTRIES];
-    let fresh = Checker::fresh(r, &mut figures, &mut settings);
-    let gone = check_text::go_on(fresh.checker, r, plan, &mut figures, &mut settings);
-    let n = gone.bytes;
-    end_text(gone.checker, r, &plan[n..], &figures, &mut settings, text)
+    let (checker, _) = Checker::fresh(r, &mut figures, &mut settings);
+    let gone = check_text::go_on(checker, r, plan, &mut figures, &mut settings);
+    end_text(
+        gone.checker,
+        r,
+        &plan[gone.bytes..],
+        &figures,
+        &mut settings,
+        text,
+    )
 }
 
 // The end, with these bytes left of the plan's text, which were not taken.
@@ -47,7 +49,7 @@ fn end_text(
     figures: &[u32],
     settings: &mut [u32],
     text: &mut [u8],
-) -> Written
+) -> Result<usize, Refusal>
     requires { length figures.now ≡ entries }
     ensures { Puts (EndOutput r (checking checker figures.now settings.old) rest.now) text_bytes text.old result text.new }
 {
@@ -55,10 +57,8 @@ fn end_text(
         let answer = check_text::finish(checker, r, rest, figures, settings);
         return answer_lines::test_line(answer, text);
     }
-    let reply = thin_call::thin(checker, r, figures, settings);
-    let answer = reply.answer;
-    match answer {
-        ThinAnswer::Refused(f) => answer_lines::refusal_line(f, text),
-        ThinAnswer::Thinned => plan_text::plan_text(r, figures, settings, text),
+    match thin_call::thin(&checker, r, figures, settings) {
+        Err(f) => answer_lines::refusal_line(f, text),
+        Ok(()) => plan_text::plan_text(r, figures, settings, text),
     }
 }

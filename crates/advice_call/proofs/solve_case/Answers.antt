@@ -1,21 +1,24 @@
 -- `advice_call::solve_case` meets its contract: the case is not refused; its start has a figure, or the ends from the given one on are tried. Assumes nothing.
+use mathlib.Core.Path.{◌∙◌, ap}
+use Rattle.std.specs.Prelude.{Option, Ok}
+use Rattle.std.proofs.lemmas.Result.{err_from_is_err_and}
 use Rattle.advice_call.proofs.Tries.{case-refused, case-figure, case-unsolved}
 use Rattle.advice_call.proofs.solve_case.Goals as goal
 
-pub returns-in-Refused : goal.returns-in-Refused
-returns-in-Refused c =
+pub returns-in_err-solve : goal.returns-in_err-solve
+returns-in_err-solve c =
+    let p = err_from_is_err_and c.from_residual.result c.from_residual.ensures.1 in
     λ figs sets u.
-    case-refused c.args.r c.args.i c.args.figures.now c.args.settings.now _ _ _ c.solve.ensures
-    figs sets u _ c.in-Refused.is
+    rw (p.1, p.2) (case-refused c.args.r c.args.i c.args.figures.now c.args.settings.now _ _ _ c.solve.ensures figs sets u _ c.in_err-solve.was)
 
-pub returns-in-Figure : goal.returns-in-Figure
-returns-in-Figure c =
+pub returns-in-Some : goal.returns-in-Some
+returns-in-Some c =
     λ figs sets u.
     case-figure c.args.r c.args.i c.args.figures.now c.args.settings.now _ _ _ c.solve.ensures
-    figs sets u _ c.in-Figure.is
+    figs sets u _ (c.in_ok-solve.was ∙ ap Ok c.in-Some.is)
 
-pub returns-in-Unsolvable : goal.returns-in-Unsolvable
-returns-in-Unsolvable c =
+pub returns-in-None : goal.returns-in-None
+returns-in-None c =
     λ figs sets u.
     c.try_ends.ensures figs sets (case-unsolved c.args.r c.args.i c.args.figures.now
-    c.args.settings.now _ _ _ c.solve.ensures figs sets u c.in-Unsolvable.is)
+    c.args.settings.now _ _ _ c.solve.ensures figs sets u (c.in_ok-solve.was ∙ ap Ok c.in-None.is))

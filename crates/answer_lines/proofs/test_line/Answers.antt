@@ -4,9 +4,9 @@ use Rattle.text.specs.Text.{line, bytes}
 use Rattle.answer_lines.proofs.Lines.{passed-line, refused-line}
 use Rattle.answer_lines.proofs.test_line.Goals as goal
 
-pub returns-in-Pass : goal.returns-in-Pass
+pub returns-in-Ok : goal.returns-in-Ok
 unfolding bytes line
-returns-in-Pass c = passed-line _ _ _ _ c.in-Pass.is c.put.ensures
+returns-in-Ok c = passed-line _ _ _ _ c.in-Ok.is c.put.ensures
 
-pub returns-in-Refused : goal.returns-in-Refused
-returns-in-Refused c = refused-line _ _ _ _ _ c.in-Refused.is c.refusal_line.ensures
+pub returns-in-Err : goal.returns-in-Err
+returns-in-Err c = refused-line _ _ _ _ _ c.in-Err.is c.refusal_line.ensures

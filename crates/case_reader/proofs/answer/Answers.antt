@@ -1,10 +1,13 @@
 -- `case_reader::answer` meets its contract: refused by the first row that applies to the draft, or accepted. Assumes nothing.
-use mathlib.Core.Path.{◌∙◌}
+use Rattle.std.proofs.Common.{refl}
+use Rattle.std.proofs.lemmas.Result.{err_from_is_err_and}
 use Rattle.case_reader.proofs.Parts.{refused-by, accepted-by}
 use Rattle.case_reader.proofs.answer.Goals as goal
 
-pub returns-in-Refused : goal.returns-in-Refused
-returns-in-Refused c = c.refuse.ensures ∙ refused-by _ _ c.first_row.ensures _ c.in-Refused.is
+pub returns-in_err-first_row : goal.returns-in_err-first_row
+returns-in_err-first_row c =
+    let p = err_from_is_err_and c.from_residual.result c.from_residual.ensures.1 in
+    rw (p.1, p.2) (refused-by _ _ c.in_err-first_row.ensures _ refl)
 
-pub returns-in-Accepted : goal.returns-in-Accepted
-returns-in-Accepted c = accepted-by _ _ c.first_row.ensures c.in-Accepted.is
+pub returns : goal.returns
+returns c = accepted-by _ _ c.in_ok-first_row.ensures refl

@@ -11,4 +11,4 @@ returns-then-counts_outside c =
 pub returns : goal.returns
 returns c =
     begin-in c.args.s c.args.p c.args.k _ _ _ c.capped-sections.ensures c.capped-points.ensures c.capped-trains.ensures _
-    c.counts_outside.ensures c.if-counts_outside.false _ c.empty-r.ensures.empty _ c.fresh-2.ensures
+    c.counts_outside.ensures c.if-counts_outside.false _ c.empty-2.ensures.empty _ c.fresh-2.ensures

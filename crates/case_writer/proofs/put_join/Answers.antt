@@ -3,13 +3,13 @@
 use Rattle.case_writer.proofs.Lines.{join-none, join-earlier, join-line}
 use Rattle.case_writer.proofs.put_join.Goals as goal
 
-pub returns-in-Nothing : goal.returns-in-Nothing
-returns-in-Nothing c = join-none c.args.i c.args.j c.in-Nothing.is
+pub returns-in_default : goal.returns-in_default
+returns-in_default c = join-none c.args.i c.args.j c.in_default.is
 
 pub returns-then-i-index_of : goal.returns-then-i-index_of
 returns-then-i-index_of c =
-    join-line c.args.i c.args.j c.in-With.f _ c.in-With.is c.index_of.ensures _ c.end_at.ensures
+    join-line c.args.i c.args.j c.in-Some.f _ c.in-Some.is c.index_of.ensures _ c.end_at.ensures
     c.if-i-index_of.true c.two-a.ensures c.put_end-b.ensures c.put_end.ensures
 
 pub returns-else-i-index_of : goal.returns-else-i-index_of
-returns-else-i-index_of c = join-earlier c.args.i c.args.j c.in-With.f _ c.in-With.is c.index_of.ensures c.if-i-index_of.false
+returns-else-i-index_of c = join-earlier c.args.i c.args.j c.in-Some.f _ c.in-Some.is c.index_of.ensures c.if-i-index_of.false

@@ -5,8 +5,8 @@ use mathlib.Core.Path.{refl}
 use Rattle.case_reader.proofs.Answers.{by-refused, by-accepted}
 use Rattle.check_files.proofs.answer_to.Goals as goal
 
-pub returns-in-Refused : goal.returns-in-Refused
-returns-in-Refused g c = (omega arith, by-refused _ _ _ _ c.read_case-read.ensures _ c.in-Refused.is refl)
+pub returns-in-Err : goal.returns-in-Err
+returns-in-Err g c = (omega arith, by-refused _ _ _ _ c.in-Err.ensures _ refl refl)
 
-pub returns-in-Accepted : goal.returns-in-Accepted
-returns-in-Accepted g c = (c.check_plan.ensures.0, by-accepted _ _ _ _ c.read_case-read.ensures c.in-Accepted.is c.check_plan.ensures.1)
+pub returns-in-Ok : goal.returns-in-Ok
+returns-in-Ok g c = (c.check_plan.ensures.0, by-accepted _ _ _ _ c.in-Ok.ensures refl c.check_plan.ensures.1)

@@ -21,5 +21,5 @@ returns g c =
       stopped = c.go_on-gone.result.stopped;
       lines = c.go_on-gone.ensures;
       taken = refl;
-      goes_on = c.goes_on-going.ensures;
+      goes_on = c.goes_on.ensures;
     }

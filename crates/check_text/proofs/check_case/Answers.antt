@@ -1,11 +1,14 @@
 -- `check_text::check_case` meets its contract: refused by the reader, or what the plan is answered for the railway that was read.
 -- Assumes nothing.
 use mathlib.Core.Path.{refl}
+use Rattle.std.proofs.lemmas.Result.{err_from_is_err_and}
 use Rattle.case_reader.proofs.Answers.{by-refused, by-accepted}
 use Rattle.check_text.proofs.check_case.Goals as goal
 
-pub returns-in-Refused : goal.returns-in-Refused
-returns-in-Refused c = by-refused _ _ _ _ c.read_case-read.ensures _ c.in-Refused.is refl
+pub returns-in_err-r : goal.returns-in_err-r
+returns-in_err-r c =
+    let p = err_from_is_err_and c.from_residual.result c.from_residual.ensures.1 in
+    rw (p.1, p.2) (by-refused _ _ _ _ c.in_err-r.ensures _ refl refl)
 
-pub returns-in-Accepted : goal.returns-in-Accepted
-returns-in-Accepted c = by-accepted _ _ _ _ c.read_case-read.ensures c.in-Accepted.is c.check_plan.ensures
+pub returns : goal.returns
+returns c = by-accepted _ _ _ _ c.in_ok-r.ensures refl c.check_plan.ensures

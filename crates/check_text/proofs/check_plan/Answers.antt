@@ -12,5 +12,5 @@ slice_bounds-finish-start c = piece-within _ _ _ _ _ _ c.go_on-gone.ensures
 
 pub returns : goal.returns
 returns c =
-    one_piece c.args.r _ _ _ _ refl refl c.fresh-fresh.ensures c.args.plan.now _ _ _ c.go_on-gone.ensures _
+    one_piece c.args.r _ _ _ _ refl refl c.fresh.ensures c.args.plan.now _ _ _ c.go_on-gone.ensures _
     c.finish.ensures

@@ -12,4 +12,4 @@ returns-then-rest-gt0 c =
 pub returns : goal.returns
 returns c =
     ends-tested c.args.r (checking c.args.checker c.args.figures.now c.args.settings.now) c.args.rest.now _ _
-    c.if-rest-gt0.false c.test-tested.ensures
+    c.if-rest-gt0.false c.test.ensures

@@ -1,12 +1,7 @@
 -- `check_text::line_ends` meets its contract. The loop's invariant: up to the place reached there is no line end.
 -- Assumes nothing.
-use Prim.Native.Nat.{◌-◌}
-use lib.ListN.{length}
 use Rattle.check_text.proofs.Ends.{NotYet}
 use Rattle.check_text.proofs.line_ends.Given as goal
 
 abbrev pub invariant-loop-at : goal.invariant-loop-at
 invariant-loop-at l = NotYet l.text l.from l.at
-
-abbrev pub decreases-loop-at : goal.decreases-loop-at
-decreases-loop-at l = length l.text - l.at

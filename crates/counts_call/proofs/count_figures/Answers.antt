@@ -1,14 +1,16 @@
 -- `counts_call::count_figures` meets its contract: the test of the record comes first, and what it refuses is refused; an accepted record has s to the power k placements.
 -- Assumes nothing.
-use Rattle.railway_acceptance.proofs.Answers.{judged-accepted}
-use Rattle.counts_call.proofs.Tallying.{record-due, stride-placements}
+use Rattle.std.proofs.lemmas.Result.{err_from_is_err_and}
+use Rattle.counts_call.proofs.Tallying.{record-refused, space-refused, all-counted}
 use Rattle.counts_call.proofs.count_figures.Goals as goal
 
-pub returns-in-Refused : goal.returns-in-Refused
-returns-in-Refused c = c.refused.ensures c.args.r _ (record-due c.args.r _ _ c.test_record-tested.ensures _ c.in-Refused.is)
+pub returns-in_err-test_record : goal.returns-in_err-test_record
+returns-in_err-test_record c =
+    let p = err_from_is_err_and c.from_residual.result c.from_residual.ensures.1 in
+    rw (p.1, p.2) (record-refused c.args.r _ _ c.in_err-test_record.ensures)
 
-pub returns-in-Accepted : goal.returns-in-Accepted
-returns-in-Accepted c =
-    let r = c.args.r in
-    let acc = judged-accepted r c.test_record-tested.ensures c.in-Accepted.is in
-    c.counted.ensures r acc (stride-placements r acc _ c.power.ensures)
+pub returns-then-figures-n : goal.returns-then-figures-n
+returns-then-figures-n c = space-refused c.args.r _ c.in_ok-test_record.ensures _ c.power-n.ensures c.if-figures-n.true
+
+pub returns : goal.returns
+returns c = all-counted c.args.r _ c.in_ok-test_record.ensures _ c.power-n.ensures c.if-figures-n.false _ c.tally.ensures

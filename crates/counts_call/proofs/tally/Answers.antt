@@ -26,9 +26,6 @@ overflow_add-counts c =
 pub bounds-counts-c-in-loop-p : goal.bounds-counts-c-in-loop-p
 bounds-counts-c-in-loop-p c = omega (arith, class-there c.entry_at.result _ c.class_of-c.ensures, c.loop-p.invariant.sized)
 
-pub loop-p-smaller : goal.loop-p-smaller
-loop-p-smaller c = omega (arith, c.loop-p-test.true)
-
 pub loop-p-preserved : goal.loop-p-preserved
 loop-p-preserved c =
     tally-next c.loop-p.invariant c.loop-p-test.true _ _ c.entry_at.ensures

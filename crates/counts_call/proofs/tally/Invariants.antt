@@ -1,11 +1,7 @@
 -- `counts_call::tally` meets its contract: from entry to entry the counts are those of the entries before.
 -- Assumes nothing.
-use Prim.Native.Nat.{◌-◌}
 use Rattle.counts_call.proofs.Tallying.{Tallied}
 use Rattle.counts_call.proofs.tally.Given as goal
 
 abbrev pub invariant-loop-p : goal.invariant-loop-p
 invariant-loop-p l = Tallied l.figures l.n l.p l.counts
-
-abbrev pub decreases-loop-p : goal.decreases-loop-p
-decreases-loop-p l = l.n - l.p

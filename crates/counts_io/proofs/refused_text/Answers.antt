@@ -3,8 +3,8 @@
 use Rattle.counts_io.proofs.Shown.{refused-whole, refused-never}
 use Rattle.counts_io.proofs.refused_text.Goals as goal
 
-pub returns-in-Bytes : goal.returns-in-Bytes
-returns-in-Bytes c = refused-whole c.args.f c.refusal_line.ensures _ c.in-Bytes.is
+pub returns-in-Ok : goal.returns-in-Ok
+returns-in-Ok c = refused-whole c.args.f c.refusal_line.ensures _ c.in-Ok.is
 
-pub returns-in-Refused : goal.returns-in-Refused
-returns-in-Refused c = refused-never c.args.f c.refusal_line.ensures c.requires _ c.in-Refused.is
+pub returns-in-Err : goal.returns-in-Err
+returns-in-Err c = refused-never c.args.f c.refusal_line.ensures c.requires _ c.in-Err.is

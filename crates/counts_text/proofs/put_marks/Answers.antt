@@ -1,20 +1,15 @@
 -- `counts_text::put_marks` meets its contract. The loop's invariant: so many marks are written, and the buffer is as long as it was.
 -- Assumes nothing.
-use native.Mathlib.Omega.{arith}
 use mathlib.Core.Path.{refl, ◌∙◌}
-use Rattle.text.proofs.Appending.{pieces_none, pieces-next, pieces-all}
+use Rattle.text.proofs.Appending.{pieces_none, pieces-next}
 use Rattle.counts_text.specs.Chart.{mark_piece}
 use Rattle.counts_text.proofs.put_marks.Goals as goal
 
 pub loop-i-init : goal.loop-i-init
-loop-i-init c = (pieces_none mark_piece, omega arith, refl)
+loop-i-init c = (pieces_none mark_piece, refl)
 
 pub loop-i-preserved : goal.loop-i-preserved
 loop-i-preserved c = (
-  pieces-next mark_piece c.loop-i.i c.loop-i.invariant.0 c.byte-next.ensures,
-  omega arith,
-  c.byte-next.auto.out ∙ c.loop-i.invariant.2,
+  pieces-next mark_piece c.loop-i._i c.loop-i.invariant.0 c.byte-next.ensures,
+  c.byte-next.auto.out ∙ c.loop-i.invariant.1,
 )
-
-pub returns : goal.returns
-returns c = pieces-all mark_piece c.loop-i.i c.args.n c.loop-i.invariant.1 c.loop-i-test.false c.loop-i.invariant.0

@@ -1,6 +1,5 @@
 -- `counts_text::put_marks` meets its contract. The loop's invariant: so many marks are written, and the buffer is as long as it was.
 -- Assumes nothing.
-use Prim.Native.Nat.{◌-◌, ◌≤◌}
 use mathlib.Core.Path.{◌≡◌}
 use lib.ListN.{length}
 use Rattle.laws.specs.Below.{gather_below}
@@ -9,7 +8,4 @@ use Rattle.counts_text.specs.Chart.{mark_piece}
 use Rattle.counts_text.proofs.put_marks.Given as goal
 
 abbrev pub invariant-loop-i : goal.invariant-loop-i
-invariant-loop-i l = Appended l.initial.out l.at (gather_below mark_piece l.i) l.out l.next × (l.i ≤ l.n) × (length l.out ≡ length l.initial.out)
-
-abbrev pub decreases-loop-i : goal.decreases-loop-i
-decreases-loop-i l = l.n - l.i
+invariant-loop-i l = Appended l.initial.out l.at (gather_below mark_piece l._i) l.out l.next × (length l.out ≡ length l.initial.out)

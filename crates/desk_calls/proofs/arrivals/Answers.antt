@@ -10,24 +10,22 @@ use Rattle.desk_calls.proofs.arrivals.Goals as goal
 
 pub loop-t-init : goal.loop-t-init
 unfolding count_below
-loop-t-init c = (omega arith, omega arith, λ r p on. refl)
+loop-t-init c = (omega arith, λ r p on. refl)
 
 pub loop-t-preserved : goal.loop-t-preserved
 loop-t-preserved c =
     elim c.if-section_at-destination_in.branch [
       | goal.then-section_at-destination_in z ↦ (
         omega (arith, z.n-is, c.loop-t.invariant.0),
-        omega arith,
-        λ r p on. z.n-is ∙ one_more r p _ _ (c.loop-t.invariant.2 r p on)
+        λ r p on. z.n-is ∙ one_more r p _ _ (c.loop-t.invariant.1 r p on)
             (sym (arrived-is r p _ _ on _ _ _ c.section_at.ensures (c.destination_in.ensures r on.compiled)) ∙ eq-eqb _ _ z.if-section_at-destination_in.true),
       )
       | goal.else-section_at-destination_in z ↦ (
         omega (arith, z.n-is, c.loop-t.invariant.0),
-        omega arith,
-        λ r p on. z.n-is ∙ none_more r p _ _ (c.loop-t.invariant.2 r p on)
+        λ r p on. z.n-is ∙ none_more r p _ _ (c.loop-t.invariant.1 r p on)
             (sym (arrived-is r p _ _ on _ _ _ c.section_at.ensures (c.destination_in.ensures r on.compiled)) ∙ ne_eqb _ _ z.if-section_at-destination_in.false),
       )
     ]
 
 pub returns : goal.returns
-returns c = λ r p on. arrived-all r p _ _ (c.loop-t.invariant.2 r p on) _ (c.trains_in-k.ensures r on.compiled) c.loop-t.invariant.1 c.loop-t-test.false
+returns c = λ r p on. arrived-all r p _ _ (c.loop-t.invariant.1 r p on) _ (c.trains_in-k.ensures r on.compiled) (omega arith) (omega arith)

@@ -16,7 +16,7 @@ returns-then-k-trains_in c = λ r s old new. other-trains r s _ _ (c.trains_in-k
 
 pub loop-t-init : goal.loop-t-init
 unfolding any_below
-loop-t-init c = (omega arith, λ r s old new. refl)
+loop-t-init c = λ r s old new. refl
 
 pub returns-then-a-b : goal.returns-then-a-b
 returns-then-a-b c =
@@ -25,15 +25,13 @@ returns-then-a-b c =
     (heads-other r s _ _ _ _ _ (c.heading_in.ensures r old) (c.heading_in-in-loop-t.ensures s new) c.side_index-a.ensures c.side_index-b.ensures c.if-a-b.true)
 
 pub loop-t-preserved : goal.loop-t-preserved
-loop-t-preserved c = (
-  omega arith,
-  λ r s old new.
-      any_next (heads_other r s) _ (c.loop-t.invariant.1 r s old new)
-      (heads-same r s _ _ _ _ _ (c.heading_in.ensures r old) (c.heading_in-in-loop-t.ensures s new) c.side_index-a.ensures c.side_index-b.ensures c.if-a-b.false),
-)
+loop-t-preserved c =
+    λ r s old new.
+    any_next (heads_other r s) _ (c.loop-t.invariant r s old new)
+    (heads-same r s _ _ _ _ _ (c.heading_in.ensures r old) (c.heading_in-in-loop-t.ensures s new) c.side_index-a.ensures c.side_index-b.ensures c.if-a-b.false)
 
 pub returns : goal.returns
 returns c =
     λ r s old new.
     same_shape r s _ _ (c.trains_in-k.ensures r old) (c.trains_in.ensures s new) _ _ (c.sections_in.ensures r old) (c.sections_in-2.ensures s new) c.if-sections_in.false
-    c.if-k-trains_in.false c.loop-t.t c.loop-t.invariant.0 c.loop-t-test.false (c.loop-t.invariant.1 r s old new)
+    c.if-k-trains_in.false c.loop-t.t (omega arith) (omega arith) (c.loop-t.invariant r s old new)

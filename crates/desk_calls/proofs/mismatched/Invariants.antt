@@ -2,7 +2,6 @@
 -- Assumes nothing.
 use mathlib.Core.Path.{◌≡◌}
 use mathlib.Core.Bool.{false}
-use Prim.Native.Nat.{◌-◌, ◌≤◌}
 use Rattle.laws.specs.Below.{any_below}
 use Rattle.railway.specs.declared.Railway.{Railway}
 use Rattle.railway_compiled.specs.Table.{Compiled}
@@ -10,7 +9,4 @@ use Rattle.desk.specs.Change.{heads_other}
 use Rattle.desk_calls.proofs.mismatched.Given as goal
 
 abbrev pub invariant-loop-t : goal.invariant-loop-t
-invariant-loop-t l = (l.t ≤ l.k) × ((r s : Railway) → Compiled r l.old → Compiled s l.new → any_below (heads_other r s) l.t ≡ false)
-
-abbrev pub decreases-loop-t : goal.decreases-loop-t
-decreases-loop-t l = l.k - l.t
+invariant-loop-t l = (r s : Railway) → Compiled r l.old → Compiled s l.new → any_below (heads_other r s) l.t ≡ false

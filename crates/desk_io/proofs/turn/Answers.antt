@@ -4,5 +4,5 @@ use mathlib.Core.Path.{refl}
 use Rattle.desk_io.specs.Followed.{over}
 use Rattle.desk_io.proofs.turn.Goals as goal
 
-pub returns : goal.returns
-returns c = over refl refl refl
+pub returns-in_default : goal.returns-in_default
+returns-in_default c = over refl refl refl

@@ -1,32 +1,15 @@
--- `game_moves::home_in` meets its contract. The loop's invariant: every train before t has arrived.
+-- `game_moves::home_in` meets its contract.
 -- Assumes nothing.
-use native.Mathlib.Omega.{arith}
-use Rattle.laws.specs.Below.{all_below}
-use Rattle.laws.proofs.Below.{all-next}
+use Rattle.std.proofs.Common.{rules, tests}
 use Rattle.game.specs.Placement.{arrived}
-use Rattle.game_moves.proofs.Placing.{arrived-is, is-home, not_home}
-use borrow.Author.Tests.{eq-eqb, ne_eqb}
-use mathlib.Core.Path.{refl, sym, ◌∙◌}
+use Rattle.game_placement.proofs.Ranges.{all_range}
+use Rattle.game_moves.proofs.Placing.{arrived-is, home-is}
+use mathlib.Core.Path.{◌≡◌, refl, ◌∙◌}
+use lib.Dec.{eqb}
+use Rattle.game_placement.specs.ByValue.{section_in}
+use Rattle.railway.specs.Record.{train_of}
 use Rattle.game_moves.proofs.home_in.Goals as goal
 
-pub loop-t-init : goal.loop-t-init
-unfolding all_below
-loop-t-init c = (omega arith, λ r p on. refl)
-
-pub loop-t-preserved : goal.loop-t-preserved
-loop-t-preserved c = (
-  omega arith,
-  λ r p on. all-next (arrived r p) _ (c.loop-t.invariant.1 r p on)
-      (sym (arrived-is r _ _ _ on _ _ _ c.section_at.ensures
-      (c.destination_in.ensures r on.compiled)) ∙ eq-eqb _ _ c.if-section_at-destination_in.true),
-)
-
-pub returns-else-section_at-destination_in : goal.returns-else-section_at-destination_in
-returns-else-section_at-destination_in c =
-    λ r p on.
-    not_home r _ _ c.loop-t.t (c.trains_in-k.ensures r on.compiled) c.loop-t-test.true
-    (sym (arrived-is r _ _ _ on _ _ _ c.section_at.ensures
-    (c.destination_in.ensures r on.compiled)) ∙ ne_eqb _ _ c.if-section_at-destination_in.false)
-
 pub returns : goal.returns
-returns c = λ r p on. is-home r _ _ c.loop-t.t (c.trains_in-k.ensures r on.compiled) c.loop-t.invariant.0 c.loop-t-test.false (c.loop-t.invariant.1 r p on)
+returns c = λ r p h. home-is r p _ (c.trains_in-k.ensures r h.compiled)
+    (all_range (arrived r p) c.trains_in-k.result _ _ _ c.all.ensures.ran refl (λ x b q k. (search (rules, tests), λ l. (let e : b ≡ eqb (section_in c.args.q x) (train_of r x).destination.0 = search (rules, tests, h.compiled) in e ∙ arrived-is r p _ _ h x _ _ refl refl))))

@@ -1,5 +1,6 @@
 -- `game_moves::start_code` meets its contract: each train stands on its start.
 -- Assumes nothing.
+use Rattle.std.proofs.Common.{rules}
 use Rattle.railway.specs.Record.{train_of}
 use Rattle.game.specs.Placement.{start_code}
 use Rattle.game_moves.proofs.Placing.{code-each}
@@ -7,6 +8,4 @@ use Rattle.game_moves.proofs.start_code.Goals as goal
 
 pub returns : goal.returns
 unfolding start_code
-returns c =
-    λ r h. code-each r _ h (λ t. (train_of r t).start.0) _ _ _ _ _ (c.start_in.ensures r h)
-    (c.start_in-2.ensures r h) (c.start_in-3.ensures r h) (c.start_in-4.ensures r h) (c.code_of.ensures r h)
+returns c = λ r h. code-each r _ h (λ t. (train_of r t).start.0) _ _ (λ t l. search rules) (c.code_of.ensures r h)

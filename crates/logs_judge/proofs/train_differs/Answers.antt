@@ -1,28 +1,32 @@
--- `logs_judge::train_differs` meets its contract. The loop's invariant: at both places the train stands, or the log has no more of it, and it differs exactly if it does from there on.
+-- `logs_judge::train_differs` meets its contract: the sections that the logs give for the train are compared one by one.
 -- Assumes nothing.
-use native.Mathlib.Omega.{arith}
-use Rattle.logs_judge.proofs.Passes.{pass-first, pass-next, pass-other, pass-short, pass-end}
+use Rattle.std.proofs.Common.{rules, refl, ◌∙◌, map, filter}
+use lib.Dec.{eqb}
+use Rattle.logs.specs.declared.Entry.{Entry}
+use Rattle.std.proofs.lemmas.Iterator.{YieldsList-from_slice, YieldsList-from_map}
+use Rattle.std.proofs.lemmas.Iterator.Consumers.{YieldsList-at, YieldsList-from_filter}
+use borrow.Author.Tests.{tests}
+use Rattle.logs.specs.Computed.{differs}
+use Rattle.logs_judge.proofs.Comparing.{ne-compares, sections-are}
 use Rattle.logs_judge.proofs.train_differs.Goals as goal
 
-pub loop-i-init : goal.loop-i-init
-loop-i-init c = pass-first _ _ _ _ _ _ _ c.next_place-i.ensures c.next_place-j.ensures
-
-pub returns-then-tb-j : goal.returns-then-tb-j
-returns-then-tb-j c = pass-short _ _ _ _ _ _ _ c.loop-i.invariant c.loop-i-test.true c.if-tb-j.true
-
-pub returns-then-byte_in : goal.returns-then-byte_in
-returns-then-byte_in c = pass-other _ _ _ _ _ _ _ c.loop-i.invariant _ _ c.loop-i-test.true c.if-tb-j.false c.byte_in.ensures c.byte_in-in-loop-i.ensures c.if-byte_in.true
-
-pub loop-i-smaller : goal.loop-i-smaller
-loop-i-smaller c =
-    let later = c.next_place-i-in-loop-i.ensures.later in
-    omega (arith, later, c.loop-i-test.true)
-
-pub loop-i-preserved : goal.loop-i-preserved
-loop-i-preserved c =
-    pass-next _ _ _ _ _ _ _ c.loop-i.invariant _ _ _ _ c.loop-i-test.true c.if-tb-j.false
-    c.byte_in.ensures c.byte_in-in-loop-i.ensures c.if-byte_in.false c.next_place-i-in-loop-i.ensures
-    c.next_place-j-in-loop-i.ensures
-
 pub returns : goal.returns
-returns c = pass-end _ _ _ _ _ _ _ c.loop-i.invariant c.loop-i-test.false
+unfolding differs
+returns c =
+    let t = c.args.t in
+    let a = c.args.a.now in
+    let b = c.args.b.now in
+    ne-compares c.ne.ensures.ran
+    (map (λ (e : Entry). e.section) (filter (λ (e : Entry). eqb e.train t) a))
+    (map (λ (e : Entry). e.section) (filter (λ (e : Entry). eqb e.train t) b))
+    (YieldsList-from_map _ (λ (e : Entry). e.section)
+    (YieldsList-at c.map-panel.ensures.source
+    (YieldsList-from_filter _ (λ (e : Entry). eqb e.train t) (YieldsList-at c.filter.ensures.source (YieldsList-from_slice a cc))
+    c.filter.ensures.closure (λ x r q k. search (rules, tests))))
+    c.map-panel.ensures.closure (λ x r q k. search rules))
+    (YieldsList-from_map _ (λ (e : Entry). e.section)
+    (YieldsList-at c.map-axles.ensures.source
+    (YieldsList-from_filter _ (λ (e : Entry). eqb e.train t) (YieldsList-at c.filter-2.ensures.source (YieldsList-from_slice b cc))
+    c.filter-2.ensures.closure (λ x r q k. search (rules, tests))))
+    c.map-axles.ensures.closure (λ x r q k. search rules))
+    ∙ rw (sections-are t a, sections-are t b) refl

@@ -1,14 +1,15 @@
 -- `plan_emitter::emit_lines` meets its contract: the refusal of the case, or the lines that are due.
 -- Assumes nothing.
+use mathlib.Core.Path.{refl}
+use Rattle.std.proofs.lemmas.Result.{err_from_is_err_and}
 use Rattle.plan_emitter.proofs.Putting.{lines-refused, lines-emitted}
 use Rattle.plan_emitter.proofs.emit_lines.Goals as goal
 
-pub returns-in-Refused : goal.returns-in-Refused
-returns-in-Refused c =
-    lines-refused c.args.r c.args.figures.now c.args.settings.now c.args.place c.args.out.now c.open_case-case.ensures
-    c.in-Refused.f c.in-Refused.is
+pub returns-in_err-table : goal.returns-in_err-table
+returns-in_err-table c =
+    let p = err_from_is_err_and c.from_residual.result c.from_residual.ensures.1 in
+    rw (p.1, p.2) (lines-refused c.args.r c.args.figures.now c.args.settings.now c.args.place c.args.out.now c.in_err-table.ensures _ refl)
 
-pub returns-in-Accepted : goal.returns-in-Accepted
-returns-in-Accepted c =
-    lines-emitted c.args.r c.args.figures.now c.args.settings.now c.args.place c.args.out.now c.open_case-case.ensures
-    c.in-Accepted.is c.due_lines.ensures
+pub returns : goal.returns
+returns c =
+    lines-emitted c.args.r c.args.figures.now c.args.settings.now c.args.place c.args.out.now c.in_ok-table.ensures refl c.due_lines.ensures

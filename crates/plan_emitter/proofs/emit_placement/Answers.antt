@@ -1,21 +1,23 @@
--- `plan_emitter::emit_placement` meets its contract: the line in a buffer of its own, and the copy. A compiled railway's line has room there.
+-- `plan_emitter::emit_placement` meets its contract: the line is put at the front, where it has room.
 -- Assumes nothing.
-use native.Mathlib.Omega.{arith}
-use mathlib.Core.Path.{refl}
-use Rattle.text.proofs.Appending.{front_fits, front_cut}
-use Rattle.plan_emitter.proofs.Emitting.{placement-written}
+use Prim.Native.Nat.{suc}
+use native.Mathlib.Numerals.{add-one}
+use Rattle.plan.specs.declared.PlanPlace.TheVariants.{From}
+use Rattle.plan.specs.Lines.{placement_line, spell}
+use Rattle.plan.specs.Text.{line_for}
+use Rattle.plan.proofs.Several.{spell-some}
+use Rattle.plan_emitter.proofs.Putting.{front-refused, front-written}
 use Rattle.plan_emitter.proofs.emit_placement.Goals as goal
 
-pub slice_bounds-text-end : goal.slice_bounds-text-end
-slice_bounds-text-end c = front_fits c.placement_line-len.ensures c.placement_line-len.auto.out
-
-pub slice_bounds-put_line-end : goal.slice_bounds-put_line-end
-slice_bounds-put_line-end c = front_cut c.placement_line-len.ensures c.placement_line-len.auto.out
+pub returns-then-n-eq0 : goal.returns-then-n-eq0
+returns-then-n-eq0 c =
+    λ r h has.
+    let line = placement_line (line_for r c.args.figures.now c.args.settings.now c.args.p) in
+    front-refused (spell line) c.args.out.now (From (suc c.args.p)) (spell-some line) (c.put_placement-n.ensures r h has) c.if-n-eq0.true
 
 pub returns : goal.returns
 returns c =
     λ r h has.
-    placement-written r c.args.figures.now c.args.settings.now c.args.p c.args.out.now h has c.entry_at-n.ensures
-    (omega arith) c.entry_at-v.ensures (c.placement_of-q.ensures r h)
-    (c.trains_in-k.ensures r h) (c.points_in-m.ensures r h) refl
-    c.placement_line-len.ensures c.put_line.ensures
+    let line = placement_line (line_for r c.args.figures.now c.args.settings.now c.args.p) in
+    rw (add-one c.args.p)
+    (front-written (spell line) c.args.out.now (From (suc c.args.p)) (spell-some line) (c.put_placement-n.ensures r h has) c.if-n-eq0.false)

@@ -11,11 +11,11 @@ use Rattle.plan.specs.Several.{Run}
 use Rattle.plan.specs.Steps.{Planned, Underway}
 use Rattle.plan_emitter.proofs.more_lines.Given as goal
 
-abbrev pub invariant-loop-from : goal.invariant-loop-from
-invariant-loop-from l =
+abbrev pub invariant-loop-p : goal.invariant-loop-p
+invariant-loop-p l =
     (length l.out ≡ length l.initial.out)
     × ((r : Railway) (whole : Run) → Compiled r l.table → Planned r l.figures l.settings → Underway r l.figures l.settings whole (From l.from) l.behind l.initial.out
     → Underway r l.figures l.settings whole (From l.c) l.at l.out)
 
-abbrev pub decreases-loop-from : goal.decreases-loop-from
-decreases-loop-from l = l.total - l.c
+abbrev pub decreases-loop-p : goal.decreases-loop-p
+decreases-loop-p l = l.total - l.c

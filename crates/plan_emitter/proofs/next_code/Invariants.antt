@@ -1,6 +1,5 @@
 -- `plan_emitter::next_code` meets its contract. The loop's invariant: no placement from c on before p has a figure.
 -- Assumes nothing.
-use Prim.Native.Nat.{◌≤◌, ◌-◌}
 use mathlib.Core.Path.{◌≡◌}
 use mathlib.Core.Bool.{false}
 use Rattle.laws.specs.Below.{any_below}
@@ -8,7 +7,4 @@ use Rattle.plan.specs.Emitter.{figure_from}
 use Rattle.plan_emitter.proofs.next_code.Given as goal
 
 abbrev pub invariant-loop-p : goal.invariant-loop-p
-invariant-loop-p l = (l.c ≤ l.p) × (any_below (figure_from l.figures l.c) l.p ≡ false)
-
-abbrev pub decreases-loop-p : goal.decreases-loop-p
-decreases-loop-p l = l.total - l.p
+invariant-loop-p l = any_below (figure_from l.figures l.c) l.p ≡ false

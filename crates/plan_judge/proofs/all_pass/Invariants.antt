@@ -2,7 +2,6 @@
 -- Assumes nothing.
 use mathlib.Core.Path.{◌≡◌}
 use mathlib.Core.Bool.{true}
-use Prim.Native.Nat.{◌-◌, ◌≤◌}
 use Rattle.laws.specs.Below.{all_below}
 use Rattle.railway.specs.declared.Railway.{Railway}
 use Rattle.railway.specs.Record.{is_closed}
@@ -13,7 +12,4 @@ use Rattle.railway_compiled.specs.Table.{Compiled}
 use Rattle.plan_judge.proofs.all_pass.Given as goal
 
 abbrev pub invariant-loop-p : goal.invariant-loop-p
-invariant-loop-p l = (l.p ≤ l.m) × ((r : Railway) → Compiled r l.table → Laid r (is_closed r) l.ways → all_below (placement_passes r (by_tables l.figures l.settings)) l.p ≡ true)
-
-abbrev pub decreases-loop-p : goal.decreases-loop-p
-decreases-loop-p l = l.m - l.p
+invariant-loop-p l = (r : Railway) → Compiled r l.table → Laid r (is_closed r) l.ways → all_below (placement_passes r (by_tables l.figures l.settings)) l.p ≡ true

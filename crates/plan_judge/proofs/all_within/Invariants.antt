@@ -2,7 +2,7 @@
 -- Assumes nothing.
 use mathlib.Core.Path.{◌≡◌}
 use mathlib.Core.Bool.{true}
-use Prim.Native.Nat.{ℕ, ◌-◌, ◌≤◌}
+use Prim.Native.Nat.{ℕ}
 use Rattle.laws.specs.Below.{all_below}
 use Rattle.railway.specs.declared.Railway.{Railway}
 use Rattle.railway.specs.Record.{is_closed}
@@ -16,8 +16,5 @@ use Rattle.plan_judge.proofs.all_within.Given as goal
 
 abbrev pub invariant-loop-t : goal.invariant-loop-t
 invariant-loop-t l =
-    (l.t ≤ l.k) × ((r : Railway) (p : ℕ) → On r p l.table l.q → Laid r (is_closed r) l.ways
-    → all_below (goes_within (game_of r) (figure_in l.figures) p (setting_at r p l.v) l.n) l.t ≡ true)
-
-abbrev pub decreases-loop-t : goal.decreases-loop-t
-decreases-loop-t l = l.k - l.t
+    (r : Railway) (p : ℕ) → On r p l.table l.q → Laid r (is_closed r) l.ways
+    → all_below (goes_within (game_of r) (figure_in l.figures) p (setting_at r p l.v) l.n) l.t ≡ true

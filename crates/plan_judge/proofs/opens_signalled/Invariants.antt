@@ -2,7 +2,7 @@
 -- Assumes nothing.
 use mathlib.Core.Path.{◌≡◌}
 use mathlib.Core.Bool.{true}
-use Prim.Native.Nat.{ℕ, ◌-◌, ◌≤◌}
+use Prim.Native.Nat.{ℕ}
 use Rattle.laws.specs.Below.{all_below}
 use Rattle.railway.specs.declared.Railway.{Railway}
 use Rattle.game_moves.specs.Steps.{On}
@@ -10,7 +10,4 @@ use Rattle.plan_judge.specs.Steps.{signalled_in}
 use Rattle.plan_judge.proofs.opens_signalled.Given as goal
 
 abbrev pub invariant-loop-t : goal.invariant-loop-t
-invariant-loop-t l = (l.t ≤ l.k) × ((r : Railway) (p : ℕ) → On r p l.table l.q → all_below (signalled_in r p l.v) l.t ≡ true)
-
-abbrev pub decreases-loop-t : goal.decreases-loop-t
-decreases-loop-t l = l.k - l.t
+invariant-loop-t l = (r : Railway) (p : ℕ) → On r p l.table l.q → all_below (signalled_in r p l.v) l.t ≡ true

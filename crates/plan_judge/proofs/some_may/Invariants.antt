@@ -2,7 +2,7 @@
 -- Assumes nothing.
 use mathlib.Core.Path.{◌≡◌}
 use mathlib.Core.Bool.{false}
-use Prim.Native.Nat.{ℕ, ◌-◌, ◌≤◌}
+use Prim.Native.Nat.{ℕ}
 use Rattle.laws.specs.Below.{any_below}
 use Rattle.railway.specs.declared.Railway.{Railway}
 use Rattle.game.specs.Game.{may}
@@ -12,7 +12,4 @@ use Rattle.game_moves.specs.Steps.{On}
 use Rattle.plan_judge.proofs.some_may.Given as goal
 
 abbrev pub invariant-loop-t : goal.invariant-loop-t
-invariant-loop-t l = (l.t ≤ l.k) × ((r : Railway) (p : ℕ) → On r p l.table l.q → any_below (may (game_of r) p (setting_at r p l.v)) l.t ≡ false)
-
-abbrev pub decreases-loop-t : goal.decreases-loop-t
-decreases-loop-t l = l.k - l.t
+invariant-loop-t l = (r : Railway) (p : ℕ) → On r p l.table l.q → any_below (may (game_of r) p (setting_at r p l.v)) l.t ≡ false

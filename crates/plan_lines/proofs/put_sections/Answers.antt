@@ -8,15 +8,14 @@ use Rattle.plan_lines.proofs.Spelling.{section-piece}
 use Rattle.plan_lines.proofs.put_sections.Goals as goal
 
 pub loop-t-init : goal.loop-t-init
-loop-t-init c = (pieces_none (section_piece c.args.q), omega arith, refl)
+loop-t-init c = (pieces_none (section_piece c.args.q), refl)
 
 pub loop-t-preserved : goal.loop-t-preserved
 loop-t-preserved c = (
   pieces-next (section_piece c.args.q) c.loop-t.t c.loop-t.invariant.0
       (section-piece c.args.q c.loop-t.t _ c.section_at.ensures c.number-next.ensures),
-  omega arith,
-  c.number-next.auto.out ∙ c.loop-t.invariant.2,
+  c.number-next.auto.out ∙ c.loop-t.invariant.1,
 )
 
 pub returns : goal.returns
-returns c = pieces-all (section_piece c.args.q) c.loop-t.t c.args.k c.loop-t.invariant.1 c.loop-t-test.false c.loop-t.invariant.0
+returns c = pieces-all (section_piece c.args.q) c.loop-t.t c.args.k (omega arith) (omega arith) c.loop-t.invariant.0

@@ -9,15 +9,14 @@ use Rattle.plan_lines.proofs.Spelling.{sign-piece}
 use Rattle.plan_lines.proofs.put_signs.Goals as goal
 
 pub loop-n-init : goal.loop-n-init
-loop-n-init c = (pieces_none (point_piece (bit c.args.v)), omega arith, refl)
+loop-n-init c = (pieces_none (point_piece (bit c.args.v)), refl)
 
 pub loop-n-preserved : goal.loop-n-preserved
 loop-n-preserved c = (
   pieces-next (point_piece (bit c.args.v)) c.loop-n.n c.loop-n.invariant.0 (sign-piece (bit c.args.v) c.loop-n.n _ _
       c.bit_at.ensures c.sign.ensures c.byte-next.ensures),
-  omega arith,
-  c.byte-next.auto.out ∙ c.loop-n.invariant.2,
+  c.byte-next.auto.out ∙ c.loop-n.invariant.1,
 )
 
 pub returns : goal.returns
-returns c = pieces-all (point_piece (bit c.args.v)) c.loop-n.n c.args.m c.loop-n.invariant.1 c.loop-n-test.false c.loop-n.invariant.0
+returns c = pieces-all (point_piece (bit c.args.v)) c.loop-n.n c.args.m (omega arith) (omega arith) c.loop-n.invariant.0

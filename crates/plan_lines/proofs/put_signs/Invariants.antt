@@ -1,6 +1,5 @@
 -- `plan_lines::put_signs` meets its contract. The loop's invariant: the pieces before n are written, and the buffer is as long as it was.
 -- Assumes nothing.
-use Prim.Native.Nat.{◌≤◌, ◌-◌}
 use mathlib.Core.Path.{◌≡◌}
 use lib.ListN.{length}
 use Rattle.laws.specs.Below.{gather_below}
@@ -10,7 +9,4 @@ use Rattle.plan_lines.specs.Spelling.{point_piece}
 use Rattle.plan_lines.proofs.put_signs.Given as goal
 
 abbrev pub invariant-loop-n : goal.invariant-loop-n
-invariant-loop-n l = Appended l.initial.out l.at (gather_below (point_piece (bit l.v)) l.n) l.out l.next × (l.n ≤ l.m) × (length l.out ≡ length l.initial.out)
-
-abbrev pub decreases-loop-n : goal.decreases-loop-n
-decreases-loop-n l = l.m - l.n
+invariant-loop-n l = Appended l.initial.out l.at (gather_below (point_piece (bit l.v)) l.n) l.out l.next × (length l.out ≡ length l.initial.out)

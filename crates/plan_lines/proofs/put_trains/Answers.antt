@@ -8,14 +8,13 @@ use Rattle.plan_lines.specs.Spelling.{open_piece}
 use Rattle.plan_lines.proofs.put_trains.Goals as goal
 
 pub loop-t-init : goal.loop-t-init
-loop-t-init c = (pieces_none (open_piece (opens_in c.args.v)), omega arith, refl)
+loop-t-init c = (pieces_none (open_piece (opens_in c.args.v)), refl)
 
 pub loop-t-preserved : goal.loop-t-preserved
 loop-t-preserved c = (
   pieces-next (open_piece (opens_in c.args.v)) c.loop-t.t c.loop-t.invariant.0 c.put_train-next.ensures,
-  omega arith,
-  c.put_train-next.auto.out ∙ c.loop-t.invariant.2,
+  c.put_train-next.auto.out ∙ c.loop-t.invariant.1,
 )
 
 pub returns : goal.returns
-returns c = pieces-all (open_piece (opens_in c.args.v)) c.loop-t.t c.args.k c.loop-t.invariant.1 c.loop-t-test.false c.loop-t.invariant.0
+returns c = pieces-all (open_piece (opens_in c.args.v)) c.loop-t.t c.args.k (omega arith) (omega arith) c.loop-t.invariant.0

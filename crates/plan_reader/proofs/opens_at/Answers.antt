@@ -3,40 +3,12 @@
 -- Assumes nothing.
 use native.Mathlib.Omega.{arith}
 use mathlib.Core.Path.{sym, ◌∙◌}
-use Rattle.plan_reader.proofs.Taking.{byte-inside, opens-start, opens-room, opens-yes, opens_not, opens-none, opens-some, opens-zero}
+use Rattle.plan_reader.proofs.Taking.{opens-yes, opens_not, opens-none, opens-some, opens-zero}
 use Rattle.plan_reader.proofs.opens_at.Goals as goal
 use Rattle.plan_reader.proofs.opens_at.Goals.{then-peek-t, else-peek-t}
 
-pub overflow_add-result : goal.overflow_add-result
-overflow_add-result c =
-    omega (
-      arith,
-      byte-inside c.args.text.now _ _ c.peek.ensures
-          (omega (arith, c.if-peek-eq48.true)),
-    )
-
 pub returns-then-peek-eq48 : goal.returns-then-peek-eq48
 returns-then-peek-eq48 c = opens-zero _ _ _ (sym c.peek.ensures ∙ c.if-peek-eq48.true)
-
-pub loop-t-init : goal.loop-t-init
-loop-t-init c = opens-start _ _ _
-
-pub overflow_add-t : goal.overflow_add-t
-overflow_add-t c = omega (arith, c.requires, c.loop-t-test.true)
-
-pub overflow_shl-v : goal.overflow_shl-v
-overflow_shl-v c = omega (arith, c.requires, c.loop-t-test.true)
-
-pub overflow_add-v-then-peek-t : goal.overflow_add-v-then-peek-t
-overflow_add-v-then-peek-t c = omega (arith, opens-room _ _ _ _ _ _ c.loop-t.invariant c.requires c.loop-t-test.true)
-
-pub overflow_add-at : goal.overflow_add-at
-overflow_add-at c =
-    omega (
-      arith,
-      byte-inside c.args.text.now _ _ c.peek-in-loop-t.ensures
-          (omega (arith, c.if-peek-t.true)),
-    )
 
 pub loop-t-preserved : goal.loop-t-preserved
 loop-t-preserved c =
@@ -47,10 +19,10 @@ loop-t-preserved c =
 
 pub returns-then-v-eq0 : goal.returns-then-v-eq0
 returns-then-v-eq0 c =
-    opens-none _ _ _ _ _ _ c.loop-t.invariant c.requires c.loop-t-test.false
+    opens-none _ _ _ _ _ _ c.loop-t.invariant c.requires (omega arith)
     (λ e. c.if-peek-eq48.false (c.peek.ensures ∙ e)) (omega (arith, c.if-v-eq0.true))
 
 pub returns : goal.returns
 returns c =
-    opens-some _ _ _ _ _ _ c.loop-t.invariant c.requires c.loop-t-test.false
+    opens-some _ _ _ _ _ _ c.loop-t.invariant c.requires (omega arith)
     (λ e. c.if-peek-eq48.false (c.peek.ensures ∙ e)) c.if-v-eq0.false

@@ -3,30 +3,14 @@
 -- Assumes nothing.
 use native.Mathlib.Omega.{arith}
 use mathlib.Core.Path.{sym, ◌∙◌}
-use Rattle.plan_reader.proofs.Taking.{byte-inside, signs-start, signs-room, signs-plus, signs-minus, signs-none, signs-end}
+use Rattle.plan_reader.proofs.Taking.{signs-plus, signs-minus, signs-none, signs-end}
 use Rattle.plan_reader.proofs.signs_at.Goals as goal
 use Rattle.plan_reader.proofs.signs_at.Goals.{then-b-eq43, else-b-eq43+else-b-ne45}
-
-pub loop-i-init : goal.loop-i-init
-loop-i-init c = signs-start _ _ _
-
-pub overflow_shl-v : goal.overflow_shl-v
-overflow_shl-v c = omega (arith, c.requires, c.loop-i-test.true)
-
-pub overflow_add-v : goal.overflow_add-v
-overflow_add-v c = omega (arith, signs-room _ _ _ _ _ _ c.loop-i.invariant c.loop-i-test.true c.requires)
 
 pub returns-then-b-ne45 : goal.returns-then-b-ne45
 returns-then-b-ne45 c =
     signs-none _ _ _ _ _ _ c.loop-i.invariant c.loop-i-test.true c.requires
     (λ h. c.if-b-eq43.false (c.peek-b.ensures ∙ h)) (λ h. c.if-b-ne45.true (c.peek-b.ensures ∙ h))
-
-pub overflow_add-at : goal.overflow_add-at
-overflow_add-at c =
-    elim c.if-b-eq43.branch [
-      | then-b-eq43 w ↦ omega (arith, byte-inside c.args.text.now _ _ c.peek-b.ensures (omega (arith, w.if-b-eq43.true)))
-      | else-b-eq43+else-b-ne45 w ↦ omega (arith, byte-inside c.args.text.now _ _ c.peek-b.ensures (omega (arith, w.if-b-ne45.false)))
-    ]
 
 pub loop-i-preserved : goal.loop-i-preserved
 loop-i-preserved c =
@@ -36,4 +20,4 @@ loop-i-preserved c =
     ]
 
 pub returns : goal.returns
-returns c = signs-end _ _ _ _ _ _ c.loop-i.invariant c.loop-i-test.false
+returns c = signs-end _ _ _ _ _ _ c.loop-i.invariant (omega arith)

@@ -1,16 +1,11 @@
--- `railway_acceptance::shut_out` meets its contract. The loop's invariant: it has noted whether some train before t starts or
--- ends on a closed section. Assumes nothing.
-use Rattle.railway_acceptance.proofs.Bytes.{noted-start, noted_more, noted-end}
-use Rattle.railway_acceptance.proofs.Testing.{shut_at}
+-- `railway_acceptance::shut_out` meets its contract: some train starts or ends on a closed section.
+-- Assumes nothing.
+use Rattle.std.proofs.Common.{rules, tests}
+use mathlib.Core.Path.{refl}
+use Rattle.railway.specs.Rows.{shut_out_at}
+use Rattle.railway_acceptance.proofs.Testing.{unread, shut_at}
+use Rattle.railway_acceptance.proofs.Ranges.{any_range}
 use Rattle.railway_acceptance.proofs.shut_out.Goals as goal
 
-pub loop-t-init : goal.loop-t-init
-loop-t-init c = noted-start
-
-pub loop-t-preserved : goal.loop-t-preserved
-loop-t-preserved c =
-    let l = c.loop-t-test.true in
-    noted_more c.loop-t.invariant l (λ r h. shut_at r _ _ h.0 _ _ _ l (c.is_shut-found.ensures r h.1))
-
 pub returns : goal.returns
-returns c = λ r h e. noted-end c.loop-t.invariant c.loop-t-test.false r (h, e)
+returns c = λ r h e. any_range (shut_out_at r) c.args.k _ _ _ c.any.ensures.ran refl (λ x b q k. (search (rules, tests), λ l. shut_at r _ _ h x unread b l (search (rules, tests))))

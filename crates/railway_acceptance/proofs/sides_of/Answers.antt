@@ -9,12 +9,10 @@ use Rattle.railway_acceptance.proofs.Bytes.{legs-next, all-sided}
 use Rattle.railway_acceptance.proofs.sides_of.Goals as goal
 
 pub loop-n-preserved : goal.loop-n-preserved
-loop-n-preserved c = (
-  omega arith,
-  λ r h k.
-      fill-next (λ m. side_index (legs_of r m)) most_points _ _ (c.loop-n.invariant.1 r h k) _ c.loop-n-test.true
-      (legs-next r _ _ _ _ h k c.legs_index-b.ensures),
-)
+loop-n-preserved c =
+    λ r h k.
+    fill-next (λ m. side_index (legs_of r m)) most_points _ _ (c.loop-n.invariant r h k) _ c.loop-n-test.true
+    (legs-next r _ _ _ _ h k c.legs_index.ensures)
 
 pub returns : goal.returns
-returns c = λ r h k. all-sided r _ _ (c.loop-n.invariant.1 r h k) c.loop-n-test.false
+returns c = λ r h k. all-sided r _ _ (c.loop-n.invariant r h k) (omega arith)

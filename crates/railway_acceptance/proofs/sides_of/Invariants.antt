@@ -1,7 +1,6 @@
 -- `railway_acceptance::sides_of` meets its contract. The loop's invariant: the sides of all points before n are filled in.
 -- Assumes nothing.
 use mathlib.Core.Path.{◌≡◌}
-use Prim.Native.Nat.{◌-◌, ◌≤◌}
 use Rattle.laws.proofs.Filling.{FilledTo}
 use Rattle.railway.specs.declared.Railway.{Railway}
 use Rattle.railway.specs.Bounds.{most_points}
@@ -11,8 +10,4 @@ use Rattle.railway_acceptance.proofs.sides_of.Given as goal
 
 abbrev pub invariant-loop-n : goal.invariant-loop-n
 invariant-loop-n l =
-    (l.n ≤ most_points) × ((r : Railway) → r.legs ≡ l.legs → r.points ≡ l.p
-    → FilledTo (λ m. side_index (legs_of r m)) most_points l.sides l.n)
-
-abbrev pub decreases-loop-n : goal.decreases-loop-n
-decreases-loop-n l = most_points - l.n
+    (r : Railway) → r.legs ≡ l.legs → r.points ≡ l.p → FilledTo (λ m. side_index (legs_of r m)) most_points l.sides l.n

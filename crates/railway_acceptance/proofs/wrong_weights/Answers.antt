@@ -1,16 +1,11 @@
--- `railway_acceptance::wrong_weights` meets its contract. The loop's invariant: it has noted whether some train before t has a
--- weight that none may have. Assumes nothing.
-use Rattle.railway_acceptance.proofs.Bytes.{noted-start, noted_more, noted-end}
-use Rattle.railway_acceptance.proofs.Testing.{weight-at, weights-by}
+-- `railway_acceptance::wrong_weights` meets its contract: some train has a weight that none may have.
+-- Assumes nothing.
+use Rattle.std.proofs.Common.{rules, tests}
+use mathlib.Core.Path.{refl}
+use Rattle.railway.specs.Rows.{wrong_weight_at}
+use Rattle.railway_acceptance.proofs.Testing.{unread, weight-at, weights-by}
+use Rattle.railway_acceptance.proofs.Ranges.{any_range}
 use Rattle.railway_acceptance.proofs.wrong_weights.Goals as goal
 
-pub loop-t-init : goal.loop-t-init
-loop-t-init c = noted-start
-
-pub loop-t-preserved : goal.loop-t-preserved
-loop-t-preserved c =
-    let l = c.loop-t-test.true in
-    noted_more c.loop-t.invariant l (λ r h. weight-at r _ _ h _ _ _ l c.is_wrong-found.ensures)
-
 pub returns : goal.returns
-returns c = λ r h. weights-by r _ _ h _ (noted-end c.loop-t.invariant c.loop-t-test.false r h)
+returns c = λ r h. weights-by r _ _ h _ (any_range (wrong_weight_at r) c.args.k _ _ _ c.any.ensures.ran refl (λ x b q k. (search (rules, tests), λ l. weight-at r _ _ h x unread b l (search (rules, tests)))))

@@ -19,7 +19,7 @@ past_join-returns-then-left-eq0 t c =
     record {
       few = omega (arith, met c.nowhere-then-left-eq0.ensures);
       follows = λ r h.
-          past_stop r c.args.points c.args.left c.args.j _ _ _ _ c.in-With.is c.in-Port.is c.if-left-eq0.true
+          past_stop r c.args.points c.args.left c.args.j _ _ _ _ c.in-Some.is c.in-Port.is c.if-left-eq0.true
           c.nowhere-then-left-eq0.ensures;
     }
 
@@ -28,7 +28,7 @@ past_join-returns-in-Section t c =
     record {
       few = omega (arith, met c.entering.ensures);
       follows = λ r h.
-          past-section r c.args.points c.args.left c.args.j _ _ _ _ c.in-With.is c.in-Section.is
+          past-section r c.args.points c.args.left c.args.j _ _ _ _ c.in-Some.is c.in-Section.is
           c.entering.ensures;
     }
 
@@ -37,7 +37,7 @@ past_join-returns-else-left-eq0 t c =
     record {
       few = omega (arith, c.past_point.ensures.few);
       follows = λ r h.
-          past-port r c.args.points c.args.left c.args.j _ _ _ _ c.in-With.is c.in-Port.is c.if-left-eq0.false
+          past-port r c.args.points c.args.left c.args.j _ _ _ _ c.in-Some.is c.in-Port.is c.if-left-eq0.false
           (c.past_point.ensures.follows r h);
     }
 
@@ -45,21 +45,21 @@ pub past_point-meeting-requires : goal.past_point-meeting-requires
 past_point-meeting-requires t c = omega (arith, met c.nowhere.ensures)
 
 -- OVER A POINT: the train derails there, or goes on past the join behind it
-pub past_point-returns-in-Derails : goal.past_point-returns-in-Derails
-past_point-returns-in-Derails t c =
+pub past_point-returns-in-None : goal.past_point-returns-in-None
+past_point-returns-in-None t c =
     record {
       few = omega (arith, c.meeting.ensures.more, met c.nowhere.ensures);
       follows = λ r h.
           over-derails r c.args.points c.args.left c.args.n c.args.l _ _ c.lies_plus.ensures c.through-on.ensures _ _
-          c.meeting.ensures.first c.in-Derails.is c.nowhere.ensures;
+          c.meeting.ensures.first c.in-None.is c.nowhere.ensures;
     }
 
-pub past_point-returns-in-By : goal.past_point-returns-in-By
-past_point-returns-in-By t c =
+pub past_point-returns-in-Some : goal.past_point-returns-in-Some
+past_point-returns-in-Some t c =
     record {
-      few = omega (arith, c.meeting-in-By.ensures.more, c.past_join.ensures.few);
+      few = omega (arith, c.meeting-in-Some.ensures.more, c.past_join.ensures.few);
       follows = λ r h.
           over-on r c.args.points c.args.left c.args.n c.args.l _ _ c.lies_plus.ensures c.through-on.ensures _ _
-          c.meeting-in-By.ensures.first _ _ c.requires c.in-By.is (c.join_of-j.ensures r h)
+          c.meeting-in-Some.ensures.first _ _ c.requires c.in-Some.is (c.join_of-j.ensures r h)
           (c.past_join.ensures.follows r h);
     }

@@ -6,7 +6,7 @@ use native.Mathlib.Omega.{arith}
 use mathlib.Core.Path.{sym, ◌∙◌}
 use Rattle.railway_routes.specs.Routes.{way_words, flagged, routes}
 use Rattle.railway_routes.proofs.Putting.{past-shut, past-section, past-none, past-last, past-port}
-use Rattle.railway_routes.proofs.Putting.{over-stem, over-plus, over-minus, laid-barred, laid_on, room-one, room-less}
+use Rattle.railway_routes.proofs.Putting.{over-stem, laid-barred, laid_on, room-one, room-less}
 use Rattle.railway_routes.proofs.+put_laid_put_over_put_past.Goals as goal
 
 pub put_laid-returns-then-barred : goal.put_laid-returns-then-barred
@@ -30,36 +30,18 @@ put_laid-returns t c =
           (c.put_past.ensures.put r h);
     }
 
-pub put_over-returns-then-leg-eq0 : goal.put_over-returns-then-leg-eq0
-put_over-returns-then-leg-eq0 t c =
+pub put_over-returns-in-0 : goal.put_over-returns-in-0
+put_over-returns-in-0 t c =
     let w = c.args.walk in record {
       room = omega (arith, c.put_laid-next.ensures.room, c.put_laid.ensures.room);
       put = λ r h.
           over-stem r (routes r (flagged c.args.closed.now) w.left) w.care w.want (record { 0 = c.args.n })
-          c.args.leg c.args.at _ _ _ c.if-leg-eq0.true _ _ (c.put_laid-next.ensures.put r h)
+          c.args.leg c.args.at _ _ _ c.in-0.is _ _ (c.put_laid-next.ensures.put r h)
           (c.put_laid.ensures.put r h);
     }
 
-pub put_over-returns-then-leg-eq1 : goal.put_over-returns-then-leg-eq1
-put_over-returns-then-leg-eq1 t c =
-    let w = c.args.walk in record {
-      room = omega (arith, c.put_laid-then-leg-eq1.ensures.room);
-      put = λ r h.
-          over-plus r (routes r (flagged c.args.closed.now) w.left) w.care w.want (record { 0 = c.args.n })
-          c.args.leg c.args.at _ _ _ c.if-leg-eq0.false c.if-leg-eq1.true (c.put_laid-then-leg-eq1.ensures.put r h);
-    }
-
-pub put_over-returns-else-leg-eq1 : goal.put_over-returns-else-leg-eq1
-put_over-returns-else-leg-eq1 t c =
-    let w = c.args.walk in record {
-      room = omega (arith, c.put_laid-else-leg-eq1.ensures.room);
-      put = λ r h.
-          over-minus r (routes r (flagged c.args.closed.now) w.left) w.care w.want (record { 0 = c.args.n })
-          c.args.leg c.args.at _ _ _ c.if-leg-eq0.false c.if-leg-eq1.false (c.put_laid-else-leg-eq1.ensures.put r h);
-    }
-
-pub put_past-returns-then-closed-i : goal.put_past-returns-then-closed-i
-put_past-returns-then-closed-i t c = let w = c.args.walk in record { room = omega arith; put = λ r h. past-shut r _ w.left w.care w.want c.args.j c.args.at _ c.if-j-lt-SECTION_ENDS.true c.if-closed-i.true }
+pub put_past-returns-then-closed-x : goal.put_past-returns-then-closed-x
+put_past-returns-then-closed-x t c = let w = c.args.walk in record { room = omega arith; put = λ r h. past-shut r _ w.left w.care w.want c.args.j c.args.at _ c.if-j-lt-SECTION_ENDS.true c.if-closed-x.true }
 
 pub put_past-bounds-ways-at : goal.put_past-bounds-ways-at
 put_past-bounds-ways-at t c =
@@ -77,7 +59,7 @@ put_past-bounds-ways-at-then-j-lt-SECTION_ENDS-2 t c =
     omega (arith, put-past-room)
 
 pub put_past-returns-then-j-lt-SECTION_ENDS : goal.put_past-returns-then-j-lt-SECTION_ENDS
-put_past-returns-then-j-lt-SECTION_ENDS t c = let w = c.args.walk in record { room = room-one c.args.at w.left; put = λ r h. past-section r _ w.left w.care w.want c.args.j c.args.at _ c.if-j-lt-SECTION_ENDS.true c.if-closed-i.false }
+put_past-returns-then-j-lt-SECTION_ENDS t c = let w = c.args.walk in record { room = room-one c.args.at w.left; put = λ r h. past-section r _ w.left w.care w.want c.args.j c.args.at _ c.if-j-lt-SECTION_ENDS.true c.if-closed-x.false }
 
 pub put_past-returns-then-walk-eq0 : goal.put_past-returns-then-walk-eq0
 put_past-returns-then-walk-eq0 t c = let w = c.args.walk in record { room = omega arith; put = λ r h. past-last r _ w.left w.care w.want c.args.j c.args.at _ c.if-j-lt-SECTION_ENDS.false c.if-walk-eq0.true }

@@ -26,17 +26,17 @@ bounds-ways-at-in-loop-at c = omega (arith, c.if-e-ge-SECTION_ENDS.false, walked
 pub bounds-ways-at-in-loop-at-2 : goal.bounds-ways-at-in-loop-at-2
 bounds-ways-at-in-loop-at-2 c = omega (arith, c.if-e-ge-SECTION_ENDS.false, walked-room _ _ _ _ c.loop-at.invariant.2 c.loop-at-test.true)
 
-pub returns-then-points-wide : goal.returns-then-points-wide
-returns-then-points-wide c =
+pub returns-then-points-from : goal.returns-then-points-from
+returns-then-points-from c =
     let w = c.loop-at.invariant.2 in
-    let fit = suit c.args.points c.wide.ensures c.wide-in-loop-at.ensures c.if-points-wide.true in record { found = λ r laid h. walked-hit _ _ _ _ w r laid h c.loop-at-test.true c.if-x-eq255.false fit; past = λ h. absurd (omega (arith, c.if-e-ge-SECTION_ENDS.false)) }
+    let fit = suit c.args.points c.from.ensures c.from-in-loop-at.ensures c.if-points-from.true in record { found = λ r laid h. walked-hit _ _ _ _ w r laid h c.loop-at-test.true c.if-x-eq255.false fit; past = λ h. absurd (omega (arith, c.if-e-ge-SECTION_ENDS.false)) }
 
 pub loop-at-preserved : goal.loop-at-preserved
 loop-at-preserved c =
     let w = c.loop-at.invariant.2 in
     let n =
     walked_next _ _ _ _ w (omega (arith, c.if-e-ge-SECTION_ENDS.false)) c.loop-at-test.true c.if-x-eq255.false
-    (λ s. c.if-points-wide.false (unsuit c.args.points c.wide.ensures c.wide-in-loop-at.ensures s)) in
+    (λ s. c.if-points-from.false (unsuit c.args.points c.from.ensures c.from-in-loop-at.ensures s)) in
     (c.loop-at.invariant.0, walked-inside _ _ _ _ n, n)
 
 pub returns : goal.returns

@@ -8,4 +8,4 @@ pub returns-then-j-ge-MOST_WAYS : goal.returns-then-j-ge-MOST_WAYS
 returns-then-j-ge-MOST_WAYS c = record { way = λ r shut h l. word_none r shut c.args.e c.args.j c.args.i c.if-j-ge-MOST_WAYS.true; past = λ l. refl }
 
 pub returns : goal.returns
-returns c = record { way = λ r shut h l. c.wide.ensures ∙ word-there r shut c.args.ways.now c.args.e c.args.j h c.args.i l c.if-j-ge-MOST_WAYS.false c.requires; past = λ l. absurd (omega arith) }
+returns c = record { way = λ r shut h l. c.from.ensures ∙ word-there r shut c.args.ways.now c.args.e c.args.j h c.args.i l c.if-j-ge-MOST_WAYS.false c.requires; past = λ l. absurd (omega arith) }

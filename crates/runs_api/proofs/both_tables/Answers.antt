@@ -4,5 +4,5 @@ use Rattle.runs_api.proofs.both_tables.Goals as goal
 
 pub returns : goal.returns
 returns c =
-    both c.args.r c.requires _ _ c.run_table-for_up.result c.run_table-for_down.result _ _
-    c.run_table-for_up.ensures c.run_table-for_down.ensures c.table_in.ensures c.table_in-2.ensures
+    both c.args.r c.requires _ _ c.run_table.result c.run_table-2.result _ _
+    c.run_table.ensures c.run_table-2.ensures c.unwrap_or.ensures c.unwrap_or-2.ensures

@@ -6,14 +6,13 @@ use Prim.Native.Nat.{suc, ◌+◌}
 use Rattle.runs_tables.proofs.levels.Goals as goal
 
 pub loop-n-init : goal.loop-n-init
-loop-n-init c = (omega arith, λ r x h k. k)
+loop-n-init c = λ r x h k. k
 
 pub loop-n-preserved : goal.loop-n-preserved
 loop-n-preserved c =
+    λ r x h k.
     let e : c.loop-n.n + 1 ≡ suc c.loop-n.n = add-one c.loop-n.n in
-    (omega (arith, c.loop-n-test.true), λ r x h k. rw e (c.level.ensures r x _ h c.loop-n-test.true (c.loop-n.invariant.1 r x h k)))
+    rw e (c.level.ensures r x _ h c.loop-n-test.true (c.loop-n.invariant r x h k))
 
 pub returns : goal.returns
-returns c =
-    let s = c.args.sections in
-    λ r x h k. let e : c.loop-n.n ≡ s = omega (arith, c.loop-n-test.false, c.loop-n.invariant.0) in rw e at (c.loop-n.invariant.1 r x h k)
+returns c = λ r x h k. let e : c.loop-n.n ≡ c.args.sections = omega arith in rw e at (c.loop-n.invariant r x h k)

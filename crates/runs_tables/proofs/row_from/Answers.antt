@@ -6,10 +6,11 @@ use Rattle.runs_tables.proofs.Steps.{few, row-begun, row_done, row-none}
 use Rattle.runs_tables.proofs.row_from.Goals as goal
 
 pub returns-then-sections-x : goal.returns-then-sections-x
-returns-then-sections-x c = λ r h. row-none r _ _ _ _ h _ c.if-sections-x.true refl
-
-pub returns-then-x-ge-SECTIONS : goal.returns-then-x-ge-SECTIONS
-returns-then-x-ge-SECTIONS c = λ r h. row-none r _ _ _ _ h _ (omega (arith, c.if-x-ge-SECTIONS.true, few h)) refl
+returns-then-sections-x c = λ r h.
+    elim c.then-sections-x.branch [
+      | goal.then-sections-x-via-then-sections-x w ↦ row-none r _ _ _ _ h _ w.if-sections-x.true refl
+      | goal.then-sections-x-via-else-sections-x+then-x-ge-SECTIONS w ↦ row-none r _ _ _ _ h _ (omega (arith, w.if-x-ge-SECTIONS.true, few h)) refl
+    ]
 
 pub returns : goal.returns
 returns c =

@@ -7,17 +7,8 @@ use Rattle.runs_text.proofs.read_runs.Goals as goal
 pub loop-t-init : goal.loop-t-init
 loop-t-init c = none_read _ _ _ _ refl
 
-pub bounds-runs-at : goal.bounds-runs-at
-bounds-runs-at c = omega (arith, c.loop-t-test.true)
-
-pub overflow_add-t : goal.overflow_add-t
-overflow_add-t c = omega (arith, c.loop-t-test.true)
-
-pub loop-t-smaller : goal.loop-t-smaller
-loop-t-smaller c = omega (arith, c.loop-t-test.true)
-
 pub loop-t-preserved : goal.loop-t-preserved
-loop-t-preserved c = one-read _ _ _ _ _ _ _ c.loop-t-test.true c.train_of.ensures c.run_of.ensures c.loop-t.invariant
+loop-t-preserved c = one-read _ _ _ _ _ _ _ (omega arith) c.train_of.ensures c.run_of.ensures c.loop-t.invariant
 
 pub returns : goal.returns
 returns c = λ t l a b. all_read _ _ _ _ _ t c.loop-t-test.false l a b c.loop-t.invariant

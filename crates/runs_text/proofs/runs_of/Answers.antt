@@ -4,5 +4,5 @@ use Rattle.runs_text.proofs.runs_of.Goals as goal
 
 pub returns : goal.returns
 returns c =
-    trains-run c.args.r c.requires _ _ c.run_table-up.result c.run_table-down.result _ _ _
-    c.run_table-up.ensures c.run_table-down.ensures c.table_in.ensures c.table_in-2.ensures c.read_runs.ensures
+    trains-run c.args.r c.requires _ _ c.run_table.result c.run_table-2.result _ _ _
+    c.run_table.ensures c.run_table-2.ensures c.unwrap_or-up.ensures c.unwrap_or-down.ensures c.read_runs.ensures

@@ -1,6 +1,5 @@
 -- `runs_text::spell_trains` meets its contract. The loop's invariant: the lines of the trains below t are written, and the buffer is as long as it was. Assumes nothing.
 use mathlib.Core.Path.{◌≡◌}
-use Prim.Native.Nat.{◌-◌, ◌≤◌}
 use lib.ListN.{length, get_or}
 use Rattle.laws.specs.Below.{gather_below}
 use Rattle.text.specs.Appending.{Appended}
@@ -8,7 +7,4 @@ use Rattle.runs_text.specs.Written.{run_line}
 use Rattle.runs_text.proofs.spell_trains.Given as goal
 
 abbrev pub invariant-loop-t : goal.invariant-loop-t
-invariant-loop-t l = Appended l.initial.out 0 (gather_below (λ i. run_line i (get_or l.runs i 0)) l.t) l.out l.next × (l.t ≤ l.k) × (length l.out ≡ length l.initial.out)
-
-abbrev pub decreases-loop-t : goal.decreases-loop-t
-decreases-loop-t l = l.k - l.t
+invariant-loop-t l = Appended l.initial.out 0 (gather_below (λ i. run_line i (get_or l.runs i 0)) l.t) l.out l.next × (length l.out ≡ length l.initial.out)

@@ -13,12 +13,6 @@ returns-then-entry_at-n c =
     stands c.loop-c.c (omega (arith, c.loop-c-test.true))
     (sym c.entry_at.ensures ∙ c.if-entry_at-n.true)
 
-pub overflow_add-c : goal.overflow_add-c
-overflow_add-c c = omega (arith, c.loop-c-test.true, c.ranges.upto)
-
-pub loop-c-smaller : goal.loop-c-smaller
-loop-c-smaller c = omega (arith, c.loop-c-test.true)
-
 pub loop-c-preserved : goal.loop-c-preserved
 loop-c-preserved c = others-next c.args.figures.now c.args.n c.args.from c.loop-c.c _ c.loop-c.invariant c.entry_at.ensures c.if-entry_at-n.false
 

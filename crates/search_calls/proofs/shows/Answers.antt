@@ -11,5 +11,5 @@ returns-then-f-ne-NO_FIGURE c = rw (ne_eqb c.args.f no_figure c.if-f-ne-NO_FIGUR
 pub returns-then-ended : goal.returns-then-ended
 returns-then-ended c = rw (eq-eqb c.args.f no_figure c.if-f-ne-NO_FIGURE.false, c.if-ended.true) refl
 
-pub returns : goal.returns
-returns c = rw (eq-eqb c.args.f no_figure c.if-f-ne-NO_FIGURE.false, c.if-ended.false) refl
+pub returns-else-ended : goal.returns-else-ended
+returns-else-ended c = rw (eq-eqb c.args.f no_figure c.if-f-ne-NO_FIGURE.false, c.if-ended.false) refl

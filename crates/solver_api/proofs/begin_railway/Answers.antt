@@ -2,12 +2,12 @@
 use Rattle.solver_api.proofs.Plans.{begun-refused, begun-railway}
 use Rattle.solver_api.proofs.begin_railway.Goals as goal
 
-pub returns-in-Refused : goal.returns-in-Refused
-returns-in-Refused c =
+pub returns-in-Err : goal.returns-in-Err
+returns-in-Err c =
     begun-refused c.args.r c.args.state.now c.args.figures.now c.args.settings.now _ _ _ _ c.fresh-begun.ensures _
-    c.in-Refused.is _ c.number.ensures
+    c.in-Err.is _ c.number.ensures
 
-pub returns-in-Accepted : goal.returns-in-Accepted
-returns-in-Accepted c =
+pub returns-in-Ok : goal.returns-in-Ok
+returns-in-Ok c =
     begun-railway c.args.r c.args.state.now c.args.figures.now c.args.settings.now _ _ _ _ c.fresh-begun.ensures
-    c.in-Accepted.is _ c.state_numbers.ensures
+    c.in-Ok.is _ c.state_numbers.ensures

@@ -3,12 +3,12 @@ use mathlib.Core.Path.{refl}
 use Rattle.case_reader.proofs.Answers.{by-refused, by-accepted}
 use Rattle.solver_api.proofs.solve_case.Goals as goal
 
-pub returns-in-Refused : goal.returns-in-Refused
-returns-in-Refused c =
-    by-refused _ _ _ _ c.read_case-read.ensures _ c.in-Refused.is
+pub returns-in-Err : goal.returns-in-Err
+returns-in-Err c =
+    by-refused _ _ _ _ c.in-Err.ensures _ refl
     (c.number.ensures, refl, refl)
 
-pub returns-in-Accepted : goal.returns-in-Accepted
-returns-in-Accepted c =
-    by-accepted _ _ _ _ c.read_case-read.ensures c.in-Accepted.is
+pub returns-in-Ok : goal.returns-in-Ok
+returns-in-Ok c =
+    by-accepted _ _ _ _ c.in-Ok.ensures refl
     c.solve_railway.ensures

@@ -3,8 +3,8 @@ use mathlib.Core.Path.{refl}
 use Rattle.case_reader.proofs.Answers.{by-refused, by-accepted}
 use Rattle.solver_api.proofs.take_plan_lines.Goals as goal
 
-pub returns-in-Refused : goal.returns-in-Refused
-returns-in-Refused c = by-refused _ _ _ _ c.read_case-read.ensures _ c.in-Refused.is (c.number.ensures, refl, refl)
+pub returns-in-Err : goal.returns-in-Err
+returns-in-Err c = by-refused _ _ _ _ c.in-Err.ensures _ refl (c.number.ensures, refl, refl)
 
-pub returns-in-Accepted : goal.returns-in-Accepted
-returns-in-Accepted c = by-accepted _ _ _ _ c.read_case-read.ensures c.in-Accepted.is c.take_railway.ensures
+pub returns-in-Ok : goal.returns-in-Ok
+returns-in-Ok c = by-accepted _ _ _ _ c.in-Ok.ensures refl c.take_railway.ensures

@@ -2,12 +2,12 @@
 use Rattle.solver_api.proofs.Plans.{taken_refused, taken-railway}
 use Rattle.solver_api.proofs.take_railway.Goals as goal
 
-pub returns-in-Refused : goal.returns-in-Refused
-returns-in-Refused c =
+pub returns-in-Err : goal.returns-in-Err
+returns-in-Err c =
     taken_refused c.args.r c.args.state.now c.args.figures.now c.args.settings.now c.args.plan.now c.args.bytes.now _
-    c.checker_of-checker.ensures _ _ _ _ c.take_front-taken.ensures _ c.in-Refused.is _ c.number.ensures
+    c.checker_of-checker.ensures _ _ _ _ c.take_front.ensures _ c.in-Err.is _ c.number.ensures
 
-pub returns-in-Took : goal.returns-in-Took
-returns-in-Took c =
+pub returns-in-Ok : goal.returns-in-Ok
+returns-in-Ok c =
     taken-railway c.args.r c.args.state.now c.args.figures.now c.args.settings.now c.args.plan.now c.args.bytes.now _
-    c.checker_of-checker.ensures _ _ _ _ c.take_front-taken.ensures _ c.in-Took.is _ c.state_numbers.ensures
+    c.checker_of-checker.ensures _ _ _ _ c.take_front.ensures _ c.in-Ok.is _ c.state_numbers.ensures

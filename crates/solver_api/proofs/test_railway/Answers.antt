@@ -3,12 +3,12 @@ use mathlib.Core.Path.{refl}
 use Rattle.solver_api.proofs.Plans.{tested-railway}
 use Rattle.solver_api.proofs.test_railway.Goals as goal
 
-pub returns-in-Refused : goal.returns-in-Refused
-returns-in-Refused c =
+pub returns-in-Err : goal.returns-in-Err
+returns-in-Err c =
     tested-railway c.args.r c.args.state.now c.args.figures.now c.args.settings.now _ c.checker_of-checker.ensures _ _
-    c.test-tested.ensures _ c.in-Refused.is _ c.number.ensures
+    c.test.ensures _ c.in-Err.is _ c.number.ensures
 
-pub returns-in-Pass : goal.returns-in-Pass
-returns-in-Pass c =
+pub returns-in-Ok : goal.returns-in-Ok
+returns-in-Ok c =
     tested-railway c.args.r c.args.state.now c.args.figures.now c.args.settings.now _ c.checker_of-checker.ensures _ _
-    c.test-tested.ensures _ c.in-Pass.is _ refl
+    c.test.ensures _ c.in-Ok.is _ refl

@@ -2,7 +2,6 @@
 -- Assumes nothing.
 use mathlib.Core.Path.{◌≡◌}
 use mathlib.Core.Bool.{false}
-use Prim.Native.Nat.{◌-◌, ◌≤◌}
 use Rattle.laws.specs.Below.{any_below}
 use Rattle.railway.specs.declared.Railway.{Railway}
 use Rattle.railway_compiled.specs.Table.{Compiled}
@@ -10,7 +9,4 @@ use Rattle.solver_dues.specs.Dues.{same_weight}
 use Rattle.solver_dues.proofs.shares_weight.Given as goal
 
 abbrev pub invariant-loop-u : goal.invariant-loop-u
-invariant-loop-u l = (l.u ≤ l.t) × ((r : Railway) → Compiled r l.table → any_below (same_weight r l.t) l.u ≡ false)
-
-abbrev pub decreases-loop-u : goal.decreases-loop-u
-decreases-loop-u l = l.t - l.u
+invariant-loop-u l = (r : Railway) → Compiled r l.table → any_below (same_weight r l.t) l.u ≡ false

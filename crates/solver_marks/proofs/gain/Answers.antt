@@ -1,11 +1,21 @@
--- `solver_marks::gain` meets its contract: the marks of four trains are lowered, then the last lifted.
+-- `solver_marks::gain` meets its contract. The loop's invariant: the marks of the trains so far are lowered.
 -- Assumes nothing.
-use Rattle.solver_marks.proofs.Marks.{marks-raised}
+use native.Mathlib.Omega.{arith}
+use mathlib.Core.Path.{◌≡◌, refl}
+use Rattle.railway.specs.Bounds.{most_trains}
+use Rattle.solver_marks.proofs.Marks.{none-sooner, one-sooner, marks-raised}
 use Rattle.solver_marks.proofs.gain.Goals as goal
+
+pub loop-t-init : goal.loop-t-init
+loop-t-init c = λ room small. none-sooner c.args.marks.now c.args.c c.args.soon room small
+
+pub loop-t-preserved : goal.loop-t-preserved
+loop-t-preserved c =
+    λ room small.
+    one-sooner c.args.marks.now c.args.c c.args.soon room small c.loop-t.t _ _ _ c.loop-t-test.true refl c.lower.auto.marks (c.loop-t.invariant room small) c.lower.ensures
 
 pub returns : goal.returns
 returns c =
     λ room small.
-    marks-raised c.args.marks.now c.args.c room small c.args.n c.args.soon _ _ _ _ _ c.lower.auto.marks c.lower-2.auto.marks
-    c.lower-3.auto.marks c.lower-4.auto.marks c.lift.auto.marks
-    c.lower.ensures c.lower-2.ensures c.lower-3.ensures c.lower-4.ensures c.lift.ensures
+    let z : c.loop-t.t ≡ most_trains = omega arith in
+    marks-raised c.args.marks.now c.args.c c.args.soon room small c.args.n _ _ c.lift.auto.marks (rw z at (c.loop-t.invariant room small)) c.lift.ensures

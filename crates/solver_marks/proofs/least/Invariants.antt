@@ -1,11 +1,8 @@
--- `solver_marks::least` meets its contract. The loop's invariant: x is the least of the first i marks from `start` on.
+-- `solver_marks::least` meets its contract. The loop's invariant: x is the least of the marks looked at.
 -- Assumes nothing.
-use Prim.Native.Nat.{◌-◌}
-use Rattle.solver_marks.proofs.LeastMarks.{Least}
+use Prim.Native.Nat.{ℕ, ◌≤◌, ◌<◌}
+use lib.ListN.{get_or}
 use Rattle.solver_marks.proofs.least.Given as goal
 
-abbrev pub invariant-loop-i : goal.invariant-loop-i
-invariant-loop-i l = Least l.marks l.start l.i l.x
-
-abbrev pub decreases-loop-i : goal.decreases-loop-i
-decreases-loop-i l = l.count - l.i
+abbrev pub invariant-loop-y : goal.invariant-loop-y
+invariant-loop-y l = (j : ℕ) → j < l.y-index → l.x ≤ get_or l.y-items j 0

@@ -9,7 +9,7 @@ use Rattle.solver_rounds.proofs.round_by.Given as goal
 
 abbrev pub invariant-loop-c : goal.invariant-loop-c
 invariant-loop-c l =
-    StretchesTo l.table l.ways l.behind l.this l.t l.initial.figures l.initial.settings l.initial.marks l.figures l.settings l.marks l.c
+    StretchesTo l.this l.t l.initial.figures l.initial.settings l.initial.marks l.figures l.settings l.marks l.c
     × (l.c < l.m → l.c % stretch_length ≡ 0)
 
 abbrev pub decreases-loop-c : goal.decreases-loop-c

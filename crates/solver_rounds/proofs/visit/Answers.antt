@@ -17,4 +17,4 @@ returns c =
     λ r d o on l empty.
     visit-gains o c.args.p l empty _
     (c.find_in-found.ensures r _ on o.laid (sym (code-back r _ o.compiled _ _ on l)))
-    c.requires.0 _ c.gain.ensures c.requires.1 _ (ap entry_found c.in-Entry.is)
+    c.requires.0 _ c.gain.ensures c.requires.1 _ (ap entry_found c.in-Some.is)

@@ -4,22 +4,9 @@ use native.Mathlib.Omega.{arith}
 use mathlib.Core.Path.{◌∙◌, ap}
 use Prim.Native.Nat.{ℕ}
 use Rattle.game_moves.specs.Steps.{stride_of}
-use Rattle.solver_rounds.proofs.Retracing.{stride-first}
-use Rattle.solver_rounds.proofs.Loops.{visited-to-start, visited-to-next, visited-to-end}
-use Rattle.solver_rounds.proofs.Loops.{no-train, train-next, all-trains, train-there}
+use Rattle.solver_rounds.proofs.Loops.{visited-to-next, visited-to-end}
+use Rattle.solver_rounds.proofs.Loops.{train-next, all-trains, train-there}
 use Rattle.solver_rounds.proofs.visit_before.Goals as goal
-
-pub loop-t-init : goal.loop-t-init
-loop-t-init c = (visited-to-start (λ r q k. no-train k), stride-first _)
-
-pub visit_weighing-requires : goal.visit_weighing-requires
-visit_weighing-requires c = (omega (arith, c.requires.0, c.loop-t.invariant.0.long-figs), omega (arith, c.requires.1, c.loop-t.invariant.0.long-sets))
-
-pub overflow_add-t : goal.overflow_add-t
-overflow_add-t c = omega (arith, c.loop-t-test.true)
-
-pub loop-t-smaller : goal.loop-t-smaller
-loop-t-smaller c = omega (arith, c.loop-t-test.true)
 
 pub loop-t-preserved : goal.loop-t-preserved
 loop-t-preserved c = (
@@ -29,10 +16,10 @@ loop-t-preserved c = (
       (λ r d h o.
       c.visit_weighing.ensures r d
       (record {
-        laid = h;
+        laid = o.back;
         on = c.placement_of-q.ensures r o.compiled;
         code = omega (arith, c.requires.2, o.counted);
-        train = train-there r _ _ (c.trains_in-k.ensures r o.compiled) c.loop-t-test.true;
+        train = train-there r _ _ (c.trains_in-t-end.ensures r o.compiled) c.loop-t-test.true;
         stride = c.loop-t.invariant.1 ∙ ap (λ (x : ℕ). stride_of x c.loop-t.t) (c.sections_in-s.ensures r o.compiled);
       })
       o)
@@ -42,5 +29,7 @@ loop-t-preserved c = (
 
 pub returns : goal.returns
 returns c =
+    λ r d o.
     visited-to-end c.loop-t.invariant.0
-    (λ r d h o q l x. all-trains (c.trains_in-k.ensures r o.compiled) c.loop-t-test.false x)
+    (λ r d h o q l x. all-trains (c.trains_in-t-end.ensures r o.compiled) c.loop-t-test.false x)
+    r d tt o

@@ -2,12 +2,9 @@
 -- ways have been visited. Where there is no way with number j, or j has come to the most ways, those are all.
 -- Assumes nothing.
 use native.Mathlib.Omega.{arith}
-use Rattle.solver_rounds.proofs.Retracing.{no_way, way_next, way-put, way-last, all_ways, by-ways}
-use Rattle.solver_rounds.proofs.Loops.{visited-to-start, visited-to-next, visited-to-end}
+use Rattle.solver_rounds.proofs.Retracing.{way_next, way-put, way-last, all_ways, by-ways}
+use Rattle.solver_rounds.proofs.Loops.{visited-to-next, visited-to-end}
 use Rattle.solver_rounds.proofs.visit_train.Goals as goal
-
-pub loop-j-init : goal.loop-j-init
-loop-j-init c = visited-to-start (λ r u k. no_way k)
 
 pub returns-then-y : goal.returns-then-y
 returns-then-y c =
@@ -15,9 +12,6 @@ returns-then-y c =
     visited-to-end c.loop-j.invariant
     (λ r d g o u lu k.
     way-last g here c.end_behind-e.ensures _ _ c.way_to-y.ensures.way c.if-y.true (by-ways g here lu k))
-
-pub visit_put-requires : goal.visit_put-requires
-visit_put-requires c = (omega (arith, c.requires.0, c.loop-j.invariant.long-figs), omega (arith, c.requires.1, c.loop-j.invariant.long-sets))
 
 pub loop-j-smaller : goal.loop-j-smaller
 loop-j-smaller c = omega (arith, c.loop-j-test.true)

@@ -79,7 +79,7 @@ over_way-returns-else-ends_good t c =
     c.if-ends_good.false
 
 pub over_ways-loop-j-init : goal.over_ways-loop-j-init
-over_ways-loop-j-init t c = (omega arith, λ r p h pl. tried-start _ _ _ _)
+over_ways-loop-j-init t c = λ r p h pl. tried-start _ _ _ _
 
 pub over_ways-returns-then-to : goal.over_ways-returns-then-to
 over_ways-returns-then-to t c =
@@ -90,23 +90,21 @@ over_ways-returns-then-to t c =
     let gone =
     way-gone r p _ _ on c.args.t _ front c.loop-j.j _ (c.way_to-to.ensures.way r _ h.looks.laid) c.if-to.true in
     ways-together r _ p c.args.aim.figure c.args.t c.args.sum.care c.args.sum.want lt _ _ c.loop-j.j m gone
-    (c.loop-j.invariant.1 r p h pl)
+    (c.loop-j.invariant r p h pl)
 
 pub over_ways-loop-j-preserved : goal.over_ways-loop-j-preserved
-over_ways-loop-j-preserved t c = (
-  omega arith,
-  λ r p h pl.
-      let on = h.looks.on in
-      let front = c.front_in-e.ensures r p on in
-      let P = ByWay r (figure_in c.args.figures.now) p c.args.aim.figure c.args.t c.args.sum.care c.args.sum.want in
-      one_more r p _ _ on c.args.t _ front c.loop-j.j P _ _ _ _ _ (c.way_to-to.ensures.way r _ h.looks.laid)
-      c.if-to.false (λ v is to. c.over_way-least.ensures r p v h pl front is to) (c.loop-j.invariant.1 r p h pl),
-)
+over_ways-loop-j-preserved t c =
+    λ r p h pl.
+    let on = h.looks.on in
+    let front = c.front_in-e.ensures r p on in
+    let P = ByWay r (figure_in c.args.figures.now) p c.args.aim.figure c.args.t c.args.sum.care c.args.sum.want in
+    one_more r p _ _ on c.args.t _ front c.loop-j.j P _ _ _ _ _ (c.way_to-to.ensures.way r _ h.looks.laid)
+    c.if-to.false (λ v is to. c.over_way-least.ensures r p v h pl front is to) (c.loop-j.invariant r p h pl)
 
 pub over_ways-returns : goal.over_ways-returns
 over_ways-returns t c =
     λ r p h pl m.
     let lt = rw h.trains at c.requires in
-    let past = ways-past r p _ _ h.looks.on c.args.t c.loop-j.j c.loop-j-test.false in
+    let past = ways-past r p _ _ h.looks.on c.args.t c.loop-j.j (omega arith) in
     ways-together r _ p c.args.aim.figure c.args.t c.args.sum.care c.args.sum.want lt _ _ c.loop-j.j m past
-    (c.loop-j.invariant.1 r p h pl)
+    (c.loop-j.invariant r p h pl)

@@ -10,7 +10,7 @@ use Rattle.solver_settings.proofs.Stepping.{ways-past, way-gone, one_more, wants
 use Rattle.solver_settings.proofs.least_way.Goals as goal
 
 pub loop-j-init : goal.loop-j-init
-loop-j-init c = (omega arith, λ r p h l. tried-start _ _ _ _)
+loop-j-init c = λ r p h l. tried-start _ _ _ _
 
 pub returns-then-to : goal.returns-then-to
 returns-then-to c =
@@ -18,7 +18,7 @@ returns-then-to c =
     let on = h.on in
     let front = c.front_in-e.ensures r p on in
     ways-all r _ p _ _ _ _ _ c.loop-j.j
-    (way-gone r p _ _ on _ _ front _ _ (c.way_to-to.ensures.way r _ h.laid) c.if-to.true) (c.loop-j.invariant.1 r p h lt)
+    (way-gone r p _ _ on _ _ front _ _ (c.way_to-to.ensures.way r _ h.laid) c.if-to.true) (c.loop-j.invariant r p h lt)
 
 pub returns-then-best-eq0 : goal.returns-then-best-eq0
 returns-then-best-eq0 c =
@@ -29,7 +29,7 @@ returns-then-best-eq0 c =
     let wants = wants_is r p _ _ on c.args.t _ front j _ (c.way_want-want.ensures.way r _ h.laid) in
     one_more r p _ _ on c.args.t _ front j (OnWay r (figure_in c.args.figures.now) p c.args.aim.figure c.args.t) _ _ _ _ _
     (c.way_to-to.ensures.way r _ h.laid) c.if-to.false
-    (λ v is to. c.by_way-best.ensures r p j v on h.code l is to (wants v is)) (c.loop-j.invariant.1 r p h l) in
+    (λ v is to. c.by_way-best.ensures r p j v on h.code l is to (wants v is)) (c.loop-j.invariant r p h l) in
     λ r p h l. ways-zero r _ p _ _ _ _ _ _ c.if-best-eq0.true (omega arith) (more r p h l)
 
 pub loop-j-preserved : goal.loop-j-preserved
@@ -41,10 +41,10 @@ loop-j-preserved c =
     let wants = wants_is r p _ _ on c.args.t _ front j _ (c.way_want-want.ensures.way r _ h.laid) in
     one_more r p _ _ on c.args.t _ front j (OnWay r (figure_in c.args.figures.now) p c.args.aim.figure c.args.t) _ _ _ _ _
     (c.way_to-to.ensures.way r _ h.laid) c.if-to.false
-    (λ v is to. c.by_way-best.ensures r p j v on h.code l is to (wants v is)) (c.loop-j.invariant.1 r p h l) in
-    (omega arith, more)
+    (λ v is to. c.by_way-best.ensures r p j v on h.code l is to (wants v is)) (c.loop-j.invariant r p h l) in
+    more
 
 pub returns : goal.returns
 returns c =
     λ r p h lt.
-    ways-all r _ p _ _ _ _ _ c.loop-j.j (ways-past r p _ _ h.on _ _ c.loop-j-test.false) (c.loop-j.invariant.1 r p h lt)
+    ways-all r _ p _ _ _ _ _ _ (ways-past r p _ _ h.on _ _ (omega arith)) (c.loop-j.invariant r p h lt)

@@ -1,6 +1,7 @@
 -- `solver_settings::look` meets its contract. The loop's invariant: what is known of the free trains before t, each by itself.
 -- Assumes nothing.
 use native.Mathlib.Omega.{arith}
+use Rattle.std.proofs.Common.{rules}
 use mathlib.Core.Path.{sym, ◌∙◌}
 use Rattle.laws.proofs.Below.{any_of}
 use Rattle.game.specs.Setting.{free}
@@ -12,7 +13,7 @@ use Rattle.solver_settings.proofs.look.Goals as goal
 use Rattle.solver_settings.proofs.look.Goals.{then-free_in+else-w-ge-NO_BITS, else-free_in}
 
 pub loop-t-init : goal.loop-t-init
-loop-t-init c = (omega arith, omega arith, λ r p h. seen_start r _ p _)
+loop-t-init c = (omega arith, λ r p h. seen_start r _ p _)
 
 pub returns-then-w-ge-NO_BITS : goal.returns-then-w-ge-NO_BITS
 returns-then-w-ge-NO_BITS c =
@@ -28,23 +29,21 @@ loop-t-preserved c =
     elim c.if-free_in.branch [
       | then-free_in+else-w-ge-NO_BITS w ↦
           rw (w.count-is, w.all-is, w.most-is) (
-            omega arith,
-            omega (arith, c.loop-t.invariant.1),
+            omega (arith, c.loop-t.invariant.0),
             λ r p h.
                 let on = h.looks.on in
                 let lt = rw h.trains at c.loop-t-test.true in
-                seen_one r _ p _ _ _ _ _ (c.loop-t.invariant.2 r p h)
+                seen_one r _ p _ _ _ _ _ (c.loop-t.invariant.1 r p h)
                 (sym (as-there r p _ _ on _ lt _ _ (c.free_in.ensures r p on)) ∙ w.if-free_in.true) _
-                (w.least_way-w.ensures r p h.looks lt) w.if-w-ge-NO_BITS.false _ w.larger-most.ensures,
+                (w.least_way-w.ensures r p h.looks lt) w.if-w-ge-NO_BITS.false _ (search rules),
           )
       | else-free_in w ↦
           rw (w.count-is, w.all-is, w.most-is) (
-            omega arith,
-            omega (arith, c.loop-t.invariant.1),
+            omega (arith, c.loop-t.invariant.0),
             λ r p h.
                 let on = h.looks.on in
                 let lt = rw h.trains at c.loop-t-test.true in
-                seen-not r _ p _ _ _ _ _ (c.loop-t.invariant.2 r p h)
+                seen-not r _ p _ _ _ _ _ (c.loop-t.invariant.1 r p h)
                 (sym (as-there r p _ _ on _ lt _ _ (c.free_in.ensures r p on)) ∙ w.if-free_in.false),
           )
     ]
@@ -53,4 +52,4 @@ pub returns : goal.returns
 returns c =
     λ r p h.
     c.settle.ensures r p h
-    (seen_all r _ p _ _ _ _ _ _ h.trains c.loop-t.invariant.0 c.loop-t-test.false (c.loop-t.invariant.2 r p h))
+    (seen_all r _ p _ _ _ _ _ _ h.trains (omega arith) (omega arith) (c.loop-t.invariant.1 r p h))

@@ -21,30 +21,26 @@ every h = record { looks = h.looks; trains = refl; apart = h.apart }
 
 pub loop-u-init : goal.loop-u-init
 unfolding first_found
-loop-u-init c = (omega arith, λ r p h f. refl)
+loop-u-init c = λ r p h f. refl
 
-pub returns-in_default : goal.returns-in_default
-returns-in_default c =
-    let e = ap entry_found c.in_default.is in
+pub returns-in-Some : goal.returns-in-Some
+returns-in-Some c =
     λ r p h f.
     let k = facts r h.looks.on.compiled.accepted in
     let there = rw h.trains at c.loop-u-test.true in
-    e
-    ∙ found-open r _ p _ _ h.trains (closed_none r k p h.apart _ _ f) c.loop-u.u _ c.loop-u-test.true
-    (c.loop-u.invariant.1 r p h f) (sym e ∙ c.open_train-one.ensures r p (every h) f there)
+    found-open r _ p _ _ h.trains (closed_none r k p h.apart _ _ f) c.loop-u.u _ c.loop-u-test.true (c.loop-u.invariant r p h f)
+    (c.in-Some.ensures r p (every h) f there)
 
 pub loop-u-preserved : goal.loop-u-preserved
-loop-u-preserved c = (
-  omega arith,
-  λ r p h f.
-      let there = rw h.trains at c.loop-u-test.true in
-      first_next (λ u. try_open r _ p _ (eqb u)) _ (c.loop-u.invariant.1 r p h f)
-      (sym (ap entry_found c.in-Nothing.is) ∙ c.open_train-one.ensures r p (every h) f there),
-)
+loop-u-preserved c =
+    λ r p h f.
+    let there = rw h.trains at c.loop-u-test.true in
+    first_next (λ u. try_open r _ p _ (eqb u)) _ (c.loop-u.invariant r p h f)
+    (sym (ap entry_found c.in_default.is) ∙ c.open_train.ensures r p (every h) f there)
 
 pub returns : goal.returns
 returns c =
     λ r p h f.
     let k = facts r h.looks.on.compiled.accepted in
-    found_none r _ p _ _ h.trains (closed_none r k p h.apart _ _ f) c.loop-u.u c.loop-u.invariant.0 c.loop-u-test.false
-    (c.loop-u.invariant.1 r p h f)
+    found_none r _ p _ _ h.trains (closed_none r k p h.apart _ _ f) _ (omega arith) (omega arith)
+    (c.loop-u.invariant r p h f)

@@ -1,6 +1,6 @@
 -- `solver_settings::open_one` meets its contract. The loop's invariant: no try before train u has found anything.
 -- Assumes nothing.
-use Prim.Native.Nat.{ℕ, ◌-◌, ◌≤◌}
+use Prim.Native.Nat.{ℕ}
 use mathlib.Core.Bool.{false}
 use mathlib.Core.Option.{none}
 use mathlib.Core.Path.{◌≡◌}
@@ -15,9 +15,5 @@ use Rattle.solver_settings.proofs.open_one.Given as goal
 
 abbrev pub invariant-loop-u : goal.invariant-loop-u
 invariant-loop-u l =
-    (l.u ≤ l.aim.trains)
-    × ((r : Railway) (p : ℕ) → Asked r p l.table l.ways l.aim.placement l.aim.code l.aim.trains → any_below (free r p) r.trains ≡ false
-    → first_found (λ u. try_open r (figure_in l.figures) p l.aim.figure (eqb u)) l.u ≡ none)
-
-abbrev pub decreases-loop-u : goal.decreases-loop-u
-decreases-loop-u l = l.aim.trains - l.u
+    (r : Railway) (p : ℕ) → Asked r p l.table l.ways l.aim.placement l.aim.code l.aim.trains → any_below (free r p) r.trains ≡ false
+    → first_found (λ u. try_open r (figure_in l.figures) p l.aim.figure (eqb u)) l.u ≡ none

@@ -9,9 +9,9 @@ use lib.ListN.{length, take, drop, length-take, length-append, length-drop}
 use lib.Dec.{eqb}
 use lib.Seq.{length-take-le, take_at, drop_at}
 use Rattle.io.specs.Counts.{IsPrefixLen}
-use Rattle.test_framing.specs.declared.Record.{Record}
-use Rattle.test_framing.specs.declared.Reading.TheVariants.{Whole, Broken}
-use Rattle.test_framing.specs.Framed.{record_of, Kept}
+use Rattle.std.specs.Prelude.{Option, Some, Result, Ok, Err}
+use Rattle.test_framing.specs.declared.Broken.{Broken}
+use Rattle.test_framing.specs.Framed.{length_of, record_of, Kept}
 use Rattle.test_framing.proofs.fill.Goals as goal
 
 module _ (old new : List ℕ) (n : ℕ) (in-old : n ≤ length old) (kept : length new ≡ length (take n old)) where
@@ -27,13 +27,13 @@ module _ (old new : List ℕ) (n : ℕ) (in-old : n ≤ length old) (kept : leng
   as_long : length (new ++ drop n old) ≡ length old
   as_long = omega (arith, as_many, length-append new (drop n old), length-drop n old)
 
-  filled : (got : ℕ) (r : Record) → r ≡ record_of n got → IsPrefixLen r.bytes (new ++ drop n old) × Kept r old (new ++ drop n old)
+  filled : (got : ℕ) (r : Result (Option ℕ) Broken) → r ≡ record_of n got → IsPrefixLen (length_of r) (new ++ drop n old) × Kept r old (new ++ drop n old)
   filled got r e = rw e (go (eqb got n))
     where
-      go : (b : Bool) → let o = cond {A = Record} b (record { reading = Whole; bytes = n }) (record { reading = Broken; bytes = 0 }) in
-          IsPrefixLen o.bytes (new ++ drop n old) × Kept o old (new ++ drop n old)
+      go : (b : Bool) → let o = cond {A = Result (Option ℕ) Broken} b (Ok (Some n)) (Err (record {})) in
+          IsPrefixLen (length_of o) (new ++ drop n old) × Kept o old (new ++ drop n old)
       go true = whole
-      go false = ((omega arith, refl), (refl, as_long))
+      go false = ((omega arith, refl), as_long)
 
 -- n bytes come back new, and the rest of the space is as it was
 pub slice_bounds-read_full-end-2 : goal.slice_bounds-read_full-end-2

@@ -4,8 +4,8 @@ use mathlib.Core.Path.{refl}
 use Rattle.case_reader.proofs.Answers.{by-refused, by-accepted}
 use Rattle.test_script.proofs.run_script.Goals as goal
 
-pub returns-in-Refused : goal.returns-in-Refused
-returns-in-Refused c = by-refused _ _ _ _ c.read_case-read.ensures _ c.in-Refused.is refl
+pub returns-in-Err : goal.returns-in-Err
+returns-in-Err c = by-refused _ _ _ _ c.in-Err.ensures _ refl refl
 
-pub returns-in-Accepted : goal.returns-in-Accepted
-returns-in-Accepted c = by-accepted _ _ _ _ c.read_case-read.ensures c.in-Accepted.is refl
+pub returns-in-Ok : goal.returns-in-Ok
+returns-in-Ok c = by-accepted _ _ _ _ c.in-Ok.ensures refl refl

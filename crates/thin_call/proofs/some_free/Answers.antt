@@ -10,26 +10,22 @@ use Rattle.thin_call.proofs.some_free.Goals as goal
 
 pub loop-t-init : goal.loop-t-init
 unfolding any_below
-loop-t-init c = (omega arith, λ r p on. refl)
+loop-t-init c = λ r p on. refl
 
 pub returns-then-free_in : goal.returns-then-free_in
 returns-then-free_in c =
     λ r p on.
-    let e = c.trains_in-k.ensures r on.compiled in
+    let e = c.trains_in-t-end.ensures r on.compiled in
     one_free r p e c.loop-t.t c.loop-t-test.true (sym (as-there r p _ _ on _
     (within e c.loop-t.t c.loop-t-test.true) _ _ (c.free_in.ensures r p on)) ∙ c.if-free_in.true)
 
 pub loop-t-preserved : goal.loop-t-preserved
-loop-t-preserved c = (
-  omega arith,
-  λ r p on.
-      let e = c.trains_in-k.ensures r on.compiled in
-      any_next _ _ (c.loop-t.invariant.1 r p on)
-      (sym (as-there r p _ _ on _ (within e c.loop-t.t c.loop-t-test.true) _ _
-      (c.free_in.ensures r p on)) ∙ c.if-free_in.false),
-)
+loop-t-preserved c =
+    λ r p on.
+    let e = c.trains_in-t-end.ensures r on.compiled in
+    any_next _ _ (c.loop-t.invariant r p on)
+    (sym (as-there r p _ _ on _ (within e c.loop-t.t c.loop-t-test.true) _ _
+    (c.free_in.ensures r p on)) ∙ c.if-free_in.false)
 
 pub returns : goal.returns
-returns c =
-    λ r p on.
-    none_free r p (c.trains_in-k.ensures r on.compiled) c.loop-t.t c.loop-t.invariant.0 c.loop-t-test.false (c.loop-t.invariant.1 r p on)
+returns c = λ r p on. none_free r p (let e = c.trains_in-t-end.ensures r on.compiled in omega arith) (c.loop-t.invariant r p on)

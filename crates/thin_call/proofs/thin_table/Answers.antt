@@ -6,18 +6,15 @@ use Rattle.thin_call.proofs.Passes.{thin-none, thin-put, put-length, thin-all}
 use Rattle.thin_call.proofs.thin_table.Goals as goal
 
 pub loop-p-init : goal.loop-p-init
-loop-p-init c = (omega arith, refl, λ r h l. thin-none r _ _)
+loop-p-init c = (refl, λ r h l. thin-none r _ _)
 
 pub loop-p-preserved : goal.loop-p-preserved
 loop-p-preserved c = (
-  omega (arith, c.loop-p-test.true),
   put-length c.args.settings.now c.loop-p.settings c.put.new.table c.loop-p.p c.entry_at-v.result
-      c.put.ensures c.loop-p.invariant.1,
-  λ r h k. thin-put r _ _ _ c.loop-p.p (c.loop-p.invariant.2 r h k) (c.placements-n.ensures r h) k
+      c.put.ensures c.loop-p.invariant.0,
+  λ r h k. thin-put r _ _ _ c.loop-p.p (c.loop-p.invariant.1 r h k) (c.placements-p-end.ensures r h) k
       c.loop-p-test.true _ (c.entry_at-v.ensures r h) _ c.put.ensures,
 )
 
 pub returns : goal.returns
-returns c =
-    λ r h k.
-    thin-all r _ _ _ c.loop-p.p (c.loop-p.invariant.2 r h k) (c.placements-n.ensures r h) c.loop-p.invariant.0 c.loop-p-test.false
+returns c = λ r h k. thin-all r _ _ _ _ (c.loop-p.invariant.1 r h k) (let e = c.placements-p-end.ensures r h in omega arith)

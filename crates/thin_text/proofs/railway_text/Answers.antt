@@ -11,4 +11,4 @@ pub slice_bounds-end_text-start : goal.slice_bounds-end_text-start
 slice_bounds-end_text-start c = piece-within _ _ _ _ _ _ c.go_on-gone.ensures
 
 pub returns : goal.returns
-returns c = plan-put c.args.r c.args.plan.now _ _ _ _ _ _ c.fresh-fresh.ensures _ _ _ c.go_on-gone.ensures (to_the_end c.args.plan.now _) c.end_text.ensures
+returns c = plan-put c.args.r c.args.plan.now _ _ _ _ _ _ c.fresh.ensures _ _ _ c.go_on-gone.ensures (to_the_end c.args.plan.now _) c.end_text.ensures

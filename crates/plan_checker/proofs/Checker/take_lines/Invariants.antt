@@ -17,7 +17,7 @@ abbrev pub invariant-loop-at : goal.invariant-loop-at
 invariant-loop-at l =
     (length l.figures ≡ length l.initial.figures) × (length l.settings ≡ length l.initial.settings)
     × ((r : Railway) → Compiled r l.table → case_refusal r l.initial.figures l.initial.settings ≡ none
-    → Fronting r l.text (front_of r (lines_of l.text) (checking l.initial.checker l.initial.figures l.initial.settings)) l.at (checking l.checker l.figures l.settings))
+    → Fronting r l.text (front_of r (lines_of l.text) (checking l.initial.self l.initial.figures l.initial.settings)) l.at (checking l.self l.figures l.settings))
 
 abbrev pub decreases-loop-at : goal.decreases-loop-at
 decreases-loop-at l = length l.text - l.at

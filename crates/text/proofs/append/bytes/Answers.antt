@@ -1,19 +1,14 @@
--- `text::append::bytes` meets its contract. The loop's invariant: the bytes before i are written, and the buffer is as
+-- `text::append::bytes` meets its contract. The loop's invariant: the bytes in front are written, and the buffer is as
 -- long as it was. Assumes nothing.
-use native.Mathlib.Omega.{arith}
-use mathlib.Core.Path.{refl, ◌∙◌}
-use Rattle.text.proofs.Appending.{append-none, append-next, append-all}
+use Rattle.std.proofs.Common.{refl, ◌∙◌}
+use Rattle.text.proofs.Appending.{append-none, append-next}
 use Rattle.text.proofs.append.bytes.Goals as goal
 
-pub loop-i-init : goal.loop-i-init
-loop-i-init c = (append-none c.args.out.now c.args.at, omega arith, refl)
+pub loop-b-init : goal.loop-b-init
+loop-b-init c = (append-none c.args.out.now c.args.at, refl)
 
-pub loop-i-preserved : goal.loop-i-preserved
-loop-i-preserved c = (
-  append-next c.args.text.now c.loop-i.i c.loop-i-test.true c.loop-i.invariant.0 c.byte-next.ensures,
-  omega arith,
-  c.byte-next.auto.out ∙ c.loop-i.invariant.2,
+pub loop-b-preserved : goal.loop-b-preserved
+loop-b-preserved c = (
+  append-next c.args.text.now c.loop-b.b-index c.loop-b-test.true c.loop-b.invariant.0 c.byte-next.ensures,
+  c.byte-next.auto.out ∙ c.loop-b.invariant.1,
 )
-
-pub returns : goal.returns
-returns c = append-all c.args.text.now c.loop-i.i c.loop-i.invariant.1 c.loop-i-test.false c.loop-i.invariant.0

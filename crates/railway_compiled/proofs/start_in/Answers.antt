@@ -1,7 +1,0 @@
--- `railway_compiled::start_in` meets its contract: that is the byte of the train which is asked for.
--- Assumes nothing.
-use Rattle.railway_compiled.proofs.Table.{start_is}
-use Rattle.railway_compiled.proofs.start_in.Goals as goal
-
-pub returns : goal.returns
-returns c = λ r h. start_is r _ _ (c.roster_in.ensures r h)
