@@ -1,13 +1,15 @@
 -- What the comparison answers is `compare` (logs/Computed). The record's refusal comes first; then a log that is at fault; then the lowest train that differs. Assumes nothing.
 use mathlib.Core.Path.{◌≡◌, refl, sym, ◌∙◌, ap}
-use mathlib.Core.Logic.{inl, inr}
+use mathlib.Core.Logic.{◌⊎◌, inl, inr}
 use mathlib.Core.Bool.{Bool, true, false, ◌||◌}
 use mathlib.Core.List.{List}
 use mathlib.Core.Option.{none, some}
 use Prim.Native.Nat.{ℕ, ◌+◌, ◌≤◌, ◌<◌}
 use native.Mathlib.Omega.{arith}
+use lib.ListN.{length, take}
+use borrow.Author.Tests.{lt-ltb}
 use Rattle.laws.specs.Below.{lowest}
-use Rattle.laws.proofs.Bools.{lt?, clash}
+use Rattle.laws.proofs.Bools.{lt?, clash, or_right}
 use Rattle.laws.proofs.Below.{lowest-cases, lowest-least}
 use Rattle.railway.specs.declared.Railway.{Railway}
 use Rattle.railway.specs.declared.Refusal.{Refusal}
@@ -18,9 +20,12 @@ use Rattle.railway_acceptance.specs.Answers.{Judged}
 use Rattle.railway_acceptance.proofs.Answers.{judged-refused, judged-accepted}
 use Rattle.logs.specs.declared.Entry.{Entry}
 use Rattle.logs.specs.LogAnswer.{LogAnswer, Agree, Differ, Refused}
-use Rattle.logs.specs.Logs.{faulty, LogPost}
+use Rattle.logs.specs.Logs.{most_entries, faulty, LogPost}
 use Rattle.logs.specs.Computed.{differs, answer_by, compare}
 use Rattle.logs.proofs.Computed.{compare-keeps, compare-refused, compare-logs}
+use Rattle.logs_entries.specs.declared.Packed.{Packed}
+use Rattle.logs_entries.specs.Packing.{PackedPost}
+use Rattle.logs_entries.proofs.Packing.{whole}
 
 module _ (r : Railway) (a b : List Entry) where
   keeps : (x : LogAnswer) → x ≡ compare r a b → LogPost r a b x
@@ -38,6 +43,21 @@ module _ (r : Railway) (a b : List Entry) where
 
     pub compare-trains : (x || y) ≡ false → (z : LogAnswer) → z ≡ answer_by none (lowest (differs a b) r.trains) → LogPost r a b z
     compare-trains h z e = keeps z (e ∙ sym (by_logs ∙ rw h refl))
+
+-- WITH EACH LOG TAKEN OUT. A log that is longer than a log may be is at fault; of others what was taken out is the log.
+module _ (r : Railway) where
+  too-long : (log : List Entry) (p : Packed) → PackedPost log p → 256 < p.count → true ≡ faulty r log
+  unfolding faulty
+  too-long log p h l = let m : most_entries < length log = (let c = h.out.counted in omega arith) in rw (lt-ltb most_entries (length log) m) refl
+
+  module _ (a b : List Entry) where
+    pub compare-long : Judged r Accepted → (p q : Packed) → PackedPost a p → PackedPost b q → (256 < p.count) ⊎ (256 < q.count) → LogPost r a b (Refused Log)
+    compare-long j p q h k (inl l) = compare-fault r a b j true (faulty r b) (too-long a p h l) refl refl
+    compare-long j p q h k (inr l) = compare-fault r a b j (faulty r a) true refl (too-long b q k l) (or_right (faulty r a) true refl)
+
+    pub compare-taken : (p q : Packed) → PackedPost a p → PackedPost b q → p.count ≤ 256 → q.count ≤ 256 → (x : LogAnswer)
+        → LogPost r (take p.next p.entries) (take q.next q.entries) x → LogPost r a b x
+    compare-taken p q h k l m x w = let f = whole a p h l in let g = whole b q k m in rw (sym f, sym g) w
 
 -- THE LOWEST that passes a test, where none below t does
 module _ (f : ℕ → Bool) (t : ℕ) (none_below : (u : ℕ) → u < t → f u ≡ false) where

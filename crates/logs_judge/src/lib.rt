@@ -1,5 +1,5 @@
-// The comparison of two logs with a record, the panel's log and that of the axle counters, which are lent and only read. The record is tested as at every entry; then both logs are
-// judged; then they are compared, train by train.
+// The comparison of two logs with a record, the panel's log and that of the axle counters, which are lent and only read. The record is tested as at every entry; then each log is taken
+// out once, and both are judged; then they are compared, train by train.
 #![tactic(auto)]
 
 ghost use Rattle.std.specs.Prelude.{◌≡◌, ◌||◌, Ok, ltb, length};
@@ -14,13 +14,20 @@ use logs::{Entry, Verdict};
 use railway::{Railway, Refusal};
 
 // The most entries of a log.
-pub const MOST: usize = 256;
+pub const MOST: usize = logs_entries::MOST;
 
 // THE COMPARISON: the logs agree, or the lowest train that differs; or the first number of a record that applies; or 17, last of all.
 pub fn compare(r: Railway, panel: &[Entry], axles: &[Entry]) -> Result<Verdict, Refusal>
     ensures { LogPost r panel.now axles.now result }
 {
     railway_acceptance::test_record(r)?;
+    let a = logs_entries::take_out(panel);
+    let b = logs_entries::take_out(axles);
+    if MOST < a.count || MOST < b.count {
+        return Err(Refusal::Log);
+    }
+    let panel = &a.entries[..a.next];
+    let axles = &b.entries[..b.next];
     if is_faulty(r.trains, r.sections, panel) || is_faulty(r.trains, r.sections, axles) {
         return Err(Refusal::Log);
     }
