@@ -9,9 +9,24 @@ use railway::Railway;
 use test_framing::STDOUT_FILENO;
 
 fn main() {
-    test_framing::each_triple(b"no new case\n", b"no script\n", |case, new, script| {
-        run(case, new, script)
-    });
+    for _ in 0..u64::MAX {
+        let mut case = io::large_buffer();
+        let mut new = io::large_buffer();
+        let mut script = io::large_buffer();
+        let texts = test_framing::next_triple(
+            &mut case,
+            &mut new,
+            &mut script,
+            b"no new case\n",
+            b"no script\n",
+        );
+        let (Some(n), Some(m), Some(k)) = texts else {
+            break;
+        };
+        if !run(&case[..n], &new[..m], &script[..k]) {
+            break;
+        }
+    }
     others();
 }
 

@@ -1,5 +1,6 @@
 // What programs that run vectors share. The records of a vector file, from standard input: a line `@`, tab, the number of bytes in decimal, and then those bytes, of any value. A record
-// comes whole or not at all: one that is longer than the lent space, one that ends early and a line of another form are told as broken. And small railways that no case text is read as.
+// comes whole or not at all: one that is longer than the lent space, one that ends early and a line of another form are told as broken. The programs have the spaces and the turns themselves:
+// a function that took what it is to call would have to ask that of its caller, and could promise nothing. And small railways that no case text is read as.
 #![tactic(auto)]
 
 ghost use Rattle.std.specs.Prelude.{◌≡◌, None};
@@ -24,57 +25,6 @@ const MOST_BYTES: u8 = 8;
 
 // No number of so few digits reaches it: the prover sees by it that one more digit fits into the type.
 const BEYOND: usize = 10000000;
-
-// Every record of standard input as a text, one after the other, in a space of its own; the first that is missing or broken ends it.
-pub fn each_record<F: Fn(&[u8])>(show: F)
-    requires { F.IsAlwaysCallable show }
-{
-    for _ in 0..u64::MAX {
-        let mut space = io::large_buffer();
-        let Some(n) = next_text(&mut space) else {
-            return;
-        };
-        show(&space[..n]);
-    }
-}
-
-// Every two records, as long as the call for them says to go on. Where the second is missing that is told, in the caller's words.
-pub fn each_pair<F: Fn(&[u8], &[u8]) -> bool>(missing: &[u8], show: F)
-    requires { F.IsAlwaysCallable show }
-{
-    for _ in 0..u64::MAX {
-        let mut first = io::large_buffer();
-        let mut second = io::large_buffer();
-        let one = next_text(&mut first);
-        let two = text_behind(one, &mut second, missing);
-        let (Some(n), Some(m)) = (one, two) else {
-            return;
-        };
-        if !show(&first[..n], &second[..m]) {
-            return;
-        }
-    }
-}
-
-// Every three records, likewise.
-pub fn each_triple<F: Fn(&[u8], &[u8], &[u8]) -> bool>(no_second: &[u8], no_third: &[u8], show: F)
-    requires { F.IsAlwaysCallable show }
-{
-    for _ in 0..u64::MAX {
-        let mut first = io::large_buffer();
-        let mut second = io::large_buffer();
-        let mut third = io::large_buffer();
-        let one = next_text(&mut first);
-        let two = text_behind(one, &mut second, no_second);
-        let three = text_behind(two, &mut third, no_third);
-        let (Some(n), Some(m), Some(k)) = (one, two, three) else {
-            return;
-        };
-        if !show(&first[..n], &second[..m], &third[..k]) {
-            return;
-        }
-    }
-}
 
 // The next record as a text, at the start of the lent space: of so many bytes. That one is broken is told on standard output.
 pub fn next_text(space: &mut [u8]) -> Option<usize>
@@ -102,6 +52,45 @@ pub fn text_behind(before: Option<usize>, space: &mut [u8], missing: &[u8]) -> O
         io::write_all(STDOUT_FILENO, missing);
     }
     text
+}
+
+// The next two records as texts, each at the start of a space of its own. Where the second is missing that is told, in the caller's words; behind a first that is not there nothing is read.
+pub fn next_pair(
+    first: &mut [u8],
+    second: &mut [u8],
+    missing: &[u8],
+) -> (Option<usize>, Option<usize>)
+    ensures first_prefix_len { IsPrefixLen (bytes_of result.0) first.new }
+    ensures first_kept_text { KeptText result.0 first.old first.new }
+    ensures second_prefix_len { IsPrefixLen (bytes_of result.1) second.new }
+    ensures second_kept_text { KeptText result.1 second.old second.new }
+    ensures there_value { result.0 ≡ None → (result.1 ≡ None) × (second.new ≡ second.old) }
+{
+    let one = next_text(first);
+    let two = text_behind(one, second, missing);
+    (one, two)
+}
+
+// The next three records, likewise.
+pub fn next_triple(
+    first: &mut [u8],
+    second: &mut [u8],
+    third: &mut [u8],
+    no_second: &[u8],
+    no_third: &[u8],
+) -> (Option<usize>, Option<usize>, Option<usize>)
+    ensures first_prefix_len { IsPrefixLen (bytes_of result.0) first.new }
+    ensures first_kept_text { KeptText result.0 first.old first.new }
+    ensures second_prefix_len { IsPrefixLen (bytes_of result.1) second.new }
+    ensures second_kept_text { KeptText result.1 second.old second.new }
+    ensures third_prefix_len { IsPrefixLen (bytes_of result.2) third.new }
+    ensures third_kept_text { KeptText result.2 third.old third.new }
+    ensures second_there { result.0 ≡ None → (result.1 ≡ None) × (second.new ≡ second.old) }
+    ensures third_there { result.1 ≡ None → (result.2 ≡ None) × (third.new ≡ third.old) }
+{
+    let (one, two) = next_pair(first, second, no_second);
+    let three = text_behind(two, third, no_third);
+    (one, two, three)
 }
 
 // The next record, at the start of the lent space: of so many bytes, or none where the input has ended.

@@ -26,11 +26,22 @@ struct Log {
 }
 
 fn main() {
-    test_framing::each_triple(
-        b"no log of the panel\n",
-        b"no log of the axle counters\n",
-        |case, panel, axles| show(case, panel, axles),
-    );
+    for _ in 0..u64::MAX {
+        let mut case = io::large_buffer();
+        let mut panel = io::large_buffer();
+        let mut axles = io::large_buffer();
+        let texts = test_framing::next_triple(
+            &mut case,
+            &mut panel,
+            &mut axles,
+            b"no log of the panel\n",
+            b"no log of the axle counters\n",
+        );
+        let (Some(n), Some(m), Some(k)) = texts else {
+            break;
+        };
+        show(&case[..n], &panel[..m], &axles[..k]);
+    }
     own_records();
 }
 
@@ -72,7 +83,7 @@ fn many(n: usize) -> Log {
     }
 }
 
-fn show(case: &[u8], panel: &[u8], axles: &[u8]) -> bool {
+fn show(case: &[u8], panel: &[u8], axles: &[u8]) {
     match case_reader::read_case(case) {
         Err(f) => refused(f),
         Ok(r) => {
@@ -81,7 +92,6 @@ fn show(case: &[u8], panel: &[u8], axles: &[u8]) -> bool {
             tell(r, a, b);
         }
     }
-    true
 }
 
 // A log, byte by byte.

@@ -1,6 +1,6 @@
 // Tables of runs for case texts: a refusal's line; or `case`, and for heading up and then down, by rising row and column, the heading, the row, the column and the entry, where that says a run.
 // Standard input is records (crate test_framing). Behind them records that no text makes, handed to the call itself:
-// what each is, the number that is answered, 0 for none, and whether the table that was handed in is then as it was.
+// what each is, the number that is answered, 0 for none, and whether the table behind the call is as it was handed in: that of the answer, or, refused, the one handed in.
 #![tactic(auto)]
 
 use railway::{End, Railway, Refusal, SectionNo, Side, Train};
@@ -13,7 +13,13 @@ const OLD: u8 = 77;
 const COLUMNS: usize = Railway::SECTIONS as usize;
 
 fn main() {
-    test_framing::each_record(|text| show(text));
+    for _ in 0..u64::MAX {
+        let mut space = io::large_buffer();
+        let Some(n) = test_framing::next_text(&mut space) else {
+            break;
+        };
+        show(&space[..n]);
+    }
     refused_records();
 }
 
@@ -139,16 +145,14 @@ fn handed(what: &[u8], r: Railway) {
     io::write_all(STDOUT_FILENO, what);
     tab();
     let old = [[OLD; COLUMNS]; COLUMNS];
-    match runs_tables::run_table(r, Side::Up, old) {
-        Ok(table) => handed_back(0, table),
-        Err(f) => handed_back(f.number(), old),
-    }
-}
-
-// The number of a refusal, or 0, and whether the table is the one that was handed in.
-fn handed_back(number: u8, table: Runs) {
+    let answer = runs_tables::run_table(r, Side::Up, old);
+    let number = match answer {
+        Ok(_) => 0,
+        Err(f) => f.number(),
+    };
     io::print_decimal(STDOUT_FILENO, number as u64);
-    if same(table) {
+    // A refusal has no table, and the one that was handed in by value it cannot change: of a refusal the line says that no table came.
+    if same(answer.unwrap_or(old)) {
         io::write_all(STDOUT_FILENO, b"\tas it came\n");
     } else {
         io::write_all(STDOUT_FILENO, b"\tfilled\n");

@@ -22,18 +22,32 @@ struct Line {
 // A number that no section has, for those that are not there.
 const NOWHERE: u8 = 255;
 
+// What is looked into where the opening is refused.
+const UNOPENED: Search = Search {
+    rounds: 0,
+    ended: true,
+    coming: NO_FIGURE,
+};
+
 fn main() {
-    test_framing::each_pair(b"no placements\n", |case, places| show(case, places));
+    for _ in 0..u64::MAX {
+        let mut case = io::large_buffer();
+        let mut places = io::large_buffer();
+        let (Some(n), Some(m)) = test_framing::next_pair(&mut case, &mut places, b"no placements\n")
+        else {
+            return;
+        };
+        show(&case[..n], &places[..m]);
+    }
 }
 
-fn show(case: &[u8], places: &[u8]) -> bool {
+fn show(case: &[u8], places: &[u8]) {
     if let Ok(r) = case_reader::read_case(case) {
         run(r, places);
     }
-    true
 }
 
-// A search with tables and marks of its own.
+// A search with tables and marks of its own. Refused, for there are more placements than entries, it is looked into all the same: no round of it is finished, and it has ended.
 fn run(r: Railway, places: &[u8]) {
     let Ok(table) = railway_compiled::compile(r) else {
         return;
@@ -41,9 +55,9 @@ fn run(r: Railway, places: &[u8]) {
     let mut figures = [0u32; ENTRIES];
     let mut settings = [0u32; ENTRIES];
     let mut marks = [0u32; MARKS];
-    let Ok(mut search) = search_calls::open(r, &mut figures, &mut settings, &mut marks) else {
-        return;
-    };
+    let mut search = search_calls::open(r, &mut figures, &mut settings, &mut marks).unwrap_or(
+        UNOPENED,
+    );
     let m = game_moves::placements(&table);
     io::write_all(STDOUT_FILENO, b"open\n");
     come(&figures, &settings, m, 0);
@@ -59,7 +73,7 @@ fn run(r: Railway, places: &[u8]) {
     );
 }
 
-// The rounds until the search has ended, and one more call.
+// The rounds until the search has ended, and one more call. One that is refused leaves the search as it was.
 fn rounds(
     search: &mut Search,
     r: Railway,
@@ -71,9 +85,7 @@ fn rounds(
 ) {
     let mut over = false;
     for _ in 0..=LAST_ROUND + 1 {
-        if search_calls::round(search, r, figures, settings, marks).is_err() {
-            return;
-        }
+        let _ = search_calls::round(search, r, figures, settings, marks);
         head(search.rounds, search.ended);
         come(figures, settings, m, search.rounds);
         looks(*search, r, figures, settings, places);

@@ -17,12 +17,14 @@ const ROOM: usize = 128;
 const TURNS: u32 = 1024;
 
 fn main() {
-    test_framing::each_record(|text| both(text));
-}
-
-fn both(text: &[u8]) {
-    exported(text);
-    show(text);
+    for _ in 0..u64::MAX {
+        let mut space = io::large_buffer();
+        let Some(n) = test_framing::next_text(&mut space) else {
+            return;
+        };
+        exported(&space[..n]);
+        show(&space[..n]);
+    }
 }
 
 fn show(text: &[u8]) {

@@ -9,11 +9,18 @@ use railway_compiled::TABLE;
 use test_framing::STDOUT_FILENO;
 
 fn main() {
-    test_framing::each_pair(b"no plan\n", |case, plan| show(case, plan));
+    for _ in 0..u64::MAX {
+        let mut case = io::large_buffer();
+        let mut plan = io::large_buffer();
+        let (Some(n), Some(m)) = test_framing::next_pair(&mut case, &mut plan, b"no plan\n") else {
+            break;
+        };
+        show(&case[..n], &plan[..m]);
+    }
     own_calls();
 }
 
-fn show(case: &[u8], plan: &[u8]) -> bool {
+fn show(case: &[u8], plan: &[u8]) {
     match case_reader::read_case(case) {
         Err(f) => {
             let mut line = [0u8; answer_output::LINE];
@@ -21,7 +28,6 @@ fn show(case: &[u8], plan: &[u8]) -> bool {
         }
         Ok(r) => own_tables(r, plan),
     }
-    true
 }
 
 // The plan is entered into tables of the call's own.
