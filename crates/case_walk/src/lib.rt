@@ -8,7 +8,7 @@ ghost use Rattle.text.specs.Reading.{then};
 ghost use Rattle.case_file.specs.Reading.{header_at};
 ghost use Rattle.case_lines.specs.Answers.{counts_got};
 ghost use Rattle.case_draft.specs.Drafting.{letter, line_into, lines_into, lines_got};
-ghost use Rattle.case_walk.specs.Walking.{line_got};
+ghost use Rattle.case_walk.specs.Walking.{line_got, walked};
 
 use case_draft::{Draft, Kind};
 use text::Cursor;
@@ -43,13 +43,13 @@ impl<'a> Reader<'a> {
     }
 
     // A line of a kind, read where it stands and put into a draft; its number is n where its kind has one. It is moved on behind the line.
-    fn line(&mut self, kind: Kind, n: u64, d: Draft) -> Option<Draft>
+    fn line(&mut self, kind: Kind, n: u64, draft: &mut Draft) -> Option<()>
         ensures text { self.new.text ≡ self.old.text }
-        ensures line { line_got result self.new.at.at ≡ line_into self.old.text.now kind n self.old.at.at d }
+        ensures line { walked result draft.new self.new.at.at ≡ line_into self.old.text.now kind n self.old.at.at draft.old }
     {
-        let (draft, next) = one_line(self.text, self.at, kind, n, d)?;
+        let next = one_line(self.text, self.at, kind, n, draft)?;
         self.at = next;
-        Some(draft)
+        Some(())
     }
 
     // The place where it stands.
@@ -81,44 +81,46 @@ pub fn lines_of(
     let mut reader = Reader::new(text, next);
     if kind.is_counted() {
         for i in 0..count {
-            draft = reader.line(kind, i + 1, draft)?;
+            reader.line(kind, i + 1, &mut draft)?;
         }
     } else {
         while reader.begins(kind) {
-            draft = reader.line(kind, 0, draft)?;
+            reader.line(kind, 0, &mut draft)?;
         }
     }
     Some((draft, reader.place()))
 }
 
-// One line of a kind; its number is n where its kind has one.
+// One line of a kind, put into a draft where it is lent, for a draft is long to copy; its number is n where its kind has one. The answer is the place behind it.
 #[tactic(auto, using(crate::proofs::Walking::turns))]
-fn one_line(text: &[u8], c: Cursor, kind: Kind, n: u64, d: Draft) -> Option<(Draft, Cursor)>
-    ensures { lines_got result ≡ line_into text.now kind n c.at d }
+fn one_line(text: &[u8], c: Cursor, kind: Kind, n: u64, draft: &mut Draft) -> Option<Cursor>
+    ensures { line_got result draft.new ≡ line_into text.now kind n c.at draft.old }
 {
     match kind {
         Kind::P => {
             let (side, next) = case_lines::point_line(text, c, n)?;
-            Some((case_draft::put_point(d, n, side), next))
+            *draft = case_draft::put_point(*draft, n, side);
+            Some(next)
         }
         Kind::J => {
             let (one, other, next) = case_lines::join_line(text, c)?;
-            Some((case_draft::put_join(d, one, other), next))
+            *draft = case_draft::put_join(*draft, one, other);
+            Some(next)
         }
         Kind::G => {
             let (section, side, next) = case_lines::signal_line(text, c)?;
-            Some((case_draft::put_signal(d, section, side), next))
+            *draft = case_draft::put_signal(*draft, section, side);
+            Some(next)
         }
         Kind::X => {
             let (section, next) = case_lines::closed_line(text, c)?;
-            Some((case_draft::put_closed(d, section), next))
+            *draft = case_draft::put_closed(*draft, section);
+            Some(next)
         }
         Kind::T => {
             let (heading, start, destination, weight, next) = case_lines::train_line(text, c, n)?;
-            Some((
-                case_draft::put_train(d, n, heading, start, destination, weight),
-                next,
-            ))
+            *draft = case_draft::put_train(*draft, n, heading, start, destination, weight);
+            Some(next)
         }
     }
 }
