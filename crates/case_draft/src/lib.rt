@@ -6,10 +6,12 @@ ghost use Rattle.std.specs.Prelude.{◌≡◌, ◌-◌, cond, None, Some};
 ghost use Rattle.railway.specs.Rows.{wrong_weight};
 ghost use Rattle.case_file.specs.Rows.{within};
 ghost use Rattle.case_lines.specs.Answers.{end_named, join_named, train_named};
+ghost use Rattle.case_draft.specs.Lines.{NotInForm, InForm};
 ghost use Rattle.case_draft.specs.Drafting.{end_in, unknown_in, put_point, faulty, put_join, put_signal, put_closed, weighed_in, put_train, letter, counted};
 
 use case_lines::NamedEnd;
 use railway::{End, PointNo, Railway, SectionNo, Side, Train};
+use text::Cursor;
 
 // The record so far; a weight was one that no train may have; a name was not there; a join may not be; a signal, or a closed section, was named twice.
 #[derive(Clone, Copy)]
@@ -31,7 +33,24 @@ pub enum Kind {
     T,
 }
 
+// What tells the lines of a kind: the letter that each begins with, and whether the first line says how many there are.
+#[derive(Clone, Copy)]
+pub struct Mark {
+    pub letter: u8,
+    pub counted: bool,
+}
+
 impl Kind {
+    // The kind's entry, as far as it tells the lines.
+    pub fn mark(self) -> Mark
+        ensures { result ≡ record { letter = letter self; counted = counted self } }
+    {
+        Mark {
+            letter: self.letter(),
+            counted: self.is_counted(),
+        }
+    }
+
     // The letter that each line of the kind begins with.
     pub fn letter(self) -> u8
         ensures { result ≡ letter self }
@@ -51,6 +70,23 @@ impl Kind {
     {
         matches!(self, Kind::P | Kind::T)
     }
+}
+
+// Lines as they were read: the draft that they gave, and the place behind them; none, where they are not in form.
+pub type Lines = Option<(Draft, Cursor)>;
+
+// Lines in form.
+pub fn in_form(d: Draft, next: Cursor) -> Lines
+    ensures { result ≡ InForm d next }
+{
+    Some((d, next))
+}
+
+// Lines that are not in form.
+pub fn not_in_form() -> Lines
+    ensures { result ≡ NotInForm }
+{
+    None
 }
 
 // The index of a number between 1 and a count.

@@ -8,21 +8,27 @@ use std::fs;
 use std::io::Read;
 use std::rt::Files;
 
-// A file that was asked for by its name, if it could be opened.
+// A file that was asked for by its name. The type is one of its own since `Option` is not ours to read from, and its cases are for callers to ask.
 #[derive(Drop)]
-pub struct Asked<F>(Option<F>);
+pub enum Asked<F> {
+    Open(F),
+    Missing,
+}
 
 // One that cannot be opened for reading is missing, whatever the reason.
 pub fn open<R: Files>(rt: &R, name: &str) -> Asked<R::File> {
-    Asked(fs::open(rt, name).ok())
+    match fs::open(rt, name) {
+        Ok(file) => Asked::Open(file),
+        Err(_) => Asked::Missing,
+    }
 }
 
-// A missing file is an empty text. The type is one of its own since Option is not ours to read from.
+// A missing file is an empty text.
 impl<F: Read> Read for Asked<F> {
     fn read(&mut self, buf: &mut [u8]) -> std::io::Result<usize> {
-        match &mut self.0 {
-            Some(file) => file.read(buf),
-            None => Ok(0),
+        match self {
+            Asked::Open(file) => file.read(buf),
+            Asked::Missing => Ok(0),
         }
     }
 }

@@ -6,11 +6,14 @@ use lib.ListN.{length}
 use mir.Val.{Val}
 use denote.Laws.{Is}
 use Rattle.railway.specs.declared.Railway.{Railway}
-use Rattle.railway.specs.Bounds.{most_sections, most_trains, section_ends, all_ends}
+use Rattle.railway.specs.Bounds.{most_sections, most_points, most_trains, section_ends, all_ends}
 use Rattle.railway.specs.Lent.{LinksOf, SignalsOf, ClosedOf}
 use Rattle.railway.specs.contracts.Railway as T
 
 module _ (r : Railway) (vs : List Val) (p : Is T.the_row r vs) where
+  pub legs-length : length r.legs ≡ most_points
+  legs-length = p.1.1.1.1.1.0.1.0.1
+
   pub links-length : length r.links ≡ all_ends
   links-length = p.1.1.1.1.1.1.0.1.0.1
 

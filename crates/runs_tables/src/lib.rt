@@ -27,6 +27,9 @@ type Row = [u8; COLUMNS];
 // The table of a heading, in rows by the section that runs begin on.
 pub type Runs = [[u8; COLUMNS]; COLUMNS];
 
+// The rows of a table, as they stand in an answer.
+pub type Rows = Runs;
+
 // THE TABLE of a heading. Whoever is refused has the table that was handed in, as it came.
 pub fn run_table(r: Railway, heading: Side, table: Runs) -> Result<Runs, Refusal>
     ensures { RunPost r heading table (replied table result) }
@@ -34,6 +37,13 @@ pub fn run_table(r: Railway, heading: Side, table: Runs) -> Result<Runs, Refusal
     railway_acceptance::test_record(r)?;
     let ways = game_case::case_ways(r);
     Ok(fill(&ways, r.sections, heading, table))
+}
+
+// The square table of an answer's rows. An answer has it as such, so that it is what is handed in.
+pub fn table_in(rows: Rows) -> Runs
+    ensures { result ≡ rows }
+{
+    rows
 }
 
 // All rows, of every railway with these ways and so many sections.
