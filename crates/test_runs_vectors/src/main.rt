@@ -1,6 +1,6 @@
 // Tables of runs for case texts: a refusal's line; or `case`, and for heading up and then down, by rising row and column, the heading, the row, the column and the entry, where that says a run.
 // Standard input is records (crate test_framing). Behind them records that no text makes, handed to the call itself:
-// what each is, the number that is answered, 0 for none, and whether the table behind the call is as it was handed in: that of the answer, or, refused, the one handed in.
+// what each is, the number that is answered, 0 for none, and whether a table came back with other entries than were handed in.
 #![tactic(auto)]
 
 use railway::{End, Railway, Refusal, SectionNo, Side, Train};
@@ -151,11 +151,11 @@ fn handed(what: &[u8], r: Railway) {
         Err(f) => f.number(),
     };
     io::print_decimal(STDOUT_FILENO, number as u64);
-    // A refusal has no table, and the one that was handed in by value it cannot change: of a refusal the line says that no table came.
-    if same(answer.unwrap_or(old)) {
-        io::write_all(STDOUT_FILENO, b"\tas it came\n");
-    } else {
+    // A refusal brings no table: the one that was handed in, by value, is then as it came.
+    if answer.is_ok_and(|table| !same(table)) {
         io::write_all(STDOUT_FILENO, b"\tfilled\n");
+    } else {
+        io::write_all(STDOUT_FILENO, b"\tas it came\n");
     }
 }
 
