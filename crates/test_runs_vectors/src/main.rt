@@ -1,5 +1,5 @@
 // Tables of runs for case texts: a refusal's line; or `case`, and for heading up and then down, by rising row and column, the heading, the row, the column and the entry, where that says a run.
-// Standard input is records (crate test_framing). Behind them records that no text makes, handed to the call itself:
+// Standard input is records (crate test_framing). Behind them records made here, all but the second such as no text makes, handed to the call itself:
 // what each is, the number that is answered, 0 for none, and whether a table came back with other entries than were handed in.
 #![tactic(auto)]
 
